@@ -1,0 +1,57 @@
+-- Plans: for each caller its scripts and its stop, and the schedule.
+use Rattle.std.specs.Prelude.{◌≡◌, ℕ, ◌+◌, ◌*◌, ◌≤◌, ◌<◌, List, [], ◌∷◌, length, sum_by, slice_index_or, IfSome, Option}
+use Rattle.std.specs.List.{AllByRecursion}
+use Rattle.of_cell.specs.Cells.{durable_cells, step_bound}
+use Rattle.of_script.specs.declared.instr.Instr.{Instr}
+use Rattle.of_script.specs.declared.instr.TheConstants.{MOST_INSTRS}
+use Rattle.of_script.specs.Language.{IsScript}
+use Rattle.of_plan.specs.declared.plan.Item.{Item}
+use Rattle.of_plan.specs.declared.plan.Item.TheVariants.{Turns, Evict}
+
+pub record Plan : Type 0 where
+  pub callers : ℕ
+  pub blocks : ℕ
+  pub limit : ℕ
+  pub scripts : List (List (List Instr))
+  pub stops : List (Option ℕ)
+  pub schedule : List Item
+
+-- the scripts of a caller
+abbrev pub scripts_of : Plan → ℕ → List (List Instr)
+scripts_of p c = slice_index_or p.scripts c []
+
+-- a data cell for each ticket, shape and reply number, each register, the allocator's three, the list heads, and three for each block
+abbrev pub data_cells : (callers blocks : ℕ) → ℕ
+data_cells callers blocks = callers * (MOST_INSTRS + 2) + 63 + 3 * blocks
+
+-- the cells of a plan that have a durable word
+abbrev pub cells_of : Plan → ℕ
+cells_of p = durable_cells p.callers (data_cells p.callers p.blocks)
+
+-- the steps that a call of a plan takes at most
+abbrev pub bound_of : Plan → ℕ
+bound_of p = step_bound p.callers MOST_INSTRS (data_cells p.callers p.blocks)
+
+abbrev pub turns_of : Item → ℕ
+turns_of (Turns c x) = x
+turns_of (Evict a) = 0
+
+-- turns are of a caller, and evictions of a cell that has a durable word
+abbrev pub IsItem : Plan → Item → Type 0
+IsItem p (Turns c x) = (c < p.callers) × (1 ≤ x)
+IsItem p (Evict a) = a < cells_of p
+
+-- the ranges of a plan
+pub record IsPlan (p : Plan) : Type 0 where
+  pub some_callers : 1 ≤ p.callers
+  pub few_callers : p.callers ≤ 16
+  pub few_blocks : p.blocks ≤ 512
+  pub some_limit : 1 ≤ p.limit
+  pub limit_range : p.limit ≤ 4294967294
+  pub each_caller : length p.scripts ≡ p.callers
+  pub each_script : AllByRecursion (AllByRecursion IsScript) p.scripts
+  pub few_scripts : sum_by length p.scripts ≤ 20000
+  pub each_stop : length p.stops ≡ p.callers
+  pub stop_range : AllByRecursion (λ o. IfSome o (λ x. x ≤ 4294967295)) p.stops
+  pub each_item : AllByRecursion (IsItem p) p.schedule
+  pub few_turns : sum_by turns_of p.schedule ≤ 10000000
