@@ -1,5 +1,5 @@
 -- Plans: for each caller its scripts and its stop, and the schedule.
-use Rattle.std.specs.Prelude.{◌≡◌, ℕ, ◌+◌, ◌*◌, ◌≤◌, ◌<◌, List, [], ◌∷◌, length, sum_by, slice_index_or, IfSome, Option}
+use Rattle.std.specs.Prelude.{◌≡◌, ℕ, ◌+◌, ◌*◌, ◌≤◌, ◌<◌, List, [], length, sum_by, slice_index_or, IfSome, Option}
 use Rattle.std.specs.List.{AllByRecursion}
 use Rattle.of_cell.specs.Cells.{durable_cells, step_bound}
 use Rattle.of_script.specs.declared.instr.Instr.{Instr}

@@ -1,0 +1,70 @@
+-- What a work means: what an operation does to a lawful list of cells, and how a run that knows only some cells goes.
+use Rattle.std.specs.Prelude.{◌≡◌, ℕ, ◌^◌, ◌/◌, ◌%◌, ◌==◌, ◌<◌, ◌≤◌, List, [], ◌∷◌, length, Option, Some, None, Bool, true}
+use Rattle.std.specs.List.{All}
+use Rattle.std.proofs.Common.{get_or, set, drop}
+use Rattle.of_mem.specs.declared.work.RawReply.{RawReply}
+
+-- how a run on known cells ends: at a cell that it needs and that isn't known, or with its writes in order of first writing and its reply
+pub data Walked : Type 0 where
+  Needs : ℕ → Walked
+  Gives : List (ℕ × ℕ) → RawReply → Walked
+
+-- all that steps compute with; which lists are lawful is a member of its own
+pub record Meaning : Type 0 where
+  -- the cells after an operation, and its reply
+  pub cells : List ℕ → List ℕ → List ℕ
+  pub reply : List ℕ → List ℕ → RawReply
+  -- from what is known of each cell
+  pub walk : List (Option ℕ) → List ℕ → Walked
+  -- the operations that are known to write nothing
+  pub reads_only : List ℕ → Bool
+
+-- the list with these numbers written, in order
+abbrev pub written : List ℕ → List (ℕ × ℕ) → List ℕ
+written xs [] = xs
+written xs (e ∷ es) = written (set xs e.0 e.1) es
+
+-- each cell that is known has the list's number
+abbrev pub Agrees : List (Option ℕ) → List ℕ → Type 0
+Agrees known xs = (a v : ℕ) → get_or known a None ≡ Some v → get_or xs a 0 ≡ v
+
+-- alike from the cell on where the operations' own cells begin
+abbrev pub SameFrom : ℕ → List ℕ → List ℕ → Type 0
+SameFrom base xs ys = drop base xs ≡ drop base ys
+
+-- whether a reply of this shape has a number at that place
+unfoldable pub marked : ℕ → ℕ → Bool
+marked shape j = shape / 2 ^ j % 2 == 1
+
+-- no cell stands twice in it
+abbrev pub Once : List (ℕ × ℕ) → Type 0
+Once es = (j k : ℕ) → j < length es → k < length es → (get_or es j (0, 0)).0 ≡ (get_or es k (0, 0)).0 → j ≡ k
+
+-- what a finished walk says is so of the list
+pub record Finishes (M : Meaning) (base size : ℕ) (xs op : List ℕ) (es : List (ℕ × ℕ)) (r : RawReply) : Type 0 where
+  pub inside : All (λ (e : ℕ × ℕ). (base ≤ e.0) × (e.0 < size) × (e.1 < 4294967296)) es
+  pub once : Once es
+  pub cells : M.cells xs op ≡ written xs es
+  pub reply : M.reply xs op ≡ r
+  pub shape : r.shape < 4294967296
+  pub values : All (λ (v : ℕ). v < 4294967296) r.values
+  -- a number is marked only for an instruction of a script that wasn't aborted
+  pub marks : (j : ℕ) → j < 16 → marked r.shape j ≡ true → (r.shape < 67108864) × (j < length op) × (j < length r.values)
+  -- an operation that only reads writes nothing
+  pub reads : M.reads_only op ≡ true → es ≡ []
+
+-- what a walk says is so of a list with which the known cells agree
+abbrev pub Fits : Meaning → ℕ → ℕ → List (Option ℕ) → List ℕ → List ℕ → Walked → Type 0
+Fits M base size known xs op (Needs a) = (base ≤ a) × (a < size) × (get_or known a None ≡ None)
+Fits M base size known xs op (Gives es r) = Finishes M base size xs op es r
+
+-- the rules of a meaning
+pub record Sound (M : Meaning) (lawful : List ℕ → Type 0) (base size : ℕ) : Type 0 where
+  pub zeros : (xs : List ℕ) → length xs ≡ size → ((a : ℕ) → get_or xs a 0 ≡ 0) → lawful xs
+  pub leads : (xs op : List ℕ) → length xs ≡ size → lawful xs → lawful (M.cells xs op)
+  pub keeps_length : (xs op : List ℕ) → length xs ≡ size → length (M.cells xs op) ≡ size
+  -- nothing below base is read
+  pub lawful_from : (xs ys : List ℕ) → length xs ≡ size → length ys ≡ size → SameFrom base xs ys → lawful xs → lawful ys
+  pub cells_from : (xs ys op : List ℕ) → length xs ≡ size → length ys ≡ size → SameFrom base xs ys → SameFrom base (M.cells xs op) (M.cells ys op)
+  pub reply_from : (xs ys op : List ℕ) → length xs ≡ size → length ys ≡ size → SameFrom base xs ys → M.reply xs op ≡ M.reply ys op
+  pub walks : (known : List (Option ℕ)) (xs op : List ℕ) → length xs ≡ size → lawful xs → Agrees known xs → Fits M base size known xs op (M.walk known op)
