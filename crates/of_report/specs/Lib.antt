@@ -1,0 +1,3 @@
+pub mod Report
+pub mod StoreText
+pub mod ReportText
