@@ -1,1 +1,6 @@
 pub mod Meaning
+pub mod Pairs
+pub mod Indexed
+pub mod Pad
+pub mod Places
+pub mod Plots
