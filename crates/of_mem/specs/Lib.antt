@@ -4,3 +4,5 @@ pub mod Indexed
 pub mod Pad
 pub mod Places
 pub mod Plots
+pub mod Programs
+pub mod Stores

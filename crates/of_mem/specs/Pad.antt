@@ -22,10 +22,10 @@ newest p a = newer (value_at p.script a) (newer (value_at p.batch a) (get_or p.k
 unfoldable pub wrote : Pad → ℕ → ℕ → Pad
 wrote p a v = record p { script = put p.script a v }
 
--- the known cells with these pairs over them
+-- the known cells with these pairs over them; the first pair for a cell counts
 abbrev pub over : List (Option ℕ) → List (ℕ × ℕ) → List (Option ℕ)
 over known [] = known
-over known (e ∷ es) = over (set known e.0 (Some e.1)) es
+over known (e ∷ es) = set (over known es) e.0 (Some e.1)
 
 -- what pairs say of the n cells from cell i on
 abbrev pub cells_from : ℕ → List (ℕ × ℕ) → ℕ → List (Option ℕ)

@@ -2,6 +2,7 @@
 #![tactic(auto)]
 
 mod cell_map;
+pub mod laws;
 mod part;
 mod plot;
 mod work;
