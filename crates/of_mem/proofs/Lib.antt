@@ -6,3 +6,4 @@ pub mod Heaps
 pub mod Standing
 pub mod Frames
 pub mod Moves
+pub mod Runs

@@ -6,3 +6,4 @@ pub mod Places
 pub mod Plots
 pub mod Programs
 pub mod Stores
+pub mod ProgramWork

@@ -78,6 +78,5 @@ OnlyReads (Read a k) = (v : ℕ) → OnlyReads (k v)
 OnlyReads (Write a v f) = ⊥
 
 -- each cell of which the partial memory has a number has that number in the whole memory
-pub record IsPartOf (size : ℕ) (p : Pad) (m : ℕ → ℕ) : Type 0 where
-  pub sized : length p.known ≡ size
-  pub is : (a v : ℕ) → newest p a ≡ Some v → m a ≡ v
+abbrev pub IsPartOf : Pad → (ℕ → ℕ) → Type 0
+IsPartOf p m = (a v : ℕ) → newest p a ≡ Some v → m a ≡ v
