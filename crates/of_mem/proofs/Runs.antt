@@ -1,0 +1,141 @@
+-- Programs on partial memory and on whole memory: a run on partial memory names a cell that is not known, or it does what the run on the whole memory does.
+use Rattle.std.proofs.Common.{◌≡◌, ℕ, ◌+◌, ◌<◌, ◌≤◌, ◌≢◌, ◌⊎◌, inl, inr, List, [], length, get_or, refl, sym, ◌∙◌, ap, subst, arith, Bool, true, false, Option, Some, None, ◌==◌, if◌then◌else◌}
+use Rattle.std.proofs.lemmas.Bool.{cases_eq}
+use Rattle.std.proofs.lemmas.Bool.Decides.{nat_tests}
+use Rattle.of_mem.specs.Pairs.{value_at, put, put_all}
+use Rattle.of_mem.specs.Pad.{Pad, newest, wrote, newer}
+use Rattle.of_mem.specs.Programs.{Program, Done, Read, Write, Ran, Lacks, Ends, with_number, run, then_do, changed, answer, after, writes, Inside, StaysFrom, OnlyReads, IsPartOf}
+use Rattle.of_mem.proofs.Changes.{changed_same, changed_other}
+use Rattle.of_mem.proofs.Indexed.{value_at_put}
+
+pub value_at_same : (es : List (ℕ × ℕ)) (a v : ℕ) → value_at (put es a v) a ≡ Some v
+value_at_same es a v = let e : (a == a) ≡ true = grind (arith, nat_tests) in value_at_put es a v a ∙ rw e refl
+
+pub value_at_other : (es : List (ℕ × ℕ)) (a v x : ℕ) → x ≢ a → value_at (put es a v) x ≡ value_at es x
+value_at_other es a v x n = let e : (a == x) ≡ false = grind (arith, nat_tests) in value_at_put es a v x ∙ rw e refl
+
+pub newest_same : (p : Pad) (a v : ℕ) → newest (wrote p a v) a ≡ Some v
+unfolding newest wrote
+newest_same p a v = rw (value_at_same p.script a v) refl
+
+pub newest_other : (p : Pad) (a v x : ℕ) → x ≢ a → newest (wrote p a v) x ≡ newest p x
+unfolding newest wrote
+newest_other p a v x n = rw (value_at_other p.script a v x n) refl
+
+pub part_wrote : (p : Pad) (m : ℕ → ℕ) (a v : ℕ) → IsPartOf p m → IsPartOf (wrote p a v) (changed m a v)
+part_wrote p m a v h x w e = elim (cases_eq x a) [
+      | inl q ↦ rw (q, changed_same m a v) (let k : Some v ≡ Some w = sym (newest_same p a v) ∙ subst (λ (y : ℕ). newest (wrote p a v) y ≡ Some w) q e in cc)
+      | inr n ↦ rw (changed_other m a v x n) (h x w (sym (newest_other p a v x n) ∙ e))
+    ]
+
+-- an unknown cell was unknown before a write
+still_unknown : (p : Pad) (a v x : ℕ) → newest (wrote p a v) x ≡ None → newest p x ≡ None
+still_unknown p a v x e =
+    elim (cases_eq x a) [
+      | inl q ↦ let k : newest (wrote p a v) a ≡ Some v = newest_same p a v in let k2 : newest (wrote p a v) a ≡ None = subst (λ (y : ℕ). newest (wrote p a v) y ≡ None) q e in cc
+      | inr n ↦ sym (newest_other p a v x n) ∙ e
+    ]
+
+-- how a run that ended ended
+pub record Ended {A : Type 0} (f : Program A) (p : Pad) (m : ℕ → ℕ) (r : A) (q : Pad) : Type 0 where
+  pub answers : r ≡ answer f m
+  pub part : IsPartOf q (after f m)
+  pub known : q.known ≡ p.known
+  pub batch : q.batch ≡ p.batch
+  pub script : q.script ≡ put_all p.script (writes f m)
+
+-- what a run on partial memory says of the run on a whole memory with which it agrees
+abbrev pub Follows : {A : Type 0} → ℕ → ℕ → Program A → Pad → (ℕ → ℕ) → Ran A → Type 0
+Follows low size f p m (Lacks a) = (low ≤ a) × (a < size) × (newest p a ≡ None)
+Follows low size f p m (Ends r q) = Ended f p m r q
+
+follows_write : {A : Type 0} (low size : ℕ) (f : Program A) (p : Pad) (m : ℕ → ℕ) (a v : ℕ) (r : Ran A) → Follows low size f (wrote p a v) (changed m a v) r → Follows low size (Write a v f) p m r
+unfolding wrote
+follows_write low size f p m a v (Lacks x) h = (h.0, h.1, still_unknown p a v x h.2)
+follows_write low size f p m a v (Ends r q) h = record { answers = h.answers; part = h.part; known = h.known; batch = h.batch; script = h.script }
+
+ended_read : {A : Type 0} (a : ℕ) (k : ℕ → Program A) (p : Pad) (m : ℕ → ℕ) (r : A) (q : Pad) → Ended (k (m a)) p m r q → Ended (Read a k) p m r q
+ended_read a k p m r q g = record { answers = g.answers; part = g.part; known = g.known; batch = g.batch; script = g.script }
+
+follows_read : {A : Type 0} (low size a : ℕ) (k : ℕ → Program A) (p : Pad) (m : ℕ → ℕ) (v : ℕ) → m a ≡ v → (r : Ran A) → Follows low size (k v) p m r → Follows low size (Read a k) p m r
+follows_read low size a k p m v is (Lacks x) g = g
+follows_read low size a k p m v is (Ends r q) g = ended_read a k p m r q (subst (λ (w : ℕ). Ended (k w) p m r q) (sym is) g)
+
+follows_option : {A : Type 0} (low size a : ℕ) (k : ℕ → Program A) (p : Pad) (m : ℕ → ℕ) → IsPartOf p m → Inside low size (Read a k) m → ((v : ℕ) → Inside low size (k v) m → Follows low size (k v) p m (run (k v) p))
+    → (o : Option ℕ) → newest p a ≡ o → Follows low size (Read a k) p m (with_number o a (λ v. run (k v) p))
+follows_option low size a k p m h i again None e = (i.0, i.1, e)
+follows_option low size a k p m h i again (Some v) e =
+    let is : m a ≡ v = h a v e in
+    follows_read low size a k p m v is (run (k v) p) (again v (subst (λ (w : ℕ). Inside low size (k w) m) is i.2))
+
+pub run_follows : {A : Type 0} (low size : ℕ) (f : Program A) (p : Pad) (m : ℕ → ℕ) → IsPartOf p m → Inside low size f m → Follows low size f p m (run f p)
+run_follows low size (Done r) p m h i = record { answers = refl; part = h; known = refl; batch = refl; script = refl }
+run_follows low size (Read a k) p m h i = follows_option low size a k p m h i (λ v j. run_follows low size (k v) p m h j) (newest p a) refl
+run_follows low size (Write a v f) p m h i = follows_write low size f p m a v (run f (wrote p a v)) (run_follows low size f (wrote p a v) (changed m a v) (part_wrote p m a v h) i.3)
+
+-- a run that ended
+pub run_ended : {A : Type 0} (low size : ℕ) (f : Program A) (p q : Pad) (m : ℕ → ℕ) (r : A) → IsPartOf p m → Inside low size f m → run f p ≡ Ends r q → Ended f p m r q
+run_ended low size f p q m r h i e = subst (Follows low size f p m) e (run_follows low size f p m h i)
+
+-- a run that lacks a cell
+pub run_lacks : {A : Type 0} (low size : ℕ) (f : Program A) (p : Pad) (m : ℕ → ℕ) (a : ℕ) → IsPartOf p m → Inside low size f m → run f p ≡ Lacks a → (low ≤ a) × (a < size) × (newest p a ≡ None)
+run_lacks low size f p m a h i e = subst (Follows low size f p m) e (run_follows low size f p m h i)
+
+-- One program after the other.
+
+abbrev pub chained : {A B : Type 0} → Ran A → (A → Pad → Ran B) → Ran B
+chained (Lacks a) k = Lacks a
+chained (Ends r q) k = k r q
+
+then_option : {A B : Type 0} (a : ℕ) (k : ℕ → Program A) (g : A → Program B) (p : Pad) → ((v : ℕ) → run (then_do (k v) g) p ≡ chained (run (k v) p) (λ r q. run (g r) q))
+    → (o : Option ℕ) → with_number o a (λ v. run (then_do (k v) g) p) ≡ chained (with_number o a (λ v. run (k v) p)) (λ r q. run (g r) q)
+then_option a k g p again None = refl
+then_option a k g p again (Some v) = again v
+
+pub run_then : {A B : Type 0} (f : Program A) (g : A → Program B) (p : Pad) → run (then_do f g) p ≡ chained (run f p) (λ r q. run (g r) q)
+run_then (Done r) g p = refl
+run_then (Read a k) g p = then_option a k g p (λ v. run_then (k v) g p) (newest p a)
+run_then (Write a v f) g p = run_then f g (wrote p a v)
+
+pub run_then_gives : {A B : Type 0} (f : Program A) (g : A → Program B) (p q : Pad) (r : A) → run f p ≡ Ends r q → run (then_do f g) p ≡ run (g r) q
+run_then_gives f g p q r e = run_then f g p ∙ ap (λ x. chained x (λ r q. run (g r) q)) e
+
+pub run_then_needs : {A B : Type 0} (f : Program A) (g : A → Program B) (p : Pad) (a : ℕ) → run f p ≡ Lacks a → run (then_do f g) p ≡ Lacks a
+run_then_needs f g p a e = run_then f g p ∙ ap (λ x. chained x (λ r q. run (g r) q)) e
+
+-- where the first one's answer is known to be r
+pub run_then_at : {A B : Type 0} (f : Program A) (g : A → Program B) (p q : Pad) (x r : A) → run f p ≡ Ends x q → x ≡ r → run (then_do f g) p ≡ run (g r) q
+run_then_at f g p q x r e is = run_then_gives f g p q r (e ∙ ap (λ y. Ends y q) is)
+
+pub answer_then : {A B : Type 0} (f : Program A) (g : A → Program B) (m : ℕ → ℕ) → answer (then_do f g) m ≡ answer (g (answer f m)) (after f m)
+answer_then (Done r) g m = refl
+answer_then (Read a k) g m = answer_then (k (m a)) g m
+answer_then (Write a v f) g m = answer_then f g (changed m a v)
+
+pub after_then : {A B : Type 0} (f : Program A) (g : A → Program B) (m : ℕ → ℕ) → after (then_do f g) m ≡ after (g (answer f m)) (after f m)
+after_then (Done r) g m = refl
+after_then (Read a k) g m = after_then (k (m a)) g m
+after_then (Write a v f) g m = after_then f g (changed m a v)
+
+pub inside_then : {A B : Type 0} (low size : ℕ) (f : Program A) (g : A → Program B) (m : ℕ → ℕ) → Inside low size f m → Inside low size (g (answer f m)) (after f m) → Inside low size (then_do f g) m
+inside_then low size (Done r) g m h k = k
+inside_then low size (Read a q) g m h k = (h.0, h.1, inside_then low size (q (m a)) g m h.2 k)
+inside_then low size (Write a v f) g m h k = (h.0, h.1, h.2, inside_then low size f g (changed m a v) h.3 k)
+
+pub stays_then : {A B : Type 0} (low : ℕ) (f : Program A) (g : A → Program B) → StaysFrom low f → ((r : A) → StaysFrom low (g r)) → StaysFrom low (then_do f g)
+stays_then low (Done r) g h k = k r
+stays_then low (Read a q) g h k = (h.0, λ v. stays_then low (q v) g (h.1 v) k)
+stays_then low (Write a v f) g h k = (h.0, stays_then low f g h.1 k)
+
+pub reads_then : {A B : Type 0} (f : Program A) (g : A → Program B) → OnlyReads f → ((r : A) → OnlyReads (g r)) → OnlyReads (then_do f g)
+reads_then (Done r) g h k = k r
+reads_then (Read a q) g h k = λ v. reads_then (q v) g (h v) k
+reads_then (Write a v f) g h k = absurd h
+
+-- One step of a run.
+
+pub run_read : {A : Type 0} (a : ℕ) (k : ℕ → Program A) (p : Pad) (v : ℕ) → newest p a ≡ Some v → run (Read a k) p ≡ run (k v) p
+run_read a k p v e = rw e refl
+
+pub run_unknown : {A : Type 0} (a : ℕ) (k : ℕ → Program A) (p : Pad) → newest p a ≡ None → run (Read a k) p ≡ Lacks a
+run_unknown a k p e = rw e refl
