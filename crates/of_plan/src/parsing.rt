@@ -1,7 +1,7 @@
 //! Plans from their texts.
 
 ghost use Rattle.std.specs.Prelude.{◌≡◌, IfOk, IfErr};
-ghost use Rattle.of_plan.specs.Plans.{SpellsPlan};
+ghost use Rattle.of_plan.specs.Grammar.{SpellsPlan};
 ghost use Rattle.of_plan.specs.Progress.{progress_of, start};
 ghost use Rattle.of_plan.specs.Parsed.{IsRefused};
 
