@@ -1,9 +1,11 @@
 //! Plans from their texts.
 
-ghost use Rattle.std.specs.Prelude.{◌≡◌, IfOk, IfErr};
-ghost use Rattle.of_plan.specs.Plans.{SpellsPlan};
+ghost use Rattle.std.specs.Prelude.{◌≡◌, IfOk, IfErr, MatchResult};
+ghost use Rattle.of_plan.specs.Grammar.{SpellsPlan};
 ghost use Rattle.of_plan.specs.Progress.{progress_of, start};
 ghost use Rattle.of_plan.specs.Parsed.{IsRefused};
+ghost use Rattle.of_plan.specs.Plan.{Plan};
+ghost use Rattle.of_plan.specs.declared.parsing.PlanErr.TheVariants.{Memory};
 
 use crate::plan::Plan;
 use crate::reading::{Reading, Stage};
@@ -53,6 +55,8 @@ pub fn parse(alloc: Global, text: &[u8]) -> Result<Plan, PlanErr>
     ensures ok { IfOk result (SpellsPlan text.now) }
     // A line that is named is the bad one, and then no plan is spelled.
     ensures bad { IfErr result (IsRefused text.now) }
+    // A text of the grammar is answered by its plan, unless memory runs out.
+    ensures only { (plan : Plan) → SpellsPlan text.now plan → MatchResult result (λ p. p ≡ plan) (λ e. e ≡ Memory) }
 {
     let mut reading = begun(alloc);
     let mut number: u64 = 0;
