@@ -3,19 +3,10 @@ use Rattle.std.specs.Prelude.{◌≡◌, ℕ, ◌+◌, ◌-◌, ◌≤◌, ◌<�
 use Rattle.std.specs.Bool.{MatchBool}
 use Rattle.std.specs.List.{range_with_len}
 use Rattle.of_script.specs.declared.instr.Instr.{Instr}
-use Rattle.of_script.specs.declared.instr.Instr.TheVariants.{Load, Get, Need, Len, Count}
+use Rattle.of_script.specs.Language.{reads_only}
 use Rattle.of_store.specs.State.{replies, last_store}
 use Rattle.of_plan.specs.Plan.{Plan, scripts_of, bound_of}
 use Rattle.of_plan.specs.Report.{CallEntry, EndState, done, stopped, spent, CallerLine, Report, Start, entries_of, line_of, finished_of}
-
--- an instruction that writes nothing
-abbrev pub reads_only : Instr → Bool
-reads_only (Load r) = true
-reads_only (Get k) = true
-reads_only (Need k v) = true
-reads_only (Len q) = true
-reads_only Count = true
-reads_only _ = false
 
 -- the script of an entry
 abbrev pub script_of : Plan → CallEntry → List Instr
@@ -72,11 +63,11 @@ HaveReplies p s r = map (λ e. e.reply) r.entries ≡ replies s.store (map (scri
 abbrev pub IsFinalStore : Plan → Start → Report → Type 0
 IsFinalStore p s r = r.store ≡ last_store s.store (map (script_of p) r.entries)
 
--- a caller is done where it has answered all its scripts; where it is spent, the limit is reached
-abbrev pub IsEnding : Plan → Start → Report → ℕ → EndState → Type 0
-IsEnding p s r c done = (line_of r c).answered ≡ to_do p s c
-IsEnding p s r c stopped = (line_of r c).answered < to_do p s c
-IsEnding p s r c spent = ((line_of r c).answered < to_do p s c) × (r.seq ≡ p.limit)
+-- a caller is done where it has answered all that it had to do; where it is spent, the limit is reached
+abbrev pub HasEnded : EndState → (answered to_do seq limit : ℕ) → Type 0
+HasEnded done answered to_do seq limit = answered ≡ to_do
+HasEnded stopped answered to_do seq limit = answered < to_do
+HasEnded spent answered to_do seq limit = (answered < to_do) × (seq ≡ limit)
 
 -- the longest answered call is within the step bound, and is 0 where none was answered
 abbrev pub IsWithinBound : Plan → CallerLine → Type 0
@@ -89,5 +80,5 @@ pub record IsLegal (p : Plan) (s : Start) (r : Report) : Type 0 where
   pub by_sequence : StandBySequence p s r
   pub replies : HaveReplies p s r
   pub final_store : IsFinalStore p s r
-  pub endings : (c : ℕ) → c < p.callers → IsEnding p s r c (line_of r c).state
+  pub endings : (c : ℕ) → c < p.callers → HasEnded (line_of r c).state (line_of r c).answered (to_do p s c) r.seq p.limit
   pub within_bound : All (IsWithinBound p) r.callers

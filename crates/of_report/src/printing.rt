@@ -1,6 +1,7 @@
 //! Texts of reports.
 
-ghost use Rattle.std.specs.Prelude.{◌≡◌, ◌++◌, IfOk, OnOk, string_bytes};
+ghost use Rattle.std.specs.Prelude.{◌≡◌, ◌++◌, IfOk, OnOk, flat_map, map, take, string_bytes};
+ghost use Rattle.std.specs.List.{enumerate_from};
 ghost use Rattle.of_store.specs.Replies.{response_of};
 ghost use Rattle.of_report.specs.Report.{entry_of, line_of, state_of, report_of};
 ghost use Rattle.of_report.specs.ReportText.{value_text, cause_text, reply_text, kind_text, entry_line, state_text, caller_line, seq_line, report_text};
@@ -8,7 +9,7 @@ ghost use Rattle.of_report.specs.ReportText.{value_text, cause_text, reply_text,
 use crate::report::{Entry, Line, Report};
 use crate::store::put_store;
 use of_plan::Ending;
-use of_script::{Cause, MOST_INSTRS, Reply};
+use of_script::{Cause, Reply};
 use std::alloc::{AllocError, Global};
 use std::fmt::Write;
 
@@ -35,6 +36,14 @@ fn put_value(out: &mut String, value: Option<u32>) -> Result<(), AllocError>
     }
 }
 
+// The values of the instructions that were run.
+fn answered(reply: &Reply) -> &[Option<u32>]
+    ensures { result.now ≡ take reply.now.len reply.now.values }
+{
+    let values = reply.values.as_slice();
+    &values[..usize::from(reply.len).min(values.len())]
+}
+
 // Writes the words of a reply, each behind a space.
 fn put_reply(out: &mut String, reply: &Reply) -> Result<(), AllocError>
     ensures { OnOk result (string_bytes out.new ≡ string_bytes out.old ++ reply_text (response_of reply.now)) }
@@ -46,8 +55,7 @@ fn put_reply(out: &mut String, reply: &Reply) -> Result<(), AllocError>
             write!(out, " abort {place} {cause}")
         }
         None => {
-            let count = usize::from(reply.len).min(MOST_INSTRS);
-            for value in &reply.values[..count] {
+            for value in answered(reply) {
                 put_value(out, *value)?;
             }
             Ok(())
@@ -101,18 +109,34 @@ fn put_seq(out: &mut String, seq: u32) -> Result<(), AllocError>
     write!(out, "seq {seq}\n")
 }
 
+// Writes the lines of the entries.
+fn put_entries(out: &mut String, entries: &[Entry]) -> Result<(), AllocError>
+    ensures { OnOk result (string_bytes out.new ≡ string_bytes out.old ++ flat_map entry_line (map entry_of entries.now)) }
+{
+    for entry in entries {
+        put_entry(out, entry)?;
+    }
+    Ok(())
+}
+
+// Writes the lines of the callers.
+fn put_callers(out: &mut String, callers: &[Line]) -> Result<(), AllocError>
+    ensures { OnOk result (string_bytes out.new ≡ string_bytes out.old ++ flat_map caller_line (enumerate_from 0 (map line_of callers.now))) }
+{
+    for (caller, line) in callers.iter().enumerate() {
+        put_caller(out, caller, line)?;
+    }
+    Ok(())
+}
+
 impl Report {
     /// The text of the report.
     pub fn print(&self, alloc: Global) -> Result<Vec<u8>, AllocError>
         ensures { IfOk result (λ text. text.items ≡ report_text (report_of self.now)) }
     {
         let mut out = String::from_str(alloc, "onefile report 1\n")?;
-        for entry in &self.entries {
-            put_entry(&mut out, entry)?;
-        }
-        for (caller, line) in self.callers.iter().enumerate() {
-            put_caller(&mut out, caller, line)?;
-        }
+        put_entries(&mut out, &self.entries)?;
+        put_callers(&mut out, &self.callers)?;
         put_seq(&mut out, self.seq)?;
         put_store(&mut out, &self.store)?;
         out.push_str("end\n")?;

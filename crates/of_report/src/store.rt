@@ -3,7 +3,7 @@
 ghost use Rattle.std.specs.Prelude.{◌≡◌, ◌≢◌, ◌++◌, OnOk, flat_map, string_bytes};
 ghost use Rattle.std.specs.List.{enumerate_from};
 ghost use Rattle.std.specs.FinMap as fm;
-ghost use Rattle.of_report.specs.StoreText.{register_line, key_line, queue_line, store_text};
+ghost use Rattle.of_report.specs.StoreText.{register_line, key_line, queue_line, queue_lines, store_text};
 
 use of_store::Store;
 use std::alloc::AllocError;
@@ -63,7 +63,7 @@ fn put_keys(out: &mut String, store: &Store) -> Result<(), AllocError>
 
 // Writes the queues that are not empty.
 fn put_queues(out: &mut String, store: &Store) -> Result<(), AllocError>
-    ensures { OnOk result (string_bytes out.new ≡ string_bytes out.old ++ flat_map queue_line (enumerate_from 0 store.now.queues)) }
+    ensures { OnOk result (string_bytes out.new ≡ string_bytes out.old ++ queue_lines store.now) }
 {
     for number in 0..4 {
         put_queue(out, number, store.queue(number))?;
