@@ -1,9 +1,9 @@
 -- Programs on partial memory and on whole memory: a run on partial memory names a cell that is not known, or it does what the run on the whole memory does.
-use Rattle.std.proofs.Common.{◌≡◌, ℕ, ◌+◌, ◌<◌, ◌≤◌, ◌≢◌, ◌⊎◌, inl, inr, List, [], length, get_or, refl, sym, ◌∙◌, ap, subst, arith, Bool, true, false, Option, Some, None, ◌==◌, if◌then◌else◌}
+use Rattle.std.proofs.Common.{◌≡◌, ℕ, ◌<◌, ◌≤◌, ◌≢◌, inl, inr, List, refl, sym, ◌∙◌, ap, subst, arith, true, false, Option, Some, None, ◌==◌}
 use Rattle.std.proofs.lemmas.Bool.{cases_eq}
 use Rattle.std.proofs.lemmas.Bool.Decides.{nat_tests}
 use Rattle.of_mem.specs.Pairs.{value_at, put, put_all}
-use Rattle.of_mem.specs.Pad.{Pad, newest, wrote, newer}
+use Rattle.of_mem.specs.Pad.{Pad, newest, wrote}
 use Rattle.of_mem.specs.Programs.{Program, Done, Read, Write, Ran, Lacks, Ends, with_number, run, then_do, changed, answer, after, writes, Inside, StaysFrom, OnlyReads, IsPartOf}
 use Rattle.of_mem.proofs.Changes.{changed_same, changed_other}
 use Rattle.of_mem.proofs.Indexed.{value_at_put}
@@ -24,9 +24,9 @@ newest_other p a v x n = rw (value_at_other p.script a v x n) refl
 
 pub part_wrote : (p : Pad) (m : ℕ → ℕ) (a v : ℕ) → IsPartOf p m → IsPartOf (wrote p a v) (changed m a v)
 part_wrote p m a v h x w e = elim (cases_eq x a) [
-      | inl q ↦ rw (q, changed_same m a v) (let k : Some v ≡ Some w = sym (newest_same p a v) ∙ subst (λ (y : ℕ). newest (wrote p a v) y ≡ Some w) q e in cc)
-      | inr n ↦ rw (changed_other m a v x n) (h x w (sym (newest_other p a v x n) ∙ e))
-    ]
+  | inl q ↦ rw (q, changed_same m a v) (let k : Some v ≡ Some w = sym (newest_same p a v) ∙ subst (λ (y : ℕ). newest (wrote p a v) y ≡ Some w) q e in cc)
+  | inr n ↦ rw (changed_other m a v x n) (h x w (sym (newest_other p a v x n) ∙ e))
+]
 
 -- an unknown cell was unknown before a write
 still_unknown : (p : Pad) (a v x : ℕ) → newest (wrote p a v) x ≡ None → newest p x ≡ None
