@@ -1,5 +1,5 @@
 -- Programs on partial memory and on whole memory: a run on partial memory names a cell that is not known, or it does what the run on the whole memory does.
-use Rattle.std.proofs.Common.{◌≡◌, ℕ, ◌<◌, ◌≤◌, ◌≢◌, inl, inr, List, refl, sym, ◌∙◌, ap, subst, arith, true, false, Option, Some, None, ◌==◌}
+use Rattle.std.proofs.Common.{List, [], ◌∷◌, ◌++◌, ◌≡◌, ℕ, ◌<◌, ◌≤◌, ◌≢◌, inl, inr, List, refl, sym, ◌∙◌, ap, subst, arith, true, false, Option, Some, None, ◌==◌}
 use Rattle.std.proofs.lemmas.Bool.{cases_eq}
 use Rattle.std.proofs.lemmas.Bool.Decides.{nat_tests}
 use Rattle.of_mem.specs.Pairs.{value_at, put, put_all}
@@ -131,6 +131,18 @@ pub reads_then : {A B : Type 0} (f : Program A) (g : A → Program B) → OnlyRe
 reads_then (Done r) g h k = k r
 reads_then (Read a q) g h k = λ v. reads_then (q v) g (h v) k
 reads_then (Write a v f) g h k = absurd h
+
+pub writes_then : {A B : Type 0} (f : Program A) (g : A → Program B) (m : ℕ → ℕ) → writes (then_do f g) m ≡ writes f m ++ writes (g (answer f m)) (after f m)
+writes_then (Done r) g m = refl
+writes_then (Read a k) g m = writes_then (k (m a)) g m
+writes_then (Write a v f) g m = ap (λ (es : List (ℕ × ℕ)). (a, v) ∷ es) (writes_then f g (changed m a v))
+
+abbrev pad : List (Option ℕ) → List (ℕ × ℕ) → List (ℕ × ℕ) → Pad
+pad known batch script = record { known = known; batch = batch; script = script }
+
+-- a run without writes leaves the partial memory as it was
+pub unchanged : {A : Type 0} (f : Program A) (p q : Pad) (m : ℕ → ℕ) (r : A) → Ended f p m r q → writes f m ≡ [] → q ≡ p
+unchanged f p q m r e none = ap (λ (x : List (Option ℕ)). pad x q.batch q.script) e.known ∙ ap (λ (x : List (ℕ × ℕ)). pad p.known x q.script) e.batch ∙ ap (pad p.known p.batch) (e.script ∙ ap (put_all p.script) none)
 
 -- One step of a run.
 

@@ -82,6 +82,7 @@ impl Part {
         requires { addr < length self.old.known }
         ensures writes { self.new ≡ wrote self.old addr value }
         ensures known { self.new.known ≡ self.old.known }
+        ensures batch { self.new.batch ≡ self.old.batch }
     {
         self.script.put(addr, value);
     }

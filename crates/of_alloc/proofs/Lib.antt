@@ -1,0 +1,3 @@
+pub mod Takings
+pub mod Givings
+pub mod Heaped
