@@ -49,15 +49,3 @@ pub fn give(plot: &Plot, part: &mut Part, block: u32) -> Result<(), Need>
     part.write(plot.free(), block + 1);
     Ok(())
 }
-
-#[cfg(test)]
-mod tests {
-    use crate::{give, take};
-    use of_mem::{Need, Part, Plot};
-    use std::test::Fail;
-
-    #[test]
-    fn takes_the_only_block_again(rt: HostRuntime) -> Result<(), Fail> {
-        Ok(())
-    }
-}

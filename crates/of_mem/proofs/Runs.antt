@@ -1,9 +1,10 @@
 -- Programs on partial memory and on whole memory: a run on partial memory names a cell that is not known, or it does what the run on the whole memory does.
-use Rattle.std.proofs.Common.{List, [], ◌∷◌, ◌++◌, ◌≡◌, ℕ, ◌<◌, ◌≤◌, ◌≢◌, inl, inr, List, refl, sym, ◌∙◌, ap, subst, arith, true, false, Option, Some, None, ◌==◌}
-use Rattle.std.proofs.lemmas.Bool.{cases_eq}
+use Rattle.std.proofs.Common.{replicate, length, get_or, set, ◌⊎◌, List, [], ◌∷◌, ◌++◌, ◌≡◌, ℕ, ◌<◌, ◌≤◌, ◌≢◌, inl, inr, List, refl, sym, ◌∙◌, ap, subst, arith, true, false, Option, Some, None, ◌==◌}
+use Rattle.std.proofs.lemmas.Bool.{cases_eq, cases_lt}
+use Rattle.std.proofs.lemmas.List.{get_or-replicate, get_or_past, length-replicate, get_or-set_same, get_or-set_other}
 use Rattle.std.proofs.lemmas.Bool.Decides.{nat_tests}
 use Rattle.of_mem.specs.Pairs.{value_at, put, put_all}
-use Rattle.of_mem.specs.Pad.{Pad, newest, wrote}
+use Rattle.of_mem.specs.Pad.{newer, Pad, newest, wrote}
 use Rattle.of_mem.specs.Programs.{Program, Done, Read, Write, Ran, Lacks, Ends, with_number, run, then_do, changed, answer, after, writes, Inside, StaysFrom, OnlyReads, IsPartOf}
 use Rattle.of_mem.proofs.Changes.{changed_same, changed_other}
 use Rattle.of_mem.proofs.Indexed.{value_at_put}
@@ -151,3 +152,25 @@ run_read a k p v e = rw e refl
 
 pub run_unknown : {A : Type 0} (a : ℕ) (k : ℕ → Program A) (p : Pad) → newest p a ≡ None → run (Read a k) p ≡ Lacks a
 run_unknown a k p e = rw e refl
+
+-- What is known at first, and after a cell was learnt.
+
+none_at : (n a : ℕ) → newest (record { known = replicate n None; batch = []; script = [] }) a ≡ None
+unfolding newest
+none_at n a = elim (cases_lt a n) [ inl l ↦ get_or-replicate {A = Option ℕ} n a None None l | inr l ↦ get_or_past {X = Option ℕ} (replicate n None) a None (rw length-replicate l) ]
+
+pub part_of_nothing : (p : Pad) (n : ℕ) (m : ℕ → ℕ) → p ≡ record { known = replicate n None; batch = []; script = [] } → IsPartOf p m
+part_of_nothing p n m e a v q = let k : None ≡ Some v = sym (none_at n a) ∙ subst (λ (x : Pad). newest x a ≡ Some v) e q in cc
+
+-- the newest number where one cell more is known
+by_known : (b s k l : Option ℕ) (m v w : ℕ) → (newer s (newer b l) ≡ Some w → m ≡ w) → k ≡ Some v → m ≡ v → newer s (newer b k) ≡ Some w → m ≡ w
+by_known b (Some x) k l m v w h e is q = h q
+by_known (Some x) None k l m v w h e is q = h q
+by_known None None k l m v w h e is q = let t : Some v ≡ Some w = sym e ∙ q in cc
+
+pub part_learned : (p : Pad) (m : ℕ → ℕ) (a v : ℕ) → a < length p.known → m a ≡ v → IsPartOf p m → IsPartOf (record p { known = set p.known a (Some v) }) m
+unfolding newest
+part_learned p m a v l is h x w q = elim (cases_eq x a) [
+      | inl e ↦ by_known (value_at p.batch x) (value_at p.script x) (get_or (set p.known a (Some v)) x None) (get_or p.known x None) (m x) v w (h x w) (rw e (get_or-set_same p.known a (Some v) None l)) (rw e is) q
+      | inr n ↦ h x w (rw (get_or-set_other p.known a x (Some v) None n) at q)
+    ]
