@@ -6,8 +6,9 @@ use Rattle.of_mem.specs.Places.{fresh_at, free_at, cells_at}
 use Rattle.of_mem.specs.Programs.{Program, Done, Read, Write, changed, answer, after, Inside}
 use Rattle.of_mem.specs.Stores.{IsChain, IsHeap, front_at, link_at, total}
 use Rattle.of_mem.proofs.Changes.{changed_same, changed_other, total_changed, total_changed_past}
-use Rattle.of_mem.proofs.Heaps.{front_free}
-use Rattle.of_mem.proofs.Moves.{heap_unlink, heap_fresh, heap_front, heap_changed_out}
+use Rattle.of_mem.proofs.Heaps.{front_free, each_weaker}
+use Rattle.of_mem.proofs.Moves.{heap_unlink, heap_fresh, heap_front, heap_changed_out, out_owner, blocks_apart}
+use Rattle.of_alloc.specs.Blocks.{IsFreeList, IsOut}
 use Rattle.of_alloc.specs.BlockPrograms.{take_program, with_free, with_fresh, with_link, take_fresh, give_program}
 use Rattle.of_alloc.specs.Took.{Took}
 
@@ -66,3 +67,17 @@ give_heap o blocks m chains owner b h out is =
     subst (λ (a : ℕ). IsHeap o blocks (changed (changed m (link_at o b) (m (free_at o))) a (b + 1)) (changed (changed chains 37 []) 0 (b ∷ chains 0)) (changed owner b 0)) (front_free o)
       (heap_front o blocks (changed m (link_at o b) (m (free_at o))) chains owner (heap_changed_out o blocks m chains owner h b (m (free_at o)) is) 0 b (omega arith) out
         (changed_same m (link_at o b) (m (free_at o)) ∙ sym (ap (changed m (link_at o b) (m (free_at o))) (front_free o) ∙ changed_other m (link_at o b) (m (free_at o)) (free_at o) (λ e. omega arith))))
+
+-- A heap has a free list, and the block that is out isn't in it.
+
+pub heap_free_list : (o blocks : ℕ) (m : ℕ → ℕ) (chains : ℕ → List ℕ) (owner : ℕ → ℕ) → IsHeap o blocks m chains owner → IsFreeList o blocks m (chains 0)
+heap_free_list o blocks m chains owner h = record {
+  linked = subst (λ (a : ℕ). IsChain o m a (chains 0)) (front_free o) (h.linked 0 (omega arith));
+  below = each_weaker (λ b. (b < m (fresh_at o)) × (owner b ≡ 0)) (λ b. b < m (fresh_at o)) (λ b k. k.0) (chains 0) (h.owned 0 (omega arith));
+  few = h.few;
+}
+
+pub heap_out : (o blocks : ℕ) (m : ℕ → ℕ) (chains : ℕ → List ℕ) (owner : ℕ → ℕ) (b : ℕ) → IsHeap o blocks m chains owner → chains 37 ≡ b ∷ [] → IsOut o m (chains 0) b
+heap_out o blocks m chains owner b h out =
+    let u = out_owner o blocks m chains owner h b out in
+    (u.0, blocks_apart o blocks m chains owner h 0 b (omega arith) (λ (e : owner b ≡ 0). omega (arith, u.1)))

@@ -10,3 +10,4 @@ pub mod Runs
 pub mod Writes
 pub mod Overlaid
 pub mod Sounds
+pub mod Counts

@@ -174,3 +174,7 @@ part_learned p m a v l is h x w q = elim (cases_eq x a) [
       | inl e ↦ by_known (value_at p.batch x) (value_at p.script x) (get_or (set p.known a (Some v)) x None) (get_or p.known x None) (m x) v w (h x w) (rw e (get_or-set_same p.known a (Some v) None l)) (rw e is) q
       | inr n ↦ h x w (rw (get_or-set_other p.known a x (Some v) None n) at q)
     ]
+
+-- what is read of a cell after writes to other cells
+pub read_before : (p : Pad) (a v x w : ℕ) → x ≢ a → newest (wrote p a v) x ≡ Some w → newest p x ≡ Some w
+read_before p a v x w n e = sym (newest_other p a v x n) ∙ e
