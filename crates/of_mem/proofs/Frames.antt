@@ -1,13 +1,11 @@
 -- What a change of memory leaves of buckets and queues.
-use Rattle.std.proofs.Common.{◌≡◌, ℕ, zero, suc, ◌+◌, ◌-◌, ◌*◌, ◌%◌, ◌<◌, ◌≤◌, ◌≢◌, ◌⊎◌, inl, inr, refl, sym, ◌∙◌, ap, subst, arith, eqb, cond, Bool, true, false, Option, Some, None, List, [], ◌∷◌, ◌++◌, length, eq-eqb, map}
+use Rattle.std.proofs.Common.{◌≡◌, ℕ, ◌≢◌, refl, sym, ◌∙◌, ap, eqb, cond, Bool, true, false, Some, None, List, [], ◌∷◌, ◌++◌, map}
 use Rattle.std.specs.List.{AllByRecursion as Each}
-use Rattle.std.proofs.lemmas.Bool.{ne_eqb, eqb-true, eqb-false}
+use Rattle.std.proofs.lemmas.Bool.{ne_eqb, eqb-false}
 use Rattle.std.proofs.lemmas.Option.{none-some}
-use Rattle.of_mem.specs.Places.{bucket_at, cells_at, block_at, tail_at, length_at}
-use Rattle.of_mem.specs.Programs.{changed}
-use Rattle.of_mem.specs.Stores.{IsChain, IsBucket, IsQueue, IsNumber, link_at, first_at, second_at, value_in, last_pointer}
-use Rattle.of_mem.proofs.Changes.{changed_same, changed_other}
-use Rattle.of_mem.proofs.Heaps.{each_weaker, each_left, each_right, each_append}
+use Rattle.of_mem.specs.Places.{tail_at, length_at}
+use Rattle.of_mem.specs.Stores.{IsBucket, IsQueue, first_at, second_at, value_in}
+use Rattle.of_mem.proofs.Heaps.{each_left, each_right, each_append}
 
 -- the first and second cells of these blocks are the same
 abbrev pub SameBlocks : ℕ → (ℕ → ℕ) → (ℕ → ℕ) → List ℕ → Type 0
@@ -57,9 +55,10 @@ pub bucket_split : (o : ℕ) (m : ℕ → ℕ) (n b : ℕ) (xs ys : List ℕ) �
 bucket_split o m n b [] ys h = (h.4, h.3)
 bucket_split o m n b (x ∷ xs) ys h =
     let r = bucket_split o m n b xs ys h.4 in
-    let apart : m (first_at o b) ≢ m (first_at o x) = (each_right (λ z. m (first_at o z) ≢ m (first_at o x)) xs (b ∷ ys) h.3).0 in
-    ((h.0, h.1, h.2, each_append (λ z. m (first_at o z) ≢ m (first_at o x)) xs ys (each_left (λ z. m (first_at o z) ≢ m (first_at o x)) xs (b ∷ ys) h.3) (each_right (λ z. m (first_at o z) ≢ m (first_at o x)) xs (b ∷ ys) h.3).1, r.0)
-    , ((λ (e : m (first_at o x) ≡ m (first_at o b)). apart (sym e)), r.1))
+    let apart : m (first_at o b) ≢ m (first_at o x) = (each_right (λ z. m (first_at o z) ≢ m (first_at o x)) xs (b ∷ ys) h.3).0 in (
+      (h.0, h.1, h.2, each_append (λ z. m (first_at o z) ≢ m (first_at o x)) xs ys (each_left (λ z. m (first_at o z) ≢ m (first_at o x)) xs (b ∷ ys) h.3) (each_right (λ z. m (first_at o z) ≢ m (first_at o x)) xs (b ∷ ys) h.3).1, r.0),
+      ((λ (e : m (first_at o x) ≡ m (first_at o b)). apart (sym e)), r.1),
+    )
 
 pub value_without : (o : ℕ) (m : ℕ → ℕ) (key b : ℕ) (xs ys : List ℕ) → m (first_at o b) ≢ key → value_in o m key (xs ++ ys) ≡ value_in o m key (xs ++ b ∷ ys)
 value_without o m key b [] ys n = rw (ne_eqb (m (first_at o b)) key n) refl

@@ -1,12 +1,12 @@
 -- Chains of blocks, and what a write does to them.
-use Rattle.std.proofs.Common.{◌≡◌, ℕ, zero, suc, ◌+◌, ◌-◌, ◌*◌, ◌<◌, ◌≤◌, ◌≢◌, ◌⊎◌, inl, inr, List, [], ◌∷◌, ◌++◌, length, refl, sym, ◌∙◌, ap, subst, arith, Bool, true, false, cond, ltb}
+use Rattle.std.proofs.Common.{◌≡◌, ℕ, ◌+◌, ◌*◌, ◌<◌, ◌≤◌, ◌≢◌, ◌⊎◌, inl, inr, List, [], ◌∷◌, ◌++◌, length, refl, sym, ◌∙◌, ap, subst, arith}
 use Rattle.std.specs.List.{AllByRecursion as Each}
-use Rattle.std.proofs.lemmas.Bool.{cases_eq, cases_lt}
+use Rattle.std.proofs.lemmas.Bool.{cases_lt}
 use Rattle.std.proofs.lemmas.Bool.Decides.{nat_tests}
-use Rattle.of_mem.specs.Places.{register_at, fresh_at, free_at, keys_at, bucket_at, head_at, tail_at, length_at, block_at, cells_at}
+use Rattle.of_mem.specs.Places.{free_at, keys_at, bucket_at, head_at}
 use Rattle.of_mem.specs.Programs.{changed}
-use Rattle.of_mem.specs.Stores.{IsChain, IsHeap, front_at, link_at, cell_after, total}
-use Rattle.of_mem.proofs.Changes.{changed_same, changed_other, changed_cases, total_changed}
+use Rattle.of_mem.specs.Stores.{IsChain, front_at, link_at, cell_after}
+use Rattle.of_mem.proofs.Changes.{changed_same, changed_other}
 
 pub front_free : (o : ℕ) → front_at o 0 ≡ free_at o
 unfolding front_at
@@ -24,9 +24,9 @@ front_head o q = grind (arith, nat_tests)
 pub fronts : (o c : ℕ) → c < 37 → ((c ≡ 0) × (front_at o c ≡ o + 17)) ⊎ (((1 ≤ c) × (c < 33) × (front_at o c ≡ o + 18 + c)) ⊎ ((33 ≤ c) × (front_at o c + 48 ≡ o + 3 * c)))
 unfolding front_at
 fronts o c l = elim (cases_lt c 1) [
-      | inl a ↦ inl (omega arith, grind (arith, nat_tests))
-      | inr a ↦ elim (cases_lt c 33) [ inl b ↦ inr (inl (a, b, grind (arith, nat_tests))) | inr b ↦ inr (inr (b, grind (arith, nat_tests))) ]
-    ]
+  | inl a ↦ inl (omega arith, grind (arith, nat_tests))
+  | inr a ↦ elim (cases_lt c 33) [ inl b ↦ inr (inl (a, b, grind (arith, nat_tests))) | inr b ↦ inr (inr (b, grind (arith, nat_tests))) ]
+]
 
 pub front_apart : (o c d : ℕ) → c < 37 → d < 37 → front_at o c ≡ front_at o d → c ≡ d
 front_apart o c d l k e = grind (arith, fronts o c l, fronts o d k)
@@ -67,9 +67,10 @@ same_chain o m c (a ∷ xs) (b ∷ bs) h g =
 
 not_in : (o : ℕ) (m : ℕ → ℕ) (c b : ℕ) (l k : List ℕ) → IsChain o m c l → IsChain o m (link_at o b) k → length l ≤ length k → Each (λ x. x ≢ b) l
 not_in o m c b [] k h g s = tt
-not_in o m c b (x ∷ xs) k h g s =
-    (λ (e : x ≡ b). let r : xs ≡ k = same_chain o m (link_at o b) xs k (subst (λ (y : ℕ). IsChain o m (link_at o y) xs) e h.1) g in omega (arith, ap length r)
-    , not_in o m (link_at o x) b xs k h.1 g (omega arith))
+not_in o m c b (x ∷ xs) k h g s = (
+  λ (e : x ≡ b). let r : xs ≡ k = same_chain o m (link_at o b) xs k (subst (λ (y : ℕ). IsChain o m (link_at o y) xs) e h.1) g in omega (arith, ap length r),
+  not_in o m (link_at o x) b xs k h.1 g (omega arith),
+)
 
 -- so no block stands in a chain twice
 pub chain_once : (o : ℕ) (m : ℕ → ℕ) (c b : ℕ) (bs : List ℕ) → IsChain o m c (b ∷ bs) → Each (λ x. x ≢ b) bs
@@ -91,24 +92,27 @@ pub chain_unlink : (o : ℕ) (m : ℕ → ℕ) (cell b : ℕ) (xs ys : List ℕ)
     → IsChain o (changed m (cell_after o cell xs) (m (link_at o b))) cell (xs ++ ys)
 chain_unlink o m cell b [] ys h k =
     chain_copy o m (changed m cell (m (link_at o b))) (link_at o b) cell ys (changed_same m cell (m (link_at o b)))
-      (each_weaker (λ x. link_at o x ≢ cell) (λ x. changed m cell (m (link_at o b)) (link_at o x) ≡ m (link_at o x)) (λ x n. changed_other m cell (m (link_at o b)) (link_at o x) n) ys k.1) h.1
-chain_unlink o m cell b (x ∷ xs) ys h k =
-    (changed_other m (cell_after o (link_at o x) xs) (m (link_at o b)) cell (cell_in o (λ a. cell ≢ a) (link_at o x) xs (λ (e : cell ≡ link_at o x). k.0 (sym e))
-        (each_weaker (λ z. link_at o z ≢ cell) (λ z. cell ≢ link_at o z) (λ z n e. n (sym e)) xs (each_left (λ z. link_at o z ≢ cell) xs (b ∷ ys) k.1))) ∙ h.0
-    , chain_unlink o m (link_at o x) b xs ys h.1 (each_weaker (λ z. z ≢ x) (λ z. link_at o z ≢ link_at o x) (λ z n. link_apart o z x n) (xs ++ b ∷ ys) (chain_once o m cell x (xs ++ b ∷ ys) h)))
+    (each_weaker (λ x. link_at o x ≢ cell) (λ x. changed m cell (m (link_at o b)) (link_at o x) ≡ m (link_at o x)) (λ x n. changed_other m cell (m (link_at o b)) (link_at o x) n) ys k.1) h.1
+chain_unlink o m cell b (x ∷ xs) ys h k = (
+  changed_other m (cell_after o (link_at o x) xs) (m (link_at o b)) cell (cell_in o (λ a. cell ≢ a) (link_at o x) xs (λ (e : cell ≡ link_at o x). k.0 (sym e))
+      (each_weaker (λ z. link_at o z ≢ cell) (λ z. cell ≢ link_at o z) (λ z n e. n (sym e)) xs (each_left (λ z. link_at o z ≢ cell) xs (b ∷ ys) k.1))) ∙ h.0,
+  chain_unlink o m (link_at o x) b xs ys h.1 (each_weaker (λ z. z ≢ x) (λ z. link_at o z ≢ link_at o x) (λ z n. link_apart o z x n) (xs ++ b ∷ ys) (chain_once o m cell x (xs ++ b ∷ ys) h)),
+)
 
 pub chain_append : (o : ℕ) (m : ℕ → ℕ) (cell b : ℕ) (l : List ℕ) → IsChain o m cell l → Each (λ x. link_at o x ≢ cell) l → link_at o b ≢ cell → Each (λ x. x ≢ b) l → m (link_at o b) ≡ 0
     → IsChain o (changed m (cell_after o cell l) (b + 1)) cell (l ++ b ∷ [])
 chain_append o m cell b [] h k n e z = (changed_same m cell (b + 1), changed_other m cell (b + 1) (link_at o b) n ∙ z)
-chain_append o m cell b (x ∷ xs) h k n e z =
-    (changed_other m (cell_after o (link_at o x) xs) (b + 1) cell (cell_in o (λ a. cell ≢ a) (link_at o x) xs (λ (q : cell ≡ link_at o x). k.0 (sym q))
-        (each_weaker (λ y. link_at o y ≢ cell) (λ y. cell ≢ link_at o y) (λ y i q. i (sym q)) xs k.1)) ∙ h.0
-    , chain_append o m (link_at o x) b xs h.1 (each_weaker (λ y. y ≢ x) (λ y. link_at o y ≢ link_at o x) (λ y i. link_apart o y x i) xs (chain_once o m cell x xs h))
-        (link_apart o b x (λ (q : b ≡ x). e.0 (sym q))) e.1 z)
+chain_append o m cell b (x ∷ xs) h k n e z = (
+  changed_other m (cell_after o (link_at o x) xs) (b + 1) cell (cell_in o (λ a. cell ≢ a) (link_at o x) xs (λ (q : cell ≡ link_at o x). k.0 (sym q))
+      (each_weaker (λ y. link_at o y ≢ cell) (λ y. cell ≢ link_at o y) (λ y i q. i (sym q)) xs k.1)) ∙ h.0,
+  chain_append o m (link_at o x) b xs h.1 (each_weaker (λ y. y ≢ x) (λ y. link_at o y ≢ link_at o x) (λ y i. link_apart o y x i) xs (chain_once o m cell x xs h))
+      (link_apart o b x (λ (q : b ≡ x). e.0 (sym q))) e.1 z,
+)
 
 -- the block taken from the middle of a chain stands nowhere else in it
 pub chain_apart : (o : ℕ) (m : ℕ → ℕ) (cell b : ℕ) (xs ys : List ℕ) → IsChain o m cell (xs ++ b ∷ ys) → Each (λ x. x ≢ b) (xs ++ ys)
 chain_apart o m cell b [] ys h = chain_once o m cell b ys h
-chain_apart o m cell b (x ∷ xs) ys h =
-    (λ (e : x ≡ b). (each_right (λ z. z ≢ x) xs (b ∷ ys) (chain_once o m cell x (xs ++ b ∷ ys) h)).0 (sym e)
-    , chain_apart o m (link_at o x) b xs ys h.1)
+chain_apart o m cell b (x ∷ xs) ys h = (
+  λ (e : x ≡ b). (each_right (λ z. z ≢ x) xs (b ∷ ys) (chain_once o m cell x (xs ++ b ∷ ys) h)).0 (sym e),
+  chain_apart o m (link_at o x) b xs ys h.1,
+)

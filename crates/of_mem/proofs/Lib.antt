@@ -7,3 +7,7 @@ pub mod Standing
 pub mod Frames
 pub mod Moves
 pub mod Runs
+pub mod Writes
+pub mod Overlaid
+pub mod Sounds
+pub mod Counts

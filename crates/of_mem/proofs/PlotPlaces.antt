@@ -1,5 +1,5 @@
 -- Each place of a plot has a cell of its own: from a cell one reads off its place.
-use Rattle.std.proofs.Common.{◌≡◌, ◌≢◌, ℕ, zero, suc, ◌+◌, ◌-◌, ◌*◌, ◌/◌, ◌%◌, ◌<◌, ◌≤◌, cond, eqb, ltb, Bool, true, false, refl, sym, ◌∙◌, ap, arith, eq-eqb}
+use Rattle.std.proofs.Common.{◌≡◌, ℕ, zero, suc, ◌+◌, ◌-◌, ◌*◌, ◌/◌, ◌%◌, ◌<◌, ◌≤◌, cond, eqb, ltb, false, refl, sym, ◌∙◌, ap, arith}
 use Rattle.std.proofs.lemmas.Bool.{lt-ltb, ne_eqb}
 use Rattle.std.proofs.lemmas.Bool.Decides.{nat_tests}
 use Rattle.std.proofs.lemmas.Nat.{div-mul-add, mod-mul-add, mul-le}
@@ -41,7 +41,7 @@ at_queue q f h l = let d : 51 + (q * 3 + f) - 51 ≡ q * 3 + f = omega arith in
 module _ (p : Plot) where
   in_row : (caller j : ℕ) → caller < p.callers → j < p.instrs + 2 → ticket_at p.instrs caller + j < base p
   in_row caller j h l = let k : (caller + 1) * (p.instrs + 2) ≤ p.callers * (p.instrs + 2) = mul-le (caller + 1) (p.instrs + 2) p.callers (p.instrs + 2) (omega arith) (omega arith) in
-    let e : (caller + 1) * (p.instrs + 2) ≡ caller * (p.instrs + 2) + (p.instrs + 2) = suc-mul caller (p.instrs + 2) in omega arith
+      let e : (caller + 1) * (p.instrs + 2) ≡ caller * (p.instrs + 2) + (p.instrs + 2) = suc-mul caller (p.instrs + 2) in omega arith
     where
       suc-mul : (a b : ℕ) → (a + 1) * b ≡ a * b + b
       suc-mul a b = omega arith

@@ -1,9 +1,10 @@
 -- Programs on partial memory and on whole memory: a run on partial memory names a cell that is not known, or it does what the run on the whole memory does.
-use Rattle.std.proofs.Common.{◌≡◌, ℕ, ◌+◌, ◌<◌, ◌≤◌, ◌≢◌, ◌⊎◌, inl, inr, List, [], length, get_or, refl, sym, ◌∙◌, ap, subst, arith, Bool, true, false, Option, Some, None, ◌==◌, if◌then◌else◌}
-use Rattle.std.proofs.lemmas.Bool.{cases_eq}
+use Rattle.std.proofs.Common.{replicate, length, get_or, set, ◌⊎◌, List, [], ◌∷◌, ◌++◌, ◌≡◌, ℕ, ◌<◌, ◌≤◌, ◌≢◌, inl, inr, List, refl, sym, ◌∙◌, ap, subst, arith, true, false, Option, Some, None, ◌==◌}
+use Rattle.std.proofs.lemmas.Bool.{cases_eq, cases_lt}
+use Rattle.std.proofs.lemmas.List.{get_or-replicate, get_or_past, length-replicate, get_or-set_same, get_or-set_other}
 use Rattle.std.proofs.lemmas.Bool.Decides.{nat_tests}
 use Rattle.of_mem.specs.Pairs.{value_at, put, put_all}
-use Rattle.of_mem.specs.Pad.{Pad, newest, wrote, newer}
+use Rattle.of_mem.specs.Pad.{newer, Pad, newest, wrote}
 use Rattle.of_mem.specs.Programs.{Program, Done, Read, Write, Ran, Lacks, Ends, with_number, run, then_do, changed, answer, after, writes, Inside, StaysFrom, OnlyReads, IsPartOf}
 use Rattle.of_mem.proofs.Changes.{changed_same, changed_other}
 use Rattle.of_mem.proofs.Indexed.{value_at_put}
@@ -24,9 +25,9 @@ newest_other p a v x n = rw (value_at_other p.script a v x n) refl
 
 pub part_wrote : (p : Pad) (m : ℕ → ℕ) (a v : ℕ) → IsPartOf p m → IsPartOf (wrote p a v) (changed m a v)
 part_wrote p m a v h x w e = elim (cases_eq x a) [
-      | inl q ↦ rw (q, changed_same m a v) (let k : Some v ≡ Some w = sym (newest_same p a v) ∙ subst (λ (y : ℕ). newest (wrote p a v) y ≡ Some w) q e in cc)
-      | inr n ↦ rw (changed_other m a v x n) (h x w (sym (newest_other p a v x n) ∙ e))
-    ]
+  | inl q ↦ rw (q, changed_same m a v) (let k : Some v ≡ Some w = sym (newest_same p a v) ∙ subst (λ (y : ℕ). newest (wrote p a v) y ≡ Some w) q e in cc)
+  | inr n ↦ rw (changed_other m a v x n) (h x w (sym (newest_other p a v x n) ∙ e))
+]
 
 -- an unknown cell was unknown before a write
 still_unknown : (p : Pad) (a v x : ℕ) → newest (wrote p a v) x ≡ None → newest p x ≡ None
@@ -132,6 +133,18 @@ reads_then (Done r) g h k = k r
 reads_then (Read a q) g h k = λ v. reads_then (q v) g (h v) k
 reads_then (Write a v f) g h k = absurd h
 
+pub writes_then : {A B : Type 0} (f : Program A) (g : A → Program B) (m : ℕ → ℕ) → writes (then_do f g) m ≡ writes f m ++ writes (g (answer f m)) (after f m)
+writes_then (Done r) g m = refl
+writes_then (Read a k) g m = writes_then (k (m a)) g m
+writes_then (Write a v f) g m = ap (λ (es : List (ℕ × ℕ)). (a, v) ∷ es) (writes_then f g (changed m a v))
+
+abbrev pad : List (Option ℕ) → List (ℕ × ℕ) → List (ℕ × ℕ) → Pad
+pad known batch script = record { known = known; batch = batch; script = script }
+
+-- a run without writes leaves the partial memory as it was
+pub unchanged : {A : Type 0} (f : Program A) (p q : Pad) (m : ℕ → ℕ) (r : A) → Ended f p m r q → writes f m ≡ [] → q ≡ p
+unchanged f p q m r e none = ap (λ (x : List (Option ℕ)). pad x q.batch q.script) e.known ∙ ap (λ (x : List (ℕ × ℕ)). pad p.known x q.script) e.batch ∙ ap (pad p.known p.batch) (e.script ∙ ap (put_all p.script) none)
+
 -- One step of a run.
 
 pub run_read : {A : Type 0} (a : ℕ) (k : ℕ → Program A) (p : Pad) (v : ℕ) → newest p a ≡ Some v → run (Read a k) p ≡ run (k v) p
@@ -139,3 +152,29 @@ run_read a k p v e = rw e refl
 
 pub run_unknown : {A : Type 0} (a : ℕ) (k : ℕ → Program A) (p : Pad) → newest p a ≡ None → run (Read a k) p ≡ Lacks a
 run_unknown a k p e = rw e refl
+
+-- What is known at first, and after a cell was learnt.
+
+none_at : (n a : ℕ) → newest (record { known = replicate n None; batch = []; script = [] }) a ≡ None
+unfolding newest
+none_at n a = elim (cases_lt a n) [ inl l ↦ get_or-replicate {A = Option ℕ} n a None None l | inr l ↦ get_or_past {X = Option ℕ} (replicate n None) a None (rw length-replicate l) ]
+
+pub part_of_nothing : (p : Pad) (n : ℕ) (m : ℕ → ℕ) → p ≡ record { known = replicate n None; batch = []; script = [] } → IsPartOf p m
+part_of_nothing p n m e a v q = let k : None ≡ Some v = sym (none_at n a) ∙ subst (λ (x : Pad). newest x a ≡ Some v) e q in cc
+
+-- the newest number where one cell more is known
+by_known : (b s k l : Option ℕ) (m v w : ℕ) → (newer s (newer b l) ≡ Some w → m ≡ w) → k ≡ Some v → m ≡ v → newer s (newer b k) ≡ Some w → m ≡ w
+by_known b (Some x) k l m v w h e is q = h q
+by_known (Some x) None k l m v w h e is q = h q
+by_known None None k l m v w h e is q = let t : Some v ≡ Some w = sym e ∙ q in cc
+
+pub part_learned : (p : Pad) (m : ℕ → ℕ) (a v : ℕ) → a < length p.known → m a ≡ v → IsPartOf p m → IsPartOf (record p { known = set p.known a (Some v) }) m
+unfolding newest
+part_learned p m a v l is h x w q = elim (cases_eq x a) [
+      | inl e ↦ by_known (value_at p.batch x) (value_at p.script x) (get_or (set p.known a (Some v)) x None) (get_or p.known x None) (m x) v w (h x w) (rw e (get_or-set_same p.known a (Some v) None l)) (rw e is) q
+      | inr n ↦ h x w (rw (get_or-set_other p.known a x (Some v) None n) at q)
+    ]
+
+-- what is read of a cell after writes to other cells
+pub read_before : (p : Pad) (a v x w : ℕ) → x ≢ a → newest (wrote p a v) x ≡ Some w → newest p x ≡ Some w
+read_before p a v x w n e = sym (newest_other p a v x n) ∙ e

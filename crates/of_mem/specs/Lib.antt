@@ -7,3 +7,4 @@ pub mod Plots
 pub mod Programs
 pub mod Stores
 pub mod ProgramWork
+pub mod StoreParts

@@ -1,5 +1,5 @@
 -- Programs that read and write cells, one after the other: what a call over cells reads and writes, and in which order. The cells of a whole memory are a function from their numbers.
-use Rattle.std.specs.Prelude.{◌≡◌, ℕ, Bool, cond, eqb, ◌<◌, ◌≤◌, List, [], ◌∷◌, length, Option, Some, None}
+use Rattle.std.specs.Prelude.{◌≡◌, ℕ, cond, eqb, ◌<◌, ◌≤◌, List, [], ◌∷◌, Option, Some, None}
 use Rattle.of_mem.specs.Pad.{Pad, newest, wrote}
 
 pub data Program (A : Type 0) : Type 0 where

@@ -82,6 +82,7 @@ impl Part {
         requires { addr < length self.old.known }
         ensures writes { self.new ≡ wrote self.old addr value }
         ensures known { self.new.known ≡ self.old.known }
+        ensures batch { self.new.batch ≡ self.old.batch }
     {
         self.script.put(addr, value);
     }
@@ -128,5 +129,41 @@ impl Part {
         self.known.clear();
         self.batch.clear();
         self.script.clear();
+    }
+}
+
+#[cfg(test)]
+mod tests {
+    use crate::part::{Need, Part};
+    use std::test::Fail;
+
+    #[test]
+    fn reads_the_newest_number(rt: HostRuntime) -> Result<(), Fail> {
+        let mut part = Part::new(rt.alloc(), 100)?;
+        assert_eq!(rt; part.read(2), Err(Need { addr: 2 }));
+        part.learn(2, 9);
+        assert_eq!(rt; part.read(2), Ok(9));
+        part.write(2, 1);
+        assert_eq!(rt; part.read(2), Ok(1));
+        part.undo();
+        assert_eq!(rt; part.read(2), Ok(9));
+        Ok(())
+    }
+
+    #[test]
+    fn keeps_writes_in_order(rt: HostRuntime) -> Result<(), Fail> {
+        let mut part = Part::new(rt.alloc(), 100)?;
+        part.write(7, 1);
+        part.write(5, 2);
+        part.write(7, 3);
+        assert_eq!(rt; part.pending_len(), 2);
+        assert_eq!(rt; part.pending(0), (7, 3));
+        assert_eq!(rt; part.pending(1), (5, 2));
+        part.keep();
+        assert_eq!(rt; part.pending_len(), 0);
+        assert_eq!(rt; part.read(7), Ok(3));
+        part.clear();
+        assert_eq!(rt; part.read(7), Err(Need { addr: 7 }));
+        Ok(())
     }
 }

@@ -142,3 +142,31 @@ impl Plot {
         self.base() + 63 + 3 * b + field
     }
 }
+
+#[cfg(test)]
+mod tests {
+    use crate::plot::Plot;
+
+    #[test]
+    fn lies_as_laid_out(rt: HostRuntime) {
+        let plot = Plot {
+            callers: 2,
+            instrs: 8,
+            blocks: 4,
+        };
+        assert_eq!(rt; plot.cells(), 95);
+        assert_eq!(rt;
+            (plot.ticket(1), plot.shape(1), plot.reply(1, 7)),
+            (10, 11, 19)
+        );
+        assert_eq!(rt;
+            (plot.register(3), plot.fresh(), plot.free(), plot.keys()),
+            (23, 36, 37, 38)
+        );
+        assert_eq!(rt;
+            (plot.bucket(31), plot.head(3), plot.tail(3), plot.length(3)),
+            (70, 80, 81, 82)
+        );
+        assert_eq!(rt; (plot.block(0, 0), plot.block(3, 2)), (83, 94));
+    }
+}
