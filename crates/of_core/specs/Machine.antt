@@ -1,0 +1,409 @@
+-- One call as a machine: what it asks for, and how it goes on with what was found.
+use Rattle.std.specs.Prelude.{ℕ, ◌+◌, ◌*◌, ◌==◌, nat_lt, max, ◌-◌, List, [], ◌∷◌, ◌++◌, length, Option, Some, None, Bool, true, false, if◌then◌else◌, ◌&&◌}
+use Rattle.std.proofs.Common.{get_or, set, take, drop, replicate, zero, suc}
+use Rattle.of_cell.specs.Words.{word, seq, pay}
+use Rattle.of_mem.specs.declared.work.RawReply.{RawReply}
+use Rattle.of_mem.specs.Meaning.{Meaning, Walked, Needs, Gives, marked}
+use Rattle.of_core.specs.declared.place.Place.{Place}
+use Rattle.of_core.specs.declared.place.Place.TheVariants.{Idle, AtTry, AtTryReq, AtTryCell, AtWord, AtAnn, AtCur, AtReq, AtCopy, AtLook, AtOwn, AtShape, AtReply, AtCall, AtTicket, AtScript, AtCell, AtKeep, AtLog, AtLogUp, AtStore, AtStoreUp, AtSwap, AtCurUp, AtTarget, AtChange, AtAgain, AtTargetUp, AtClose, AtCloseUp}
+use Rattle.of_core.specs.declared.place.Op.{Op}
+use Rattle.of_core.specs.declared.place.Op.TheVariants.{Load, Store, Exchange, Raise}
+use Rattle.of_core.specs.declared.place.Outcome.{Outcome}
+use Rattle.of_core.specs.declared.place.Outcome.TheVariants.{Answered, Spent}
+
+pub record Setup : Type 0 where
+  pub callers : ℕ
+  pub instrs : ℕ
+  pub cells : ℕ
+  pub limit : ℕ
+  -- the entry with which a helper's apply begins, from its number and the number of entries
+  pub first : ℕ → ℕ → ℕ
+  -- what operations do
+  pub meaning : Meaning
+
+-- the cells that belong to the callers
+abbrev pub base : Setup → ℕ
+base S = S.callers * (S.instrs + 2)
+
+-- a call as it was run
+pub record Call : Type 0 where
+  pub caller : ℕ
+  pub ticket : ℕ
+  pub op : List ℕ
+  pub raw : RawReply
+
+pub record Mach : Type 0 where
+  pub caller : ℕ
+  pub made : ℕ
+  pub op : List ℕ
+  pub place : Place
+  -- the transaction that the round began at, or that is applied
+  pub seq : ℕ
+  pub owner : ℕ
+  pub known : List (Option ℕ)
+  pub log : List (ℕ × ℕ)
+  -- the log words that a helper has loaded, and whether it helps
+  pub got : List ℕ
+  pub helps : Bool
+  pub raw : RawReply
+  pub answer : Option Outcome
+  -- the last value that one knows one's request's durable word to have
+  pub kept : ℕ
+  pub steps : ℕ
+  -- the rounds begun, and the sequence of the first
+  pub rounds : ℕ
+  pub first : ℕ
+  -- the tries begun
+  pub tries : ℕ
+  -- the caller that the scan has come to, the announcement that was loaded, the script words that were loaded, and the calls run so far
+  pub scan : ℕ
+  pub heard : ℕ
+  pub script : List ℕ
+  pub calls : List Call
+
+abbrev pub entry : Mach → ℕ → ℕ × ℕ
+entry m j = get_or m.log j (0, 0)
+
+-- the cell word numbers
+abbrev pub req_at : ℕ → ℕ
+req_at i = i + 1
+
+abbrev pub data_at : Setup → ℕ → ℕ
+data_at S a = S.callers + 1 + a
+
+-- the words of a log: the number of its entries, and then address and value of each
+abbrev pub flat : List (ℕ × ℕ) → List ℕ
+flat [] = []
+flat (e ∷ es) = e.0 ∷ e.1 ∷ flat es
+
+abbrev pub log_words : List (ℕ × ℕ) → List ℕ
+log_words es = length es ∷ flat es
+
+abbrev pub pairs : List ℕ → List (ℕ × ℕ)
+pairs [] = []
+pairs (a ∷ []) = []
+pairs (a ∷ v ∷ ws) = (a, v) ∷ pairs ws
+
+abbrev pub log_of : List ℕ → List (ℕ × ℕ)
+log_of [] = []
+log_of (n ∷ ws) = pairs ws
+
+-- the entries from entry f on, going round
+abbrev pub turned : ℕ → List (ℕ × ℕ) → List (ℕ × ℕ)
+turned f es = drop f es ++ take f es
+
+-- the place of log word x of caller i
+abbrev pub log_at : Setup → ℕ → ℕ → ℕ
+log_at S i x = S.callers + 1 + S.cells + i * (2 * S.cells + 1) + x
+
+-- the number of cells, and the place of a cell's durable word
+abbrev pub size : Setup → ℕ
+size S = S.callers + 1 + S.cells + S.callers * (2 * S.cells + 1)
+
+abbrev pub up : Setup → ℕ → ℕ
+up S c = size S + c
+
+-- script word x of caller i; the last of its row is the announcement
+abbrev pub said_at : Setup → ℕ → ℕ → ℕ
+said_at S i x = size S + size S + i * (S.instrs + 1) + x
+
+-- a caller's own cells
+abbrev pub ticket_cell : Setup → ℕ → ℕ
+ticket_cell S i = i * (S.instrs + 2)
+
+abbrev pub shape_cell : Setup → ℕ → ℕ
+shape_cell S i = i * (S.instrs + 2) + 1
+
+abbrev pub reply_cell : Setup → ℕ → ℕ → ℕ
+reply_cell S i j = i * (S.instrs + 2) + 2 + j
+
+abbrev pub want_at : Setup → Mach → Place → Op
+want_at S m Idle = Load 0
+want_at S m AtTry = Load 0
+want_at S m AtTryReq = Load (req_at m.owner)
+want_at S m (AtTryCell a) = Load (data_at S a)
+want_at S m (AtWord j) = Store (said_at S m.caller j) (get_or m.op j 0)
+want_at S m AtAnn = Store (said_at S m.caller S.instrs) (word m.made (length m.op))
+want_at S m AtOwn = Load (data_at S (ticket_cell S m.caller))
+want_at S m AtShape = Load (data_at S (shape_cell S m.caller))
+want_at S m (AtReply j) = Load (data_at S (reply_cell S m.caller j))
+want_at S m AtCall = Load (said_at S m.scan S.instrs)
+want_at S m AtTicket = Load (data_at S (ticket_cell S m.scan))
+want_at S m (AtScript j) = Load (said_at S m.scan j)
+want_at S m AtCur = Load 0
+want_at S m AtReq = Load (req_at m.owner)
+want_at S m (AtCopy x) = Load (log_at S m.owner x)
+want_at S m AtLook = Load (req_at m.owner)
+want_at S m (AtLog x) = Store (log_at S m.caller x) (word (m.seq + 1) (get_or (log_words m.log) x 0))
+want_at S m (AtCell a) = Load (data_at S a)
+want_at S m AtStore = Store (req_at m.caller) (word (m.seq + 1) 0)
+want_at S m AtKeep = Raise (up S (req_at m.caller)) m.kept
+want_at S m (AtLogUp x) = Raise (up S (log_at S m.caller x)) (word (m.seq + 1) (get_or (log_words m.log) x 0))
+want_at S m AtStoreUp = Raise (up S (req_at m.caller)) (word (m.seq + 1) 0)
+want_at S m AtCurUp = Raise (up S 0) (word m.seq m.owner)
+want_at S m (AtAgain j) = Load (data_at S (entry m j).0)
+want_at S m (AtTargetUp j f) = Raise (up S (data_at S (entry m j).0)) f
+want_at S m AtCloseUp = Raise (up S (req_at m.owner)) (word m.seq 1)
+want_at S m AtSwap = Exchange 0 (word m.seq m.owner) (word (m.seq + 1) m.caller)
+want_at S m (AtTarget j) = Load (data_at S (entry m j).0)
+want_at S m (AtChange j found) = Exchange (data_at S (entry m j).0) found (word m.seq (entry m j).1)
+want_at S m AtClose = Exchange (req_at m.owner) (word m.seq 0) (word m.seq 1)
+
+abbrev pub word_of : Op → ℕ
+word_of (Load c) = c
+word_of (Store c v) = c
+word_of (Exchange c old new) = c
+word_of (Raise c v) = c
+
+-- what the word becomes
+abbrev pub left : Op → ℕ → ℕ
+left (Load c) found = found
+left (Store c v) found = v
+left (Exchange c old new) found = if found == old then new else found
+left (Raise c v) found = max found v
+
+-- the reply cells, the shape and the ticket that a call writes
+abbrev pub listed : ℕ → List ℕ → List (ℕ × ℕ)
+listed a [] = []
+listed a (v ∷ vs) = (a, v) ∷ listed (a + 1) vs
+
+abbrev pub own_cells : Setup → ℕ → ℕ → ℕ → RawReply → List (ℕ × ℕ)
+own_cells S i ticket count r =
+    (if nat_lt r.shape 67108864 then listed (i * (S.instrs + 2) + 2) (take count r.values) else [])
+    ++ (i * (S.instrs + 2) + 1, r.shape) ∷ (i * (S.instrs + 2), ticket) ∷ []
+
+-- writes one entry into a write-set, in the order of first writing
+abbrev pub put_by : ℕ × ℕ → ℕ × ℕ → List (ℕ × ℕ) → List (ℕ × ℕ) → Bool → List (ℕ × ℕ)
+put_by e d ds rest true = e ∷ ds
+put_by e d ds rest false = d ∷ rest
+
+abbrev pub put : ℕ × ℕ → List (ℕ × ℕ) → List (ℕ × ℕ)
+put e [] = e ∷ []
+put e (d ∷ ds) = put_by e d ds (put e ds) (e.0 == d.0)
+
+abbrev pub put_all : List (ℕ × ℕ) → List (ℕ × ℕ) → List (ℕ × ℕ)
+put_all ds [] = ds
+put_all ds (e ∷ es) = put_all (put e ds) es
+
+-- what is known, under what was written
+abbrev pub merged : List (Option ℕ) → List (ℕ × ℕ) → List (Option ℕ)
+merged known [] = known
+merged known (e ∷ es) = merged (set known e.0 (Some e.1)) es
+
+-- the first marked reply from j on, of n
+abbrev pub first_mark : ℕ → ℕ → ℕ → Option ℕ
+first_mark shape j zero = None
+first_mark shape j (suc n) = if marked shape j then Some j else first_mark shape (j + 1) n
+
+abbrev pub began : Mach → Mach
+began m = record m { place = AtCur; steps = m.steps + 1 }
+
+abbrev pub next_call : Mach → (more : Bool) → Mach
+next_call m true = record m { place = AtCall; scan = m.scan + 1; steps = m.steps + 1 }
+next_call m false = record m { place = AtKeep; scan = m.scan + 1; steps = m.steps + 1 }
+
+-- the call that the scan has come to, as it was run
+abbrev pub call_run : Mach → RawReply → Call
+call_run m r = record { caller = m.scan; ticket = seq m.heard; op = m.script; raw = r }
+
+abbrev pub own_raw : Mach → RawReply → Bool → RawReply
+own_raw m r true = r
+own_raw m r false = m.raw
+
+abbrev pub with_run : Setup → Mach → List (ℕ × ℕ) → RawReply → Mach
+with_run S m es r = record m {
+  log = put_all m.log (es ++ own_cells S m.scan (seq m.heard) (length m.script) r);
+  calls = m.calls ++ call_run m r ∷ [];
+  raw = own_raw m r (m.scan == m.caller);
+}
+
+abbrev pub ran : Setup → Mach → Walked → Mach
+ran S m (Needs a) = record m { place = AtCell a; steps = m.steps + 1 }
+ran S m (Gives es r) = next_call (with_run S m es r) (nat_lt (m.scan + 1) S.callers)
+
+-- the call that the scan has come to is run where its ticket is new
+abbrev pub weighed : Setup → Mach → (new : Bool) → Mach
+weighed S m true = record m { place = AtScript 0; script = []; steps = m.steps + 1 }
+weighed S m false = next_call m (nat_lt (m.scan + 1) S.callers)
+
+abbrev pub after_call : Setup → Mach → ℕ → Option ℕ → Mach
+after_call S m found None = record m { place = AtTicket; heard = found; steps = m.steps + 1 }
+after_call S m found (Some v) = weighed S (record m { heard = found }) (nat_lt v (seq found))
+
+abbrev pub learned : Setup → Mach → ℕ → ℕ → List (Option ℕ)
+learned S m a found = set m.known a (Some (pay found))
+
+abbrev pub after_ticket : Setup → Mach → ℕ → (newer : Bool) → Mach
+after_ticket S m found true = began m
+after_ticket S m found false = weighed S (record m { known = learned S m (ticket_cell S m.scan) found }) (nat_lt (pay found) (seq m.heard))
+
+abbrev pub script_more : Mach → ℕ → List ℕ
+script_more m found = m.script ++ found ∷ []
+
+abbrev pub runs : Setup → Mach → Mach
+runs S m = ran S m (S.meaning.walk (merged m.known m.log) m.script)
+
+abbrev pub after_script : Setup → Mach → ℕ → ℕ → (more : Bool) → Mach
+after_script S m j found true = record m { place = AtScript (j + 1); script = script_more m found; steps = m.steps + 1 }
+after_script S m j found false = runs S (record m { script = script_more m found })
+
+abbrev pub after_cell : Setup → Mach → ℕ → ℕ → (newer : Bool) → Mach
+after_cell S m a found true = began m
+after_cell S m a found false = runs S (record m { known = learned S m a found })
+
+abbrev pub spent : Mach → Mach
+spent m = record m { place = Idle; answer = Some (Spent m.seq); steps = 0 }
+
+-- the call is answered from the history
+abbrev pub told : Mach → Mach
+told m = record m { place = Idle; answer = Some (Answered (seq m.heard) true m.raw (m.steps + 1)); steps = 0 }
+
+abbrev pub asks_more : Mach → Option ℕ → Mach
+asks_more m None = told m
+asks_more m (Some j) = record m { place = AtReply j; steps = m.steps + 1 }
+
+-- nothing is known
+abbrev pub unknown : Setup → List (Option ℕ)
+unknown S = replicate S.cells None
+
+-- a round goes on behind its help
+abbrev pub entered : Setup → Mach → Mach
+entered S m = record m { place = AtOwn; known = unknown S; helps = false; log = []; calls = []; scan = 0; steps = m.steps + 1 }
+
+abbrev pub not_there : Setup → Mach → ℕ → (at_limit : Bool) → Mach
+not_there S m found true = spent m
+not_there S m found false = record m { place = AtCall; known = learned S m (ticket_cell S m.caller) found; steps = m.steps + 1 }
+
+abbrev pub own_found : Setup → Mach → ℕ → (there at_limit : Bool) → Mach
+own_found S m found true at_limit = record m { place = AtShape; heard = found; steps = m.steps + 1 }
+own_found S m found false at_limit = not_there S m found at_limit
+
+abbrev pub after_own : Setup → Mach → ℕ → (newer there at_limit : Bool) → Mach
+after_own S m found true there at_limit = began m
+after_own S m found false there at_limit = own_found S m found there at_limit
+
+abbrev pub shape_read : Setup → Mach → ℕ → Mach
+shape_read S m found = record m { raw = record { shape = pay found; values = replicate S.instrs 0 } }
+
+abbrev pub after_shape : Setup → Mach → ℕ → (newer : Bool) → Mach
+after_shape S m found true = began m
+after_shape S m found false = asks_more (shape_read S m found) (first_mark (pay found) 0 S.instrs)
+
+abbrev pub reply_read : Mach → ℕ → ℕ → Mach
+reply_read m j found = record m { raw = record { shape = m.raw.shape; values = set m.raw.values j (pay found) } }
+
+abbrev pub after_reply : Setup → Mach → ℕ → ℕ → (newer : Bool) → Mach
+after_reply S m j found true = began m
+after_reply S m j found false = asks_more (reply_read m j found) (first_mark m.raw.shape (j + 1) (S.instrs - j - 1))
+
+abbrev pub after_word : Mach → ℕ → (more : Bool) → Mach
+after_word m j true = record m { place = AtWord (j + 1); steps = m.steps + 1 }
+after_word m j false = record m { place = AtAnn; steps = m.steps + 1 }
+
+abbrev pub first_of : Mach → ℕ → (none_yet : Bool) → ℕ
+first_of m s true = s
+first_of m s false = m.first
+
+-- a try's run, as far as its cells are known
+abbrev pub read_ran : Mach → Walked → Mach
+read_ran m (Needs a) = record m { place = AtTryCell a; steps = m.steps + 1 }
+read_ran m (Gives es r) = record m { place = Idle; answer = Some (Answered m.seq false r (m.steps + 1)); steps = 0 }
+
+abbrev pub reads : Setup → Mach → Mach
+reads S m = read_ran m (S.meaning.walk m.known m.op)
+
+-- a try goes on behind its help
+abbrev pub tried : Setup → Mach → Mach
+tried S m = reads S (record m { known = unknown S; helps = false })
+
+-- a round or a try goes on behind its help
+abbrev pub resumed : Setup → Mach → (in_try : Bool) → Mach
+resumed S m true = tried S m
+resumed S m false = entered S m
+
+abbrev pub after_try_req : Setup → Mach → (opened : Bool) → Mach
+after_try_req S m true = record m { place = AtCopy 0; got = []; helps = true; steps = m.steps + 1 }
+after_try_req S m false = tried S m
+
+abbrev pub over_try : Mach → (more : Bool) → Mach
+over_try m true = record m { place = AtTry; steps = m.steps + 1 }
+over_try m false = record m { place = AtWord 0; steps = m.steps + 1 }
+
+abbrev pub after_try_cell : Setup → Mach → ℕ → ℕ → (newer : Bool) → Mach
+after_try_cell S m a found true = over_try m (nat_lt m.tries 4)
+after_try_cell S m a found false = reads S (record m { known = learned S m a found })
+
+abbrev pub after_req : Setup → Mach → (opened : Bool) → Mach
+after_req S m true = record m { place = AtCopy 0; got = []; helps = true; steps = m.steps + 1 }
+after_req S m false = entered S m
+
+abbrev pub got_more : Mach → ℕ → List ℕ
+got_more m found = m.got ++ pay found ∷ []
+
+abbrev pub after_copy : Mach → ℕ → ℕ → Bool → Mach
+after_copy m x found true = record m { place = AtCopy (x + 1); got = got_more m found; steps = m.steps + 1 }
+after_copy m x found false = record m { place = AtLook; got = got_more m found; steps = m.steps + 1 }
+
+abbrev pub after_look : Setup → Mach → (opened in_try : Bool) → Mach
+after_look S m true in_try = record m { place = AtCurUp; log = turned (S.first m.caller (length (log_of m.got))) (log_of m.got); steps = m.steps + 1 }
+after_look S m false in_try = resumed S m in_try
+
+abbrev pub after_log : Mach → ℕ → Bool → Mach
+after_log m x true = record m { place = AtLog (x + 1); steps = m.steps + 1 }
+after_log m x false = record m { place = AtStore; steps = m.steps + 1 }
+
+abbrev pub after_close : Setup → Mach → (helps in_try : Bool) → Mach
+after_close S m true in_try = resumed S m in_try
+after_close S m false in_try = record m { place = Idle; answer = Some (Answered m.seq true m.raw (m.steps + 1)); kept = word m.seq 1; steps = 0 }
+
+abbrev pub next : Mach → ℕ → Bool → Mach
+next m j true = record m { place = AtTarget (j + 1); steps = m.steps + 1 }
+next m j false = record m { place = AtClose; steps = m.steps + 1 }
+
+abbrev pub after_swap : Mach → Bool → Mach
+after_swap m true = record m { place = AtCurUp; helps = false; seq = m.seq + 1; owner = m.caller; steps = m.steps + 1 }
+after_swap m false = began m
+
+abbrev pub after_target : Mach → ℕ → ℕ → (older : Bool) → Mach
+after_target m j found true = record m { place = AtChange j found; steps = m.steps + 1 }
+after_target m j found false = record m { place = AtTargetUp j found; steps = m.steps + 1 }
+
+abbrev pub after_cur_up : Mach → (some : Bool) → Mach
+after_cur_up m true = record m { place = AtTarget 0; steps = m.steps + 1 }
+after_cur_up m false = record m { place = AtClose; steps = m.steps + 1 }
+
+abbrev pub is_open : ℕ → ℕ → Bool
+is_open s found = nat_lt 0 s && (found == word s 0)
+
+-- the machine after its wanted step found this word
+abbrev pub took_at : Setup → Mach → ℕ → Place → Mach
+took_at S m found Idle = m
+took_at S m found AtTry = record m { place = AtTryReq; seq = seq found; owner = pay found; tries = m.tries + 1; steps = m.steps + 1 }
+took_at S m found AtTryReq = after_try_req S m (is_open m.seq found)
+took_at S m found (AtTryCell a) = after_try_cell S m a found (nat_lt m.seq (seq found))
+took_at S m found (AtWord j) = after_word m j (nat_lt (j + 1) (length m.op))
+took_at S m found AtAnn = record m { place = AtCur; steps = m.steps + 1 }
+took_at S m found AtCur = record m { place = AtReq; seq = seq found; owner = pay found; rounds = m.rounds + 1; first = first_of m (seq found) (m.rounds == 0); steps = m.steps + 1 }
+took_at S m found AtReq = after_req S m (is_open m.seq found)
+took_at S m found AtOwn = after_own S m found (nat_lt m.seq (seq found)) (pay found == m.made) (m.seq == S.limit)
+took_at S m found AtShape = after_shape S m found (nat_lt m.seq (seq found))
+took_at S m found (AtReply j) = after_reply S m j found (nat_lt m.seq (seq found))
+took_at S m found AtCall = after_call S m found (get_or m.known (ticket_cell S m.scan) None)
+took_at S m found AtTicket = after_ticket S m found (nat_lt m.seq (seq found))
+took_at S m found (AtScript j) = after_script S m j found (nat_lt (j + 1) (pay m.heard))
+took_at S m found (AtCell a) = after_cell S m a found (nat_lt m.seq (seq found))
+took_at S m found AtStore = record m { place = AtStoreUp; steps = m.steps + 1 }
+took_at S m found AtStoreUp = record m { place = AtSwap; kept = word (m.seq + 1) 0; steps = m.steps + 1 }
+took_at S m found AtCurUp = after_cur_up m (nat_lt 0 (length m.log))
+took_at S m found AtSwap = after_swap m (found == word m.seq m.owner)
+took_at S m found (AtTarget j) = after_target m j found (nat_lt (seq found) m.seq)
+took_at S m found (AtChange j f) = record m { place = AtAgain j; steps = m.steps + 1 }
+took_at S m found (AtAgain j) = record m { place = AtTargetUp j found; steps = m.steps + 1 }
+took_at S m found (AtTargetUp j f) = next m j (nat_lt (j + 1) (length m.log))
+took_at S m found (AtCopy x) = after_copy m x found (nat_lt (x + 1) (2 * get_or (got_more m found) 0 0 + 1))
+took_at S m found AtLook = after_look S m (found == word m.seq 0) (m.rounds == 0)
+took_at S m found AtKeep = record m { place = AtLog 0; steps = m.steps + 1 }
+took_at S m found (AtLog x) = record m { place = AtLogUp x; steps = m.steps + 1 }
+took_at S m found (AtLogUp x) = after_log m x (nat_lt (x + 1) (length (log_words m.log)))
+took_at S m found AtClose = record m { place = AtCloseUp; steps = m.steps + 1 }
+took_at S m found AtCloseUp = after_close S m m.helps (m.rounds == 0)
