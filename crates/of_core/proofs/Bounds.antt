@@ -4,8 +4,8 @@ use Rattle.std.proofs.lemmas.Bool.Decides.{nat_tests}
 use Rattle.of_cell.specs.Words.{word, seq, pay}
 use Rattle.of_mem.specs.Meaning.{Meaning, Walked, Needs, Gives}
 use Rattle.of_core.specs.declared.place.Place.{Place}
-use Rattle.of_core.specs.declared.place.Place.TheVariants.{Idle, AtTry, AtTryReq, AtTryCell, AtWord, AtAnn, AtCur, AtReq, AtCopy, AtLook, AtOwn, AtShape, AtReply, AtCall, AtTicket, AtScript, AtCell, AtKeep, AtLog, AtLogUp, AtStore, AtStoreUp, AtSwap, AtCurUp, AtTarget, AtChange, AtAgain, AtTargetUp, AtClose, AtCloseUp}
-use Rattle.of_core.specs.Machine.{reads, read_ran, tried, resumed, after_try_req, over_try, after_try_cell, Setup, Mach, want_at, word_of, took_at, ticket_cell, shape_cell, reply_cell, unknown, learned, after_word, after_req, after_copy, after_look, after_own, after_shape, shape_read, after_reply, reply_read, asks_more, first_mark, after_call, weighed, after_ticket, after_script, script_more, ran, next_call, with_run, after_cell, merged, after_log, after_swap, after_cur_up, after_target, next, after_close, is_open, log_words, got_more}
+use Rattle.of_core.specs.declared.place.Place.TheVariants.{Idle, TryCurrent, TryRequest, TryCell, StoreScript, StoreAnnouncement, LoadCurrent, LoadRequest, CopyLog, LookAgain, LoadOwnTicket, LoadShape, LoadReply, LoadAnnouncement, LoadTicket, LoadScript, LoadCell, RaiseOld, StoreLog, RaiseLog, StoreRequest, RaiseRequest, ExchangeCurrent, RaiseCurrent, LoadTarget, ExchangeTarget, ReloadTarget, RaiseTarget, CloseRequest, RaiseClosed}
+use Rattle.of_core.specs.Machine.{reads, read_ran, tried, resumed, after_try_request, over_try, after_try_cell, Setup, Data, want_at, word_of, took_at, ticket_cell, shape_cell, reply_cell, unknown, learned, after_store_script, after_load_request, after_copy_log, after_look_again, after_own_ticket, after_load_shape, shape_read, after_load_reply, reply_read, asks_more, first_mark, after_announcement, weighed, after_load_ticket, after_load_script, script_more, ran, next_call, with_run, after_load_cell, merged, after_raise_log, after_exchange, after_raise_current, after_load_target, next_entry, after_raise_closed, is_open, log_words, got_more}
 use Rattle.of_core.specs.World.{World, Start, cell}
 use Rattle.of_core.specs.Bound.{bound, unknowns, applying, behind_help, lost, rounds_left, behind_apply, helped, tries_left, announced_left, scan_left, Within}
 use Rattle.of_core.specs.Events.{opened, first_place}
@@ -73,7 +73,7 @@ round_sum : (st m p x q l : ℕ) → x + (11 * m + p + 13) ≡ q → st + (q + (
 round_sum st m p x q l e h = omega arith
 
 -- a call that opens
-pub opened_within : (S : Setup) (m : Mach) (op : List ℕ) → Within S (opened S m op) (opened S m op).place
+pub opened_within : (S : Setup) (m : Data) (op : List ℕ) → Within S (opened S m op) (opened S m op).place
 opened_within S m op = go (S.meaning.reads_only op)
   where
     sum : (i m p : ℕ) → 0 + (i - 0 + 1 + (3 * (11 * m + p + 13) + (4 * m + 3))) ≤ i + 1 + 3 * (15 * m + p + 15) + 4 * (7 * m + 7)
@@ -88,7 +88,7 @@ opened_within S m op = go (S.meaning.reads_only op)
 
 module _ (S : Setup) where
   -- the scan goes on behind the caller that it has come to
-  next_within : (n : Mach) → n.scan < S.callers → n.steps + 1 + scan_left S n ≤ bound S → (b : Bool) → nat_lt (n.scan + 1) S.callers ≡ b → Within S (next_call n b) (next_call n b).place
+  next_within : (n : Data) → n.scan < S.callers → n.steps + 1 + scan_left S n ≤ bound S → (b : Bool) → nat_lt (n.scan + 1) S.callers ≡ b → Within S (next_call n b) (next_call n b).place
   next_within n l h true e = record {
     told = λ q. cc;
     steps = next_sum n.steps (S.instrs + 1) ((S.callers - (n.scan + 1) - 1) * (S.instrs + 1)) ((S.callers - n.scan - 1) * (S.instrs + 1)) (unknowns n.known) (4 * S.cells + 6) (rounds_left S n) (bound S)
@@ -96,7 +96,7 @@ module _ (S : Setup) where
   }
   next_within n l h false e = record { told = λ q. cc; steps = done_sum n.steps ((S.callers - n.scan - 1) * (S.instrs + 1)) (unknowns n.known) (4 * S.cells + 6) (rounds_left S n) (bound S) h }
 
-  weighed_within : (n : Mach) → n.scan < S.callers → n.steps + 1 + (S.instrs + scan_left S n) ≤ bound S → (b : Bool) → Within S (weighed S n b) (weighed S n b).place
+  weighed_within : (n : Data) → n.scan < S.callers → n.steps + 1 + (S.instrs + scan_left S n) ≤ bound S → (b : Bool) → Within S (weighed S n b) (weighed S n b).place
   weighed_within n l h true = record { told = λ q. cc; steps = same n.steps S.instrs (scan_left S n) (bound S) h }
     where
       same : (s k x l : ℕ) → s + 1 + (k + x) ≤ l → s + 1 + (k - 0 + x) ≤ l
@@ -106,18 +106,18 @@ module _ (S : Setup) where
       less : (s k x l : ℕ) → s + 1 + (k + x) ≤ l → s + 1 + x ≤ l
       less s k x l h = omega arith
 
-  ran_within : (n : Mach) → n.scan < S.callers → n.steps + 1 + scan_left S n ≤ bound S → (r : Walked) → Within S (ran S n r) (ran S n r).place
+  ran_within : (n : Data) → n.scan < S.callers → n.steps + 1 + scan_left S n ≤ bound S → (r : Walked) → Within S (ran S n r) (ran S n r).place
   ran_within n l h (Needs a) = record { told = λ q. cc; steps = h }
   ran_within n l h (Gives es r) = next_within (with_run S n es r) l h (nat_lt (n.scan + 1) S.callers) refl
 
-  asks_within : (n : Mach) (x j : ℕ) → n.steps + (S.instrs - x + 1) ≤ bound S → x ≤ j → (r : Option ℕ) → ((k : ℕ) → r ≡ Some k → x ≤ k) → Within S (asks_more n r) (asks_more n r).place
+  asks_within : (n : Data) (x j : ℕ) → n.steps + (S.instrs - x + 1) ≤ bound S → x ≤ j → (r : Option ℕ) → ((k : ℕ) → r ≡ Some k → x ≤ k) → Within S (asks_more n r) (asks_more n r).place
   asks_within n x j h l None f = record { steps = omega arith; told = λ q. omega arith }
   asks_within n x j h l (Some k) f = record { told = λ q. cc; steps = sum n.steps S.instrs x k (bound S) h (f k refl) }
     where
       sum : (s i x k l : ℕ) → s + (i - x + 1) ≤ l → x ≤ k → s + 1 + (i - k) ≤ l
       sum s i x k l h f = omega arith
 
-  reads_within : (n : Mach) → n.steps + 1 + (unknowns n.known + tries_left S n) ≤ bound S → Within S (reads S n) (reads S n).place
+  reads_within : (n : Data) → n.steps + 1 + (unknowns n.known + tries_left S n) ≤ bound S → Within S (reads S n) (reads S n).place
   reads_within n h = go (S.meaning.walk n.known n.op)
     where
       fewer_by : (s x l : ℕ) → s + 1 + x ≤ l → s + 1 ≤ l
@@ -127,14 +127,14 @@ module _ (S : Setup) where
       go (Needs a) = record { told = λ q. cc; steps = h }
       go (Gives es r) = record { steps = omega arith; told = λ q. fewer_by n.steps (unknowns n.known + tries_left S n) (bound S) h }
 
-  tried_within : (n : Mach) → n.steps + 1 + (S.cells + tries_left S n) ≤ bound S → Within S (tried S n) (tried S n).place
+  tried_within : (n : Data) → n.steps + 1 + (S.cells + tries_left S n) ≤ bound S → Within S (tried S n) (tried S n).place
   tried_within n h = reads_within (record n { known = unknown S; helps = false }) (rw (unknowns_all S.cells) h)
 
-  resumed_within : (n : Mach) (b : Bool) → n.steps + 1 + helped S n b ≤ bound S → Within S (resumed S n b) (resumed S n b).place
+  resumed_within : (n : Data) (b : Bool) → n.steps + 1 + helped S n b ≤ bound S → Within S (resumed S n b) (resumed S n b).place
   resumed_within n true h = tried_within n h
   resumed_within n false h = record { told = λ q. cc; steps = h }
 
-  module _ (Lawful : List ℕ → Type 0) (B : Start) (w : World) (g : Core S Lawful B w) (i : ℕ) (m : Mach) (h : i < S.callers) where
+  module _ (Lawful : List ℕ → Type 0) (B : Start) (w : World) (g : Core S Lawful B w) (i : ℕ) (m : Data) (h : i < S.callers) where
     n_cells : (j : ℕ) → Applies S B w.words w.batches i m j → length m.log ≤ S.cells
     n_cells j p = rw p.log.many (g.shared.counted.logs m.seq p.after p.upto).few
 
@@ -145,11 +145,11 @@ module _ (S : Setup) where
     pub within : (p : Place) → At S B w.words w.batches i m p → Within S m p → m.place ≡ p
         → Within S (took_at S m (get_or w.words (word_of (want_at S m p)) 0) p) (took_at S m (get_or w.words (word_of (want_at S m p)) 0) p).place
     within Idle a t e = subst (λ (q : Place). Within S m q) (sym e) t
-    within AtTry a t e = record { told = λ q. cc; steps = sum m.steps S.cells ((4 - (m.tries + 1)) * (7 * S.cells + 7)) ((4 - m.tries) * (7 * S.cells + 7)) (announced_left S) (bound S) (try_cost m.tries (7 * S.cells + 7) a.3) t.steps }
+    within TryCurrent a t e = record { told = λ q. cc; steps = sum m.steps S.cells ((4 - (m.tries + 1)) * (7 * S.cells + 7)) ((4 - m.tries) * (7 * S.cells + 7)) (announced_left S) (bound S) (try_cost m.tries (7 * S.cells + 7) a.3) t.steps }
       where
         sum : (s c x y r l : ℕ) → x + (7 * c + 7) ≡ y → s + (y + r) ≤ l → s + 1 + (7 * c + 6 + (x + r)) ≤ l
         sum s c x y r l e h = omega arith
-    within AtTryReq a t e = go (is_open m.seq (get_or w.words (m.owner + 1) 0))
+    within TryRequest a t e = go (is_open m.seq (get_or w.words (m.owner + 1) 0))
       where
         opens : (s c r l : ℕ) → s + (7 * c + 6 + r) ≤ l → s + 1 + (2 * c + 1 - 0 + 1 + (4 * c + 3) + (c + r)) ≤ l
         opens s c r l h = omega arith
@@ -161,13 +161,13 @@ module _ (S : Setup) where
         trying true q = opens m.steps S.cells (tries_left S m) (bound S) t.steps
         trying false q = absurd (differ m.rounds 0 q a.0.fresh.rounds)
 
-        go : (b : Bool) → Within S (after_try_req S m b) (after_try_req S m b).place
+        go : (b : Bool) → Within S (after_try_request S m b) (after_try_request S m b).place
         go true = record { told = λ q. cc; steps = trying (m.rounds == 0) refl }
         go false = tried_within m (closed m.steps S.cells (tries_left S m) (bound S) t.steps)
-    within (AtTryCell x) a t e = go (nat_lt m.seq (seq found))
+    within (TryCell x) a t e = go (nat_lt m.seq (seq found))
       where
         found : ℕ
-        found = get_or w.words (word_of (want_at S m (AtTryCell x))) 0
+        found = get_or w.words (word_of (want_at S m (TryCell x))) 0
 
         one : unknowns (learned S m x found) + 1 ≡ unknowns m.known
         one = unknowns_set m.known x (pay found) (omega (arith, a.3.all, a.4)) a.5
@@ -188,7 +188,7 @@ module _ (S : Setup) where
         go : (b : Bool) → Within S (after_try_cell S m x found b) (after_try_cell S m x found b).place
         go true = over (nat_lt m.tries 4)
         go false = reads_within (record m { known = learned S m x found }) (less m.steps (unknowns m.known) (unknowns (learned S m x found)) (tries_left S m) (bound S) one t.steps)
-    within (AtWord j) a t e = go (nat_lt (j + 1) (length m.op))
+    within (StoreScript j) a t e = go (nat_lt (j + 1) (length m.op))
       where
         more : (s i j x l : ℕ) → j < i → s + (i - j + 1 + x) ≤ l → s + 1 + (i - (j + 1) + 1 + x) ≤ l
         more s i j x l k h = omega arith
@@ -199,15 +199,15 @@ module _ (S : Setup) where
         j_in : j < S.instrs
         j_in = omega (arith, a.2, a.0.words)
 
-        go : (b : Bool) → Within S (after_word m j b) (after_word m j b).place
+        go : (b : Bool) → Within S (after_store_script m j b) (after_store_script m j b).place
         go true = record { told = λ q. cc; steps = more m.steps S.instrs j (3 * lost S + applying S) (bound S) j_in t.steps }
         go false = record { told = λ q. cc; steps = last m.steps S.instrs j (3 * lost S + applying S) (bound S) j_in t.steps }
-    within AtAnn a t e = record { told = λ q. cc; steps = sum m.steps m.rounds (lost S) (applying S) (bound S) a.0.rounds t.steps }
+    within StoreAnnouncement a t e = record { told = λ q. cc; steps = sum m.steps m.rounds (lost S) (applying S) (bound S) a.0.rounds t.steps }
       where
         sum : (s r q x l : ℕ) → r ≡ 0 → s + (1 + (3 * q + x)) ≤ l → s + 1 + ((3 - r) * q + x) ≤ l
         sum s r q x l e h = rw e (omega arith)
-    within AtCur a t e = record { told = λ q. cc; steps = round_sum m.steps S.cells (S.callers * (S.instrs + 1)) ((3 - (m.rounds + 1)) * lost S) ((3 - m.rounds) * lost S) (bound S) (round_cost m.rounds (lost S) a.2.few) t.steps }
-    within AtReq a t e = go (is_open m.seq (get_or w.words (m.owner + 1) 0))
+    within LoadCurrent a t e = record { told = λ q. cc; steps = round_sum m.steps S.cells (S.callers * (S.instrs + 1)) ((3 - (m.rounds + 1)) * lost S) ((3 - m.rounds) * lost S) (bound S) (round_cost m.rounds (lost S) a.2.few) t.steps }
+    within LoadRequest a t e = go (is_open m.seq (get_or w.words (m.owner + 1) 0))
       where
         opens : (s c x l : ℕ) → s + (6 * c + 6 + x) ≤ l → s + 1 + (2 * c + 1 - 0 + 1 + (4 * c + 3) + x) ≤ l
         opens s c x l h = omega arith
@@ -219,13 +219,13 @@ module _ (S : Setup) where
         round false q = opens m.steps S.cells (behind_help S + rounds_left S m) (bound S) t.steps
         round true q = let z : m.rounds ≡ 0 = grind (arith, nat_tests) in absurd (omega (arith, a.0.begun_one))
 
-        go : (b : Bool) → Within S (after_req S m b) (after_req S m b).place
+        go : (b : Bool) → Within S (after_load_request S m b) (after_load_request S m b).place
         go true = record { told = λ q. cc; steps = round (m.rounds == 0) refl }
         go false = record { told = λ q. cc; steps = closed m.steps S.cells (behind_help S + rounds_left S m) (bound S) t.steps }
-    within (AtCopy x) a t e = go (nat_lt (x + 1) (2 * get_or (got_more m found) 0 0 + 1))
+    within (CopyLog x) a t e = go (nat_lt (x + 1) (2 * get_or (got_more m found) 0 0 + 1))
       where
         found : ℕ
-        found = get_or w.words (word_of (want_at S m (AtCopy x))) 0
+        found = get_or w.words (word_of (want_at S m (CopyLog x))) 0
 
         more : (s c x k r l : ℕ) → x < c → s + (c - x + 1 + k + r) ≤ l → s + 1 + (c - (x + 1) + 1 + k + r) ≤ l
         more s c x k r l z h = omega arith
@@ -233,10 +233,10 @@ module _ (S : Setup) where
         last : (s c x k r l : ℕ) → x < c → s + (c - x + 1 + k + r) ≤ l → s + 1 + (1 + k + r) ≤ l
         last s c x k r l z h = omega arith
 
-        go : (b : Bool) → Within S (after_copy m x found b) (after_copy m x found b).place
+        go : (b : Bool) → Within S (after_copy_log m x found b) (after_copy_log m x found b).place
         go true = record { told = λ q. cc; steps = more m.steps (2 * S.cells + 1) x (applying S) (helped S m (m.rounds == 0)) (bound S) a.2 t.steps }
         go false = record { told = λ q. cc; steps = last m.steps (2 * S.cells + 1) x (applying S) (helped S m (m.rounds == 0)) (bound S) a.2 t.steps }
-    within AtLook a t e = go (get_or w.words (m.owner + 1) 0 == word m.seq 0) (m.rounds == 0) t.steps
+    within LookAgain a t e = go (get_or w.words (m.owner + 1) 0 == word m.seq 0) (m.rounds == 0) t.steps
       where
         opens : (s k r l : ℕ) → s + (1 + k + r) ≤ l → s + 1 + (k + r) ≤ l
         opens s k r l h = omega arith
@@ -248,13 +248,13 @@ module _ (S : Setup) where
         helping true q = opens m.steps (applying S) (helped S m (m.rounds == 0)) (bound S) t.steps
         helping false q = cc
 
-        go : (b d : Bool) → m.steps + (1 + applying S + helped S m d) ≤ bound S → Within S (after_look S m b d) (after_look S m b d).place
+        go : (b d : Bool) → m.steps + (1 + applying S + helped S m d) ≤ bound S → Within S (after_look_again S m b d) (after_look_again S m b d).place
         go true d u = record { told = λ q. cc; steps = helping m.helps a.0.helps }
         go false d u = resumed_within m d (closed m.steps (applying S) (helped S m d) (bound S) u)
-    within AtOwn a t e = go (nat_lt m.seq (seq found)) (pay found == m.made) (m.seq == S.limit)
+    within LoadOwnTicket a t e = go (nat_lt m.seq (seq found)) (pay found == m.made) (m.seq == S.limit)
       where
         found : ℕ
-        found = get_or w.words (word_of (want_at S m AtOwn)) 0
+        found = get_or w.words (word_of (want_at S m LoadOwnTicket)) 0
 
         newer : (s x r l : ℕ) → 1 ≤ x → s + (x + r) ≤ l → s + 1 + r ≤ l
         newer s x r l z h = omega arith
@@ -283,7 +283,7 @@ module _ (S : Setup) where
             none_at : (ks : List (Option ℕ)) → ks ≡ unknown S → get_or ks (ticket_cell S m.caller) None ≡ None
             none_at ks q = rw q (none_of S.cells (ticket_cell S m.caller))
 
-        go : (b c d : Bool) → Within S (after_own S m found b c d) (after_own S m found b c d).place
+        go : (b c d : Bool) → Within S (after_own_ticket S m found b c d) (after_own_ticket S m found b c d).place
         go true c d = record { told = λ q. cc; steps = newer m.steps (behind_help S) (rounds_left S m) (bound S) (omega arith) t.steps }
         go false true d = record { told = λ q. cc; steps = shape m.steps S.instrs S.cells (S.callers * (S.instrs + 1)) (rounds_left S m) (bound S) words_row t.steps }
         go false false true = record { steps = omega arith; told = λ q. tt }
@@ -292,7 +292,7 @@ module _ (S : Setup) where
           steps = call m.steps (S.instrs + 1) S.cells (S.callers * (S.instrs + 1)) (unknowns (learned S m (ticket_cell S m.caller) found)) ((S.callers - m.scan - 1) * (S.instrs + 1)) (rounds_left S m) (bound S)
               known_one (one_row S.callers m.scan (S.instrs + 1) a.5 (omega arith)) t.steps;
         }
-    within AtShape a t e = go (nat_lt m.seq (seq found)) refl
+    within LoadShape a t e = go (nat_lt m.seq (seq found)) refl
       where
         found : ℕ
         found = cell S w.words (shape_cell S m.caller)
@@ -303,10 +303,10 @@ module _ (S : Setup) where
         fresh : seq (cell S w.words (shape_cell S m.caller)) ≤ m.seq
         fresh = rw a.0.round.begun.caller (own_row_old S Lawful B w g i m h m a.0 (done_now S Lawful B w g i m h m a.2) (shape_cell S i) (omega arith, omega arith))
 
-        go : (b : Bool) → nat_lt m.seq (seq found) ≡ b → Within S (after_shape S m found b) (after_shape S m found b).place
+        go : (b : Bool) → nat_lt m.seq (seq found) ≡ b → Within S (after_load_shape S m found b) (after_load_shape S m found b).place
         go true q = let z : m.seq < seq found = grind (arith, nat_tests) in absurd (omega (arith, fresh))
         go false q = asks_within (shape_read S m found) 0 0 (same m.steps S.instrs (bound S) t.steps) (omega arith) (first_mark (pay found) 0 S.instrs) (λ k z. omega arith)
-    within (AtReply j) a t e = go (nat_lt m.seq (seq found)) refl
+    within (LoadReply j) a t e = go (nat_lt m.seq (seq found)) refl
       where
         found : ℕ
         found = cell S w.words (reply_cell S m.caller j)
@@ -317,35 +317,35 @@ module _ (S : Setup) where
         less : (s i j l : ℕ) → j < i → s + (i - j) ≤ l → s + (i - (j + 1) + 1) ≤ l
         less s i j l z h = omega arith
 
-        go : (b : Bool) → nat_lt m.seq (seq found) ≡ b → Within S (after_reply S m j found b) (after_reply S m j found b).place
+        go : (b : Bool) → nat_lt m.seq (seq found) ≡ b → Within S (after_load_reply S m j found b) (after_load_reply S m j found b).place
         go true q = let z : m.seq < seq found = grind (arith, nat_tests) in absurd (omega (arith, fresh))
         go false q = asks_within (reply_read m j found) (j + 1) (j + 1) (less m.steps S.instrs j (bound S) a.4 t.steps) (omega arith) (first_mark m.raw.shape (j + 1) (S.instrs - j - 1)) (λ k z. (mark_some m.raw.shape (j + 1) (S.instrs - j - 1) k z).0)
-    within AtCall a t e = go (get_or m.known (ticket_cell S m.scan) None)
+    within LoadAnnouncement a t e = go (get_or m.known (ticket_cell S m.scan) None)
       where
         found : ℕ
-        found = get_or w.words (word_of (want_at S m AtCall)) 0
+        found = get_or w.words (word_of (want_at S m LoadAnnouncement)) 0
 
         less : (s k x l : ℕ) → s + (k + 1 + x) ≤ l → s + 1 + (k + x) ≤ l
         less s k x l h = omega arith
 
-        go : (r : Option ℕ) → Within S (after_call S m found r) (after_call S m found r).place
+        go : (r : Option ℕ) → Within S (after_announcement S m found r) (after_announcement S m found r).place
         go None = record { told = λ q. cc; steps = less m.steps S.instrs (scan_left S m) (bound S) t.steps }
         go (Some v) = weighed_within (record m { heard = found }) a.3 (less m.steps S.instrs (scan_left S m) (bound S) t.steps) (nat_lt v (seq found))
-    within AtTicket a t e = go (nat_lt m.seq (seq found))
+    within LoadTicket a t e = go (nat_lt m.seq (seq found))
       where
         found : ℕ
-        found = get_or w.words (word_of (want_at S m AtTicket)) 0
+        found = get_or w.words (word_of (want_at S m LoadTicket)) 0
 
-        go : (b : Bool) → Within S (after_ticket S m found b) (after_ticket S m found b).place
+        go : (b : Bool) → Within S (after_load_ticket S m found b) (after_load_ticket S m found b).place
         go true = record { told = λ q. cc; steps = again_sum m.steps S.instrs ((S.callers - m.scan - 1) * (S.instrs + 1)) (unknowns m.known) (4 * S.cells + 6) (rounds_left S m) (bound S) (omega arith) t.steps }
         go false = weighed_within (record m { known = learned S m (ticket_cell S m.scan) found }) a.3
             (known_sum m.steps S.instrs ((S.callers - m.scan - 1) * (S.instrs + 1)) (unknowns m.known) (unknowns (learned S m (ticket_cell S m.scan) found)) (4 * S.cells + 6) (rounds_left S m) (bound S)
             (unknowns_set m.known (ticket_cell S m.scan) (pay found) (omega (arith, a.0.looks.all, ticket_in_cells S Lawful B w g i m h m.scan a.3)) a.5) t.steps)
             (nat_lt (pay found) (seq m.heard))
-    within (AtScript j) a t e = go (nat_lt (j + 1) (pay m.heard))
+    within (LoadScript j) a t e = go (nat_lt (j + 1) (pay m.heard))
       where
         found : ℕ
-        found = get_or w.words (word_of (want_at S m (AtScript j))) 0
+        found = get_or w.words (word_of (want_at S m (LoadScript j))) 0
 
         j_in : j < S.instrs
         j_in = omega (arith, a.6, a.4.small)
@@ -356,29 +356,29 @@ module _ (S : Setup) where
         last : (s i j x l : ℕ) → j < i → s + (i - j + x) ≤ l → s + 1 + x ≤ l
         last s i j x l z h = omega arith
 
-        go : (b : Bool) → Within S (after_script S m j found b) (after_script S m j found b).place
+        go : (b : Bool) → Within S (after_load_script S m j found b) (after_load_script S m j found b).place
         go true = record { told = λ q. cc; steps = more m.steps S.instrs j (scan_left S m) (bound S) j_in t.steps }
         go false = ran_within (record m { script = script_more m found }) a.3 (last m.steps S.instrs j (scan_left S m) (bound S) j_in t.steps) (S.meaning.walk (merged m.known m.log) (script_more m found))
-    within (AtCell x) a t e = go (nat_lt m.seq (seq found))
+    within (LoadCell x) a t e = go (nat_lt m.seq (seq found))
       where
         found : ℕ
-        found = get_or w.words (word_of (want_at S m (AtCell x))) 0
+        found = get_or w.words (word_of (want_at S m (LoadCell x))) 0
 
-        go : (b : Bool) → Within S (after_cell S m x found b) (after_cell S m x found b).place
+        go : (b : Bool) → Within S (after_load_cell S m x found b) (after_load_cell S m x found b).place
         go true = record { told = λ q. cc; steps = again_sum0 m.steps ((S.callers - m.scan - 1) * (S.instrs + 1)) (unknowns m.known) (4 * S.cells + 6) (rounds_left S m) (bound S) (omega arith) t.steps }
         go false = ran_within (record m { known = learned S m x found }) a.3
             (known_sum0 m.steps ((S.callers - m.scan - 1) * (S.instrs + 1)) (unknowns m.known) (unknowns (learned S m x found)) (4 * S.cells + 6) (rounds_left S m) (bound S)
             (unknowns_set m.known x (pay found) (omega (arith, a.0.looks.all, a.6)) a.7) t.steps)
             (S.meaning.walk (merged (learned S m x found) m.log) m.script)
-    within AtKeep a t e = record { told = λ q. cc; steps = sum m.steps S.cells (rounds_left S m) (bound S) t.steps }
+    within RaiseOld a t e = record { told = λ q. cc; steps = sum m.steps S.cells (rounds_left S m) (bound S) t.steps }
       where
         sum : (s c r l : ℕ) → s + (4 * c + 6 + r) ≤ l → s + 1 + (2 * (2 * c + 1 - 0) + 3 + r) ≤ l
         sum s c r l h = omega arith
-    within (AtLog x) a t e = record { told = λ q. cc; steps = sum m.steps (2 * (2 * S.cells + 1 - x)) (rounds_left S m) (bound S) t.steps }
+    within (StoreLog x) a t e = record { told = λ q. cc; steps = sum m.steps (2 * (2 * S.cells + 1 - x)) (rounds_left S m) (bound S) t.steps }
       where
         sum : (s y r l : ℕ) → s + (y + 3 + r) ≤ l → s + 1 + (y + 2 + r) ≤ l
         sum s y r l h = omega arith
-    within (AtLogUp x) a t e = go (nat_lt (x + 1) (length (log_words m.log)))
+    within (RaiseLog x) a t e = go (nat_lt (x + 1) (length (log_words m.log)))
       where
         x_in : x < 2 * S.cells + 1
         x_in = omega (arith, length-log_words m.log, a.0.stored.over.over.is_log.few, a.1)
@@ -389,20 +389,20 @@ module _ (S : Setup) where
         last : (s c x r l : ℕ) → x < c → s + (2 * (c - x) + 2 + r) ≤ l → s + 1 + (3 + r) ≤ l
         last s c x r l z h = omega arith
 
-        go : (b : Bool) → Within S (after_log m x b) (after_log m x b).place
+        go : (b : Bool) → Within S (after_raise_log m x b) (after_raise_log m x b).place
         go true = record { told = λ q. cc; steps = more m.steps (2 * S.cells + 1) x (rounds_left S m) (bound S) x_in t.steps }
         go false = record { told = λ q. cc; steps = last m.steps (2 * S.cells + 1) x (rounds_left S m) (bound S) x_in t.steps }
-    within AtStore a t e = record { told = λ q. cc; steps = fewer m.steps (3 + rounds_left S m) (2 + rounds_left S m) (bound S) t.steps (omega arith) }
-    within AtStoreUp a t e = record { told = λ q. cc; steps = fewer m.steps (2 + rounds_left S m) (1 + rounds_left S m) (bound S) t.steps (omega arith) }
-    within AtSwap a t e = go (get_or w.words 0 0 == word m.seq m.owner)
+    within StoreRequest a t e = record { told = λ q. cc; steps = fewer m.steps (3 + rounds_left S m) (2 + rounds_left S m) (bound S) t.steps (omega arith) }
+    within RaiseRequest a t e = record { told = λ q. cc; steps = fewer m.steps (2 + rounds_left S m) (1 + rounds_left S m) (bound S) t.steps (omega arith) }
+    within ExchangeCurrent a t e = go (get_or w.words 0 0 == word m.seq m.owner)
       where
         won : (s y k l : ℕ) → s + (1 + (y + k)) ≤ l → s + 1 + (k + 0) ≤ l
         won s y k l h = omega arith
 
-        go : (b : Bool) → Within S (after_swap m b) (after_swap m b).place
+        go : (b : Bool) → Within S (after_exchange m b) (after_exchange m b).place
         go true = record { told = λ q. cc; steps = won m.steps ((3 - m.rounds) * lost S) (applying S) (bound S) t.steps }
         go false = record { told = λ q. cc; steps = fewer m.steps (1 + rounds_left S m) (rounds_left S m) (bound S) t.steps (omega arith) }
-    within AtCurUp a t e = go (nat_lt 0 (length m.log))
+    within RaiseCurrent a t e = go (nat_lt 0 (length m.log))
       where
         more : (s c r l : ℕ) → s + (4 * c + 3 + r) ≤ l → s + 1 + (4 * (c - 0) + 2 + r) ≤ l
         more s c r l h = omega arith
@@ -410,13 +410,13 @@ module _ (S : Setup) where
         none : (s c r l : ℕ) → s + (4 * c + 3 + r) ≤ l → s + 1 + (2 + r) ≤ l
         none s c r l h = omega arith
 
-        go : (b : Bool) → Within S (after_cur_up m b) (after_cur_up m b).place
+        go : (b : Bool) → Within S (after_raise_current m b) (after_raise_current m b).place
         go true = record { told = λ q. cc; steps = more m.steps S.cells (behind_apply S m m.helps) (bound S) t.steps }
         go false = record { told = λ q. cc; steps = none m.steps S.cells (behind_apply S m m.helps) (bound S) t.steps }
-    within (AtTarget j) a t e = go (nat_lt (seq found) m.seq)
+    within (LoadTarget j) a t e = go (nat_lt (seq found) m.seq)
       where
         found : ℕ
-        found = get_or w.words (word_of (want_at S m (AtTarget j))) 0
+        found = get_or w.words (word_of (want_at S m (LoadTarget j))) 0
 
         older : (s y r l : ℕ) → s + (y + 2 + r) ≤ l → s + 1 + (y + 1 + r) ≤ l
         older s y r l h = omega arith
@@ -424,18 +424,18 @@ module _ (S : Setup) where
         newer : (s y r l : ℕ) → s + (y + 2 + r) ≤ l → s + 1 + (y - 1 + r) ≤ l
         newer s y r l h = omega arith
 
-        go : (b : Bool) → Within S (after_target m j found b) (after_target m j found b).place
+        go : (b : Bool) → Within S (after_load_target m j found b) (after_load_target m j found b).place
         go true = record { told = λ q. cc; steps = older m.steps (4 * (S.cells - j)) (behind_apply S m m.helps) (bound S) t.steps }
         go false = record { told = λ q. cc; steps = newer m.steps (4 * (S.cells - j)) (behind_apply S m m.helps) (bound S) t.steps }
-    within (AtChange j f) a t e = record { told = λ q. cc; steps = sum m.steps (4 * (S.cells - j)) (behind_apply S m m.helps) (bound S) t.steps }
+    within (ExchangeTarget j f) a t e = record { told = λ q. cc; steps = sum m.steps (4 * (S.cells - j)) (behind_apply S m m.helps) (bound S) t.steps }
       where
         sum : (s y r l : ℕ) → s + (y + 1 + r) ≤ l → s + 1 + (y + r) ≤ l
         sum s y r l h = omega arith
-    within (AtAgain j) a t e = record { told = λ q. cc; steps = sum m.steps S.cells j (behind_apply S m m.helps) (bound S) (omega (arith, a.1, n_cells j a.0)) t.steps }
+    within (ReloadTarget j) a t e = record { told = λ q. cc; steps = sum m.steps S.cells j (behind_apply S m m.helps) (bound S) (omega (arith, a.1, n_cells j a.0)) t.steps }
       where
         sum : (s c j r l : ℕ) → j < c → s + (4 * (c - j) + r) ≤ l → s + 1 + (4 * (c - j) - 1 + r) ≤ l
         sum s c j r l z h = omega arith
-    within (AtTargetUp j f) a t e = go (nat_lt (j + 1) (length m.log))
+    within (RaiseTarget j f) a t e = go (nat_lt (j + 1) (length m.log))
       where
         j_in : j < S.cells
         j_in = omega (arith, a.1, n_cells j a.0)
@@ -446,14 +446,14 @@ module _ (S : Setup) where
         last : (s c j r l : ℕ) → j < c → s + (4 * (c - j) - 1 + r) ≤ l → s + 1 + (2 + r) ≤ l
         last s c j r l z h = omega arith
 
-        go : (b : Bool) → Within S (next m j b) (next m j b).place
+        go : (b : Bool) → Within S (next_entry m j b) (next_entry m j b).place
         go true = record { told = λ q. cc; steps = more m.steps S.cells j (behind_apply S m m.helps) (bound S) j_in t.steps }
         go false = record { told = λ q. cc; steps = last m.steps S.cells j (behind_apply S m m.helps) (bound S) j_in t.steps }
-    within AtClose a t e = record { told = λ q. cc; steps = sum m.steps (behind_apply S m m.helps) (bound S) t.steps }
+    within CloseRequest a t e = record { told = λ q. cc; steps = sum m.steps (behind_apply S m m.helps) (bound S) t.steps }
       where
         sum : (s r l : ℕ) → s + (2 + r) ≤ l → s + 1 + (1 + r) ≤ l
         sum s r l h = omega arith
-    within AtCloseUp a t e = go m.helps (m.rounds == 0) refl t.steps
+    within RaiseClosed a t e = go m.helps (m.rounds == 0) refl t.steps
       where
         sum : (s r l : ℕ) → s + (1 + r) ≤ l → s + 1 + r ≤ l
         sum s r l h = omega arith
@@ -461,6 +461,6 @@ module _ (S : Setup) where
         sum0 : (s l : ℕ) → s + (1 + 0) ≤ l → s + 1 ≤ l
         sum0 s l h = omega arith
 
-        go : (b d : Bool) → (m.rounds == 0) ≡ d → m.steps + (1 + behind_apply S m b) ≤ bound S → Within S (after_close S m b d) (after_close S m b d).place
+        go : (b d : Bool) → (m.rounds == 0) ≡ d → m.steps + (1 + behind_apply S m b) ≤ bound S → Within S (after_raise_closed S m b d) (after_raise_closed S m b d).place
         go true d q u = resumed_within m d (subst (λ (x : Bool). m.steps + 1 + helped S m x ≤ bound S) q (sum m.steps (helped S m (m.rounds == 0)) (bound S) u))
         go false d q u = record { steps = omega arith; told = λ q. sum0 m.steps (bound S) u }

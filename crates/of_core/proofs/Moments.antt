@@ -6,11 +6,11 @@ use Rattle.of_cell.specs.Words.{seq, pay}
 use Rattle.of_cell.proofs.Order.{seq_zero, pay_zero}
 use Rattle.of_mem.specs.Meaning.{Meaning, Sound, SameFrom}
 use Rattle.of_core.specs.declared.place.Place.{Place}
-use Rattle.of_core.specs.declared.place.Place.TheVariants.{Idle, AtTry, AtTryReq, AtTryCell, AtWord, AtAnn, AtCur, AtReq, AtCopy, AtLook, AtOwn, AtShape, AtReply, AtCall, AtTicket, AtScript, AtCell, AtKeep, AtLog, AtLogUp, AtStore, AtStoreUp, AtSwap, AtCurUp, AtTarget, AtChange, AtAgain, AtTargetUp, AtClose, AtCloseUp}
+use Rattle.of_core.specs.declared.place.Place.TheVariants.{Idle, TryCurrent, TryRequest, TryCell, StoreScript, StoreAnnouncement, LoadCurrent, LoadRequest, CopyLog, LookAgain, LoadOwnTicket, LoadShape, LoadReply, LoadAnnouncement, LoadTicket, LoadScript, LoadCell, RaiseOld, StoreLog, RaiseLog, StoreRequest, RaiseRequest, ExchangeCurrent, RaiseCurrent, LoadTarget, ExchangeTarget, ReloadTarget, RaiseTarget, CloseRequest, RaiseClosed}
 use Rattle.of_core.specs.declared.place.Outcome.{Outcome}
 use Rattle.of_core.specs.declared.place.Outcome.TheVariants.{Answered, Spent}
-use Rattle.of_core.specs.Machine.{Setup, Mach, Call, base, size, up, req_at, data_at, log_at, said_at, ticket_cell}
-use Rattle.of_core.specs.World.{World, Start, Batch, ann, state, batch, no_batch, log_cell, at}
+use Rattle.of_core.specs.Machine.{Setup, Data, Call, base, size, durable_at, request_at, data_at, log_at, script_at, ticket_cell}
+use Rattle.of_core.specs.World.{World, Start, Batch, announcement_of, state, batch, no_batch, log_word, at}
 use Rattle.of_core.specs.Good.{IsRequest, IsLogWord, Good, Core, At, after_calls, Replies, numbers, ticket_in, Told, Rests, Fresh, last, IsLoaded, Opened, risen}
 use Rattle.of_core.specs.Events.{idle, first_place, opened, Event, Begins, Turns, Loads, Evicts, machine, happens, MayHappen, run, IsSchedule, idles, zeros, opening, replay, Legal, UsesOne, IsTold, IsSound}
 use Rattle.of_core.proofs.States.{state_length, state_start, batch_is}
@@ -74,7 +74,7 @@ module _ (S : Setup) (Lawful : List ℕ → Type 0) (sound : Sound S.meaning Law
         suc_is : (d : ℕ) → d + 1 ≡ suc d
         suc_is d = omega arith
 
-    pub is_sound : ((i : ℕ) (m : Mach) → i < S.callers → get_or w.machines i m ≡ m → Within S m m.place) → IsSound S B w
+    pub is_sound : ((i : ℕ) (m : Data) → i < S.callers → get_or w.machines i m ≡ m → Within S m m.place) → IsSound S B w
     is_sound within =
         let p = upto (length w.batches) (omega arith) in
         let t : take (length w.batches) w.batches ≡ w.batches = take_all (length w.batches) w.batches (omega arith) in
@@ -114,7 +114,7 @@ module _ (S : Setup) (Lawful : List ℕ → Type 0) (sound : Sound S.meaning Law
         less : (s x l : ℕ) → s + x ≤ l → s ≤ l
         less s x l h = omega arith
 
-        told_is : (i : ℕ) (m : Mach) → i < S.callers → (o : Option Outcome) → Told_within S o → Told S B w.words w.batches i m o → IsTold S B w i m o
+        told_is : (i : ℕ) (m : Data) → i < S.callers → (o : Option Outcome) → Told_within S o → Told S B w.words w.batches i m o → IsTold S B w i m o
         told_is i m h None v t = tt
         told_is i m h (Some (Answered s true raw n)) v t = (v, t.0, t.1, t.3)
         told_is i m h (Some (Answered s false raw n)) v t = (v, t.0, t.1, t.3, t.4)
@@ -126,37 +126,37 @@ module _ (S : Setup) (Lawful : List ℕ → Type 0) (sound : Sound S.meaning Law
               omega (arith, p, t.0, ap (ticket_in S B w.batches (last w.words)) q),
         )
 
-        uses : (i : ℕ) (m : Mach) (p : Place) → At S B w.words w.batches i m p → UsesOne B w m p
+        uses : (i : ℕ) (m : Data) (p : Place) → At S B w.words w.batches i m p → UsesOne B w m p
         uses i m Idle a = tt
-        uses i m AtTry a = tt
-        uses i m AtTryReq a = tt
-        uses i m (AtTryCell x) a = a.3.agrees
-        uses i m (AtWord j) a = tt
-        uses i m AtAnn a = tt
-        uses i m AtCur a = tt
-        uses i m AtReq a = tt
-        uses i m (AtCopy x) a = tt
-        uses i m AtLook a = tt
-        uses i m AtOwn a = a.0.agrees
-        uses i m AtShape a = a.0.agrees
-        uses i m (AtReply j) a = a.0.agrees
-        uses i m AtCall a = a.0.looks.agrees
-        uses i m AtTicket a = a.0.looks.agrees
-        uses i m (AtScript j) a = a.0.looks.agrees
-        uses i m (AtCell x) a = a.0.looks.agrees
-        uses i m AtKeep a = a.0.looks.agrees
-        uses i m (AtLog x) a = a.0.stored.past.looks.agrees
-        uses i m (AtLogUp x) a = a.0.stored.past.looks.agrees
-        uses i m AtStore a = a.stored.past.looks.agrees
-        uses i m AtStoreUp a = a.0.past.looks.agrees
-        uses i m AtSwap a = a.0.past.looks.agrees
-        uses i m AtCurUp a = tt
-        uses i m (AtTarget j) a = tt
-        uses i m (AtChange j f) a = tt
-        uses i m (AtAgain j) a = tt
-        uses i m (AtTargetUp j f) a = tt
-        uses i m AtClose a = tt
-        uses i m AtCloseUp a = tt
+        uses i m TryCurrent a = tt
+        uses i m TryRequest a = tt
+        uses i m (TryCell x) a = a.3.agrees
+        uses i m (StoreScript j) a = tt
+        uses i m StoreAnnouncement a = tt
+        uses i m LoadCurrent a = tt
+        uses i m LoadRequest a = tt
+        uses i m (CopyLog x) a = tt
+        uses i m LookAgain a = tt
+        uses i m LoadOwnTicket a = a.0.agrees
+        uses i m LoadShape a = a.0.agrees
+        uses i m (LoadReply j) a = a.0.agrees
+        uses i m LoadAnnouncement a = a.0.looks.agrees
+        uses i m LoadTicket a = a.0.looks.agrees
+        uses i m (LoadScript j) a = a.0.looks.agrees
+        uses i m (LoadCell x) a = a.0.looks.agrees
+        uses i m RaiseOld a = a.0.looks.agrees
+        uses i m (StoreLog x) a = a.0.stored.past.looks.agrees
+        uses i m (RaiseLog x) a = a.0.stored.past.looks.agrees
+        uses i m StoreRequest a = a.stored.past.looks.agrees
+        uses i m RaiseRequest a = a.0.past.looks.agrees
+        uses i m ExchangeCurrent a = a.0.past.looks.agrees
+        uses i m RaiseCurrent a = tt
+        uses i m (LoadTarget j) a = tt
+        uses i m (ExchangeTarget j f) a = tt
+        uses i m (ReloadTarget j) a = tt
+        uses i m (RaiseTarget j f) a = tt
+        uses i m CloseRequest a = tt
+        uses i m RaiseClosed a = tt
 
     pub event_kept : (e : Event) → MayHappen S w e → Core S Lawful B (happens S w e)
     event_kept (Turns i) h = (core_kept S Lawful sound B w g i (machine w i) h (get_or_default w.machines i (machine w i) (idle i) (omega (arith, g.members)))).core
@@ -174,7 +174,7 @@ module _ (S : Setup) (Lawful : List ℕ → Type 0) (sound : Sound S.meaning Law
           was_cur = λ q. rw q (omega (arith, g.shared.counted.count), g.shared.counted.owner, g.shared.counted.first);
           held = λ a l q. rw q (held_now S Lawful B w g a l);
           request = λ j l q. subst (λ (k : ℕ). IsRequest B w.words w.batches j (get_or w.words k 0)) (sym q) (g.shared.kinds.requests j l);
-          log = λ j x l u q. subst (λ (k : ℕ). IsLogWord B w.words w.batches j x (get_or w.words k 0) × (seq (get_or w.words k 0) ≡ seq (log_cell S w.words j x) → get_or w.words k 0 ≡ log_cell S w.words j x)) (sym q) (g.shared.kinds.logs j x l u, λ e. refl);
+          log = λ j x l u q. subst (λ (k : ℕ). IsLogWord B w.words w.batches j x (get_or w.words k 0) × (seq (get_or w.words k 0) ≡ seq (log_word S w.words j x) → get_or w.words k 0 ≡ log_word S w.words j x)) (sym q) (g.shared.kinds.logs j x l u, λ e. refl);
         }
 
         one : (k : ℕ) (d : ℕ × ℕ) → k < 1 → IsLoaded S B w.words w.batches (get_or {A = ℕ × ℕ} ((c, get_or w.words c 0) ∷ []) k d)
@@ -185,7 +185,7 @@ module _ (S : Setup) (Lawful : List ℕ → Type 0) (sound : Sound S.meaning Law
         (assemble S Lawful B w g i h.0 w.words w.batches (opened S m op) (moves_not S Lawful B i w.words w.batches g.shared) g.shared
         (begun (rw h.1 at (g.each i m h.0 (get_or_default w.machines i m (idle i) (omega (arith, g.members))))))).core
       where
-        m : Mach
+        m : Data
         m = machine w i
 
         begun : Rests S B w.words w.batches i m → At S B w.words w.batches i (opened S m op) (opened S m op).place
@@ -195,8 +195,8 @@ module _ (S : Setup) (Lawful : List ℕ → Type 0) (sound : Sound S.meaning Law
             fresh p = record { caller = r.caller; ticket = h.4; words = h.3; some = h.2; kept = r.kept; above = omega (arith, r.upto); quieted = r.quieted; newer = omega (arith, r.older); rounds = refl }
 
             at_first : (b : Bool) → S.meaning.reads_only op ≡ b → At S B w.words w.batches i (record (opened S m op) { place = first_place b }) (first_place b)
-            at_first true e = (fresh AtTry, r.calm, e, omega arith)
-            at_first false e = (fresh (AtWord 0), r.calm, omega (arith, h.2), refl)
+            at_first true e = (fresh TryCurrent, r.calm, e, omega arith)
+            at_first false e = (fresh (StoreScript 0), r.calm, omega (arith, h.2), refl)
 
   -- the whole invariant
   pub event_good : (w : World) → Good S Lawful B w → (e : Event) → MayHappen S w e → Good S Lawful B (happens S w e)
@@ -205,14 +205,14 @@ module _ (S : Setup) (Lawful : List ℕ → Type 0) (sound : Sound S.meaning Law
   event_good w g (Evicts k) h = record { core = event_kept w g.core (Evicts k) h; within = g.within }
   event_good w g (Begins i op) h = record { core = event_kept w g.core (Begins i op) h; within = λ j n l q. go j n l q (cases_eq j i) }
     where
-      new : Mach
+      new : Data
       new = opened S (machine w i) op
 
-      go : (j : ℕ) (n : Mach) → j < S.callers → get_or (set w.machines i new) j n ≡ n → (j ≡ i) ⊎ (j ≡ i → ⊥) → Within S n n.place
+      go : (j : ℕ) (n : Data) → j < S.callers → get_or (set w.machines i new) j n ≡ n → (j ≡ i) ⊎ (j ≡ i → ⊥) → Within S n n.place
       go j n l q (inl r) =
           let i_in : i < length w.machines = omega (arith, g.core.members, h.0) in
           let same : new ≡ n = sym (get_or-set_same w.machines i new n i_in) ∙ (rw r at q) in
-          subst (λ (x : Mach). Within S x x.place) same (opened_within S (machine w i) op)
+          subst (λ (x : Data). Within S x x.place) same (opened_within S (machine w i) op)
       go j n l q (inr r) = g.within j n l (sym (get_or-set_other w.machines i j new n r) ∙ q)
 
 -- the start
@@ -221,7 +221,7 @@ module _ (S : Setup) (Lawful : List ℕ → Type 0) (sound : Sound S.meaning Law
   idles_length i zero = refl
   idles_length i (suc n) = ap suc (idles_length (suc i) n)
 
-  idles_at : (j n i : ℕ) (d : Mach) → i < n → get_or (idles j n) i d ≡ idle (j + i)
+  idles_at : (j n i : ℕ) (d : Data) → i < n → get_or (idles j n) i d ≡ idle (j + i)
   idles_at j zero i d h = absurd (omega arith)
   idles_at j (suc n) zero d h = ap idle (omega arith)
   idles_at j (suc n) (suc i) d h = idles_at (suc j) n i d (omega arith) ∙ ap idle (omega arith)
@@ -247,7 +247,7 @@ module _ (S : Setup) (Lawful : List ℕ → Type 0) (sound : Sound S.meaning Law
   last_zero = ap seq (word_at 0) ∙ seq_zero
 
   risen_zero : risen S (replicate total 0) ≡ 0
-  risen_zero = ap seq (word_at (up S 0)) ∙ seq_zero
+  risen_zero = ap seq (word_at (durable_at S 0)) ∙ seq_zero
 
   pub good_start : Core S Lawful (zeros S) (opening S total)
   good_start = record {
@@ -257,13 +257,13 @@ module _ (S : Setup) (Lawful : List ℕ → Type 0) (sound : Sound S.meaning Law
       narrow = narrow;
       little = little;
       durable = record {
-        low = λ c l. omega (arith, word_at (up S c));
+        low = λ c l. omega (arith, word_at (durable_at S c));
         from = omega arith;
         owner = λ l. absurd (omega (arith, risen_zero));
-        first = λ q. ap pay (word_at (up S 0)) ∙ pay_zero;
+        first = λ q. ap pay (word_at (durable_at S 0)) ∙ pay_zero;
         step = inl (last_zero ∙ sym risen_zero);
         fresh = λ a l. rw (word_at (S.callers + 1 + a), seq_zero) (omega arith);
-        cells = λ a l. inl (word_at (up S (data_at S a)) ∙ sym (ap (λ (k : ℕ). at (zeros S) [] k a) risen_zero ∙ at_zero a));
+        cells = λ a l. inl (word_at (durable_at S (data_at S a)) ∙ sym (ap (λ (k : ℕ). at (zeros S) [] k a) risen_zero ∙ at_zero a));
         begun = λ l. absurd (omega arith);
         floor = λ k l u. absurd (omega (arith, last_zero));
         logs = λ k l u. absurd (omega (arith, last_zero));
@@ -294,14 +294,14 @@ module _ (S : Setup) (Lawful : List ℕ → Type 0) (sound : Sound S.meaning Law
       };
       kinds = record {
         requests = λ j l u. absurd (omega (arith, ap seq (word_at (j + 1)), seq_zero));
-        dur_requests = λ j l u. absurd (omega (arith, ap seq (word_at (up S (req_at j))), seq_zero));
+        dur_requests = λ j l u. absurd (omega (arith, ap seq (word_at (durable_at S (request_at j))), seq_zero));
         logs = λ j x l u v. absurd (omega (arith, ap seq (word_at (log_at S j x)), seq_zero));
-        dur_logs = λ j x l u v. absurd (omega (arith, ap seq (word_at (up S (log_at S j x))), seq_zero));
+        dur_logs = λ j x l u v. absurd (omega (arith, ap seq (word_at (durable_at S (log_at S j x))), seq_zero));
         sized = λ j y l u. rw (word_at (log_at S j (2 * y + 1)), pay_zero) (omega arith);
       };
       heard = record {
-        small = λ i l. rw (word_at (said_at S i S.instrs), pay_zero) (omega arith);
-        tickets = λ i l. rw (word_at (said_at S i S.instrs), seq_zero) (omega arith);
+        small = λ i l. rw (word_at (script_at S i S.instrs), pay_zero) (omega arith);
+        tickets = λ i l. rw (word_at (script_at S i S.instrs), seq_zero) (omega arith);
         some = λ i l u. absurd (omega (arith, ann_zero i));
         before = λ k i l u. absurd (omega (arith, last_zero));
         met = λ k i l u. absurd (omega (arith, last_zero));
@@ -312,12 +312,12 @@ module _ (S : Setup) (Lawful : List ℕ → Type 0) (sound : Sound S.meaning Law
     members = idles_length 0 S.callers;
     loaded = λ k d l. absurd (omega arith);
     each = λ i m h e. let q : idle i ≡ m = ap idle (zero_plus i) ∙ sym (idles_at 0 S.callers i m h) ∙ e in
-        subst (λ (x : Mach). At S (zeros S) (replicate total 0) [] i x x.place) q
-        (record { caller = refl; kept = (omega arith, λ l. absurd (omega (arith, seq_zero))); calm = record { own = rw (word_at (i + 1), seq_zero) (omega arith); level = word_at (up S (req_at i)) ∙ sym (word_at (i + 1)); shut = λ k l u o. absurd (omega (arith, last_zero)); logs = λ y u. rw (word_at (log_at S i y), seq_zero) (omega arith) }; quieted = inl (omega (arith, ann_zero i)); upto = omega (arith, ticket_zero i); older = omega (arith, ann_zero i); told = tt });
+        subst (λ (x : Data). At S (zeros S) (replicate total 0) [] i x x.place) q
+        (record { caller = refl; kept = (omega arith, λ l. absurd (omega (arith, seq_zero))); calm = record { own = rw (word_at (i + 1), seq_zero) (omega arith); level = word_at (durable_at S (request_at i)) ∙ sym (word_at (i + 1)); shut = λ k l u o. absurd (omega (arith, last_zero)); logs = λ y u. rw (word_at (log_at S i y), seq_zero) (omega arith) }; quieted = inl (omega (arith, ann_zero i)); upto = omega (arith, ticket_zero i); older = omega (arith, ann_zero i); told = tt });
   }
     where
-      ann_zero : (i : ℕ) → seq (ann S (replicate total 0) i) ≡ 0
-      ann_zero i = ap seq (word_at (said_at S i S.instrs)) ∙ seq_zero
+      ann_zero : (i : ℕ) → seq (announcement_of S (replicate total 0) i) ≡ 0
+      ann_zero i = ap seq (word_at (script_at S i S.instrs)) ∙ seq_zero
 
       ticket_zero : (i : ℕ) → ticket_in S (zeros S) [] (last (replicate total 0)) i ≡ 0
       ticket_zero i = ap (λ (k : ℕ). ticket_in S (zeros S) [] k i) last_zero ∙ ap pay (at_zero (ticket_cell S i)) ∙ pay_zero
@@ -334,7 +334,7 @@ module _ (S : Setup) (Lawful : List ℕ → Type 0) (sound : Sound S.meaning Law
           number_zero (v ∷ ws) h (suc x) = number_zero ws (λ y. h (suc y)) x
 
   pub start_good : Good S Lawful (zeros S) (opening S total)
-  start_good = record { core = good_start; within = λ i m h e. let q : idle i ≡ m = ap idle (zero_plus i) ∙ sym (idles_at 0 S.callers i m h) ∙ e in subst (λ (x : Mach). Within S x x.place) q (record { steps = omega arith; told = λ r. tt }) }
+  start_good = record { core = good_start; within = λ i m h e. let q : idle i ≡ m = ap idle (zero_plus i) ∙ sym (idles_at 0 S.callers i m h) ∙ e in subst (λ (x : Data). Within S x x.place) q (record { steps = omega arith; told = λ r. tt }) }
     where
       zero_plus : (i : ℕ) → i ≡ 0 + i
       zero_plus i = omega arith

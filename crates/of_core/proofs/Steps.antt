@@ -9,9 +9,9 @@ use Rattle.of_cell.specs.Words.{word, seq, pay}
 use Rattle.of_cell.proofs.Order.{pay_small, seq_word, pay_word, word_eta, pay_zero}
 use Rattle.of_mem.specs.Meaning.{marked, Meaning, Walked, Needs, Gives, Fits, Finishes, Sound, written}
 use Rattle.of_mem.specs.declared.work.RawReply.{RawReply}
-use Rattle.of_core.specs.declared.place.Place.TheVariants.{Idle, AtTry, AtTryReq, AtTryCell, AtCur, AtReq, AtCopy, AtLook, AtOwn, AtShape, AtReply, AtCall, AtTicket, AtScript, AtCell}
-use Rattle.of_core.specs.Machine.{reads, read_ran, tried, resumed, after_try_req, over_try, after_try_cell, Setup, Mach, Call, req_at, data_at, log_at, said_at, ticket_cell, shape_cell, reply_cell, unknown, base, ran, after_req, after_cell, after_copy, after_look, entered, got_more, log_of, pairs, flat, log_words, learned, is_open, took_at, began, own_cells, merged, put_all, next_call, with_run, call_run, own_raw, weighed, after_call, after_ticket, script_more, runs, after_script, told, asks_more, after_own, shape_read, after_shape, reply_read, after_reply, first_of, first_mark}
-use Rattle.of_core.specs.World.{World, Batch, Start, said, said_word, ann, state, batch, at, cur, req, cell, log_cell, dur_req, stepped_at}
+use Rattle.of_core.specs.declared.place.Place.TheVariants.{Idle, TryCurrent, TryRequest, TryCell, LoadCurrent, LoadRequest, CopyLog, LookAgain, LoadOwnTicket, LoadShape, LoadReply, LoadAnnouncement, LoadTicket, LoadScript, LoadCell}
+use Rattle.of_core.specs.Machine.{reads, read_ran, tried, resumed, after_try_request, over_try, after_try_cell, Setup, Data, Call, request_at, data_at, log_at, script_at, ticket_cell, shape_cell, reply_cell, unknown, base, ran, after_load_request, after_load_cell, after_copy_log, after_look_again, entered, got_more, log_of, pairs, flat, log_words, learned, is_open, took_at, next_round, own_cells, merged, put_all, next_call, with_run, call_run, own_raw, weighed, after_announcement, after_load_ticket, script_more, runs, after_load_script, told, asks_more, after_own_ticket, shape_read, after_load_shape, reply_read, after_load_reply, first_of, first_mark}
+use Rattle.of_core.specs.World.{World, Batch, Start, script_of, script_word, announcement_of, state, batch, at, current_word, request_of, cell, log_word, durable_request, stepped_at}
 use Rattle.of_core.specs.Good.{Cur, Trying, Helper, Watches, Fresh, Goes, Moves, Turned, last, holder, Shared, Begun, Round, Looks, Past, Over, Scans, Hears, Reads, Taken, Announced, Finds, ReadUpto, HasCall, Last, LastCall, InRow, Rising, no_call, ticket_in, Applies, At, Core, Opened, IsLog, Mode, Copies, Calm, numbers, risen}
 use Rattle.of_core.proofs.States.{state_length, later, old}
 use Rattle.of_core.proofs.Logs.{turned_is, length-log_words, room_for}
@@ -53,7 +53,7 @@ mark_some shape j (suc n) k e = go (marked shape j) refl e (mark_some shape (j +
 
 module _ (S : Setup) (Lawful : List ℕ → Type 0) (B : Start) where
   -- what has to be shown of a step
-  pub assemble : (w : World) → Core S Lawful B w → (i : ℕ) → i < S.callers → (vs : List ℕ) (cs : List Batch) (m : Mach)
+  pub assemble : (w : World) → Core S Lawful B w → (i : ℕ) → i < S.callers → (vs : List ℕ) (cs : List Batch) (m : Data)
       → Moves S B i w.words w.batches vs cs → Shared S Lawful B vs cs → At S B vs cs i m m.place
       → Goes S Lawful B i w (record { words = vs; machines = set w.machines i m; batches = cs; loaded = w.loaded })
   assemble w g i h vs cs m v s a = record {
@@ -66,11 +66,11 @@ module _ (S : Setup) (Lawful : List ℕ → Type 0) (B : Start) where
     };
   }
     where
-      go : (j : ℕ) (n : Mach) → j < S.callers → get_or (set w.machines i m) j n ≡ n → (j ≡ i) ⊎ (j ≡ i → ⊥) → At S B vs cs j n n.place
+      go : (j : ℕ) (n : Data) → j < S.callers → get_or (set w.machines i m) j n ≡ n → (j ≡ i) ⊎ (j ≡ i → ⊥) → At S B vs cs j n n.place
       go j n l e (inl q) =
           let i_in : i < length w.machines = omega (arith, g.members) in
           let same : m ≡ n = sym (get_or-set_same w.machines i m n i_in) ∙ (rw q at e) in
-          subst (λ (x : Mach). At S B vs cs j x x.place) same (rw q a)
+          subst (λ (x : Data). At S B vs cs j x x.place) same (rw q a)
       go j n l e (inr q) =
           at_stable S Lawful B i w.words w.batches vs cs v g.shared j l q n n.place (g.each j n l (sym (get_or-set_other w.machines i j m n q) ∙ e))
 
@@ -83,8 +83,8 @@ module _ (S : Setup) (Lawful : List ℕ → Type 0) (B : Start) where
     newer = λ k l m. absurd (omega arith);
     tickets = λ k j l m. absurd (omega arith);
     snapshot = λ k j l m. absurd (omega arith);
-    said = λ j x l u. inl refl;
-    anns = λ j l. inl refl;
+    script_of = λ j x l u. inl refl;
+    announcements = λ j l. inl refl;
     newer_owner = λ k l m. absurd (omega arith);
     requests = λ j l n. inl refl;
     changes = λ a l. inl refl;
@@ -97,7 +97,7 @@ module _ (S : Setup) (Lawful : List ℕ → Type 0) (B : Start) where
   }
 
   -- a step that changes no word
-  pub assemble_read : (w : World) → Core S Lawful B w → (i : ℕ) → i < S.callers → (vs : List ℕ) (cs : List Batch) (m : Mach)
+  pub assemble_read : (w : World) → Core S Lawful B w → (i : ℕ) → i < S.callers → (vs : List ℕ) (cs : List Batch) (m : Data)
       → vs ≡ w.words → cs ≡ w.batches → At S B w.words w.batches i m m.place
       → Goes S Lawful B i w (record { words = vs; machines = set w.machines i m; batches = cs; loaded = w.loaded })
   assemble_read w g i h vs cs m e f a = rw (e, f) (assemble w g i h w.words w.batches m (moves_not i w.words w.batches g.shared) g.shared a)
@@ -130,7 +130,7 @@ module _ (S : Setup) (Lawful : List ℕ → Type 0) (B : Start) where
   logs_of w g k l m = g.shared.counted.logs k l (omega (arith, g.shared.counted.count))
 
   -- the machine m of caller i, at its place
-  module _ (w : World) (g : Core S Lawful B w) (i : ℕ) (m : Mach) (h : i < S.callers) where
+  module _ (w : World) (g : Core S Lawful B w) (i : ℕ) (m : Data) (h : i < S.callers) where
     same_words : (c : ℕ) → set w.words c (get_or w.words c 0) ≡ w.words
     same_words c = set-get_or w.words c 0
 
@@ -140,10 +140,10 @@ module _ (S : Setup) (Lawful : List ℕ → Type 0) (B : Start) where
     pub idle_kept : At S B w.words w.batches i m m.place → Goes S Lawful B i w (stepped_at S i m Idle w)
     idle_kept a = assemble_read w g i h _ _ m (same_words 0) same_batches a
 
-    pub cur_kept : At S B w.words w.batches i m AtCur → Goes S Lawful B i w (stepped_at S i m AtCur w)
-    cur_kept a = assemble_read w g i h _ _ (took_at S m (cur w.words) AtCur) (same_words 0) same_batches (go (m.rounds == 0) refl, a.1)
+    pub load_current_kept : At S B w.words w.batches i m LoadCurrent → Goes S Lawful B i w (stepped_at S i m LoadCurrent w)
+    load_current_kept a = assemble_read w g i h _ _ (took_at S m (current_word w.words) LoadCurrent) (same_words 0) same_batches (go (m.rounds == 0) refl, a.1)
       where
-        go : (b : Bool) → (m.rounds == 0) ≡ b → Round S B w.words w.batches i (record m { place = AtReq; seq = last w.words; owner = holder w.words; rounds = m.rounds + 1; first = first_of m (last w.words) b; steps = m.steps + 1 })
+        go : (b : Bool) → (m.rounds == 0) ≡ b → Round S B w.words w.batches i (record m { place = LoadRequest; seq = last w.words; owner = holder w.words; rounds = m.rounds + 1; first = first_of m (last w.words) b; steps = m.steps + 1 })
         go b e = record {
           begun = record {
             caller = a.0.caller;
@@ -170,7 +170,7 @@ module _ (S : Setup) (Lawful : List ℕ → Type 0) (B : Start) where
           few = omega (arith, a.2.few);
         }
           where
-            known : (b : Bool) → (m.rounds == 0) ≡ b → (B.seq ≤ first_of m (last w.words) b) × ((k : ℕ) → first_of m (last w.words) b < k → k ≤ last w.words → (batch B w.batches k).anns i ≡ ann S w.words i)
+            known : (b : Bool) → (m.rounds == 0) ≡ b → (B.seq ≤ first_of m (last w.words) b) × ((k : ℕ) → first_of m (last w.words) b < k → k ≤ last w.words → (batch B w.batches k).announcements i ≡ announcement_of S w.words i)
             known true e = (omega (arith, g.shared.counted.count), λ k l u. absurd (omega arith))
             known false e = let z : 1 ≤ m.rounds = grind (arith, nat_tests) in a.0.known z
 
@@ -178,7 +178,7 @@ module _ (S : Setup) (Lawful : List ℕ → Type 0) (B : Start) where
             from true e = let z : m.rounds ≡ 0 = grind (arith, nat_tests) in omega arith
             from false e = let z : 1 ≤ m.rounds = grind (arith, nat_tests) in omega (arith, a.2.later z)
 
-    pub begun_as : (n q : Mach) → Begun S B w.words w.batches i n → q.caller ≡ n.caller → q.made ≡ n.made → q.op ≡ n.op → q.kept ≡ n.kept → q.rounds ≡ n.rounds → q.first ≡ n.first → Begun S B w.words w.batches i q
+    pub begun_as : (n q : Data) → Begun S B w.words w.batches i n → q.caller ≡ n.caller → q.made ≡ n.made → q.op ≡ n.op → q.kept ≡ n.kept → q.rounds ≡ n.rounds → q.first ≡ n.first → Begun S B w.words w.batches i q
     begun_as n q p a b o x r f = record {
       caller = a ∙ p.caller;
       ticket = rw b p.ticket;
@@ -193,7 +193,7 @@ module _ (S : Setup) (Lawful : List ℕ → Type 0) (B : Start) where
       known = rw (r, f) p.known;
     }
 
-    pub round_as : (n q : Mach) → Round S B w.words w.batches i n → q.caller ≡ n.caller → q.made ≡ n.made → q.op ≡ n.op → q.seq ≡ n.seq → q.owner ≡ n.owner → q.kept ≡ n.kept → q.rounds ≡ n.rounds → q.first ≡ n.first → Round S B w.words w.batches i q
+    pub round_as : (n q : Data) → Round S B w.words w.batches i n → q.caller ≡ n.caller → q.made ≡ n.made → q.op ≡ n.op → q.seq ≡ n.seq → q.owner ≡ n.owner → q.kept ≡ n.kept → q.rounds ≡ n.rounds → q.first ≡ n.first → Round S B w.words w.batches i q
     round_as n q p a b o c d x r f = record {
       begun = begun_as n q p.begun a b o x r f;
       from = rw c p.from;
@@ -208,7 +208,7 @@ module _ (S : Setup) (Lawful : List ℕ → Type 0) (B : Start) where
       few = rw r p.few;
     }
 
-    pub looks_as : (n q : Mach) → Looks S B w.words w.batches i n → q.caller ≡ n.caller → q.made ≡ n.made → q.op ≡ n.op → q.seq ≡ n.seq → q.owner ≡ n.owner → q.kept ≡ n.kept → q.rounds ≡ n.rounds → q.first ≡ n.first → q.known ≡ n.known → Looks S B w.words w.batches i q
+    pub looks_as : (n q : Data) → Looks S B w.words w.batches i n → q.caller ≡ n.caller → q.made ≡ n.made → q.op ≡ n.op → q.seq ≡ n.seq → q.owner ≡ n.owner → q.kept ≡ n.kept → q.rounds ≡ n.rounds → q.first ≡ n.first → q.known ≡ n.known → Looks S B w.words w.batches i q
     looks_as n q p a b o c d x r f e = record {
       round = round_as n q p.round a b o c d x r f;
       quiet = rw c p.quiet;
@@ -216,7 +216,7 @@ module _ (S : Setup) (Lawful : List ℕ → Type 0) (B : Start) where
       all = rw e p.all;
     }
 
-    pub past_as : (n q : Mach) → Past S B w.words w.batches i n → q.caller ≡ n.caller → q.made ≡ n.made → q.op ≡ n.op → q.seq ≡ n.seq → q.owner ≡ n.owner → q.kept ≡ n.kept → q.rounds ≡ n.rounds → q.first ≡ n.first → q.known ≡ n.known → Past S B w.words w.batches i q
+    pub past_as : (n q : Data) → Past S B w.words w.batches i n → q.caller ≡ n.caller → q.made ≡ n.made → q.op ≡ n.op → q.seq ≡ n.seq → q.owner ≡ n.owner → q.kept ≡ n.kept → q.rounds ≡ n.rounds → q.first ≡ n.first → q.known ≡ n.known → Past S B w.words w.batches i q
     past_as n q p a b o c d x r f e = record {
       looks = looks_as n q p.looks a b o c d x r f e;
       under = rw c p.under;
@@ -229,21 +229,21 @@ module _ (S : Setup) (Lawful : List ℕ → Type 0) (B : Start) where
     pub n_is : last w.words ≡ B.seq + length w.batches
     n_is = g.shared.counted.count
 
-    pub own_seq : (n : Mach) → Begun S B w.words w.batches i n → seq (ann S w.words i) ≡ n.made
+    pub own_seq : (n : Data) → Begun S B w.words w.batches i n → seq (announcement_of S w.words i) ≡ n.made
     own_seq n p = ap seq p.says ∙ seq_word n.made (length n.op) (omega (arith, p.words, g.shared.narrow))
 
     grows_to : (s : ℕ) → B.seq ≤ s → s ≤ last w.words → ticket_in S B w.batches s i ≤ ticket_in S B w.batches (last w.words) i
     grows_to s l u = tickets_grow S Lawful B w.batches g.shared.stands s (last w.words) i l u (omega (arith, n_is)) h
 
     -- a third round meets the call in the history
-    pub third_done : (n : Mach) → Round S B w.words w.batches i n → n.rounds ≡ 3 → n.made ≤ ticket_in S B w.batches n.seq i
+    pub third_done : (n : Data) → Round S B w.words w.batches i n → n.rounds ≡ 3 → n.made ≤ ticket_in S B w.batches n.seq i
     third_done n p q =
         let from : B.seq ≤ n.first = (p.begun.known p.begun_one).0 in
-        let met : seq (ann S w.words i) ≤ ticket_in S B w.batches (n.first + 1 + 1) i =
+        let met : seq (announcement_of S w.words i) ≤ ticket_in S B w.batches (n.first + 1 + 1) i =
         g.shared.heard.met (n.first + 1) i (omega arith) (omega (arith, p.later, p.upto)) h ((p.begun.known p.begun_one).1 (n.first + 1) (omega arith) (omega (arith, p.later, p.upto))) in
         omega (arith, own_seq n p.begun, met, tickets_grow S Lawful B w.batches g.shared.stands (n.first + 1 + 1) n.seq i (omega arith) (omega (arith, p.later)) (omega (arith, p.upto, n_is)) h)
 
-    pub two_rounds : (n : Mach) → Past S B w.words w.batches i n → n.rounds ≤ 2
+    pub two_rounds : (n : Data) → Past S B w.words w.batches i n → n.rounds ≤ 2
     two_rounds n p = go (cases_eq n.rounds 3)
       where
         go : (n.rounds ≡ 3) ⊎ (n.rounds ≡ 3 → ⊥) → n.rounds ≤ 2
@@ -262,7 +262,7 @@ module _ (S : Setup) (Lawful : List ℕ → Type 0) (B : Start) where
     row_in a r = omega (arith, r, room_for i S.callers (S.instrs + 2) h, g.shared.own_in)
 
     -- where the call is in the history up to the round, its own cells are no newer than the round
-    pub own_row_old : (n : Mach) → Looks S B w.words w.batches i n → n.made ≤ ticket_in S B w.batches n.seq i → (a : ℕ) → InRow S i a → seq (cell S w.words a) ≤ n.seq
+    pub own_row_old : (n : Data) → Looks S B w.words w.batches i n → n.made ≤ ticket_in S B w.batches n.seq i → (a : ℕ) → InRow S i a → seq (cell S w.words a) ≤ n.seq
     own_row_old n p t a r = go (g.shared.datas.each a (row_in a r))
       where
         at_k : (k : ℕ) → n.seq ≤ k → k ≤ last w.words → seq (at B w.batches k a) ≤ n.seq
@@ -272,16 +272,16 @@ module _ (S : Setup) (Lawful : List ℕ → Type 0) (B : Start) where
         go : (cell S w.words a ≡ at B w.batches (last w.words) a) ⊎ (Opened B w.words × (cell S w.words a ≡ at B w.batches (last w.words - 1) a)) → seq (cell S w.words a) ≤ n.seq
         go (inl q) = rw q (at_k (last w.words) p.round.upto (omega arith))
         go (inr (op, q)) =
-            let ne : n.seq ≡ last w.words → ⊥ = λ e. let z : word n.seq 0 < req w.words (holder w.words) = p.quiet e (omega (arith, op.any)) in omega (arith, op.asks, ap (λ (k : ℕ). word k 0) e) in
+            let ne : n.seq ≡ last w.words → ⊥ = λ e. let z : word n.seq 0 < request_of w.words (holder w.words) = p.quiet e (omega (arith, op.any)) in omega (arith, op.asks, ap (λ (k : ℕ). word k 0) e) in
             rw q (at_k (last w.words - 1) (omega (arith, p.round.upto)) (omega arith))
 
     -- a round that met a newer cell begins again
-    pub again : (n : Mach) → Round S B w.words w.batches i n → Calm S B w.words w.batches i n.seq → n.rounds ≤ 2 → (x : ℕ) → x < S.cells → n.seq < seq (cell S w.words x) → At S B w.words w.batches i (began n) AtCur
+    pub again : (n : Data) → Round S B w.words w.batches i n → Calm S B w.words w.batches i n.seq → n.rounds ≤ 2 → (x : ℕ) → x < S.cells → n.seq < seq (cell S w.words x) → At S B w.words w.batches i (next_round n) LoadCurrent
     again n p c few x l u = (begun_as n _ p.begun refl refl refl refl refl refl, calm_more n.seq (last w.words) p.upto c, record { few = few; later = λ z. omega (arith, p.later, cell_upto x l) })
 
     -- a machine in a round, past the help, looks for its call in the history
-    pub entered_at : (n : Mach) → Round S B w.words w.batches i n → Calm S B w.words w.batches i n.seq
-        → (n.seq ≡ last w.words → B.seq < n.seq → word n.seq 0 < req w.words (holder w.words)) → At S B w.words w.batches i (entered S n) AtOwn
+    pub entered_at : (n : Data) → Round S B w.words w.batches i n → Calm S B w.words w.batches i n.seq
+        → (n.seq ≡ last w.words → B.seq < n.seq → word n.seq 0 < request_of w.words (holder w.words)) → At S B w.words w.batches i (entered S n) LoadOwnTicket
     entered_at n p o quiet = (
       record {
         round = round_as n _ p refl refl refl refl refl refl refl refl;
@@ -304,26 +304,26 @@ module _ (S : Setup) (Lawful : List ℕ → Type 0) (B : Start) where
         elim_none v q = cc
 
     -- a request that was found not to be open is above
-    pub quiet_from : (s o : ℕ) → Cur S B w.words w.batches s o → (B.seq < s → req w.words o ≡ word s 0 → ⊥) → s ≡ last w.words → B.seq < s → word s 0 < req w.words (holder w.words)
+    pub quiet_from : (s o : ℕ) → Cur S B w.words w.batches s o → (B.seq < s → request_of w.words o ≡ word s 0 → ⊥) → s ≡ last w.words → B.seq < s → word s 0 < request_of w.words (holder w.words)
     quiet_from s o p away e l =
-        let low : word s 0 ≤ req w.words (batch B w.batches s).owner = floor_of S Lawful B w.words w.batches g.shared s l p.upto in
+        let low : word s 0 ≤ request_of w.words (batch B w.batches s).owner = floor_of S Lawful B w.words w.batches g.shared s l p.upto in
         let q : (batch B w.batches s).owner ≡ o = p.committed l in
-        let low' : word s 0 ≤ req w.words o = rw q at low in
+        let low' : word s 0 ≤ request_of w.words o = rw q at low in
         rw (← p.same e) (above low' (away l))
       where
-        above : word s 0 ≤ req w.words o → (req w.words o ≡ word s 0 → ⊥) → word s 0 < req w.words o
+        above : word s 0 ≤ request_of w.words o → (request_of w.words o ≡ word s 0 → ⊥) → word s 0 < request_of w.words o
         above x y = omega arith
 
-    pub cur_of : (n : Mach) → Round S B w.words w.batches i n → Cur S B w.words w.batches n.seq n.owner
+    pub cur_of : (n : Data) → Round S B w.words w.batches i n → Cur S B w.words w.batches n.seq n.owner
     cur_of n p = record { from = p.from; upto = p.upto; same = p.same; owner_in = p.owner_in; committed = p.committed; first = p.first }
 
-    fresh_as : (n q : Mach) → Fresh S B w.words w.batches i n → q.caller ≡ n.caller → q.made ≡ n.made → q.op ≡ n.op → q.kept ≡ n.kept → q.rounds ≡ n.rounds → Fresh S B w.words w.batches i q
+    fresh_as : (n q : Data) → Fresh S B w.words w.batches i n → q.caller ≡ n.caller → q.made ≡ n.made → q.op ≡ n.op → q.kept ≡ n.kept → q.rounds ≡ n.rounds → Fresh S B w.words w.batches i q
     fresh_as n q p a b o x r = record { caller = a ∙ p.caller; ticket = rw b p.ticket; words = rw o p.words; some = rw o p.some; kept = rw x p.kept; above = rw b p.above; quieted = p.quieted; newer = rw b p.newer; rounds = r ∙ p.rounds }
 
-    trying_as : (n q : Mach) → Trying S B w.words w.batches i n → q.caller ≡ n.caller → q.made ≡ n.made → q.op ≡ n.op → q.kept ≡ n.kept → q.rounds ≡ n.rounds → q.tries ≡ n.tries → Trying S B w.words w.batches i q
+    trying_as : (n q : Data) → Trying S B w.words w.batches i n → q.caller ≡ n.caller → q.made ≡ n.made → q.op ≡ n.op → q.kept ≡ n.kept → q.rounds ≡ n.rounds → q.tries ≡ n.tries → Trying S B w.words w.batches i q
     trying_as n q p a b o x r t = record { fresh = fresh_as n q p.fresh a b o x r; reads = rw o p.reads; few = rw t p.few }
 
-    pub helper_as : (n q : Mach) → Helper S B w.words w.batches i n → q.caller ≡ n.caller → q.made ≡ n.made → q.op ≡ n.op → q.seq ≡ n.seq → q.owner ≡ n.owner → q.kept ≡ n.kept → q.rounds ≡ n.rounds → q.first ≡ n.first → q.tries ≡ n.tries → Helper S B w.words w.batches i q
+    pub helper_as : (n q : Data) → Helper S B w.words w.batches i n → q.caller ≡ n.caller → q.made ≡ n.made → q.op ≡ n.op → q.seq ≡ n.seq → q.owner ≡ n.owner → q.kept ≡ n.kept → q.rounds ≡ n.rounds → q.first ≡ n.first → q.tries ≡ n.tries → Helper S B w.words w.batches i q
     helper_as n q (inl p) a b o c d x r f t = inl (round_as n q p a b o c d x r f)
     helper_as n q (inr p) a b o c d x r f t = inr (trying_as n q p a b o x r t)
 
@@ -333,24 +333,24 @@ module _ (S : Setup) (Lawful : List ℕ → Type 0) (B : Start) where
     opened_is : (s f : ℕ) → is_open s f ≡ true → (0 < s) × (f ≡ word s 0)
     opened_is s f e = (grind (arith, nat_tests), grind (arith, nat_tests))
 
-    pub req_kept : At S B w.words w.batches i m AtReq → Goes S Lawful B i w (stepped_at S i m AtReq w)
-    req_kept a = assemble_read w g i h _ _ (took_at S m (req w.words m.owner) AtReq) (same_words (m.owner + 1)) same_batches (
-        go (is_open m.seq (req w.words m.owner)) refl)
+    pub load_request_kept : At S B w.words w.batches i m LoadRequest → Goes S Lawful B i w (stepped_at S i m LoadRequest w)
+    load_request_kept a = assemble_read w g i h _ _ (took_at S m (request_of w.words m.owner) LoadRequest) (same_words (m.owner + 1)) same_batches (
+        go (is_open m.seq (request_of w.words m.owner)) refl)
       where
-        after : (0 < m.seq) × (req w.words m.owner ≡ word m.seq 0) → (m.seq ≡ B.seq) ⊎ (m.seq ≡ B.seq → ⊥) → B.seq < m.seq
+        after : (0 < m.seq) × (request_of w.words m.owner ≡ word m.seq 0) → (m.seq ≡ B.seq) ⊎ (m.seq ≡ B.seq → ⊥) → B.seq < m.seq
         after q (inl e) =
-            let z : word B.seq 0 < req w.words B.owner = g.shared.requests.floor (omega (arith, q.0)) in
-            absurd (omega (arith, q.1, ap (λ (k : ℕ). word k 0) e, ap (req w.words) (a.0.first e)))
+            let z : word B.seq 0 < request_of w.words B.owner = g.shared.requests.floor (omega (arith, q.0)) in
+            absurd (omega (arith, q.1, ap (λ (k : ℕ). word k 0) e, ap (request_of w.words) (a.0.first e)))
         after q (inr e) = omega (arith, a.0.from)
 
-        go : (b : Bool) → is_open m.seq (req w.words m.owner) ≡ b → At S B w.words w.batches i (after_req S m b) (after_req S m b).place
+        go : (b : Bool) → is_open m.seq (request_of w.words m.owner) ≡ b → At S B w.words w.batches i (after_load_request S m b) (after_load_request S m b).place
         go true eb = (
           record {
             helper = inl (round_as m _ a.0 refl refl refl refl refl refl refl refl);
-            cur = cur_of m a.0;
+            current_word = cur_of m a.0;
             calm = a.1;
             helps = refl;
-            after = after (opened_is m.seq (req w.words m.owner) eb) (cases_eq m.seq B.seq);
+            after = after (opened_is m.seq (request_of w.words m.owner) eb) (cases_eq m.seq B.seq);
             many = refl;
             count = λ l. absurd (omega arith);
             copied = λ q. (omega arith, refl);
@@ -358,39 +358,39 @@ module _ (S : Setup) (Lawful : List ℕ → Type 0) (B : Start) where
           λ q. omega arith,
           omega arith,
         )
-        go false eb = entered_at m a.0 a.1 (quiet_from m.seq m.owner (cur_of m a.0) (λ l. not_open m.seq (req w.words m.owner) eb (omega (arith, l))))
+        go false eb = entered_at m a.0 a.1 (quiet_from m.seq m.owner (cur_of m a.0) (λ l. not_open m.seq (request_of w.words m.owner) eb (omega (arith, l))))
 
     -- where the last transaction is open, its owner's log words are its log
-    pub logged : Opened B w.words → (x : ℕ) → x < length (log_words (batch B w.batches (last w.words)).log) → log_cell S w.words (holder w.words) x ≡ word (last w.words) (get_or (log_words (batch B w.batches (last w.words)).log) x 0)
+    pub logged : Opened B w.words → (x : ℕ) → x < length (log_words (batch B w.batches (last w.words)).log) → log_word S w.words (holder w.words) x ≡ word (last w.words) (get_or (log_words (batch B w.batches (last w.words)).log) x 0)
     logged o x l =
         let own : holder w.words ≡ (batch B w.batches (last w.words)).owner = g.shared.counted.owner o.any in
-        let f : word (last w.words) 0 ≤ dur_req S w.words (holder w.words) = rw (← own) at (g.shared.durable.floor (last w.words) o.any (omega arith)) in
-        let t : dur_req S w.words (holder w.words) ≤ req w.words (holder w.words) = g.shared.durable.low (req_at (holder w.words)) (omega (arith, g.shared.counted.owner_in)) in
+        let f : word (last w.words) 0 ≤ durable_request S w.words (holder w.words) = rw (← own) at (g.shared.durable.floor (last w.words) o.any (omega arith)) in
+        let t : durable_request S w.words (holder w.words) ≤ request_of w.words (holder w.words) = g.shared.durable.low (request_at (holder w.words)) (omega (arith, g.shared.counted.owner_in)) in
         (g.shared.durable.logs (last w.words) o.any (omega arith) (holder w.words) (sym own) (omega (arith, o.asks)) x _ l refl).0
 
     -- a log word that is copied while the request is open is that of the batch's log
-    copied_word : (n : Mach) (x : ℕ) → Cur S B w.words w.batches n.seq n.owner → B.seq < n.seq → req w.words n.owner ≡ word n.seq 0 → x < length (log_words (batch B w.batches n.seq).log)
-        → log_cell S w.words n.owner x ≡ word n.seq (get_or (log_words (batch B w.batches n.seq).log) x 0)
+    copied_word : (n : Data) (x : ℕ) → Cur S B w.words w.batches n.seq n.owner → B.seq < n.seq → request_of w.words n.owner ≡ word n.seq 0 → x < length (log_words (batch B w.batches n.seq).log)
+        → log_word S w.words n.owner x ≡ word n.seq (get_or (log_words (batch B w.batches n.seq).log) x 0)
     copied_word n x p l q u = at_last (cases_lt n.seq (last w.words))
       where
         o : (batch B w.batches n.seq).owner ≡ n.owner
         o = p.committed l
 
-        at_last : (n.seq < last w.words) ⊎ (last w.words ≤ n.seq) → log_cell S w.words n.owner x ≡ word n.seq (get_or (log_words (batch B w.batches n.seq).log) x 0)
-        at_last (inl v) = let z : word n.seq 0 < req w.words n.owner = rw o at (g.shared.requests.closed n.seq l v) in absurd (omega (arith, q))
+        at_last : (n.seq < last w.words) ⊎ (last w.words ≤ n.seq) → log_word S w.words n.owner x ≡ word n.seq (get_or (log_words (batch B w.batches n.seq).log) x 0)
+        at_last (inl v) = let z : word n.seq 0 < request_of w.words n.owner = rw o at (g.shared.requests.closed n.seq l v) in absurd (omega (arith, q))
         at_last (inr v) =
             let e : n.seq ≡ last w.words = omega (arith, p.upto) in
             let s : n.owner ≡ holder w.words = p.same e in
             let opened : Opened B w.words = record { any = omega (arith, l, e); asks = rw (← s, ← e) q } in
-            subst (λ (k : ℕ). log_cell S w.words n.owner x ≡ word k (get_or (log_words (batch B w.batches k).log) x 0)) (sym e) (rw s (logged opened x (subst (λ (k : ℕ). x < length (log_words (batch B w.batches k).log)) e u)))
+            subst (λ (k : ℕ). log_word S w.words n.owner x ≡ word k (get_or (log_words (batch B w.batches k).log) x 0)) (sym e) (rw s (logged opened x (subst (λ (k : ℕ). x < length (log_words (batch B w.batches k).log)) e u)))
 
     -- a value of a log word fits its payload
-    pub copy_kept : (x : ℕ) → At S B w.words w.batches i m (AtCopy x) → Goes S Lawful B i w (stepped_at S i m (AtCopy x) w)
-    copy_kept x a = assemble_read w g i h _ _ (took_at S m found (AtCopy x)) (same_words (log_at S m.owner x)) same_batches (
+    pub copy_log_kept : (x : ℕ) → At S B w.words w.batches i m (CopyLog x) → Goes S Lawful B i w (stepped_at S i m (CopyLog x) w)
+    copy_log_kept x a = assemble_read w g i h _ _ (took_at S m found (CopyLog x)) (same_words (log_at S m.owner x)) same_batches (
         go (nat_lt (x + 1) (2 * get_or (got_more m found) 0 0 + 1)) refl)
       where
         found : ℕ
-        found = log_cell S w.words m.owner x
+        found = log_word S w.words m.owner x
 
         ls : List ℕ
         ls = log_words (batch B w.batches m.seq).log
@@ -408,45 +408,45 @@ module _ (S : Setup) (Lawful : List ℕ → Type 0) (B : Start) where
             count_of : (x ≡ 0) ⊎ (x ≡ 0 → ⊥) → get_or (got_more m found) 0 0 ≤ S.cells
             count_of (inl z) =
                 let e : get_or (m.got ++ pay found ∷ []) 0 0 ≡ pay found = get_or_push m.got (pay found) 0 0 (c.many ∙ z) in
-                let f : pay (log_cell S w.words m.owner x) ≡ pay (log_cell S w.words m.owner 0) = ap (λ (k : ℕ). pay (log_cell S w.words m.owner k)) z in
-                omega (arith, e, f, g.shared.heard.counts m.owner c.cur.owner_in)
+                let f : pay (log_word S w.words m.owner x) ≡ pay (log_word S w.words m.owner 0) = ap (λ (k : ℕ). pay (log_word S w.words m.owner k)) z in
+                omega (arith, e, f, g.shared.heard.counts m.owner c.current_word.owner_in)
             count_of (inr z) =
                 let e : get_or (m.got ++ pay found ∷ []) 0 0 ≡ get_or m.got 0 0 = get_or_append_left m.got (pay found ∷ []) 0 0 (omega (arith, c.many)) in
                 omega (arith, e, c.count (omega arith))
 
         log_is : IsLog S (batch B w.batches m.seq).log
-        log_is = g.shared.counted.logs m.seq c.after c.cur.upto
+        log_is = g.shared.counted.logs m.seq c.after c.current_word.upto
 
-        more : req w.words m.owner ≡ word m.seq 0 → (got_more m found ≡ take (x + 1) ls) × (x + 1 ≤ length ls)
+        more : request_of w.words m.owner ≡ word m.seq 0 → (got_more m found ≡ take (x + 1) ls) × (x + 1 ≤ length ls)
         more q =
             let u : x < length ls = a.1 q in
-            let e : found ≡ word m.seq (get_or ls x 0) = copied_word m x c.cur c.after q u in
+            let e : found ≡ word m.seq (get_or ls x 0) = copied_word m x c.current_word c.after q u in
             let v : pay found ≡ get_or ls x 0 = ap pay e ∙ pay_word m.seq (get_or ls x 0) (small_words (batch B w.batches m.seq).log g.shared.little log_is x) in
             ((rw v (ap (λ (ys : List ℕ). ys ++ get_or ls x 0 ∷ []) (c.copied q).1)) ∙ sym (take_more ls x 0 u), omega arith)
 
-        size : req w.words m.owner ≡ word m.seq 0 → 2 * get_or (got_more m found) 0 0 + 1 ≡ length ls
+        size : request_of w.words m.owner ≡ word m.seq 0 → 2 * get_or (got_more m found) 0 0 + 1 ≡ length ls
         size q =
             let e : got_more m found ≡ take (x + 1) ls = (more q).0 in
             rw (e, get_or-take (x + 1) ls 0 0 (omega arith)) (sym (length-log_words (batch B w.batches m.seq).log))
 
-        go : (b : Bool) → nat_lt (x + 1) (2 * get_or (got_more m found) 0 0 + 1) ≡ b → At S B w.words w.batches i (after_copy m x found b) (after_copy m x found b).place
+        go : (b : Bool) → nat_lt (x + 1) (2 * get_or (got_more m found) 0 0 + 1) ≡ b → At S B w.words w.batches i (after_copy_log m x found b) (after_copy_log m x found b).place
         go true e = (
-          record { helper = helper_as m _ c.helper refl refl refl refl refl refl refl refl refl; cur = c.cur; calm = c.calm; helps = c.helps; after = c.after; many = longer; count = λ l. count; copied = λ q. ((more q).1, (more q).0) },
+          record { helper = helper_as m _ c.helper refl refl refl refl refl refl refl refl refl; current_word = c.current_word; calm = c.calm; helps = c.helps; after = c.after; many = longer; count = λ l. count; copied = λ q. ((more q).1, (more q).0) },
           λ q. let z : x + 1 < 2 * get_or (got_more m found) 0 0 + 1 = grind (arith, nat_tests) in omega (arith, size q),
           (let z : x + 1 < 2 * get_or (got_more m found) 0 0 + 1 = grind (arith, nat_tests) in omega (arith, count)),
         )
         go false e = (
-          record { helper = helper_as m _ c.helper refl refl refl refl refl refl refl refl refl; cur = c.cur; calm = c.calm; helps = c.helps; after = c.after; many = refl; count = λ l. count; copied = λ q. (omega (arith, whole q), (more q).0 ∙ ap (λ (k : ℕ). take k ls) (sym (got_length q))) },
+          record { helper = helper_as m _ c.helper refl refl refl refl refl refl refl refl refl; current_word = c.current_word; calm = c.calm; helps = c.helps; after = c.after; many = refl; count = λ l. count; copied = λ q. (omega (arith, whole q), (more q).0 ∙ ap (λ (k : ℕ). take k ls) (sym (got_length q))) },
           λ q. whole q,
         )
           where
             past : 2 * get_or (got_more m found) 0 0 + 1 ≤ x + 1
             past = grind (arith, nat_tests)
 
-            got_length : req w.words m.owner ≡ word m.seq 0 → length (got_more m found) ≡ x + 1
+            got_length : request_of w.words m.owner ≡ word m.seq 0 → length (got_more m found) ≡ x + 1
             got_length q = ap length (more q).0 ∙ length-take-le (x + 1) ls (more q).1
 
-            whole : req w.words m.owner ≡ word m.seq 0 → length (got_more m found) ≡ length ls
+            whole : request_of w.words m.owner ≡ word m.seq 0 → length (got_more m found) ≡ length ls
             whole q = omega (arith, got_length q, size q, past, (more q).1)
 
     -- a cell that isn't newer than a round or a try is that of its state
@@ -456,7 +456,7 @@ module _ (S : Setup) (Lawful : List ℕ → Type 0) (B : Start) where
         go : (cell S w.words x ≡ at B w.batches (last w.words) x) ⊎ (Opened B w.words × (cell S w.words x ≡ at B w.batches (last w.words - 1) x)) → cell S w.words x ≡ at B w.batches s x
         go (inl q) = q ∙ later S B w.batches g.shared.start (logs_of w g) s (last w.words) x c.from c.upto (omega (arith, n_is)) l (rw (← q) fresh)
         go (inr (op, q)) =
-            let ne : s ≡ last w.words → ⊥ = λ e. let z : word s 0 < req w.words (holder w.words) = p.quiet e (omega (arith, op.any)) in omega (arith, op.asks, ap (λ (k : ℕ). word k 0) e) in
+            let ne : s ≡ last w.words → ⊥ = λ e. let z : word s 0 < request_of w.words (holder w.words) = p.quiet e (omega (arith, op.any)) in omega (arith, op.asks, ap (λ (k : ℕ). word k 0) e) in
             q ∙ later S B w.batches g.shared.start (logs_of w g) s (last w.words - 1) x c.from (omega (arith, c.upto)) (omega (arith, n_is)) l (rw (← q) fresh)
 
     seen_risen : (s o : ℕ) (known : List (Option ℕ)) → Cur S B w.words w.batches s o → Watches S B w.words w.batches s known → s ≤ risen S w.words
@@ -465,11 +465,11 @@ module _ (S : Setup) (Lawful : List ℕ → Type 0) (B : Start) where
         go : (last w.words ≡ risen S w.words) ⊎ ((last w.words ≡ risen S w.words + 1) × Opened B w.words) → s ≤ risen S w.words
         go (inl q) = omega (arith, c.upto)
         go (inr (q, op)) =
-            let ne : s ≡ last w.words → ⊥ = λ e. let z : word s 0 < req w.words (holder w.words) = p.quiet e (omega (arith, op.any)) in omega (arith, op.asks, ap (λ (k : ℕ). word k 0) e) in
+            let ne : s ≡ last w.words → ⊥ = λ e. let z : word s 0 < request_of w.words (holder w.words) = p.quiet e (omega (arith, op.any)) in omega (arith, op.asks, ap (λ (k : ℕ). word k 0) e) in
             omega (arith, c.upto)
 
     -- a try goes on by its walk
-    reads_at : (n : Mach) → Sound S.meaning Lawful (base S) S.cells → Trying S B w.words w.batches i n → Cur S B w.words w.batches n.seq n.owner → Calm S B w.words w.batches i n.seq → Watches S B w.words w.batches n.seq n.known
+    reads_at : (n : Data) → Sound S.meaning Lawful (base S) S.cells → Trying S B w.words w.batches i n → Cur S B w.words w.batches n.seq n.owner → Calm S B w.words w.batches i n.seq → Watches S B w.words w.batches n.seq n.known
         → At S B w.words w.batches i (reads S n) (reads S n).place
     reads_at n sound p c o k = go (S.meaning.walk n.known n.op) refl (sound.walks n.known xs n.op size (g.shared.stands.lawful n.seq c.from upto) k.agrees)
       where
@@ -504,20 +504,20 @@ module _ (S : Setup) (Lawful : List ℕ → Type 0) (B : Start) where
         elim_none : ◌≡◌ {A = Option ℕ} None (Some v) → ⊥
         elim_none q = cc
 
-    tried_at : (n : Mach) → Sound S.meaning Lawful (base S) S.cells → Trying S B w.words w.batches i n → Cur S B w.words w.batches n.seq n.owner → Calm S B w.words w.batches i n.seq
-        → (n.seq ≡ last w.words → B.seq < n.seq → word n.seq 0 < req w.words (holder w.words)) → At S B w.words w.batches i (tried S n) (tried S n).place
+    tried_at : (n : Data) → Sound S.meaning Lawful (base S) S.cells → Trying S B w.words w.batches i n → Cur S B w.words w.batches n.seq n.owner → Calm S B w.words w.batches i n.seq
+        → (n.seq ≡ last w.words → B.seq < n.seq → word n.seq 0 < request_of w.words (holder w.words)) → At S B w.words w.batches i (tried S n) (tried S n).place
     tried_at n sound p c o quiet = reads_at (record n { known = unknown S; helps = false }) sound (trying_as n _ p refl refl refl refl refl refl) c o
         (record { quiet = quiet; agrees = λ x v q. absurd (none_known x v q); all = length-replicate S.cells None })
 
-    pub resumed_at : (n : Mach) → Sound S.meaning Lawful (base S) S.cells → Helper S B w.words w.batches i n → Cur S B w.words w.batches n.seq n.owner → Calm S B w.words w.batches i n.seq
-        → (n.seq ≡ last w.words → B.seq < n.seq → word n.seq 0 < req w.words (holder w.words)) → (b : Bool) → (n.rounds == 0) ≡ b → At S B w.words w.batches i (resumed S n b) (resumed S n b).place
+    pub resumed_at : (n : Data) → Sound S.meaning Lawful (base S) S.cells → Helper S B w.words w.batches i n → Cur S B w.words w.batches n.seq n.owner → Calm S B w.words w.batches i n.seq
+        → (n.seq ≡ last w.words → B.seq < n.seq → word n.seq 0 < request_of w.words (holder w.words)) → (b : Bool) → (n.rounds == 0) ≡ b → At S B w.words w.batches i (resumed S n b) (resumed S n b).place
     resumed_at n sound (inl p) c o quiet true e = let z : n.rounds ≡ 0 = grind (arith, nat_tests) in absurd (omega (arith, p.begun_one))
     resumed_at n sound (inl p) c o quiet false e = entered_at n p o quiet
     resumed_at n sound (inr p) c o quiet true e = tried_at n sound p c o quiet
     resumed_at n sound (inr p) c o quiet false e = absurd (differ n.rounds 0 e p.fresh.rounds)
 
-    pub try_kept : At S B w.words w.batches i m AtTry → Goes S Lawful B i w (stepped_at S i m AtTry w)
-    try_kept a = assemble_read w g i h _ _ (took_at S m (cur w.words) AtTry) (same_words 0) same_batches (
+    pub try_current_kept : At S B w.words w.batches i m TryCurrent → Goes S Lawful B i w (stepped_at S i m TryCurrent w)
+    try_current_kept a = assemble_read w g i h _ _ (took_at S m (current_word w.words) TryCurrent) (same_words 0) same_batches (
       record { fresh = fresh_as m _ a.0 refl refl refl refl refl; reads = a.2; few = omega (arith, a.3) },
       record {
         from = omega (arith, n_is);
@@ -530,24 +530,24 @@ module _ (S : Setup) (Lawful : List ℕ → Type 0) (B : Start) where
       a.1,
     )
 
-    pub try_req_kept : Sound S.meaning Lawful (base S) S.cells → At S B w.words w.batches i m AtTryReq → Goes S Lawful B i w (stepped_at S i m AtTryReq w)
-    try_req_kept sound a = assemble_read w g i h _ _ (took_at S m (req w.words m.owner) AtTryReq) (same_words (m.owner + 1)) same_batches (
-        go (is_open m.seq (req w.words m.owner)) refl)
+    pub try_request_kept : Sound S.meaning Lawful (base S) S.cells → At S B w.words w.batches i m TryRequest → Goes S Lawful B i w (stepped_at S i m TryRequest w)
+    try_request_kept sound a = assemble_read w g i h _ _ (took_at S m (request_of w.words m.owner) TryRequest) (same_words (m.owner + 1)) same_batches (
+        go (is_open m.seq (request_of w.words m.owner)) refl)
       where
-        after : (0 < m.seq) × (req w.words m.owner ≡ word m.seq 0) → (m.seq ≡ B.seq) ⊎ (m.seq ≡ B.seq → ⊥) → B.seq < m.seq
+        after : (0 < m.seq) × (request_of w.words m.owner ≡ word m.seq 0) → (m.seq ≡ B.seq) ⊎ (m.seq ≡ B.seq → ⊥) → B.seq < m.seq
         after q (inl e) =
-            let z : word B.seq 0 < req w.words B.owner = g.shared.requests.floor (omega (arith, q.0)) in
-            absurd (omega (arith, q.1, ap (λ (k : ℕ). word k 0) e, ap (req w.words) (a.1.first e)))
+            let z : word B.seq 0 < request_of w.words B.owner = g.shared.requests.floor (omega (arith, q.0)) in
+            absurd (omega (arith, q.1, ap (λ (k : ℕ). word k 0) e, ap (request_of w.words) (a.1.first e)))
         after q (inr e) = omega (arith, a.1.from)
 
-        go : (b : Bool) → is_open m.seq (req w.words m.owner) ≡ b → At S B w.words w.batches i (after_try_req S m b) (after_try_req S m b).place
+        go : (b : Bool) → is_open m.seq (request_of w.words m.owner) ≡ b → At S B w.words w.batches i (after_try_request S m b) (after_try_request S m b).place
         go true eb = (
           record {
             helper = inr (trying_as m _ a.0 refl refl refl refl refl refl);
-            cur = a.1;
+            current_word = a.1;
             calm = a.2;
             helps = refl;
-            after = after (opened_is m.seq (req w.words m.owner) eb) (cases_eq m.seq B.seq);
+            after = after (opened_is m.seq (request_of w.words m.owner) eb) (cases_eq m.seq B.seq);
             many = refl;
             count = λ l. absurd (omega arith);
             copied = λ q. (omega arith, refl);
@@ -555,10 +555,10 @@ module _ (S : Setup) (Lawful : List ℕ → Type 0) (B : Start) where
           λ q. omega arith,
           omega arith,
         )
-        go false eb = tried_at m sound a.0 a.1 a.2 (quiet_from m.seq m.owner a.1 (λ l. not_open m.seq (req w.words m.owner) eb (omega (arith, l))))
+        go false eb = tried_at m sound a.0 a.1 a.2 (quiet_from m.seq m.owner a.1 (λ l. not_open m.seq (request_of w.words m.owner) eb (omega (arith, l))))
 
-    pub try_cell_kept : Sound S.meaning Lawful (base S) S.cells → (x : ℕ) → At S B w.words w.batches i m (AtTryCell x) → Goes S Lawful B i w (stepped_at S i m (AtTryCell x) w)
-    try_cell_kept sound x a = assemble_read w g i h _ _ (took_at S m (cell S w.words x) (AtTryCell x)) (same_words (data_at S x)) same_batches (
+    pub try_cell_kept : Sound S.meaning Lawful (base S) S.cells → (x : ℕ) → At S B w.words w.batches i m (TryCell x) → Goes S Lawful B i w (stepped_at S i m (TryCell x) w)
+    try_cell_kept sound x a = assemble_read w g i h _ _ (took_at S m (cell S w.words x) (TryCell x)) (same_words (data_at S x)) same_batches (
         go (nat_lt m.seq (seq (cell S w.words x))) refl)
       where
         over : (b : Bool) → nat_lt m.tries 4 ≡ b → At S B w.words w.batches i (over_try m b) (over_try m b).place
@@ -581,12 +581,12 @@ module _ (S : Setup) (Lawful : List ℕ → Type 0) (B : Start) where
                 rw e (this ∙ sym u)
             knows y v q (inr e) = a.3.agrees y v (sym (get_or-set_other m.known x y (Some (pay (cell S w.words x))) None e) ∙ q)
 
-    pub look_kept : Sound S.meaning Lawful (base S) S.cells → At S B w.words w.batches i m AtLook → Goes S Lawful B i w (stepped_at S i m AtLook w)
-    look_kept sound a = assemble_read w g i h _ _ (took_at S m found AtLook) (same_words (m.owner + 1)) same_batches (
+    pub look_again_kept : Sound S.meaning Lawful (base S) S.cells → At S B w.words w.batches i m LookAgain → Goes S Lawful B i w (stepped_at S i m LookAgain w)
+    look_again_kept sound a = assemble_read w g i h _ _ (took_at S m found LookAgain) (same_words (m.owner + 1)) same_batches (
         go (found == word m.seq 0) (m.rounds == 0) refl refl)
       where
         found : ℕ
-        found = req w.words m.owner
+        found = request_of w.words m.owner
 
         c : Copies S B w.words w.batches i m (length m.got)
         c = a.0
@@ -599,38 +599,38 @@ module _ (S : Setup) (Lawful : List ℕ → Type 0) (B : Start) where
             let e : m.got ≡ log_words log = (c.copied q).1 ∙ take_all (length m.got) (log_words log) (omega (arith, a.1 q)) in
             sym (ap log_of e ∙ log_back log)
 
-        applies : (n : Mach) → n.caller ≡ m.caller → n.made ≡ m.made → n.op ≡ m.op → n.seq ≡ m.seq → n.owner ≡ m.owner → Turned log n.log → n.helps ≡ true → n.kept ≡ m.kept → n.rounds ≡ m.rounds → n.first ≡ m.first → n.tries ≡ m.tries → Applies S B w.words w.batches i n 0
+        applies : (n : Data) → n.caller ≡ m.caller → n.made ≡ m.made → n.op ≡ m.op → n.seq ≡ m.seq → n.owner ≡ m.owner → Turned log n.log → n.helps ≡ true → n.kept ≡ m.kept → n.rounds ≡ m.rounds → n.first ≡ m.first → n.tries ≡ m.tries → Applies S B w.words w.batches i n 0
         applies n a1 b1 c1 d1 e1 f1 h1 x1 r1 s1 t1 = record {
           mode = mode_of n.helps h1;
           after = rw d1 c.after;
-          upto = rw d1 c.cur.upto;
-          committed = rw (d1, e1) (c.cur.committed c.after);
+          upto = rw d1 c.current_word.upto;
+          committed = rw (d1, e1) (c.current_word.committed c.after);
           log = rw d1 f1;
           done = λ k l. absurd (omega arith);
         }
           where
             mode_of : (b : Bool) → b ≡ true → Mode S B w.words w.batches i n b
-            mode_of true e = (helper_as m n c.helper a1 b1 c1 d1 e1 x1 r1 s1 t1, rw (d1, e1) c.cur, rw d1 c.calm)
+            mode_of true e = (helper_as m n c.helper a1 b1 c1 d1 e1 x1 r1 s1 t1, rw (d1, e1) c.current_word, rw d1 c.calm)
             mode_of false e = cc
 
-        go : (b d : Bool) → (found == word m.seq 0) ≡ b → (m.rounds == 0) ≡ d → At S B w.words w.batches i (after_look S m b d) (after_look S m b d).place
+        go : (b d : Bool) → (found == word m.seq 0) ≡ b → (m.rounds == 0) ≡ d → At S B w.words w.batches i (after_look_again S m b d) (after_look_again S m b d).place
         go true d eb ed =
             let q : found ≡ word m.seq 0 = grind (arith, nat_tests) in
             applies _ refl refl refl refl refl (rw (is_log q) (turned_is (S.first m.caller (length (log_of m.got))) (log_of m.got))) c.helps refl refl refl refl
-        go false d eb ed = resumed_at m sound c.helper c.cur c.calm (quiet_from m.seq m.owner c.cur (λ l. (let y : found ≡ word m.seq 0 → ⊥ = grind (arith, nat_tests) in y))) d ed
+        go false d eb ed = resumed_at m sound c.helper c.current_word c.calm (quiet_from m.seq m.owner c.current_word (λ l. (let y : found ≡ word m.seq 0 → ⊥ = grind (arith, nat_tests) in y))) d ed
 
     -- a cell that isn't newer than the round is that of the round's state
-    pub cell_of : (n : Mach) → Looks S B w.words w.batches i n → (x : ℕ) → x < S.cells → seq (cell S w.words x) ≤ n.seq → cell S w.words x ≡ at B w.batches n.seq x
+    pub cell_of : (n : Data) → Looks S B w.words w.batches i n → (x : ℕ) → x < S.cells → seq (cell S w.words x) ≤ n.seq → cell S w.words x ≡ at B w.batches n.seq x
     cell_of n p x l o = go (g.shared.datas.each x l)
       where
         go : (cell S w.words x ≡ at B w.batches (last w.words) x) ⊎ (Opened B w.words × (cell S w.words x ≡ at B w.batches (last w.words - 1) x)) → cell S w.words x ≡ at B w.batches n.seq x
         go (inl q) = q ∙ later S B w.batches g.shared.start (logs_of w g) n.seq (last w.words) x p.round.from p.round.upto (omega arith) l (rw (← q) o)
         go (inr (op, q)) =
-            let ne : n.seq ≡ last w.words → ⊥ = λ e. let z : word n.seq 0 < req w.words (holder w.words) = p.quiet e (omega (arith, op.any)) in omega (arith, op.asks, ap (λ (k : ℕ). word k 0) e) in
+            let ne : n.seq ≡ last w.words → ⊥ = λ e. let z : word n.seq 0 < request_of w.words (holder w.words) = p.quiet e (omega (arith, op.any)) in omega (arith, op.asks, ap (λ (k : ℕ). word k 0) e) in
             q ∙ later S B w.batches g.shared.start (logs_of w g) n.seq (last w.words - 1) x p.round.from (omega (arith, p.round.upto)) (omega arith) l (rw (← q) o)
 
     -- a machine that has loaded the cell x, no newer than its round, knows it
-    pub learn : (n : Mach) → Looks S B w.words w.batches i n → (x : ℕ) → x < S.cells → seq (cell S w.words x) ≤ n.seq → Looks S B w.words w.batches i (record n { known = learned S n x (cell S w.words x) })
+    pub learn : (n : Data) → Looks S B w.words w.batches i n → (x : ℕ) → x < S.cells → seq (cell S w.words x) ≤ n.seq → Looks S B w.words w.batches i (record n { known = learned S n x (cell S w.words x) })
     learn n p x l fresh = record {
       round = round_as n _ p.round refl refl refl refl refl refl refl refl;
       quiet = p.quiet;
@@ -649,24 +649,24 @@ module _ (S : Setup) (Lawful : List ℕ → Type 0) (B : Start) where
             rw e (this ∙ sym u)
         knows y v q (inr e) = p.agrees y v (sym (get_or-set_other n.known x y (Some (pay (cell S w.words x))) None e) ∙ q)
 
-    pub learn_past : (n : Mach) → Past S B w.words w.batches i n → (x : ℕ) → x < S.cells → seq (cell S w.words x) ≤ n.seq → Past S B w.words w.batches i (record n { known = learned S n x (cell S w.words x) })
+    pub learn_past : (n : Data) → Past S B w.words w.batches i n → (x : ℕ) → x < S.cells → seq (cell S w.words x) ≤ n.seq → Past S B w.words w.batches i (record n { known = learned S n x (cell S w.words x) })
     learn_past n p x l fresh = record { looks = learn n p.looks x l fresh; under = p.under; left = p.left }
 
     -- what is so of s ≤ n where s isn't open: the durable word of CUR has reached it
-    round_risen : (n : Mach) → Looks S B w.words w.batches i n → n.seq ≤ risen S w.words
+    round_risen : (n : Data) → Looks S B w.words w.batches i n → n.seq ≤ risen S w.words
     round_risen n p = go g.shared.durable.step
       where
         go : (last w.words ≡ risen S w.words) ⊎ ((last w.words ≡ risen S w.words + 1) × Opened B w.words) → n.seq ≤ risen S w.words
         go (inl q) = omega (arith, p.round.upto)
         go (inr (q, op)) =
-            let ne : n.seq ≡ last w.words → ⊥ = λ e. let z : word n.seq 0 < req w.words (holder w.words) = p.quiet e (omega (arith, op.any)) in omega (arith, op.asks, ap (λ (k : ℕ). word k 0) e) in
+            let ne : n.seq ≡ last w.words → ⊥ = λ e. let z : word n.seq 0 < request_of w.words (holder w.words) = p.quiet e (omega (arith, op.any)) in omega (arith, op.asks, ap (λ (k : ℕ). word k 0) e) in
             omega (arith, p.round.upto)
 
-    at_risen : (n : Mach) → Looks S B w.words w.batches i n → n.seq ≤ B.seq + length w.batches
+    at_risen : (n : Data) → Looks S B w.words w.batches i n → n.seq ≤ B.seq + length w.batches
     at_risen n p = omega (arith, p.round.upto, n_is)
 
     -- the last call up to the round is the open one, where one's own ticket cell has its ticket
-    found_call : (n : Mach) → Looks S B w.words w.batches i n → Finds S (state B w.batches n.seq) i n → LastCall S B w.batches n.seq i
+    found_call : (n : Data) → Looks S B w.words w.batches i n → Finds S (state B w.batches n.seq) i n → LastCall S B w.batches n.seq i
     found_call n p f = go (g.shared.stands.last n.seq i p.round.from (at_risen n p) h)
       where
         go : Last S B w.batches n.seq i → LastCall S B w.batches n.seq i
@@ -675,11 +675,11 @@ module _ (S : Setup) (Lawful : List ℕ → Type 0) (B : Start) where
             absurd (omega (arith, t, p.round.begun.beyond, ap pay f.heard, f.there))
         go (inr c) = c
 
-    pub done_now : (n : Mach) → Finds S (state B w.batches n.seq) i n → n.made ≤ ticket_in S B w.batches n.seq i
+    pub done_now : (n : Data) → Finds S (state B w.batches n.seq) i n → n.made ≤ ticket_in S B w.batches n.seq i
     done_now n f = omega (arith, ap pay f.heard, f.there)
 
     -- the call is answered from the history, its replies read
-    told_at : (n : Mach) → Looks S B w.words w.batches i n → Calm S B w.words w.batches i n.seq → Finds S (state B w.batches n.seq) i n
+    told_at : (n : Data) → Looks S B w.words w.batches i n → Calm S B w.words w.batches i n.seq → Finds S (state B w.batches n.seq) i n
         → n.raw.shape ≡ pay (at B w.batches n.seq (shape_cell S i)) → ((y : ℕ) → y < S.instrs → marked n.raw.shape y ≡ true → get_or n.raw.values y 0 ≡ pay (at B w.batches n.seq (reply_cell S i y)))
         → At S B w.words w.batches i (told n) Idle
     told_at n p o f shape replies = record {
@@ -727,7 +727,7 @@ module _ (S : Setup) (Lawful : List ℕ → Type 0) (B : Start) where
         }
 
     -- the shape and the marked replies below j are read, and on it goes
-    asks_at : (n : Mach) (j : ℕ) → j ≤ S.instrs → Looks S B w.words w.batches i n → Calm S B w.words w.batches i n.seq → Finds S (state B w.batches n.seq) i n → ReadUpto S (state B w.batches n.seq) i n j
+    asks_at : (n : Data) (j : ℕ) → j ≤ S.instrs → Looks S B w.words w.batches i n → Calm S B w.words w.batches i n.seq → Finds S (state B w.batches n.seq) i n → ReadUpto S (state B w.batches n.seq) i n j
         → (r : Option ℕ) → first_mark n.raw.shape j (S.instrs - j) ≡ r → At S B w.words w.batches i (asks_more n r) (asks_more n r).place
     asks_at n j l p o f u None e = told_at n p o f u.shape (λ y v k. go y v k (cases_lt y j))
       where
@@ -747,8 +747,8 @@ module _ (S : Setup) (Lawful : List ℕ → Type 0) (B : Start) where
         go y v k (inl z) t = u.replies y z k
         go y v k (inr z) t = absurd (t y z v k)
 
-    pub shape_kept : At S B w.words w.batches i m AtShape → Goes S Lawful B i w (stepped_at S i m AtShape w)
-    shape_kept a = assemble_read w g i h _ _ (took_at S m (cell S w.words (shape_cell S m.caller)) AtShape) (same_words (data_at S (shape_cell S m.caller))) same_batches (
+    pub load_shape_kept : At S B w.words w.batches i m LoadShape → Goes S Lawful B i w (stepped_at S i m LoadShape w)
+    load_shape_kept a = assemble_read w g i h _ _ (took_at S m (cell S w.words (shape_cell S m.caller)) LoadShape) (same_words (data_at S (shape_cell S m.caller))) same_batches (
         go (nat_lt m.seq (seq found)) refl)
       where
         found : ℕ
@@ -766,14 +766,14 @@ module _ (S : Setup) (Lawful : List ℕ → Type 0) (B : Start) where
         is : cell S w.words (shape_cell S m.caller) ≡ at B w.batches m.seq (shape_cell S i)
         is = rw ci (cell_of m a.0 (shape_cell S i) x_in (rw ci at fresh))
 
-        go : (b : Bool) → nat_lt m.seq (seq found) ≡ b → At S B w.words w.batches i (after_shape S m found b) (after_shape S m found b).place
+        go : (b : Bool) → nat_lt m.seq (seq found) ≡ b → At S B w.words w.batches i (after_load_shape S m found b) (after_load_shape S m found b).place
         go true e = let z : m.seq < seq found = grind (arith, nat_tests) in absurd (omega (arith, fresh))
         go false e =
             asks_at (shape_read S m found) 0 (omega arith) (looks_as m _ a.0 refl refl refl refl refl refl refl refl refl) a.1 (record { heard = a.2.heard; there = a.2.there })
             (record { shape = ap pay is; replies = λ y l. absurd (omega arith); many = length-replicate S.instrs 0 }) (first_mark (pay found) 0 S.instrs) (ap (first_mark (pay found) 0) (omega arith))
 
-    pub reply_kept : (j : ℕ) → At S B w.words w.batches i m (AtReply j) → Goes S Lawful B i w (stepped_at S i m (AtReply j) w)
-    reply_kept j a = assemble_read w g i h _ _ (took_at S m (cell S w.words (reply_cell S m.caller j)) (AtReply j)) (same_words (data_at S (reply_cell S m.caller j))) same_batches (
+    pub load_reply_kept : (j : ℕ) → At S B w.words w.batches i m (LoadReply j) → Goes S Lawful B i w (stepped_at S i m (LoadReply j) w)
+    load_reply_kept j a = assemble_read w g i h _ _ (took_at S m (cell S w.words (reply_cell S m.caller j)) (LoadReply j)) (same_words (data_at S (reply_cell S m.caller j))) same_batches (
         go (nat_lt m.seq (seq found)) refl)
       where
         found : ℕ
@@ -791,7 +791,7 @@ module _ (S : Setup) (Lawful : List ℕ → Type 0) (B : Start) where
         is : cell S w.words (reply_cell S m.caller j) ≡ at B w.batches m.seq (reply_cell S i j)
         is = rw ci (cell_of m a.0 (reply_cell S i j) (row_in (reply_cell S i j) in_row) (rw ci at fresh))
 
-        go : (b : Bool) → nat_lt m.seq (seq found) ≡ b → At S B w.words w.batches i (after_reply S m j found b) (after_reply S m j found b).place
+        go : (b : Bool) → nat_lt m.seq (seq found) ≡ b → At S B w.words w.batches i (after_load_reply S m j found b) (after_load_reply S m j found b).place
         go true e = let z : m.seq < seq found = grind (arith, nat_tests) in absurd (omega (arith, fresh))
         go false e =
             asks_at (reply_read m j found) (j + 1) (omega (arith, a.4)) (looks_as m _ a.0 refl refl refl refl refl refl refl refl refl) a.1 (record { heard = a.2.heard; there = a.2.there })
@@ -813,8 +813,8 @@ module _ (S : Setup) (Lawful : List ℕ → Type 0) (B : Start) where
       met = λ l c u. absurd (omega arith);
     })
 
-    pub own_kept : At S B w.words w.batches i m AtOwn → Goes S Lawful B i w (stepped_at S i m AtOwn w)
-    own_kept a = assemble_read w g i h _ _ (took_at S m (cell S w.words (ticket_cell S m.caller)) AtOwn) (same_words (data_at S (ticket_cell S m.caller))) same_batches (
+    pub own_ticket_kept : At S B w.words w.batches i m LoadOwnTicket → Goes S Lawful B i w (stepped_at S i m LoadOwnTicket w)
+    own_ticket_kept a = assemble_read w g i h _ _ (took_at S m (cell S w.words (ticket_cell S m.caller)) LoadOwnTicket) (same_words (data_at S (ticket_cell S m.caller))) same_batches (
         go (nat_lt m.seq (seq found)) (pay found == m.made) (m.seq == S.limit) refl refl refl)
       where
         found : ℕ
@@ -832,7 +832,7 @@ module _ (S : Setup) (Lawful : List ℕ → Type 0) (B : Start) where
         is : seq (cell S w.words (ticket_cell S m.caller)) ≤ m.seq → cell S w.words (ticket_cell S m.caller) ≡ at B w.batches m.seq (ticket_cell S i)
         is l = rw ci (cell_of m a.0 (ticket_cell S i) x_in (rw ci at l))
 
-        go : (b c d : Bool) → nat_lt m.seq (seq found) ≡ b → (pay found == m.made) ≡ c → (m.seq == S.limit) ≡ d → At S B w.words w.batches i (after_own S m found b c d) (after_own S m found b c d).place
+        go : (b c d : Bool) → nat_lt m.seq (seq found) ≡ b → (pay found == m.made) ≡ c → (m.seq == S.limit) ≡ d → At S B w.words w.batches i (after_own_ticket S m found b c d) (after_own_ticket S m found b c d).place
         go true c d eb ec ed =
             let z : m.seq < seq found = grind (arith, nat_tests) in
             let z' : m.seq < seq (cell S w.words (ticket_cell S i)) = rw ci at z in
@@ -892,15 +892,15 @@ module _ (S : Setup) (Lawful : List ℕ → Type 0) (B : Start) where
       met = λ after c u v z. met after c u v z (cases_eq c n);
     }
       where
-        met : B.seq < s → (c : ℕ) → c < n + 1 → c < S.callers → (batch B w.batches s).anns c ≡ ann S w.words c → (c ≡ n) ⊎ (c ≡ n → ⊥)
-            → (seq (ann S w.words c) ≤ ticket_in S B w.batches s c) ⊎ ((y : ℕ) × (y < length cs) × ((get_or cs y no_call).caller ≡ c) × ((get_or cs y no_call).ticket ≡ seq (ann S w.words c)))
+        met : B.seq < s → (c : ℕ) → c < n + 1 → c < S.callers → (batch B w.batches s).announcements c ≡ announcement_of S w.words c → (c ≡ n) ⊎ (c ≡ n → ⊥)
+            → (seq (announcement_of S w.words c) ≤ ticket_in S B w.batches s c) ⊎ ((y : ℕ) × (y < length cs) × ((get_or cs y no_call).caller ≡ c) × ((get_or cs y no_call).ticket ≡ seq (announcement_of S w.words c)))
         met after c u v z (inr ne) = o.met after c (omega arith) v z
         met after c u v z (inl e) =
-            let z' : (batch B w.batches s).anns n ≡ ann S w.words n = rw e at z in
-            let y : ann S w.words n ≡ heard = l.stood after z' in
+            let z' : (batch B w.batches s).announcements n ≡ announcement_of S w.words n = rw e at z in
+            let y : announcement_of S w.words n ≡ heard = l.stood after z' in
             inl (rw e (omega (arith, done, ap seq y)))
 
-    next_at : (n : Mach) → Past S B w.words w.batches i n → Calm S B w.words w.batches i n.seq → Over S B w.words w.batches i n.seq n.made n.op n.raw n.calls n.log (n.scan + 1) → n.scan < S.callers
+    next_at : (n : Data) → Past S B w.words w.batches i n → Calm S B w.words w.batches i n.seq → Over S B w.words w.batches i n.seq n.made n.op n.raw n.calls n.log (n.scan + 1) → n.scan < S.callers
         → (b : Bool) → nat_lt (n.scan + 1) S.callers ≡ b → At S B w.words w.batches i (next_call n b) (next_call n b).place
     next_at n p o v l true e = (past_as n _ p refl refl refl refl refl refl refl refl refl, o, v, let z : n.scan + 1 < S.callers = grind (arith, nat_tests) in z)
     next_at n p o v l false e =
@@ -908,7 +908,7 @@ module _ (S : Setup) (Lawful : List ℕ → Type 0) (B : Start) where
         let q : n.scan + 1 ≡ S.callers = omega arith in
         (past_as n _ p refl refl refl refl refl refl refl refl refl, o, subst (λ (k : ℕ). Over S B w.words w.batches i n.seq n.made n.op n.raw n.calls n.log k) q v)
 
-    weighed_at : (n : Mach) → Past S B w.words w.batches i n → Calm S B w.words w.batches i n.seq → Scans S B w.words w.batches i n → n.scan < S.callers → Hears S B w.words w.batches i n.seq n.scan n.heard
+    weighed_at : (n : Data) → Past S B w.words w.batches i n → Calm S B w.words w.batches i n.seq → Scans S B w.words w.batches i n → n.scan < S.callers → Hears S B w.words w.batches i n.seq n.scan n.heard
         → (v : ℕ) → v ≡ ticket_in S B w.batches n.seq n.scan → (b : Bool) → nat_lt v (seq n.heard) ≡ b → At S B w.words w.batches i (weighed S n b) (weighed S n b).place
     weighed_at n p o v l hs t q true e =
         let z : t < seq n.heard = grind (arith, nat_tests) in
@@ -919,31 +919,31 @@ module _ (S : Setup) (Lawful : List ℕ → Type 0) (B : Start) where
       where
         not_own : n.scan ≡ i → seq n.heard ≤ t → ⊥
         not_own k z =
-            let x : ann S w.words i ≡ n.heard = rw k at (hs.own k) in
+            let x : announcement_of S w.words i ≡ n.heard = rw k at (hs.own k) in
             let y : ticket_in S B w.batches n.seq n.scan ≡ ticket_in S B w.batches n.seq i = ap (λ (c : ℕ). ticket_in S B w.batches n.seq c) k in
             omega (arith, own_seq n p.looks.round.begun, ap seq x, p.left, q, y)
 
-    hears_now : (s c : ℕ) → c < S.callers → Hears S B w.words w.batches i s c (ann S w.words c)
+    hears_now : (s c : ℕ) → c < S.callers → Hears S B w.words w.batches i s c (announcement_of S w.words c)
     hears_now s c l = record { own = λ q. refl; ticket = g.shared.heard.tickets c l; fresh = λ e t. refl; stood = λ a q. refl; small = g.shared.heard.small c l; some = g.shared.heard.some c l }
 
     pub ticket_in_cells : (c : ℕ) → c < S.callers → ticket_cell S c < S.cells
     ticket_in_cells c l = omega (arith, room_for c S.callers (S.instrs + 2) l, g.shared.own_in)
 
-    pub call_kept : At S B w.words w.batches i m AtCall → Goes S Lawful B i w (stepped_at S i m AtCall w)
-    call_kept a = assemble_read w g i h _ _ (took_at S m found AtCall) (same_words (said_at S m.scan S.instrs)) same_batches (
+    pub load_announcement_kept : At S B w.words w.batches i m LoadAnnouncement → Goes S Lawful B i w (stepped_at S i m LoadAnnouncement w)
+    load_announcement_kept a = assemble_read w g i h _ _ (took_at S m found LoadAnnouncement) (same_words (script_at S m.scan S.instrs)) same_batches (
         go (get_or m.known (ticket_cell S m.scan) None) refl)
       where
         found : ℕ
-        found = ann S w.words m.scan
+        found = announcement_of S w.words m.scan
 
-        go : (r : Option ℕ) → get_or m.known (ticket_cell S m.scan) None ≡ r → At S B w.words w.batches i (after_call S m found r) (after_call S m found r).place
+        go : (r : Option ℕ) → get_or m.known (ticket_cell S m.scan) None ≡ r → At S B w.words w.batches i (after_announcement S m found r) (after_announcement S m found r).place
         go None e = (past_as m _ a.0 refl refl refl refl refl refl refl refl refl, a.1, a.2, a.3, hears_now m.seq m.scan a.3, e)
         go (Some v) e =
             weighed_at (record m { heard = found }) (past_as m _ a.0 refl refl refl refl refl refl refl refl refl) a.1 a.2 a.3 (hears_now m.seq m.scan a.3) v
             (sym (a.0.looks.agrees (ticket_cell S m.scan) v e) ∙ number_at w.batches m.seq (ticket_cell S m.scan)) (nat_lt v (seq found)) refl
 
-    pub ticket_kept : At S B w.words w.batches i m AtTicket → Goes S Lawful B i w (stepped_at S i m AtTicket w)
-    ticket_kept a = assemble_read w g i h _ _ (took_at S m found AtTicket) (same_words (data_at S (ticket_cell S m.scan))) same_batches (
+    pub load_ticket_kept : At S B w.words w.batches i m LoadTicket → Goes S Lawful B i w (stepped_at S i m LoadTicket w)
+    load_ticket_kept a = assemble_read w g i h _ _ (took_at S m found LoadTicket) (same_words (data_at S (ticket_cell S m.scan))) same_batches (
         go (nat_lt m.seq (seq found)) refl)
       where
         x : ℕ
@@ -952,7 +952,7 @@ module _ (S : Setup) (Lawful : List ℕ → Type 0) (B : Start) where
         found : ℕ
         found = cell S w.words (ticket_cell S m.scan)
 
-        go : (b : Bool) → nat_lt m.seq (seq found) ≡ b → At S B w.words w.batches i (after_ticket S m found b) (after_ticket S m found b).place
+        go : (b : Bool) → nat_lt m.seq (seq found) ≡ b → At S B w.words w.batches i (after_load_ticket S m found b) (after_load_ticket S m found b).place
         go true e = again m a.0.looks.round a.1 (two_rounds m a.0) x (ticket_in_cells m.scan a.3) (let z : m.seq < seq found = grind (arith, nat_tests) in z)
         go false e =
             weighed_at (record m { known = learned S m x found }) (learn_past m a.0 x (ticket_in_cells m.scan a.3) (not_newer m.seq (seq found) e)) a.1 a.2 a.3 a.4 (pay found)
@@ -977,14 +977,14 @@ module _ (S : Setup) (Lawful : List ℕ → Type 0) (B : Start) where
         one zero d l = p
         one (suc k) d l = absurd (omega arith)
 
-    said_more : (c n : ℕ) → said S w.words c n ++ said_word S w.words c n ∷ [] ≡ said S w.words c (n + 1)
-    said_more c n = ap (said S w.words c) (suc_is n)
+    said_more : (c n : ℕ) → script_of S w.words c n ++ script_word S w.words c n ∷ [] ≡ script_of S w.words c (n + 1)
+    said_more c n = ap (script_of S w.words c) (suc_is n)
       where
         suc_is : (n : ℕ) → suc n ≡ n + 1
         suc_is n = omega arith
 
     -- the call that the scan has come to is run, as far as its cells are known
-    runs_at : (n : Mach) → Sound S.meaning Lawful (base S) S.cells → Past S B w.words w.batches i n → Calm S B w.words w.batches i n.seq → Scans S B w.words w.batches i n → n.scan < S.callers → Hears S B w.words w.batches i n.seq n.scan n.heard
+    runs_at : (n : Data) → Sound S.meaning Lawful (base S) S.cells → Past S B w.words w.batches i n → Calm S B w.words w.batches i n.seq → Scans S B w.words w.batches i n → n.scan < S.callers → Hears S B w.words w.batches i n.seq n.scan n.heard
         → Reads S (state B w.batches n.seq) w.words n.seq n.scan n.heard n.script (pay n.heard) → At S B w.words w.batches i (runs S n) (runs S n).place
     runs_at n sound p o v l hs rs = go (S.meaning.walk (merged n.known n.log) n.script) refl (walk_fits S Lawful sound xs n.calls n.log size lawful v.over n.known n.script p.looks.agrees)
       where
@@ -1025,7 +1025,7 @@ module _ (S : Setup) (Lawful : List ℕ → Type 0) (B : Start) where
                 this : n.seq ≡ last w.words → Announced S w.words call
                 this q = record {
                   says = hs.fresh q rs.new ∙ sym (word_eta n.heard) ∙ ap (word (seq n.heard)) (sym many);
-                  script = ap (said S w.words n.scan) many ∙ sym (rs.words q);
+                  script = ap (script_of S w.words n.scan) many ∙ sym (rs.words q);
                 }
 
                 longer : (y : ℕ) → y < length n.calls → y < length (n.calls ++ call ∷ [])
@@ -1045,7 +1045,7 @@ module _ (S : Setup) (Lawful : List ℕ → Type 0) (B : Start) where
                     begun = p.looks.round.begun
 
                     heard_is : n.heard ≡ word n.made (length n.op)
-                    heard_is = sym (hs.own e) ∙ ap (ann S w.words) e ∙ begun.says
+                    heard_is = sym (hs.own e) ∙ ap (announcement_of S w.words) e ∙ begun.says
 
                     ticket : seq n.heard ≡ n.made
                     ticket = ap seq heard_is ∙ seq_word n.made (length n.op) (omega (arith, begun.words, g.shared.narrow))
@@ -1054,7 +1054,7 @@ module _ (S : Setup) (Lawful : List ℕ → Type 0) (B : Start) where
                     count = ap pay heard_is ∙ pay_word n.made (length n.op) (omega (arith, begun.words, g.shared.narrow))
 
                     script : n.script ≡ n.op
-                    script = rs.words q ∙ ap (said S w.words n.scan) count ∙ ap (λ (c : ℕ). said S w.words c (length n.op)) e ∙ begun.script
+                    script = rs.words q ∙ ap (script_of S w.words n.scan) count ∙ ap (λ (c : ℕ). script_of S w.words c (length n.op)) e ∙ begun.script
 
                     new_raw : (b : Bool) → (n.scan == n.caller) ≡ b → own_raw n r b ≡ r
                     new_raw true t = refl
@@ -1066,45 +1066,45 @@ module _ (S : Setup) (Lawful : List ℕ → Type 0) (B : Start) where
                     same : call_run n r ≡ record { caller = i; ticket = n.made; op = n.op; raw = own_raw n r (n.scan == n.caller) }
                     same = same_call i n.made n.op (own_raw n r (n.scan == n.caller)) e ticket script (new_raw (n.scan == n.caller) refl)
 
-                met : B.seq < n.seq → (c : ℕ) → c < n.scan + 1 → c < S.callers → (batch B w.batches n.seq).anns c ≡ ann S w.words c → (c ≡ n.scan) ⊎ (c ≡ n.scan → ⊥)
-                    → (seq (ann S w.words c) ≤ ticket_in S B w.batches n.seq c) ⊎ ((y : ℕ) × (y < length (n.calls ++ call ∷ [])) × ((get_or (n.calls ++ call ∷ []) y no_call).caller ≡ c) × ((get_or (n.calls ++ call ∷ []) y no_call).ticket ≡ seq (ann S w.words c)))
+                met : B.seq < n.seq → (c : ℕ) → c < n.scan + 1 → c < S.callers → (batch B w.batches n.seq).announcements c ≡ announcement_of S w.words c → (c ≡ n.scan) ⊎ (c ≡ n.scan → ⊥)
+                    → (seq (announcement_of S w.words c) ≤ ticket_in S B w.batches n.seq c) ⊎ ((y : ℕ) × (y < length (n.calls ++ call ∷ [])) × ((get_or (n.calls ++ call ∷ []) y no_call).caller ≡ c) × ((get_or (n.calls ++ call ∷ []) y no_call).ticket ≡ seq (announcement_of S w.words c)))
                 met after c u t z (inr ne) = old (v.met after c (omega arith) t z)
                   where
-                    old : (seq (ann S w.words c) ≤ ticket_in S B w.batches n.seq c) ⊎ ((y : ℕ) × (y < length n.calls) × ((get_or n.calls y no_call).caller ≡ c) × ((get_or n.calls y no_call).ticket ≡ seq (ann S w.words c)))
-                        → (seq (ann S w.words c) ≤ ticket_in S B w.batches n.seq c) ⊎ ((y : ℕ) × (y < length (n.calls ++ call ∷ [])) × ((get_or (n.calls ++ call ∷ []) y no_call).caller ≡ c) × ((get_or (n.calls ++ call ∷ []) y no_call).ticket ≡ seq (ann S w.words c)))
+                    old : (seq (announcement_of S w.words c) ≤ ticket_in S B w.batches n.seq c) ⊎ ((y : ℕ) × (y < length n.calls) × ((get_or n.calls y no_call).caller ≡ c) × ((get_or n.calls y no_call).ticket ≡ seq (announcement_of S w.words c)))
+                        → (seq (announcement_of S w.words c) ≤ ticket_in S B w.batches n.seq c) ⊎ ((y : ℕ) × (y < length (n.calls ++ call ∷ [])) × ((get_or (n.calls ++ call ∷ []) y no_call).caller ≡ c) × ((get_or (n.calls ++ call ∷ []) y no_call).ticket ≡ seq (announcement_of S w.words c)))
                     old (inl x) = inl x
                     old (inr x) = let s = get_or_append_left n.calls (call ∷ []) no_call x.0 x.1 in inr (x.0, longer x.0 x.1, ap (λ (d : Call). d.caller) s ∙ x.2, ap (λ (d : Call). d.ticket) s ∙ x.3)
                 met after c u t z (inl e) =
                     let s = get_or_push n.calls call no_call (length n.calls) refl in
-                    let z' : (batch B w.batches n.seq).anns n.scan ≡ ann S w.words n.scan = rw e at z in
-                    let y : ann S w.words n.scan ≡ n.heard = hs.stood after z' in
-                    inr (length n.calls, rw length-append (omega arith), ap (λ (d : Call). d.caller) s ∙ sym e, ap (λ (d : Call). d.ticket) s ∙ sym (ap seq y) ∙ ap (λ (x : ℕ). seq (ann S w.words x)) (sym e))
+                    let z' : (batch B w.batches n.seq).announcements n.scan ≡ announcement_of S w.words n.scan = rw e at z in
+                    let y : announcement_of S w.words n.scan ≡ n.heard = hs.stood after z' in
+                    inr (length n.calls, rw length-append (omega arith), ap (λ (d : Call). d.caller) s ∙ sym e, ap (λ (d : Call). d.ticket) s ∙ sym (ap seq y) ∙ ap (λ (x : ℕ). seq (announcement_of S w.words x)) (sym e))
 
-    pub script_kept : Sound S.meaning Lawful (base S) S.cells → (j : ℕ) → At S B w.words w.batches i m (AtScript j) → Goes S Lawful B i w (stepped_at S i m (AtScript j) w)
-    script_kept sound j a = assemble_read w g i h _ _ (took_at S m found (AtScript j)) (same_words (said_at S m.scan j)) same_batches (
+    pub load_script_kept : Sound S.meaning Lawful (base S) S.cells → (j : ℕ) → At S B w.words w.batches i m (LoadScript j) → Goes S Lawful B i w (stepped_at S i m (LoadScript j) w)
+    load_script_kept sound j a = assemble_read w g i h _ _ (took_at S m found (LoadScript j)) (same_words (script_at S m.scan j)) same_batches (
         go (nat_lt (j + 1) (pay m.heard)) refl)
       where
         found : ℕ
-        found = said_word S w.words m.scan j
+        found = script_word S w.words m.scan j
 
         reads : (k : ℕ) → k ≡ j + 1 → Reads S (state B w.batches m.seq) w.words m.seq m.scan m.heard (script_more m found) k
         reads k e = record {
           new = a.5.new;
-          words = λ q. ap (λ (xs : List ℕ). xs ++ found ∷ []) (a.5.words q) ∙ said_more m.scan j ∙ ap (said S w.words m.scan) (sym e);
+          words = λ q. ap (λ (xs : List ℕ). xs ++ found ∷ []) (a.5.words q) ∙ said_more m.scan j ∙ ap (script_of S w.words m.scan) (sym e);
           many = rw length-append (omega (arith, a.5.many));
           within = omega (arith, a.6);
         }
 
-        go : (b : Bool) → nat_lt (j + 1) (pay m.heard) ≡ b → At S B w.words w.batches i (after_script S m j found b) (after_script S m j found b).place
+        go : (b : Bool) → nat_lt (j + 1) (pay m.heard) ≡ b → At S B w.words w.batches i (after_load_script S m j found b) (after_load_script S m j found b).place
         go true e = (past_as m _ a.0 refl refl refl refl refl refl refl refl refl, a.1, a.2, a.3, a.4, reads (j + 1) refl, (let z : j + 1 < pay m.heard = grind (arith, nat_tests) in z))
         go false e =
             runs_at (record m { script = script_more m found }) sound (past_as m _ a.0 refl refl refl refl refl refl refl refl refl) a.1 a.2 a.3 a.4
             (reads (pay m.heard) (omega (arith, not_newer (j + 1) (pay m.heard) e, a.6)))
 
-    pub cell_kept : Sound S.meaning Lawful (base S) S.cells → (x : ℕ) → At S B w.words w.batches i m (AtCell x) → Goes S Lawful B i w (stepped_at S i m (AtCell x) w)
-    cell_kept sound x a = assemble_read w g i h _ _ (took_at S m (cell S w.words x) (AtCell x)) (same_words (data_at S x)) same_batches (
+    pub load_cell_kept : Sound S.meaning Lawful (base S) S.cells → (x : ℕ) → At S B w.words w.batches i m (LoadCell x) → Goes S Lawful B i w (stepped_at S i m (LoadCell x) w)
+    load_cell_kept sound x a = assemble_read w g i h _ _ (took_at S m (cell S w.words x) (LoadCell x)) (same_words (data_at S x)) same_batches (
         go (nat_lt m.seq (seq (cell S w.words x))) refl)
       where
-        go : (b : Bool) → nat_lt m.seq (seq (cell S w.words x)) ≡ b → At S B w.words w.batches i (after_cell S m x (cell S w.words x) b) (after_cell S m x (cell S w.words x) b).place
+        go : (b : Bool) → nat_lt m.seq (seq (cell S w.words x)) ≡ b → At S B w.words w.batches i (after_load_cell S m x (cell S w.words x) b) (after_load_cell S m x (cell S w.words x) b).place
         go true e = again m a.0.looks.round a.1 (two_rounds m a.0) x a.6 (let z : m.seq < seq (cell S w.words x) = grind (arith, nat_tests) in z)
         go false e = runs_at (record m { known = learned S m x (cell S w.words x) }) sound (learn_past m a.0 x a.6 (not_newer m.seq (seq (cell S w.words x)) e)) a.1 a.2 a.3 a.4 a.5

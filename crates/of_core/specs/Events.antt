@@ -5,16 +5,16 @@ use Rattle.std.proofs.Common.{get_or, set, replicate, zero, suc}
 use Rattle.of_cell.specs.Words.{pay}
 use Rattle.of_mem.specs.Meaning.{Meaning, Agrees, SameFrom}
 use Rattle.of_core.specs.declared.place.Place.{Place}
-use Rattle.of_core.specs.declared.place.Place.TheVariants.{Idle, AtTry, AtTryReq, AtTryCell, AtWord, AtAnn, AtCur, AtReq, AtCopy, AtLook, AtOwn, AtShape, AtReply, AtCall, AtTicket, AtScript, AtCell, AtKeep, AtLog, AtLogUp, AtStore, AtStoreUp, AtSwap, AtCurUp, AtTarget, AtChange, AtAgain, AtTargetUp, AtClose, AtCloseUp}
+use Rattle.of_core.specs.declared.place.Place.TheVariants.{Idle, TryCurrent, TryRequest, TryCell, StoreScript, StoreAnnouncement, LoadCurrent, LoadRequest, CopyLog, LookAgain, LoadOwnTicket, LoadShape, LoadReply, LoadAnnouncement, LoadTicket, LoadScript, LoadCell, RaiseOld, StoreLog, RaiseLog, StoreRequest, RaiseRequest, ExchangeCurrent, RaiseCurrent, LoadTarget, ExchangeTarget, ReloadTarget, RaiseTarget, CloseRequest, RaiseClosed}
 use Rattle.of_core.specs.declared.place.Outcome.{Outcome}
 use Rattle.of_core.specs.declared.place.Outcome.TheVariants.{Answered, Spent}
-use Rattle.of_core.specs.Machine.{Setup, Mach, Call, base, size, up}
+use Rattle.of_core.specs.Machine.{Setup, Data, Call, base, size, durable_at}
 use Rattle.of_core.specs.World.{World, Start, Batch, batch, stepped_at, at}
 use Rattle.of_core.specs.Bound.{bound}
 use Rattle.of_core.specs.Recover.{recovered}
 use Rattle.of_core.specs.Good.{risen, after_calls, Replies, numbers, Last, Rising, HasCall}
 
-abbrev pub idle : ℕ → Mach
+abbrev pub idle : ℕ → Data
 idle i = record {
   caller = i;
   made = 0;
@@ -41,10 +41,10 @@ idle i = record {
 
 -- a call opens
 abbrev pub first_place : Bool → Place
-first_place true = AtTry
-first_place false = AtWord 0
+first_place true = TryCurrent
+first_place false = StoreScript 0
 
-abbrev pub opened : Setup → Mach → List ℕ → Mach
+abbrev pub opened : Setup → Data → List ℕ → Data
 opened S m op = record m { made = m.made + 1; op = op; place = first_place (S.meaning.reads_only op); answer = None; steps = 0; rounds = 0; tries = 0 }
 
 pub data Event : Type 0 where
@@ -54,11 +54,11 @@ pub data Event : Type 0 where
   Loads : ℕ → Event
   Evicts : ℕ → Event
 
-abbrev pub machine : World → ℕ → Mach
+abbrev pub machine : World → ℕ → Data
 machine w i = get_or w.machines i (idle i)
 
 abbrev pub evicted : Setup → World → ℕ × ℕ → World
-evicted S w e = record w { words = set w.words (up S e.0) (max (get_or w.words (up S e.0) 0) e.1) }
+evicted S w e = record w { words = set w.words (durable_at S e.0) (max (get_or w.words (durable_at S e.0) 0) e.1) }
 
 abbrev pub happens : Setup → World → Event → World
 happens S w (Begins i op) = record w { machines = set w.machines i (opened S (machine w i) op) }
@@ -80,7 +80,7 @@ abbrev pub IsSchedule : Setup → World → List Event → Type 0
 IsSchedule S w [] = Unit {0}
 IsSchedule S w (e ∷ es) = MayHappen S w e × IsSchedule S (happens S w e) es
 
-abbrev pub idles : ℕ → ℕ → List Mach
+abbrev pub idles : ℕ → ℕ → List Data
 idles i zero = []
 idles i (suc n) = idle i ∷ idles (suc i) n
 
@@ -100,40 +100,40 @@ Legal W xs [] = Unit {0}
 Legal W xs (b ∷ bs) = Replies W xs b.calls × Legal W (after_calls W xs b.calls) bs
 
 -- a machine in a round has loaded cells of one state alone
-abbrev pub UsesOne : Start → World → Mach → Place → Type 0
+abbrev pub UsesOne : Start → World → Data → Place → Type 0
 UsesOne B w m Idle = Unit {0}
-UsesOne B w m AtTry = Unit {0}
-UsesOne B w m AtTryReq = Unit {0}
-UsesOne B w m (AtTryCell x) = Agrees m.known (numbers B w.batches m.seq)
-UsesOne B w m (AtWord j) = Unit {0}
-UsesOne B w m AtAnn = Unit {0}
-UsesOne B w m AtCur = Unit {0}
-UsesOne B w m AtReq = Unit {0}
-UsesOne B w m (AtCopy x) = Unit {0}
-UsesOne B w m AtLook = Unit {0}
-UsesOne B w m AtOwn = Agrees m.known (numbers B w.batches m.seq)
-UsesOne B w m AtShape = Agrees m.known (numbers B w.batches m.seq)
-UsesOne B w m (AtReply j) = Agrees m.known (numbers B w.batches m.seq)
-UsesOne B w m AtCall = Agrees m.known (numbers B w.batches m.seq)
-UsesOne B w m AtTicket = Agrees m.known (numbers B w.batches m.seq)
-UsesOne B w m (AtScript j) = Agrees m.known (numbers B w.batches m.seq)
-UsesOne B w m (AtCell x) = Agrees m.known (numbers B w.batches m.seq)
-UsesOne B w m AtKeep = Agrees m.known (numbers B w.batches m.seq)
-UsesOne B w m (AtLog x) = Agrees m.known (numbers B w.batches m.seq)
-UsesOne B w m (AtLogUp x) = Agrees m.known (numbers B w.batches m.seq)
-UsesOne B w m AtStore = Agrees m.known (numbers B w.batches m.seq)
-UsesOne B w m AtStoreUp = Agrees m.known (numbers B w.batches m.seq)
-UsesOne B w m AtSwap = Agrees m.known (numbers B w.batches m.seq)
-UsesOne B w m AtCurUp = Unit {0}
-UsesOne B w m (AtTarget j) = Unit {0}
-UsesOne B w m (AtChange j f) = Unit {0}
-UsesOne B w m (AtAgain j) = Unit {0}
-UsesOne B w m (AtTargetUp j f) = Unit {0}
-UsesOne B w m AtClose = Unit {0}
-UsesOne B w m AtCloseUp = Unit {0}
+UsesOne B w m TryCurrent = Unit {0}
+UsesOne B w m TryRequest = Unit {0}
+UsesOne B w m (TryCell x) = Agrees m.known (numbers B w.batches m.seq)
+UsesOne B w m (StoreScript j) = Unit {0}
+UsesOne B w m StoreAnnouncement = Unit {0}
+UsesOne B w m LoadCurrent = Unit {0}
+UsesOne B w m LoadRequest = Unit {0}
+UsesOne B w m (CopyLog x) = Unit {0}
+UsesOne B w m LookAgain = Unit {0}
+UsesOne B w m LoadOwnTicket = Agrees m.known (numbers B w.batches m.seq)
+UsesOne B w m LoadShape = Agrees m.known (numbers B w.batches m.seq)
+UsesOne B w m (LoadReply j) = Agrees m.known (numbers B w.batches m.seq)
+UsesOne B w m LoadAnnouncement = Agrees m.known (numbers B w.batches m.seq)
+UsesOne B w m LoadTicket = Agrees m.known (numbers B w.batches m.seq)
+UsesOne B w m (LoadScript j) = Agrees m.known (numbers B w.batches m.seq)
+UsesOne B w m (LoadCell x) = Agrees m.known (numbers B w.batches m.seq)
+UsesOne B w m RaiseOld = Agrees m.known (numbers B w.batches m.seq)
+UsesOne B w m (StoreLog x) = Agrees m.known (numbers B w.batches m.seq)
+UsesOne B w m (RaiseLog x) = Agrees m.known (numbers B w.batches m.seq)
+UsesOne B w m StoreRequest = Agrees m.known (numbers B w.batches m.seq)
+UsesOne B w m RaiseRequest = Agrees m.known (numbers B w.batches m.seq)
+UsesOne B w m ExchangeCurrent = Agrees m.known (numbers B w.batches m.seq)
+UsesOne B w m RaiseCurrent = Unit {0}
+UsesOne B w m (LoadTarget j) = Unit {0}
+UsesOne B w m (ExchangeTarget j f) = Unit {0}
+UsesOne B w m (ReloadTarget j) = Unit {0}
+UsesOne B w m (RaiseTarget j f) = Unit {0}
+UsesOne B w m CloseRequest = Unit {0}
+UsesOne B w m RaiseClosed = Unit {0}
 
 -- what an answer says of the history
-abbrev pub IsTold : Setup → Start → World → ℕ → Mach → Option Outcome → Type 0
+abbrev pub IsTold : Setup → Start → World → ℕ → Data → Option Outcome → Type 0
 IsTold S B w i m None = Unit {0}
 IsTold S B w i m (Some (Answered s false raw steps)) = (steps ≤ bound S) × (B.seq ≤ s) × (s ≤ risen S w.words) × (S.meaning.reply (numbers B w.batches s) m.op ≡ raw) × (S.meaning.reads_only m.op ≡ true)
 IsTold S B w i m (Some (Answered s true raw steps)) = (steps ≤ bound S) × (B.seq < s) × (s ≤ risen S w.words) × HasCall S (batch B w.batches s).calls i m.made m.op raw

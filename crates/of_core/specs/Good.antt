@@ -7,22 +7,22 @@ use Rattle.of_mem.specs.declared.work.RawReply.{RawReply}
 use Rattle.of_mem.specs.declared.work.TheConstants.{MOST_INSTRS}
 use Rattle.of_mem.specs.Meaning.{Meaning, Agrees, Once, SameFrom, written, marked}
 use Rattle.of_core.specs.declared.place.Place.{Place}
-use Rattle.of_core.specs.declared.place.Place.TheVariants.{Idle, AtTry, AtTryReq, AtTryCell, AtWord, AtAnn, AtCur, AtReq, AtCopy, AtLook, AtOwn, AtShape, AtReply, AtCall, AtTicket, AtScript, AtCell, AtKeep, AtLog, AtLogUp, AtStore, AtStoreUp, AtSwap, AtCurUp, AtTarget, AtChange, AtAgain, AtTargetUp, AtClose, AtCloseUp}
+use Rattle.of_core.specs.declared.place.Place.TheVariants.{Idle, TryCurrent, TryRequest, TryCell, StoreScript, StoreAnnouncement, LoadCurrent, LoadRequest, CopyLog, LookAgain, LoadOwnTicket, LoadShape, LoadReply, LoadAnnouncement, LoadTicket, LoadScript, LoadCell, RaiseOld, StoreLog, RaiseLog, StoreRequest, RaiseRequest, ExchangeCurrent, RaiseCurrent, LoadTarget, ExchangeTarget, ReloadTarget, RaiseTarget, CloseRequest, RaiseClosed}
 use Rattle.of_core.specs.declared.place.Outcome.{Outcome}
 use Rattle.of_core.specs.declared.place.Outcome.TheVariants.{Answered, Spent}
-use Rattle.of_core.specs.Machine.{Setup, Mach, Call, entry, base, log_words, log_at, size, unknown, ticket_cell, shape_cell, reply_cell}
+use Rattle.of_core.specs.Machine.{Setup, Data, Call, entry, base, log_words, log_at, size, unknown, ticket_cell, shape_cell, reply_cell}
 use Rattle.of_core.specs.Bound.{Within}
-use Rattle.of_core.specs.World.{World, Start, Batch, said, said_word, ann, state, batch, at, cur, req, cell, stepped_at, log_cell, dur, dur_req, dur_cell, dur_log}
+use Rattle.of_core.specs.World.{World, Start, Batch, script_of, script_word, announcement_of, state, batch, at, current_word, request_of, cell, stepped_at, log_word, durable_word, durable_request, durable_cell, durable_log}
 
 abbrev pub setup_of : ℕ → ℕ → ℕ → Meaning → Setup
 setup_of n m l meaning = record { callers = n; instrs = MOST_INSTRS; cells = m; limit = l; first = λ i n. i % n; meaning = meaning }
 
 -- the last committed sequence, and its owner
 abbrev pub last : List ℕ → ℕ
-last ws = seq (cur ws)
+last ws = seq (current_word ws)
 
 abbrev pub holder : List ℕ → ℕ
-holder ws = pay (cur ws)
+holder ws = pay (current_word ws)
 
 -- an entry of a log that may be: a data cell, and a number that a word holds
 abbrev pub IsEntry : Setup → ℕ × ℕ → Type 0
@@ -51,40 +51,40 @@ pub record Counted (S : Setup) (B : Start) (ws : List ℕ) (bs : List Batch) : T
 -- the last transaction is open
 pub record Opened (B : Start) (ws : List ℕ) : Type 0 where
   pub any : B.seq < last ws
-  pub asks : req ws (holder ws) ≡ word (last ws) 0
+  pub asks : request_of ws (holder ws) ≡ word (last ws) 0
 
 -- the data cells are of the state after the last batch, or, where it is open, of the one before
 pub record Datas (S : Setup) (B : Start) (ws : List ℕ) (bs : List Batch) : Type 0 where
   pub each : (a : ℕ) → a < S.cells → (cell S ws a ≡ at B bs (last ws) a) ⊎ (Opened B ws × (cell S ws a ≡ at B bs (last ws - 1) a))
 
 pub record Requests (S : Setup) (B : Start) (ws : List ℕ) (bs : List Batch) : Type 0 where
-  pub closed : (k : ℕ) → B.seq < k → k < last ws → word k 0 < req ws (batch B bs k).owner
-  pub latest : B.seq < last ws → word (last ws) 0 ≤ req ws (holder ws)
+  pub closed : (k : ℕ) → B.seq < k → k < last ws → word k 0 < request_of ws (batch B bs k).owner
+  pub latest : B.seq < last ws → word (last ws) 0 ≤ request_of ws (holder ws)
   -- the start's transaction isn't open
-  pub floor : 0 < B.seq → word B.seq 0 < req ws B.owner
+  pub floor : 0 < B.seq → word B.seq 0 < request_of ws B.owner
 
 -- the last sequence that the durable word of CUR names
 abbrev pub risen : Setup → List ℕ → ℕ
-risen S ws = seq (dur S ws 0)
+risen S ws = seq (durable_word S ws 0)
 
 -- a word that the data cell a has held
 abbrev pub Held : Start → List ℕ → List Batch → ℕ → ℕ → Type 0
 Held B ws bs a w = (k : ℕ) × (B.seq ≤ k) × (k ≤ last ws) × (w ≡ at B bs k a)
 
 pub record Durable (S : Setup) (B : Start) (ws : List ℕ) (bs : List Batch) : Type 0 where
-  pub low : (c : ℕ) → c < size S → dur S ws c ≤ get_or ws c 0
+  pub low : (c : ℕ) → c < size S → durable_word S ws c ≤ get_or ws c 0
   pub from : B.seq ≤ risen S ws
-  pub owner : B.seq < risen S ws → pay (dur S ws 0) ≡ (batch B bs (risen S ws)).owner
-  pub first : risen S ws ≡ B.seq → pay (dur S ws 0) ≡ B.owner
+  pub owner : B.seq < risen S ws → pay (durable_word S ws 0) ≡ (batch B bs (risen S ws)).owner
+  pub first : risen S ws ≡ B.seq → pay (durable_word S ws 0) ≡ B.owner
   pub step : (last ws ≡ risen S ws) ⊎ ((last ws ≡ risen S ws + 1) × Opened B ws)
   pub fresh : (a : ℕ) → a < S.cells → seq (cell S ws a) ≤ risen S ws
-  pub cells : (a : ℕ) → a < S.cells → (dur_cell S ws a ≡ at B bs (risen S ws) a) ⊎ (Opened B ws × (last ws ≡ risen S ws) × (dur_cell S ws a ≡ at B bs (risen S ws - 1) a))
-  pub begun : 0 < B.seq → word B.seq 0 < dur_req S ws B.owner
+  pub cells : (a : ℕ) → a < S.cells → (durable_cell S ws a ≡ at B bs (risen S ws) a) ⊎ (Opened B ws × (last ws ≡ risen S ws) × (durable_cell S ws a ≡ at B bs (risen S ws - 1) a))
+  pub begun : 0 < B.seq → word B.seq 0 < durable_request S ws B.owner
   -- the durable request of a batch's owner is at least that of the batch
-  pub floor : (k : ℕ) → B.seq < k → k ≤ last ws → word k 0 ≤ dur_req S ws (batch B bs k).owner
+  pub floor : (k : ℕ) → B.seq < k → k ≤ last ws → word k 0 ≤ durable_request S ws (batch B bs k).owner
   -- where the durable request of a batch's owner is that of the batch, its log words are the batch's log, on the table and durably
-  pub logs : (k : ℕ) → B.seq < k → k ≤ last ws → (i : ℕ) → (batch B bs k).owner ≡ i → dur_req S ws i ≡ word k 0 → (x v : ℕ) → x < length (log_words (batch B bs k).log) → get_or (log_words (batch B bs k).log) x 0 ≡ v
-      → (log_cell S ws i x ≡ word k v) × (dur_log S ws i x ≡ word k v)
+  pub logs : (k : ℕ) → B.seq < k → k ≤ last ws → (i : ℕ) → (batch B bs k).owner ≡ i → durable_request S ws i ≡ word k 0 → (x v : ℕ) → x < length (log_words (batch B bs k).log) → get_or (log_words (batch B bs k).log) x 0 ≡ v
+      → (log_word S ws i x ≡ word k v) × (durable_log S ws i x ≡ word k v)
 
 abbrev pub after_calls : Meaning → List ℕ → List Call → List ℕ
 after_calls W xs [] = xs
@@ -99,8 +99,8 @@ abbrev pub numbers : Start → List Batch → ℕ → List ℕ
 numbers B bs k = map pay (state B bs k)
 
 -- the number of caller i's ticket cell
-abbrev pub ticket_of : Setup → List ℕ → ℕ → ℕ
-ticket_of S st i = pay (get_or st (ticket_cell S i) 0)
+abbrev pub ticket_among : Setup → List ℕ → ℕ → ℕ
+ticket_among S st i = pay (get_or st (ticket_cell S i) 0)
 
 -- and in state k
 abbrev pub ticket_in : Setup → Start → List Batch → ℕ → ℕ → ℕ
@@ -158,14 +158,14 @@ pub record Stands (S : Setup) (Lawful : List ℕ → Type 0) (B : Start) (bs : L
 
 -- announcements are of 1 to K words, rise, and are in the history two batches behind their first at the latest
 pub record Heard (S : Setup) (B : Start) (ws : List ℕ) (bs : List Batch) : Type 0 where
-  pub small : (i : ℕ) → i < S.callers → pay (ann S ws i) ≤ S.instrs
-  pub tickets : (i : ℕ) → i < S.callers → seq (ann S ws i) < 4294967296
-  pub some : (i : ℕ) → i < S.callers → 0 < seq (ann S ws i) → 1 ≤ pay (ann S ws i)
-  pub before : (k i : ℕ) → B.seq < k → k ≤ last ws → i < S.callers → seq ((batch B bs k).anns i) ≤ seq (ann S ws i)
-  pub met : (k i : ℕ) → B.seq < k → k < last ws → i < S.callers → (batch B bs k).anns i ≡ ann S ws i → seq (ann S ws i) ≤ ticket_in S B bs (k + 1) i
-  pub reached : (i : ℕ) → i < S.callers → ticket_in S B bs (last ws) i ≤ seq (ann S ws i)
+  pub small : (i : ℕ) → i < S.callers → pay (announcement_of S ws i) ≤ S.instrs
+  pub tickets : (i : ℕ) → i < S.callers → seq (announcement_of S ws i) < 4294967296
+  pub some : (i : ℕ) → i < S.callers → 0 < seq (announcement_of S ws i) → 1 ≤ pay (announcement_of S ws i)
+  pub before : (k i : ℕ) → B.seq < k → k ≤ last ws → i < S.callers → seq ((batch B bs k).announcements i) ≤ seq (announcement_of S ws i)
+  pub met : (k i : ℕ) → B.seq < k → k < last ws → i < S.callers → (batch B bs k).announcements i ≡ announcement_of S ws i → seq (announcement_of S ws i) ≤ ticket_in S B bs (k + 1) i
+  pub reached : (i : ℕ) → i < S.callers → ticket_in S B bs (last ws) i ≤ seq (announcement_of S ws i)
   -- a log has no more entries than there are cells, also where its round was lost
-  pub counts : (i : ℕ) → i < S.callers → pay (log_cell S ws i 0) ≤ S.cells
+  pub counts : (i : ℕ) → i < S.callers → pay (log_word S ws i 0) ≤ S.cells
 
 -- a word of caller j's request above the start is open or closed, and closed only where j owned that batch
 abbrev pub IsRequest : Start → List ℕ → List Batch → ℕ → ℕ → Type 0
@@ -177,12 +177,12 @@ IsLogWord B ws bs j x w = B.seq < seq w → seq w ≤ last ws → (batch B bs (s
 
 -- what requests and log words are, on the table and durably
 pub record Kinds (S : Setup) (B : Start) (ws : List ℕ) (bs : List Batch) : Type 0 where
-  pub requests : (j : ℕ) → j < S.callers → IsRequest B ws bs j (req ws j)
-  pub dur_requests : (j : ℕ) → j < S.callers → IsRequest B ws bs j (dur_req S ws j)
-  pub logs : (j x : ℕ) → j < S.callers → x < 2 * S.cells + 1 → IsLogWord B ws bs j x (log_cell S ws j x)
-  pub dur_logs : (j x : ℕ) → j < S.callers → x < 2 * S.cells + 1 → IsLogWord B ws bs j x (dur_log S ws j x)
+  pub requests : (j : ℕ) → j < S.callers → IsRequest B ws bs j (request_of ws j)
+  pub dur_requests : (j : ℕ) → j < S.callers → IsRequest B ws bs j (durable_request S ws j)
+  pub logs : (j x : ℕ) → j < S.callers → x < 2 * S.cells + 1 → IsLogWord B ws bs j x (log_word S ws j x)
+  pub dur_logs : (j x : ℕ) → j < S.callers → x < 2 * S.cells + 1 → IsLogWord B ws bs j x (durable_log S ws j x)
   -- the address of an entry is a data cell, also where its round was lost
-  pub sized : (j y : ℕ) → j < S.callers → y < S.cells → pay (log_cell S ws j (2 * y + 1)) < S.cells
+  pub sized : (j y : ℕ) → j < S.callers → y < S.cells → pay (log_word S ws j (2 * y + 1)) < S.cells
 
 pub record Shared (S : Setup) (Lawful : List ℕ → Type 0) (B : Start) (ws : List ℕ) (bs : List Batch) : Type 0 where
   pub start : IsStart S B
@@ -201,17 +201,17 @@ pub record Shared (S : Setup) (Lawful : List ℕ → Type 0) (B : Start) (ws : L
 
 -- what a machine knows its own durable request to have
 abbrev pub Keeps : Start → List ℕ → List Batch → ℕ → ℕ → Type 0
-Keeps B ws bs i v = (v ≤ req ws i) × IsRequest B ws bs i v
+Keeps B ws bs i v = (v ≤ request_of ws i) × IsRequest B ws bs i v
 
-abbrev pub call_of : Mach → Call
+abbrev pub call_of : Data → Call
 call_of m = record { caller = m.caller; ticket = m.made; op = m.op; raw = m.raw }
 
 -- caller i announces nothing that is to be run
 abbrev pub Quieted : Setup → Start → List ℕ → List Batch → ℕ → Type 0
-Quieted S B ws bs i = (seq (ann S ws i) ≤ ticket_in S B bs (last ws) i) ⊎ (last ws ≡ S.limit)
+Quieted S B ws bs i = (seq (announcement_of S ws i) ≤ ticket_in S B bs (last ws) i) ⊎ (last ws ≡ S.limit)
 
 -- a call that isn't announced yet
-pub record Fresh (S : Setup) (B : Start) (ws : List ℕ) (bs : List Batch) (i : ℕ) (m : Mach) : Type 0 where
+pub record Fresh (S : Setup) (B : Start) (ws : List ℕ) (bs : List Batch) (i : ℕ) (m : Data) : Type 0 where
   pub caller : m.caller ≡ i
   pub ticket : m.made < 4294967296
   pub words : length m.op ≤ S.instrs
@@ -219,7 +219,7 @@ pub record Fresh (S : Setup) (B : Start) (ws : List ℕ) (bs : List Batch) (i : 
   pub kept : Keeps B ws bs i m.kept
   pub above : ticket_in S B bs (last ws) i < m.made
   pub quieted : Quieted S B ws bs i
-  pub newer : seq (ann S ws i) < m.made
+  pub newer : seq (announcement_of S ws i) < m.made
   pub rounds : m.rounds ≡ 0
 
 -- each call of caller i in the batches that has this ticket is this one
@@ -227,22 +227,22 @@ abbrev pub Mine : Start → List ℕ → List Batch → ℕ → ℕ → List ℕ
 Mine B ws bs i t op = (k : ℕ) → B.seq < k → k ≤ last ws → All (λ (c : Call). c.caller ≡ i → c.ticket ≡ t → c.op ≡ op) (batch B bs k).calls
 
 -- a call that is announced
-pub record Begun (S : Setup) (B : Start) (ws : List ℕ) (bs : List Batch) (i : ℕ) (m : Mach) : Type 0 where
+pub record Begun (S : Setup) (B : Start) (ws : List ℕ) (bs : List Batch) (i : ℕ) (m : Data) : Type 0 where
   pub caller : m.caller ≡ i
   pub ticket : m.made < 4294967296
   pub words : length m.op ≤ S.instrs
   pub some : 1 ≤ length m.op
   pub kept : Keeps B ws bs i m.kept
-  pub says : ann S ws i ≡ word m.made (length m.op)
-  pub script : said S ws i (length m.op) ≡ m.op
+  pub says : announcement_of S ws i ≡ word m.made (length m.op)
+  pub script : script_of S ws i (length m.op) ≡ m.op
   pub upto : ticket_in S B bs (last ws) i ≤ m.made
   pub beyond : ticket_in S B bs B.seq i < m.made
   pub mine : Mine B ws bs i m.made m.op
   -- it was announced before its first round
-  pub known : 1 ≤ m.rounds → (B.seq ≤ m.first) × ((k : ℕ) → m.first < k → k ≤ last ws → (batch B bs k).anns i ≡ ann S ws i)
+  pub known : 1 ≤ m.rounds → (B.seq ≤ m.first) × ((k : ℕ) → m.first < k → k ≤ last ws → (batch B bs k).announcements i ≡ announcement_of S ws i)
 
 -- a round at m.seq; own is the highest sequence of one's own request
-pub record Round (S : Setup) (B : Start) (ws : List ℕ) (bs : List Batch) (i : ℕ) (m : Mach) : Type 0 where
+pub record Round (S : Setup) (B : Start) (ws : List ℕ) (bs : List Batch) (i : ℕ) (m : Data) : Type 0 where
   pub begun : Begun S B ws bs i m
   pub from : B.seq ≤ m.seq
   pub upto : m.seq ≤ last ws
@@ -267,35 +267,35 @@ pub record Cur (S : Setup) (B : Start) (ws : List ℕ) (bs : List Batch) (s o : 
   pub first : s ≡ B.seq → o ≡ B.owner
 
 -- a try of a read
-pub record Trying (S : Setup) (B : Start) (ws : List ℕ) (bs : List Batch) (i : ℕ) (m : Mach) : Type 0 where
+pub record Trying (S : Setup) (B : Start) (ws : List ℕ) (bs : List Batch) (i : ℕ) (m : Data) : Type 0 where
   pub fresh : Fresh S B ws bs i m
   pub reads : S.meaning.reads_only m.op ≡ true
   pub few : m.tries ≤ 4
 
 -- who helps: a machine in a round or in a try
-abbrev pub Helper : Setup → Start → List ℕ → List Batch → ℕ → Mach → Type 0
+abbrev pub Helper : Setup → Start → List ℕ → List Batch → ℕ → Data → Type 0
 Helper S B ws bs i m = Round S B ws bs i m ⊎ Trying S B ws bs i m
 
 -- past the look at the request, a try or a round knows cells of its state
 pub record Watches (S : Setup) (B : Start) (ws : List ℕ) (bs : List Batch) (s : ℕ) (known : List (Option ℕ)) : Type 0 where
-  pub quiet : s ≡ last ws → B.seq < s → word s 0 < req ws (holder ws)
+  pub quiet : s ≡ last ws → B.seq < s → word s 0 < request_of ws (holder ws)
   pub agrees : Agrees known (numbers B bs s)
   pub all : length known ≡ S.cells
 
 -- between two rounds
-pub record Between (ws : List ℕ) (m : Mach) : Type 0 where
+pub record Between (ws : List ℕ) (m : Data) : Type 0 where
   pub few : m.rounds ≤ 2
   pub later : 1 ≤ m.rounds → m.first + m.rounds ≤ last ws
 
 -- past the look at the request: the transaction of the round's sequence isn't open
-pub record Looks (S : Setup) (B : Start) (ws : List ℕ) (bs : List Batch) (i : ℕ) (m : Mach) : Type 0 where
+pub record Looks (S : Setup) (B : Start) (ws : List ℕ) (bs : List Batch) (i : ℕ) (m : Data) : Type 0 where
   pub round : Round S B ws bs i m
-  pub quiet : m.seq ≡ last ws → B.seq < m.seq → word m.seq 0 < req ws (holder ws)
+  pub quiet : m.seq ≡ last ws → B.seq < m.seq → word m.seq 0 < request_of ws (holder ws)
   pub agrees : Agrees m.known (numbers B bs m.seq)
   pub all : length m.known ≡ S.cells
 
 -- past the look at one's own ticket: the call isn't in the history up to m.seq, and it isn't the last
-pub record Past (S : Setup) (B : Start) (ws : List ℕ) (bs : List Batch) (i : ℕ) (m : Mach) : Type 0 where
+pub record Past (S : Setup) (B : Start) (ws : List ℕ) (bs : List Batch) (i : ℕ) (m : Data) : Type 0 where
   pub looks : Looks S B ws bs i m
   pub under : m.seq < S.limit
   pub left : ticket_in S B bs m.seq i < m.made
@@ -323,13 +323,13 @@ pub record Overlay (S : Setup) (xs : List ℕ) (cs : List Call) (es : List (ℕ 
 
 -- the call is the one that its caller announces
 pub record Announced (S : Setup) (ws : List ℕ) (c : Call) : Type 0 where
-  pub says : ann S ws c.caller ≡ word c.ticket (length c.op)
-  pub script : said S ws c.caller (length c.op) ≡ c.op
+  pub says : announcement_of S ws c.caller ≡ word c.ticket (length c.op)
+  pub script : script_of S ws c.caller (length c.op) ≡ c.op
 
 -- a call that a scan took in
 pub record Taken (S : Setup) (st : List ℕ) (c : Call) : Type 0 where
   pub caller : c.caller < S.callers
-  pub above : ticket_of S st c.caller < c.ticket
+  pub above : ticket_among S st c.caller < c.ticket
   pub words : length c.op ≤ S.instrs
 
 -- the scan at sequence s, of a call of caller i, up to caller n
@@ -342,31 +342,31 @@ pub record Over (S : Setup) (B : Start) (ws : List ℕ) (bs : List Batch) (i s m
   -- one's own call is among them
   pub own : s ≡ last ws → i < n → (y : ℕ) × (y < length cs) × (get_or cs y no_call ≡ record { caller = i; ticket = made; op = op; raw = raw })
   -- an announcement that stood before batch s is run, or was run before
-  pub met : B.seq < s → (c : ℕ) → c < n → c < S.callers → (batch B bs s).anns c ≡ ann S ws c
-      → (seq (ann S ws c) ≤ ticket_in S B bs s c) ⊎ ((y : ℕ) × (y < length cs) × ((get_or cs y no_call).caller ≡ c) × ((get_or cs y no_call).ticket ≡ seq (ann S ws c)))
+  pub met : B.seq < s → (c : ℕ) → c < n → c < S.callers → (batch B bs s).announcements c ≡ announcement_of S ws c
+      → (seq (announcement_of S ws c) ≤ ticket_in S B bs s c) ⊎ ((y : ℕ) × (y < length cs) × ((get_or cs y no_call).caller ≡ c) × ((get_or cs y no_call).ticket ≡ seq (announcement_of S ws c)))
 
 -- the announcement of caller c that a scan at s loaded
 pub record Hears (S : Setup) (B : Start) (ws : List ℕ) (bs : List Batch) (i s c heard : ℕ) : Type 0 where
-  pub own : c ≡ i → ann S ws c ≡ heard
+  pub own : c ≡ i → announcement_of S ws c ≡ heard
   pub ticket : seq heard < 4294967296
-  pub fresh : s ≡ last ws → ticket_in S B bs s c < seq heard → ann S ws c ≡ heard
-  pub stood : B.seq < s → (batch B bs s).anns c ≡ ann S ws c → ann S ws c ≡ heard
+  pub fresh : s ≡ last ws → ticket_in S B bs s c < seq heard → announcement_of S ws c ≡ heard
+  pub stood : B.seq < s → (batch B bs s).announcements c ≡ announcement_of S ws c → announcement_of S ws c ≡ heard
   pub small : pay heard ≤ S.instrs
   pub some : 0 < seq heard → 1 ≤ pay heard
 
 -- a script of which j words are loaded
 pub record Reads (S : Setup) (st ws : List ℕ) (s c heard : ℕ) (script : List ℕ) (j : ℕ) : Type 0 where
-  pub new : ticket_of S st c < seq heard
-  pub words : s ≡ last ws → script ≡ said S ws c j
+  pub new : ticket_among S st c < seq heard
+  pub words : s ≡ last ws → script ≡ script_of S ws c j
   pub many : length script ≡ j
   pub within : j ≤ pay heard
 
 -- a machine that has nothing under way: its own request and log words are no newer than n, its request is durable, and its own batches are closed
 pub record Calm (S : Setup) (B : Start) (ws : List ℕ) (bs : List Batch) (i n : ℕ) : Type 0 where
-  pub own : seq (req ws i) ≤ n
-  pub level : dur_req S ws i ≡ req ws i
-  pub shut : (k : ℕ) → B.seq < k → k ≤ last ws → (batch B bs k).owner ≡ i → word k 0 < req ws i
-  pub logs : (y : ℕ) → y < 2 * S.cells + 1 → seq (log_cell S ws i y) ≤ n
+  pub own : seq (request_of ws i) ≤ n
+  pub level : durable_request S ws i ≡ request_of ws i
+  pub shut : (k : ℕ) → B.seq < k → k ≤ last ws → (batch B bs k).owner ≡ i → word k 0 < request_of ws i
+  pub logs : (y : ℕ) → y < 2 * S.cells + 1 → seq (log_word S ws i y) ≤ n
 
 -- the two replies are the same where they have numbers
 abbrev pub SameReply : Setup → RawReply → RawReply → Type 0
@@ -382,19 +382,19 @@ pub record HasCall (S : Setup) (cs : List Call) (i t : ℕ) (op : List ℕ) (r :
   pub reply : SameReply S r (get_or cs place no_call).raw
 
 -- the owner of batch m.seq, after its exchange
-pub record Owns (S : Setup) (B : Start) (ws : List ℕ) (bs : List Batch) (i : ℕ) (m : Mach) : Type 0 where
+pub record Owns (S : Setup) (B : Start) (ws : List ℕ) (bs : List Batch) (i : ℕ) (m : Data) : Type 0 where
   pub caller : m.caller ≡ i
   pub owner : m.owner ≡ i
-  pub says : seq (ann S ws i) ≡ m.made
+  pub says : seq (announcement_of S ws i) ≡ m.made
   pub upto : ticket_in S B bs (last ws) i ≤ m.made
   pub reached : m.made ≤ ticket_in S B bs (last ws) i
   pub call : HasCall S (batch B bs m.seq).calls i m.made m.op m.raw
-  pub asks : (req ws i ≡ word m.seq 0) ⊎ (req ws i ≡ word m.seq 1)
+  pub asks : (request_of ws i ≡ word m.seq 0) ⊎ (request_of ws i ≡ word m.seq 1)
   pub unowned : (k : ℕ) → m.seq < k → k ≤ last ws → (batch B bs k).owner ≡ i → ⊥
-  pub logs : (y : ℕ) → y < 2 * S.cells + 1 → seq (log_cell S ws i y) ≤ m.seq
+  pub logs : (y : ℕ) → y < 2 * S.cells + 1 → seq (log_word S ws i y) ≤ m.seq
 
 -- who applies: a helper in its round, or the owner
-abbrev pub Mode : Setup → Start → List ℕ → List Batch → ℕ → Mach → Bool → Type 0
+abbrev pub Mode : Setup → Start → List ℕ → List Batch → ℕ → Data → Bool → Type 0
 Mode S B ws bs i m true = Helper S B ws bs i m × Cur S B ws bs m.seq m.owner × Calm S B ws bs i m.seq
 Mode S B ws bs i m false = Owns S B ws bs i m
 
@@ -405,102 +405,102 @@ pub record Turned (es ds : List (ℕ × ℕ)) : Type 0 where
   pub all : (k : ℕ) → k < length es → (j : ℕ) × (j < length ds) × (get_or ds j (0, 0) ≡ get_or es k (0, 0))
 
 -- m.log has the entries of batch m.seq's log, and its first entries up to j are in the cells and durable
-pub record Applies (S : Setup) (B : Start) (ws : List ℕ) (bs : List Batch) (i : ℕ) (m : Mach) (j : ℕ) : Type 0 where
+pub record Applies (S : Setup) (B : Start) (ws : List ℕ) (bs : List Batch) (i : ℕ) (m : Data) (j : ℕ) : Type 0 where
   pub mode : Mode S B ws bs i m m.helps
   pub after : B.seq < m.seq
   pub upto : m.seq ≤ last ws
   pub committed : (batch B bs m.seq).owner ≡ m.owner
   pub log : Turned (batch B bs m.seq).log m.log
-  pub done : (k : ℕ) → k < j → (m.seq ≤ seq (cell S ws (entry m k).0)) × (m.seq ≤ seq (dur_cell S ws (entry m k).0))
+  pub done : (k : ℕ) → k < j → (m.seq ≤ seq (cell S ws (entry m k).0)) × (m.seq ≤ seq (durable_cell S ws (entry m k).0))
 
 -- a helper has loaded x log words of m.owner. While the request is still open, they are those of the batch's log
-pub record Copies (S : Setup) (B : Start) (ws : List ℕ) (bs : List Batch) (i : ℕ) (m : Mach) (x : ℕ) : Type 0 where
+pub record Copies (S : Setup) (B : Start) (ws : List ℕ) (bs : List Batch) (i : ℕ) (m : Data) (x : ℕ) : Type 0 where
   pub helper : Helper S B ws bs i m
-  pub cur : Cur S B ws bs m.seq m.owner
+  pub current_word : Cur S B ws bs m.seq m.owner
   pub calm : Calm S B ws bs i m.seq
   pub helps : m.helps ≡ true
   pub after : B.seq < m.seq
   pub many : length m.got ≡ x
   pub count : 1 ≤ x → get_or m.got 0 0 ≤ S.cells
-  pub copied : req ws m.owner ≡ word m.seq 0 → (x ≤ length (log_words (batch B bs m.seq).log)) × (m.got ≡ take x (log_words (batch B bs m.seq).log))
+  pub copied : request_of ws m.owner ≡ word m.seq 0 → (x ≤ length (log_words (batch B bs m.seq).log)) × (m.got ≡ take x (log_words (batch B bs m.seq).log))
 
 -- the first x log words are stored, and the first z are durable
-pub record Stored (S : Setup) (B : Start) (ws : List ℕ) (bs : List Batch) (i : ℕ) (m : Mach) (x z : ℕ) : Type 0 where
+pub record Stored (S : Setup) (B : Start) (ws : List ℕ) (bs : List Batch) (i : ℕ) (m : Data) (x z : ℕ) : Type 0 where
   pub past : Past S B ws bs i m
   pub over : Over S B ws bs i m.seq m.made m.op m.raw m.calls m.log S.callers
-  pub each : (y : ℕ) → y < x → log_cell S ws i y ≡ word (m.seq + 1) (get_or (log_words m.log) y 0)
-  pub durable : (y : ℕ) → y < z → dur_log S ws i y ≡ word (m.seq + 1) (get_or (log_words m.log) y 0)
-  pub rest : (y : ℕ) → x ≤ y → y < 2 * S.cells + 1 → seq (log_cell S ws i y) ≤ m.seq
+  pub each : (y : ℕ) → y < x → log_word S ws i y ≡ word (m.seq + 1) (get_or (log_words m.log) y 0)
+  pub durable : (y : ℕ) → y < z → durable_log S ws i y ≡ word (m.seq + 1) (get_or (log_words m.log) y 0)
+  pub rest : (y : ℕ) → x ≤ y → y < 2 * S.cells + 1 → seq (log_word S ws i y) ≤ m.seq
 
 -- a machine that stores its log still has its old request
-pub record Logs (S : Setup) (B : Start) (ws : List ℕ) (bs : List Batch) (i : ℕ) (m : Mach) (x z : ℕ) : Type 0 where
+pub record Logs (S : Setup) (B : Start) (ws : List ℕ) (bs : List Batch) (i : ℕ) (m : Data) (x z : ℕ) : Type 0 where
   pub stored : Stored S B ws bs i m x z
-  pub own : seq (req ws i) ≤ m.seq
-  pub level : dur_req S ws i ≡ req ws i
-  pub shut : (k : ℕ) → B.seq < k → k ≤ last ws → (batch B bs k).owner ≡ i → word k 0 < req ws i
+  pub own : seq (request_of ws i) ≤ m.seq
+  pub level : durable_request S ws i ≡ request_of ws i
+  pub shut : (k : ℕ) → B.seq < k → k ≤ last ws → (batch B bs k).owner ≡ i → word k 0 < request_of ws i
 
 -- what the last answer says
-abbrev pub Told : Setup → Start → List ℕ → List Batch → ℕ → Mach → Option Outcome → Type 0
+abbrev pub Told : Setup → Start → List ℕ → List Batch → ℕ → Data → Option Outcome → Type 0
 Told S B ws bs i m None = Unit {0}
 Told S B ws bs i m (Some (Answered s false raw steps)) = (B.seq ≤ s) × (s ≤ risen S ws) × (s ≤ last ws) × (S.meaning.reply (numbers B bs s) m.op ≡ raw) × (S.meaning.reads_only m.op ≡ true)
 Told S B ws bs i m (Some (Answered s true raw steps)) = (B.seq < s) × (s ≤ risen S ws) × (s ≤ last ws) × HasCall S (batch B bs s).calls i m.made m.op raw
 Told S B ws bs i m (Some (Spent s)) = (ticket_in S B bs (last ws) i < m.made) × (s ≡ S.limit) × (last ws ≡ s)
 
-pub record Rests (S : Setup) (B : Start) (ws : List ℕ) (bs : List Batch) (i : ℕ) (m : Mach) : Type 0 where
+pub record Rests (S : Setup) (B : Start) (ws : List ℕ) (bs : List Batch) (i : ℕ) (m : Data) : Type 0 where
   pub caller : m.caller ≡ i
   pub calm : Calm S B ws bs i (last ws)
   pub kept : Keeps B ws bs i m.kept
   pub quieted : Quieted S B ws bs i
   pub upto : ticket_in S B bs (last ws) i ≤ m.made
-  pub older : seq (ann S ws i) ≤ m.made
+  pub older : seq (announcement_of S ws i) ≤ m.made
   pub told : Told S B ws bs i m m.answer
 
 -- one's own ticket cell in the round's state holds the call
-pub record Finds (S : Setup) (st : List ℕ) (i : ℕ) (m : Mach) : Type 0 where
+pub record Finds (S : Setup) (st : List ℕ) (i : ℕ) (m : Data) : Type 0 where
   pub heard : m.heard ≡ get_or st (ticket_cell S i) 0
   pub there : pay m.heard ≡ m.made
 
 -- the shape and the marked replies below j are those of the own cells
-pub record ReadUpto (S : Setup) (st : List ℕ) (i : ℕ) (m : Mach) (j : ℕ) : Type 0 where
+pub record ReadUpto (S : Setup) (st : List ℕ) (i : ℕ) (m : Data) (j : ℕ) : Type 0 where
   pub shape : m.raw.shape ≡ pay (get_or st (shape_cell S i) 0)
   pub replies : (y : ℕ) → y < j → marked m.raw.shape y ≡ true → get_or m.raw.values y 0 ≡ pay (get_or st (reply_cell S i y) 0)
   pub many : length m.raw.values ≡ S.instrs
 
-abbrev pub Scans : Setup → Start → List ℕ → List Batch → ℕ → Mach → Type 0
+abbrev pub Scans : Setup → Start → List ℕ → List Batch → ℕ → Data → Type 0
 Scans S B ws bs i m = Over S B ws bs i m.seq m.made m.op m.raw m.calls m.log m.scan
 
 -- what a place says of its machine
-abbrev pub At : Setup → Start → List ℕ → List Batch → ℕ → Mach → Place → Type 0
+abbrev pub At : Setup → Start → List ℕ → List Batch → ℕ → Data → Place → Type 0
 At S B ws bs i m Idle = Rests S B ws bs i m
-At S B ws bs i m AtTry = Fresh S B ws bs i m × Calm S B ws bs i (last ws) × (S.meaning.reads_only m.op ≡ true) × (m.tries ≤ 3)
-At S B ws bs i m AtTryReq = Trying S B ws bs i m × Cur S B ws bs m.seq m.owner × Calm S B ws bs i m.seq
-At S B ws bs i m (AtTryCell a) = Trying S B ws bs i m × Cur S B ws bs m.seq m.owner × Calm S B ws bs i m.seq × Watches S B ws bs m.seq m.known × (a < S.cells) × (get_or m.known a None ≡ None)
-At S B ws bs i m (AtWord j) = Fresh S B ws bs i m × Calm S B ws bs i (last ws) × (j < length m.op) × (said S ws i j ≡ take j m.op)
-At S B ws bs i m AtAnn = Fresh S B ws bs i m × Calm S B ws bs i (last ws) × (said S ws i (length m.op) ≡ m.op)
-At S B ws bs i m AtCur = Begun S B ws bs i m × Calm S B ws bs i (last ws) × Between ws m
-At S B ws bs i m AtReq = Round S B ws bs i m × Calm S B ws bs i m.seq
-At S B ws bs i m (AtCopy x) = Copies S B ws bs i m x × (req ws m.owner ≡ word m.seq 0 → x < length (log_words (batch B bs m.seq).log)) × (x < 2 * S.cells + 1)
-At S B ws bs i m AtLook = Copies S B ws bs i m (length m.got) × (req ws m.owner ≡ word m.seq 0 → length m.got ≡ length (log_words (batch B bs m.seq).log))
-At S B ws bs i m AtOwn = Looks S B ws bs i m × Calm S B ws bs i m.seq × (m.known ≡ unknown S) × (m.log ≡ []) × (m.calls ≡ []) × (m.scan ≡ 0)
-At S B ws bs i m AtShape = Looks S B ws bs i m × Calm S B ws bs i m.seq × Finds S (state B bs m.seq) i m
-At S B ws bs i m (AtReply j) = Looks S B ws bs i m × Calm S B ws bs i m.seq × Finds S (state B bs m.seq) i m × ReadUpto S (state B bs m.seq) i m j × (j < S.instrs)
-At S B ws bs i m AtCall = Past S B ws bs i m × Calm S B ws bs i m.seq × Scans S B ws bs i m × (m.scan < S.callers)
-At S B ws bs i m AtTicket = Past S B ws bs i m × Calm S B ws bs i m.seq × Scans S B ws bs i m × (m.scan < S.callers) × Hears S B ws bs i m.seq m.scan m.heard × (get_or m.known (ticket_cell S m.scan) None ≡ None)
-At S B ws bs i m (AtScript j) = Past S B ws bs i m × Calm S B ws bs i m.seq × Scans S B ws bs i m × (m.scan < S.callers) × Hears S B ws bs i m.seq m.scan m.heard × Reads S (state B bs m.seq) ws m.seq m.scan m.heard m.script j × (j < pay m.heard)
-At S B ws bs i m (AtCell a) = Past S B ws bs i m × Calm S B ws bs i m.seq × Scans S B ws bs i m × (m.scan < S.callers) × Hears S B ws bs i m.seq m.scan m.heard × Reads S (state B bs m.seq) ws m.seq m.scan m.heard m.script (pay m.heard) × (a < S.cells) × (get_or m.known a None ≡ None)
-At S B ws bs i m AtKeep = Past S B ws bs i m × Calm S B ws bs i m.seq × Over S B ws bs i m.seq m.made m.op m.raw m.calls m.log S.callers
-At S B ws bs i m (AtLog x) = Logs S B ws bs i m x x × (x < length (log_words m.log))
-At S B ws bs i m (AtLogUp x) = Logs S B ws bs i m (x + 1) x × (x < length (log_words m.log))
-At S B ws bs i m AtStore = Logs S B ws bs i m (length (log_words m.log)) (length (log_words m.log))
-At S B ws bs i m AtStoreUp = Stored S B ws bs i m (length (log_words m.log)) (length (log_words m.log)) × (req ws i ≡ word (m.seq + 1) 0)
-At S B ws bs i m AtSwap = Stored S B ws bs i m (length (log_words m.log)) (length (log_words m.log)) × (req ws i ≡ word (m.seq + 1) 0) × (dur_req S ws i ≡ word (m.seq + 1) 0)
-At S B ws bs i m AtCurUp = Applies S B ws bs i m 0
-At S B ws bs i m (AtTarget j) = Applies S B ws bs i m j × (j < length m.log) × (m.seq ≤ risen S ws)
-At S B ws bs i m (AtChange j f) = Applies S B ws bs i m j × (j < length m.log) × (m.seq ≤ risen S ws) × (seq f < m.seq) × ((cell S ws (entry m j).0 ≡ f) ⊎ (m.seq ≤ seq (cell S ws (entry m j).0)))
-At S B ws bs i m (AtAgain j) = Applies S B ws bs i m j × (j < length m.log) × (m.seq ≤ risen S ws) × (m.seq ≤ seq (cell S ws (entry m j).0))
-At S B ws bs i m (AtTargetUp j f) = Applies S B ws bs i m j × (j < length m.log) × (m.seq ≤ risen S ws) × (m.seq ≤ seq f) × (f ≤ cell S ws (entry m j).0) × Held B ws bs (entry m j).0 f
-At S B ws bs i m AtClose = Applies S B ws bs i m (length m.log) × (m.seq ≤ risen S ws)
-At S B ws bs i m AtCloseUp = Applies S B ws bs i m (length m.log) × (m.seq ≤ risen S ws) × (word m.seq 0 < req ws m.owner)
+At S B ws bs i m TryCurrent = Fresh S B ws bs i m × Calm S B ws bs i (last ws) × (S.meaning.reads_only m.op ≡ true) × (m.tries ≤ 3)
+At S B ws bs i m TryRequest = Trying S B ws bs i m × Cur S B ws bs m.seq m.owner × Calm S B ws bs i m.seq
+At S B ws bs i m (TryCell a) = Trying S B ws bs i m × Cur S B ws bs m.seq m.owner × Calm S B ws bs i m.seq × Watches S B ws bs m.seq m.known × (a < S.cells) × (get_or m.known a None ≡ None)
+At S B ws bs i m (StoreScript j) = Fresh S B ws bs i m × Calm S B ws bs i (last ws) × (j < length m.op) × (script_of S ws i j ≡ take j m.op)
+At S B ws bs i m StoreAnnouncement = Fresh S B ws bs i m × Calm S B ws bs i (last ws) × (script_of S ws i (length m.op) ≡ m.op)
+At S B ws bs i m LoadCurrent = Begun S B ws bs i m × Calm S B ws bs i (last ws) × Between ws m
+At S B ws bs i m LoadRequest = Round S B ws bs i m × Calm S B ws bs i m.seq
+At S B ws bs i m (CopyLog x) = Copies S B ws bs i m x × (request_of ws m.owner ≡ word m.seq 0 → x < length (log_words (batch B bs m.seq).log)) × (x < 2 * S.cells + 1)
+At S B ws bs i m LookAgain = Copies S B ws bs i m (length m.got) × (request_of ws m.owner ≡ word m.seq 0 → length m.got ≡ length (log_words (batch B bs m.seq).log))
+At S B ws bs i m LoadOwnTicket = Looks S B ws bs i m × Calm S B ws bs i m.seq × (m.known ≡ unknown S) × (m.log ≡ []) × (m.calls ≡ []) × (m.scan ≡ 0)
+At S B ws bs i m LoadShape = Looks S B ws bs i m × Calm S B ws bs i m.seq × Finds S (state B bs m.seq) i m
+At S B ws bs i m (LoadReply j) = Looks S B ws bs i m × Calm S B ws bs i m.seq × Finds S (state B bs m.seq) i m × ReadUpto S (state B bs m.seq) i m j × (j < S.instrs)
+At S B ws bs i m LoadAnnouncement = Past S B ws bs i m × Calm S B ws bs i m.seq × Scans S B ws bs i m × (m.scan < S.callers)
+At S B ws bs i m LoadTicket = Past S B ws bs i m × Calm S B ws bs i m.seq × Scans S B ws bs i m × (m.scan < S.callers) × Hears S B ws bs i m.seq m.scan m.heard × (get_or m.known (ticket_cell S m.scan) None ≡ None)
+At S B ws bs i m (LoadScript j) = Past S B ws bs i m × Calm S B ws bs i m.seq × Scans S B ws bs i m × (m.scan < S.callers) × Hears S B ws bs i m.seq m.scan m.heard × Reads S (state B bs m.seq) ws m.seq m.scan m.heard m.script j × (j < pay m.heard)
+At S B ws bs i m (LoadCell a) = Past S B ws bs i m × Calm S B ws bs i m.seq × Scans S B ws bs i m × (m.scan < S.callers) × Hears S B ws bs i m.seq m.scan m.heard × Reads S (state B bs m.seq) ws m.seq m.scan m.heard m.script (pay m.heard) × (a < S.cells) × (get_or m.known a None ≡ None)
+At S B ws bs i m RaiseOld = Past S B ws bs i m × Calm S B ws bs i m.seq × Over S B ws bs i m.seq m.made m.op m.raw m.calls m.log S.callers
+At S B ws bs i m (StoreLog x) = Logs S B ws bs i m x x × (x < length (log_words m.log))
+At S B ws bs i m (RaiseLog x) = Logs S B ws bs i m (x + 1) x × (x < length (log_words m.log))
+At S B ws bs i m StoreRequest = Logs S B ws bs i m (length (log_words m.log)) (length (log_words m.log))
+At S B ws bs i m RaiseRequest = Stored S B ws bs i m (length (log_words m.log)) (length (log_words m.log)) × (request_of ws i ≡ word (m.seq + 1) 0)
+At S B ws bs i m ExchangeCurrent = Stored S B ws bs i m (length (log_words m.log)) (length (log_words m.log)) × (request_of ws i ≡ word (m.seq + 1) 0) × (durable_request S ws i ≡ word (m.seq + 1) 0)
+At S B ws bs i m RaiseCurrent = Applies S B ws bs i m 0
+At S B ws bs i m (LoadTarget j) = Applies S B ws bs i m j × (j < length m.log) × (m.seq ≤ risen S ws)
+At S B ws bs i m (ExchangeTarget j f) = Applies S B ws bs i m j × (j < length m.log) × (m.seq ≤ risen S ws) × (seq f < m.seq) × ((cell S ws (entry m j).0 ≡ f) ⊎ (m.seq ≤ seq (cell S ws (entry m j).0)))
+At S B ws bs i m (ReloadTarget j) = Applies S B ws bs i m j × (j < length m.log) × (m.seq ≤ risen S ws) × (m.seq ≤ seq (cell S ws (entry m j).0))
+At S B ws bs i m (RaiseTarget j f) = Applies S B ws bs i m j × (j < length m.log) × (m.seq ≤ risen S ws) × (m.seq ≤ seq f) × (f ≤ cell S ws (entry m j).0) × Held B ws bs (entry m j).0 f
+At S B ws bs i m CloseRequest = Applies S B ws bs i m (length m.log) × (m.seq ≤ risen S ws)
+At S B ws bs i m RaiseClosed = Applies S B ws bs i m (length m.log) × (m.seq ≤ risen S ws) × (word m.seq 0 < request_of ws m.owner)
 
 -- a word that CUR has held
 abbrev pub WasCur : Start → List ℕ → List Batch → ℕ → Type 0
@@ -514,18 +514,18 @@ pub record IsLoaded (S : Setup) (B : Start) (ws : List ℕ) (bs : List Batch) (e
   pub held : (a : ℕ) → a < S.cells → e.0 ≡ S.callers + 1 + a → Held B ws bs a e.1
   pub request : (j : ℕ) → j < S.callers → e.0 ≡ j + 1 → IsRequest B ws bs j e.1
   -- one that has the sequence of its log cell is its word
-  pub log : (j x : ℕ) → j < S.callers → x < 2 * S.cells + 1 → e.0 ≡ log_at S j x → IsLogWord B ws bs j x e.1 × (seq e.1 ≡ seq (log_cell S ws j x) → e.1 ≡ log_cell S ws j x)
+  pub log : (j x : ℕ) → j < S.callers → x < 2 * S.cells + 1 → e.0 ≡ log_at S j x → IsLogWord B ws bs j x e.1 × (seq e.1 ≡ seq (log_word S ws j x) → e.1 ≡ log_word S ws j x)
 
 pub record Core (S : Setup) (Lawful : List ℕ → Type 0) (B : Start) (w : World) : Type 0 where
   pub shared : Shared S Lawful B w.words w.batches
   pub members : length w.machines ≡ S.callers
   pub loaded : All (IsLoaded S B w.words w.batches) w.loaded
-  pub each : (i : ℕ) (m : Mach) → i < S.callers → get_or w.machines i m ≡ m → At S B w.words w.batches i m m.place
+  pub each : (i : ℕ) (m : Data) → i < S.callers → get_or w.machines i m ≡ m → At S B w.words w.batches i m m.place
 
 -- the invariant: the core, and that no call makes more steps than the bound
 pub record Good (S : Setup) (Lawful : List ℕ → Type 0) (B : Start) (w : World) : Type 0 where
   pub core : Core S Lawful B w
-  pub within : (i : ℕ) (m : Mach) → i < S.callers → get_or w.machines i m ≡ m → Within S m m.place
+  pub within : (i : ℕ) (m : Data) → i < S.callers → get_or w.machines i m ≡ m → Within S m m.place
 
 -- a step of machine i led from these words and batches to those
 pub record Moves (S : Setup) (B : Start) (i : ℕ) (ws : List ℕ) (bs : List Batch) (vs : List ℕ) (cs : List Batch) : Type 0 where
@@ -536,22 +536,22 @@ pub record Moves (S : Setup) (B : Start) (i : ℕ) (ws : List ℕ) (bs : List Ba
   -- each new call is one that its caller announces, and changes its caller's ticket cell alone
   pub newer : (k : ℕ) → last ws < k → k ≤ last vs → All (λ (c : Call). Announced S ws c × (length c.op ≤ S.instrs)) (batch B cs k).calls
   pub tickets : (k j : ℕ) → last ws < k → k ≤ last vs → j < S.callers → (ticket_in S B cs k j ≡ ticket_in S B bs (last ws) j)
-      ⊎ ((ticket_in S B cs k j ≡ seq (ann S ws j)) × (ticket_in S B bs (last ws) j < seq (ann S ws j)) × (last ws < S.limit))
-  pub snapshot : (k j : ℕ) → last ws < k → k ≤ last vs → j < S.callers → (batch B cs k).anns j ≡ ann S ws j
+      ⊎ ((ticket_in S B cs k j ≡ seq (announcement_of S ws j)) × (ticket_in S B bs (last ws) j < seq (announcement_of S ws j)) × (last ws < S.limit))
+  pub snapshot : (k j : ℕ) → last ws < k → k ≤ last vs → j < S.callers → (batch B cs k).announcements j ≡ announcement_of S ws j
   -- script words and announcements are i's to store, where what it announced is done
-  pub said : (j x : ℕ) → j < S.callers → x < S.instrs + 1 → (said_word S vs j x ≡ said_word S ws j x) ⊎ ((j ≡ i) × Quieted S B ws bs j)
-  pub anns : (j : ℕ) → j < S.callers → (ann S vs j ≡ ann S ws j) ⊎ ((j ≡ i) × ((k : ℕ) → B.seq < k → k ≤ last ws → (batch B bs k).anns j ≡ ann S vs j → ⊥))
+  pub script_of : (j x : ℕ) → j < S.callers → x < S.instrs + 1 → (script_word S vs j x ≡ script_word S ws j x) ⊎ ((j ≡ i) × Quieted S B ws bs j)
+  pub announcements : (j : ℕ) → j < S.callers → (announcement_of S vs j ≡ announcement_of S ws j) ⊎ ((j ≡ i) × ((k : ℕ) → B.seq < k → k ≤ last ws → (batch B bs k).announcements j ≡ announcement_of S vs j → ⊥))
   pub newer_owner : (k : ℕ) → last ws < k → k ≤ last vs → (batch B cs k).owner ≡ i
-  pub requests : (j : ℕ) → j < S.callers → (j ≡ i → ⊥) → (req vs j ≡ req ws j) ⊎ ((B.seq < last ws) × ((batch B bs (last ws)).owner ≡ j) × (req ws j ≡ word (last ws) 0) × (req vs j ≡ word (last ws) 1))
+  pub requests : (j : ℕ) → j < S.callers → (j ≡ i → ⊥) → (request_of vs j ≡ request_of ws j) ⊎ ((B.seq < last ws) × ((batch B bs (last ws)).owner ≡ j) × (request_of ws j ≡ word (last ws) 0) × (request_of vs j ≡ word (last ws) 1))
   pub changes : (a : ℕ) → a < S.cells → (cell S vs a ≡ cell S ws a) ⊎ (last ws ≤ seq (cell S vs a))
-  pub logs : (j : ℕ) → j < S.callers → (j ≡ i → ⊥) → (x : ℕ) → x < 2 * S.cells + 1 → log_cell S vs j x ≡ log_cell S ws j x
+  pub logs : (j : ℕ) → j < S.callers → (j ≡ i → ⊥) → (x : ℕ) → x < 2 * S.cells + 1 → log_word S vs j x ≡ log_word S ws j x
   -- a log word stays or gets a higher sequence, and i's are of at most the new batch's
-  pub log_how : (j x : ℕ) → j < S.callers → x < 2 * S.cells + 1 → (log_cell S vs j x ≡ log_cell S ws j x) ⊎ (seq (log_cell S ws j x) < seq (log_cell S vs j x))
-  pub newer_logs : (k x : ℕ) → last ws < k → k ≤ last vs → x < 2 * S.cells + 1 → seq (log_cell S vs i x) ≤ k
+  pub log_how : (j x : ℕ) → j < S.callers → x < 2 * S.cells + 1 → (log_word S vs j x ≡ log_word S ws j x) ⊎ (seq (log_word S ws j x) < seq (log_word S vs j x))
+  pub newer_logs : (k x : ℕ) → last ws < k → k ≤ last vs → x < 2 * S.cells + 1 → seq (log_word S vs i x) ≤ k
   -- cells and durable words rise
   pub rise : (c : ℕ) → c < size S → get_or ws c 0 ≤ get_or vs c 0
-  pub durs : (c : ℕ) → c < size S → dur S ws c ≤ dur S vs c
-  pub low : (c : ℕ) → c < size S → dur S vs c ≤ get_or vs c 0
+  pub durs : (c : ℕ) → c < size S → durable_word S ws c ≤ durable_word S vs c
+  pub low : (c : ℕ) → c < size S → durable_word S vs c ≤ get_or vs c 0
 
 -- what a step of machine i from w to v keeps, and what it leaves true of the others
 pub record Goes (S : Setup) (Lawful : List ℕ → Type 0) (B : Start) (i : ℕ) (w v : World) : Type 0 where
@@ -561,5 +561,5 @@ pub record Goes (S : Setup) (Lawful : List ℕ → Type 0) (B : Start) (i : ℕ)
 -- each step of each machine keeps the invariant, and moves as a step may
 abbrev pub StepKept : Setup → (List ℕ → Type 0) → Type 0
 StepKept S Lawful =
-    (B : Start) (w : World) → Good S Lawful B w → (i : ℕ) (m : Mach) → i < S.callers → get_or w.machines i m ≡ m
+    (B : Start) (w : World) → Good S Lawful B w → (i : ℕ) (m : Data) → i < S.callers → get_or w.machines i m ≡ m
     → Good S Lawful B (stepped_at S i m m.place w) × Moves S B i w.words w.batches (stepped_at S i m m.place w).words (stepped_at S i m m.place w).batches

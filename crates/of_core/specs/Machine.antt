@@ -5,7 +5,7 @@ use Rattle.of_cell.specs.Words.{word, seq, pay}
 use Rattle.of_mem.specs.declared.work.RawReply.{RawReply}
 use Rattle.of_mem.specs.Meaning.{Meaning, Walked, Needs, Gives, marked}
 use Rattle.of_core.specs.declared.place.Place.{Place}
-use Rattle.of_core.specs.declared.place.Place.TheVariants.{Idle, AtTry, AtTryReq, AtTryCell, AtWord, AtAnn, AtCur, AtReq, AtCopy, AtLook, AtOwn, AtShape, AtReply, AtCall, AtTicket, AtScript, AtCell, AtKeep, AtLog, AtLogUp, AtStore, AtStoreUp, AtSwap, AtCurUp, AtTarget, AtChange, AtAgain, AtTargetUp, AtClose, AtCloseUp}
+use Rattle.of_core.specs.declared.place.Place.TheVariants.{Idle, TryCurrent, TryRequest, TryCell, StoreScript, StoreAnnouncement, LoadCurrent, LoadRequest, CopyLog, LookAgain, LoadOwnTicket, LoadShape, LoadReply, LoadAnnouncement, LoadTicket, LoadScript, LoadCell, RaiseOld, StoreLog, RaiseLog, StoreRequest, RaiseRequest, ExchangeCurrent, RaiseCurrent, LoadTarget, ExchangeTarget, ReloadTarget, RaiseTarget, CloseRequest, RaiseClosed}
 use Rattle.of_core.specs.declared.place.Op.{Op}
 use Rattle.of_core.specs.declared.place.Op.TheVariants.{Load, Store, Exchange, Raise}
 use Rattle.of_core.specs.declared.place.Outcome.{Outcome}
@@ -32,7 +32,7 @@ pub record Call : Type 0 where
   pub op : List ℕ
   pub raw : RawReply
 
-pub record Mach : Type 0 where
+pub record Data : Type 0 where
   pub caller : ℕ
   pub made : ℕ
   pub op : List ℕ
@@ -61,12 +61,12 @@ pub record Mach : Type 0 where
   pub script : List ℕ
   pub calls : List Call
 
-abbrev pub entry : Mach → ℕ → ℕ × ℕ
+abbrev pub entry : Data → ℕ → ℕ × ℕ
 entry m j = get_or m.log j (0, 0)
 
 -- the cell word numbers
-abbrev pub req_at : ℕ → ℕ
-req_at i = i + 1
+abbrev pub request_at : ℕ → ℕ
+request_at i = i + 1
 
 abbrev pub data_at : Setup → ℕ → ℕ
 data_at S a = S.callers + 1 + a
@@ -100,12 +100,12 @@ log_at S i x = S.callers + 1 + S.cells + i * (2 * S.cells + 1) + x
 abbrev pub size : Setup → ℕ
 size S = S.callers + 1 + S.cells + S.callers * (2 * S.cells + 1)
 
-abbrev pub up : Setup → ℕ → ℕ
-up S c = size S + c
+abbrev pub durable_at : Setup → ℕ → ℕ
+durable_at S c = size S + c
 
 -- script word x of caller i; the last of its row is the announcement
-abbrev pub said_at : Setup → ℕ → ℕ → ℕ
-said_at S i x = size S + size S + i * (S.instrs + 1) + x
+abbrev pub script_at : Setup → ℕ → ℕ → ℕ
+script_at S i x = size S + size S + i * (S.instrs + 1) + x
 
 -- a caller's own cells
 abbrev pub ticket_cell : Setup → ℕ → ℕ
@@ -117,37 +117,37 @@ shape_cell S i = i * (S.instrs + 2) + 1
 abbrev pub reply_cell : Setup → ℕ → ℕ → ℕ
 reply_cell S i j = i * (S.instrs + 2) + 2 + j
 
-abbrev pub want_at : Setup → Mach → Place → Op
+abbrev pub want_at : Setup → Data → Place → Op
 want_at S m Idle = Load 0
-want_at S m AtTry = Load 0
-want_at S m AtTryReq = Load (req_at m.owner)
-want_at S m (AtTryCell a) = Load (data_at S a)
-want_at S m (AtWord j) = Store (said_at S m.caller j) (get_or m.op j 0)
-want_at S m AtAnn = Store (said_at S m.caller S.instrs) (word m.made (length m.op))
-want_at S m AtOwn = Load (data_at S (ticket_cell S m.caller))
-want_at S m AtShape = Load (data_at S (shape_cell S m.caller))
-want_at S m (AtReply j) = Load (data_at S (reply_cell S m.caller j))
-want_at S m AtCall = Load (said_at S m.scan S.instrs)
-want_at S m AtTicket = Load (data_at S (ticket_cell S m.scan))
-want_at S m (AtScript j) = Load (said_at S m.scan j)
-want_at S m AtCur = Load 0
-want_at S m AtReq = Load (req_at m.owner)
-want_at S m (AtCopy x) = Load (log_at S m.owner x)
-want_at S m AtLook = Load (req_at m.owner)
-want_at S m (AtLog x) = Store (log_at S m.caller x) (word (m.seq + 1) (get_or (log_words m.log) x 0))
-want_at S m (AtCell a) = Load (data_at S a)
-want_at S m AtStore = Store (req_at m.caller) (word (m.seq + 1) 0)
-want_at S m AtKeep = Raise (up S (req_at m.caller)) m.kept
-want_at S m (AtLogUp x) = Raise (up S (log_at S m.caller x)) (word (m.seq + 1) (get_or (log_words m.log) x 0))
-want_at S m AtStoreUp = Raise (up S (req_at m.caller)) (word (m.seq + 1) 0)
-want_at S m AtCurUp = Raise (up S 0) (word m.seq m.owner)
-want_at S m (AtAgain j) = Load (data_at S (entry m j).0)
-want_at S m (AtTargetUp j f) = Raise (up S (data_at S (entry m j).0)) f
-want_at S m AtCloseUp = Raise (up S (req_at m.owner)) (word m.seq 1)
-want_at S m AtSwap = Exchange 0 (word m.seq m.owner) (word (m.seq + 1) m.caller)
-want_at S m (AtTarget j) = Load (data_at S (entry m j).0)
-want_at S m (AtChange j found) = Exchange (data_at S (entry m j).0) found (word m.seq (entry m j).1)
-want_at S m AtClose = Exchange (req_at m.owner) (word m.seq 0) (word m.seq 1)
+want_at S m TryCurrent = Load 0
+want_at S m TryRequest = Load (request_at m.owner)
+want_at S m (TryCell a) = Load (data_at S a)
+want_at S m (StoreScript j) = Store (script_at S m.caller j) (get_or m.op j 0)
+want_at S m StoreAnnouncement = Store (script_at S m.caller S.instrs) (word m.made (length m.op))
+want_at S m LoadOwnTicket = Load (data_at S (ticket_cell S m.caller))
+want_at S m LoadShape = Load (data_at S (shape_cell S m.caller))
+want_at S m (LoadReply j) = Load (data_at S (reply_cell S m.caller j))
+want_at S m LoadAnnouncement = Load (script_at S m.scan S.instrs)
+want_at S m LoadTicket = Load (data_at S (ticket_cell S m.scan))
+want_at S m (LoadScript j) = Load (script_at S m.scan j)
+want_at S m LoadCurrent = Load 0
+want_at S m LoadRequest = Load (request_at m.owner)
+want_at S m (CopyLog x) = Load (log_at S m.owner x)
+want_at S m LookAgain = Load (request_at m.owner)
+want_at S m (StoreLog x) = Store (log_at S m.caller x) (word (m.seq + 1) (get_or (log_words m.log) x 0))
+want_at S m (LoadCell a) = Load (data_at S a)
+want_at S m StoreRequest = Store (request_at m.caller) (word (m.seq + 1) 0)
+want_at S m RaiseOld = Raise (durable_at S (request_at m.caller)) m.kept
+want_at S m (RaiseLog x) = Raise (durable_at S (log_at S m.caller x)) (word (m.seq + 1) (get_or (log_words m.log) x 0))
+want_at S m RaiseRequest = Raise (durable_at S (request_at m.caller)) (word (m.seq + 1) 0)
+want_at S m RaiseCurrent = Raise (durable_at S 0) (word m.seq m.owner)
+want_at S m (ReloadTarget j) = Load (data_at S (entry m j).0)
+want_at S m (RaiseTarget j f) = Raise (durable_at S (data_at S (entry m j).0)) f
+want_at S m RaiseClosed = Raise (durable_at S (request_at m.owner)) (word m.seq 1)
+want_at S m ExchangeCurrent = Exchange 0 (word m.seq m.owner) (word (m.seq + 1) m.caller)
+want_at S m (LoadTarget j) = Load (data_at S (entry m j).0)
+want_at S m (ExchangeTarget j found) = Exchange (data_at S (entry m j).0) found (word m.seq (entry m j).1)
+want_at S m CloseRequest = Exchange (request_at m.owner) (word m.seq 0) (word m.seq 1)
 
 abbrev pub word_of : Op → ℕ
 word_of (Load c) = c
@@ -195,215 +195,215 @@ abbrev pub first_mark : ℕ → ℕ → ℕ → Option ℕ
 first_mark shape j zero = None
 first_mark shape j (suc n) = if marked shape j then Some j else first_mark shape (j + 1) n
 
-abbrev pub began : Mach → Mach
-began m = record m { place = AtCur; steps = m.steps + 1 }
+abbrev pub next_round : Data → Data
+next_round m = record m { place = LoadCurrent; steps = m.steps + 1 }
 
-abbrev pub next_call : Mach → (more : Bool) → Mach
-next_call m true = record m { place = AtCall; scan = m.scan + 1; steps = m.steps + 1 }
-next_call m false = record m { place = AtKeep; scan = m.scan + 1; steps = m.steps + 1 }
+abbrev pub next_call : Data → (more : Bool) → Data
+next_call m true = record m { place = LoadAnnouncement; scan = m.scan + 1; steps = m.steps + 1 }
+next_call m false = record m { place = RaiseOld; scan = m.scan + 1; steps = m.steps + 1 }
 
 -- the call that the scan has come to, as it was run
-abbrev pub call_run : Mach → RawReply → Call
+abbrev pub call_run : Data → RawReply → Call
 call_run m r = record { caller = m.scan; ticket = seq m.heard; op = m.script; raw = r }
 
-abbrev pub own_raw : Mach → RawReply → Bool → RawReply
+abbrev pub own_raw : Data → RawReply → Bool → RawReply
 own_raw m r true = r
 own_raw m r false = m.raw
 
-abbrev pub with_run : Setup → Mach → List (ℕ × ℕ) → RawReply → Mach
+abbrev pub with_run : Setup → Data → List (ℕ × ℕ) → RawReply → Data
 with_run S m es r = record m {
   log = put_all m.log (es ++ own_cells S m.scan (seq m.heard) (length m.script) r);
   calls = m.calls ++ call_run m r ∷ [];
   raw = own_raw m r (m.scan == m.caller);
 }
 
-abbrev pub ran : Setup → Mach → Walked → Mach
-ran S m (Needs a) = record m { place = AtCell a; steps = m.steps + 1 }
+abbrev pub ran : Setup → Data → Walked → Data
+ran S m (Needs a) = record m { place = LoadCell a; steps = m.steps + 1 }
 ran S m (Gives es r) = next_call (with_run S m es r) (nat_lt (m.scan + 1) S.callers)
 
 -- the call that the scan has come to is run where its ticket is new
-abbrev pub weighed : Setup → Mach → (new : Bool) → Mach
-weighed S m true = record m { place = AtScript 0; script = []; steps = m.steps + 1 }
+abbrev pub weighed : Setup → Data → (new : Bool) → Data
+weighed S m true = record m { place = LoadScript 0; script = []; steps = m.steps + 1 }
 weighed S m false = next_call m (nat_lt (m.scan + 1) S.callers)
 
-abbrev pub after_call : Setup → Mach → ℕ → Option ℕ → Mach
-after_call S m found None = record m { place = AtTicket; heard = found; steps = m.steps + 1 }
-after_call S m found (Some v) = weighed S (record m { heard = found }) (nat_lt v (seq found))
+abbrev pub after_announcement : Setup → Data → ℕ → Option ℕ → Data
+after_announcement S m found None = record m { place = LoadTicket; heard = found; steps = m.steps + 1 }
+after_announcement S m found (Some v) = weighed S (record m { heard = found }) (nat_lt v (seq found))
 
-abbrev pub learned : Setup → Mach → ℕ → ℕ → List (Option ℕ)
+abbrev pub learned : Setup → Data → ℕ → ℕ → List (Option ℕ)
 learned S m a found = set m.known a (Some (pay found))
 
-abbrev pub after_ticket : Setup → Mach → ℕ → (newer : Bool) → Mach
-after_ticket S m found true = began m
-after_ticket S m found false = weighed S (record m { known = learned S m (ticket_cell S m.scan) found }) (nat_lt (pay found) (seq m.heard))
+abbrev pub after_load_ticket : Setup → Data → ℕ → (newer : Bool) → Data
+after_load_ticket S m found true = next_round m
+after_load_ticket S m found false = weighed S (record m { known = learned S m (ticket_cell S m.scan) found }) (nat_lt (pay found) (seq m.heard))
 
-abbrev pub script_more : Mach → ℕ → List ℕ
+abbrev pub script_more : Data → ℕ → List ℕ
 script_more m found = m.script ++ found ∷ []
 
-abbrev pub runs : Setup → Mach → Mach
+abbrev pub runs : Setup → Data → Data
 runs S m = ran S m (S.meaning.walk (merged m.known m.log) m.script)
 
-abbrev pub after_script : Setup → Mach → ℕ → ℕ → (more : Bool) → Mach
-after_script S m j found true = record m { place = AtScript (j + 1); script = script_more m found; steps = m.steps + 1 }
-after_script S m j found false = runs S (record m { script = script_more m found })
+abbrev pub after_load_script : Setup → Data → ℕ → ℕ → (more : Bool) → Data
+after_load_script S m j found true = record m { place = LoadScript (j + 1); script = script_more m found; steps = m.steps + 1 }
+after_load_script S m j found false = runs S (record m { script = script_more m found })
 
-abbrev pub after_cell : Setup → Mach → ℕ → ℕ → (newer : Bool) → Mach
-after_cell S m a found true = began m
-after_cell S m a found false = runs S (record m { known = learned S m a found })
+abbrev pub after_load_cell : Setup → Data → ℕ → ℕ → (newer : Bool) → Data
+after_load_cell S m a found true = next_round m
+after_load_cell S m a found false = runs S (record m { known = learned S m a found })
 
-abbrev pub spent : Mach → Mach
+abbrev pub spent : Data → Data
 spent m = record m { place = Idle; answer = Some (Spent m.seq); steps = 0 }
 
 -- the call is answered from the history
-abbrev pub told : Mach → Mach
+abbrev pub told : Data → Data
 told m = record m { place = Idle; answer = Some (Answered (seq m.heard) true m.raw (m.steps + 1)); steps = 0 }
 
-abbrev pub asks_more : Mach → Option ℕ → Mach
+abbrev pub asks_more : Data → Option ℕ → Data
 asks_more m None = told m
-asks_more m (Some j) = record m { place = AtReply j; steps = m.steps + 1 }
+asks_more m (Some j) = record m { place = LoadReply j; steps = m.steps + 1 }
 
 -- nothing is known
 abbrev pub unknown : Setup → List (Option ℕ)
 unknown S = replicate S.cells None
 
 -- a round goes on behind its help
-abbrev pub entered : Setup → Mach → Mach
-entered S m = record m { place = AtOwn; known = unknown S; helps = false; log = []; calls = []; scan = 0; steps = m.steps + 1 }
+abbrev pub entered : Setup → Data → Data
+entered S m = record m { place = LoadOwnTicket; known = unknown S; helps = false; log = []; calls = []; scan = 0; steps = m.steps + 1 }
 
-abbrev pub not_there : Setup → Mach → ℕ → (at_limit : Bool) → Mach
+abbrev pub not_there : Setup → Data → ℕ → (at_limit : Bool) → Data
 not_there S m found true = spent m
-not_there S m found false = record m { place = AtCall; known = learned S m (ticket_cell S m.caller) found; steps = m.steps + 1 }
+not_there S m found false = record m { place = LoadAnnouncement; known = learned S m (ticket_cell S m.caller) found; steps = m.steps + 1 }
 
-abbrev pub own_found : Setup → Mach → ℕ → (there at_limit : Bool) → Mach
-own_found S m found true at_limit = record m { place = AtShape; heard = found; steps = m.steps + 1 }
+abbrev pub own_found : Setup → Data → ℕ → (there at_limit : Bool) → Data
+own_found S m found true at_limit = record m { place = LoadShape; heard = found; steps = m.steps + 1 }
 own_found S m found false at_limit = not_there S m found at_limit
 
-abbrev pub after_own : Setup → Mach → ℕ → (newer there at_limit : Bool) → Mach
-after_own S m found true there at_limit = began m
-after_own S m found false there at_limit = own_found S m found there at_limit
+abbrev pub after_own_ticket : Setup → Data → ℕ → (newer there at_limit : Bool) → Data
+after_own_ticket S m found true there at_limit = next_round m
+after_own_ticket S m found false there at_limit = own_found S m found there at_limit
 
-abbrev pub shape_read : Setup → Mach → ℕ → Mach
+abbrev pub shape_read : Setup → Data → ℕ → Data
 shape_read S m found = record m { raw = record { shape = pay found; values = replicate S.instrs 0 } }
 
-abbrev pub after_shape : Setup → Mach → ℕ → (newer : Bool) → Mach
-after_shape S m found true = began m
-after_shape S m found false = asks_more (shape_read S m found) (first_mark (pay found) 0 S.instrs)
+abbrev pub after_load_shape : Setup → Data → ℕ → (newer : Bool) → Data
+after_load_shape S m found true = next_round m
+after_load_shape S m found false = asks_more (shape_read S m found) (first_mark (pay found) 0 S.instrs)
 
-abbrev pub reply_read : Mach → ℕ → ℕ → Mach
+abbrev pub reply_read : Data → ℕ → ℕ → Data
 reply_read m j found = record m { raw = record { shape = m.raw.shape; values = set m.raw.values j (pay found) } }
 
-abbrev pub after_reply : Setup → Mach → ℕ → ℕ → (newer : Bool) → Mach
-after_reply S m j found true = began m
-after_reply S m j found false = asks_more (reply_read m j found) (first_mark m.raw.shape (j + 1) (S.instrs - j - 1))
+abbrev pub after_load_reply : Setup → Data → ℕ → ℕ → (newer : Bool) → Data
+after_load_reply S m j found true = next_round m
+after_load_reply S m j found false = asks_more (reply_read m j found) (first_mark m.raw.shape (j + 1) (S.instrs - j - 1))
 
-abbrev pub after_word : Mach → ℕ → (more : Bool) → Mach
-after_word m j true = record m { place = AtWord (j + 1); steps = m.steps + 1 }
-after_word m j false = record m { place = AtAnn; steps = m.steps + 1 }
+abbrev pub after_store_script : Data → ℕ → (more : Bool) → Data
+after_store_script m j true = record m { place = StoreScript (j + 1); steps = m.steps + 1 }
+after_store_script m j false = record m { place = StoreAnnouncement; steps = m.steps + 1 }
 
-abbrev pub first_of : Mach → ℕ → (none_yet : Bool) → ℕ
+abbrev pub first_of : Data → ℕ → (none_yet : Bool) → ℕ
 first_of m s true = s
 first_of m s false = m.first
 
 -- a try's run, as far as its cells are known
-abbrev pub read_ran : Mach → Walked → Mach
-read_ran m (Needs a) = record m { place = AtTryCell a; steps = m.steps + 1 }
+abbrev pub read_ran : Data → Walked → Data
+read_ran m (Needs a) = record m { place = TryCell a; steps = m.steps + 1 }
 read_ran m (Gives es r) = record m { place = Idle; answer = Some (Answered m.seq false r (m.steps + 1)); steps = 0 }
 
-abbrev pub reads : Setup → Mach → Mach
+abbrev pub reads : Setup → Data → Data
 reads S m = read_ran m (S.meaning.walk m.known m.op)
 
 -- a try goes on behind its help
-abbrev pub tried : Setup → Mach → Mach
+abbrev pub tried : Setup → Data → Data
 tried S m = reads S (record m { known = unknown S; helps = false })
 
 -- a round or a try goes on behind its help
-abbrev pub resumed : Setup → Mach → (in_try : Bool) → Mach
+abbrev pub resumed : Setup → Data → (in_try : Bool) → Data
 resumed S m true = tried S m
 resumed S m false = entered S m
 
-abbrev pub after_try_req : Setup → Mach → (opened : Bool) → Mach
-after_try_req S m true = record m { place = AtCopy 0; got = []; helps = true; steps = m.steps + 1 }
-after_try_req S m false = tried S m
+abbrev pub after_try_request : Setup → Data → (opened : Bool) → Data
+after_try_request S m true = record m { place = CopyLog 0; got = []; helps = true; steps = m.steps + 1 }
+after_try_request S m false = tried S m
 
-abbrev pub over_try : Mach → (more : Bool) → Mach
-over_try m true = record m { place = AtTry; steps = m.steps + 1 }
-over_try m false = record m { place = AtWord 0; steps = m.steps + 1 }
+abbrev pub over_try : Data → (more : Bool) → Data
+over_try m true = record m { place = TryCurrent; steps = m.steps + 1 }
+over_try m false = record m { place = StoreScript 0; steps = m.steps + 1 }
 
-abbrev pub after_try_cell : Setup → Mach → ℕ → ℕ → (newer : Bool) → Mach
+abbrev pub after_try_cell : Setup → Data → ℕ → ℕ → (newer : Bool) → Data
 after_try_cell S m a found true = over_try m (nat_lt m.tries 4)
 after_try_cell S m a found false = reads S (record m { known = learned S m a found })
 
-abbrev pub after_req : Setup → Mach → (opened : Bool) → Mach
-after_req S m true = record m { place = AtCopy 0; got = []; helps = true; steps = m.steps + 1 }
-after_req S m false = entered S m
+abbrev pub after_load_request : Setup → Data → (opened : Bool) → Data
+after_load_request S m true = record m { place = CopyLog 0; got = []; helps = true; steps = m.steps + 1 }
+after_load_request S m false = entered S m
 
-abbrev pub got_more : Mach → ℕ → List ℕ
+abbrev pub got_more : Data → ℕ → List ℕ
 got_more m found = m.got ++ pay found ∷ []
 
-abbrev pub after_copy : Mach → ℕ → ℕ → Bool → Mach
-after_copy m x found true = record m { place = AtCopy (x + 1); got = got_more m found; steps = m.steps + 1 }
-after_copy m x found false = record m { place = AtLook; got = got_more m found; steps = m.steps + 1 }
+abbrev pub after_copy_log : Data → ℕ → ℕ → Bool → Data
+after_copy_log m x found true = record m { place = CopyLog (x + 1); got = got_more m found; steps = m.steps + 1 }
+after_copy_log m x found false = record m { place = LookAgain; got = got_more m found; steps = m.steps + 1 }
 
-abbrev pub after_look : Setup → Mach → (opened in_try : Bool) → Mach
-after_look S m true in_try = record m { place = AtCurUp; log = turned (S.first m.caller (length (log_of m.got))) (log_of m.got); steps = m.steps + 1 }
-after_look S m false in_try = resumed S m in_try
+abbrev pub after_look_again : Setup → Data → (opened in_try : Bool) → Data
+after_look_again S m true in_try = record m { place = RaiseCurrent; log = turned (S.first m.caller (length (log_of m.got))) (log_of m.got); steps = m.steps + 1 }
+after_look_again S m false in_try = resumed S m in_try
 
-abbrev pub after_log : Mach → ℕ → Bool → Mach
-after_log m x true = record m { place = AtLog (x + 1); steps = m.steps + 1 }
-after_log m x false = record m { place = AtStore; steps = m.steps + 1 }
+abbrev pub after_raise_log : Data → ℕ → Bool → Data
+after_raise_log m x true = record m { place = StoreLog (x + 1); steps = m.steps + 1 }
+after_raise_log m x false = record m { place = StoreRequest; steps = m.steps + 1 }
 
-abbrev pub after_close : Setup → Mach → (helps in_try : Bool) → Mach
-after_close S m true in_try = resumed S m in_try
-after_close S m false in_try = record m { place = Idle; answer = Some (Answered m.seq true m.raw (m.steps + 1)); kept = word m.seq 1; steps = 0 }
+abbrev pub after_raise_closed : Setup → Data → (helps in_try : Bool) → Data
+after_raise_closed S m true in_try = resumed S m in_try
+after_raise_closed S m false in_try = record m { place = Idle; answer = Some (Answered m.seq true m.raw (m.steps + 1)); kept = word m.seq 1; steps = 0 }
 
-abbrev pub next : Mach → ℕ → Bool → Mach
-next m j true = record m { place = AtTarget (j + 1); steps = m.steps + 1 }
-next m j false = record m { place = AtClose; steps = m.steps + 1 }
+abbrev pub next_entry : Data → ℕ → Bool → Data
+next_entry m j true = record m { place = LoadTarget (j + 1); steps = m.steps + 1 }
+next_entry m j false = record m { place = CloseRequest; steps = m.steps + 1 }
 
-abbrev pub after_swap : Mach → Bool → Mach
-after_swap m true = record m { place = AtCurUp; helps = false; seq = m.seq + 1; owner = m.caller; steps = m.steps + 1 }
-after_swap m false = began m
+abbrev pub after_exchange : Data → Bool → Data
+after_exchange m true = record m { place = RaiseCurrent; helps = false; seq = m.seq + 1; owner = m.caller; steps = m.steps + 1 }
+after_exchange m false = next_round m
 
-abbrev pub after_target : Mach → ℕ → ℕ → (older : Bool) → Mach
-after_target m j found true = record m { place = AtChange j found; steps = m.steps + 1 }
-after_target m j found false = record m { place = AtTargetUp j found; steps = m.steps + 1 }
+abbrev pub after_load_target : Data → ℕ → ℕ → (older : Bool) → Data
+after_load_target m j found true = record m { place = ExchangeTarget j found; steps = m.steps + 1 }
+after_load_target m j found false = record m { place = RaiseTarget j found; steps = m.steps + 1 }
 
-abbrev pub after_cur_up : Mach → (some : Bool) → Mach
-after_cur_up m true = record m { place = AtTarget 0; steps = m.steps + 1 }
-after_cur_up m false = record m { place = AtClose; steps = m.steps + 1 }
+abbrev pub after_raise_current : Data → (some : Bool) → Data
+after_raise_current m true = record m { place = LoadTarget 0; steps = m.steps + 1 }
+after_raise_current m false = record m { place = CloseRequest; steps = m.steps + 1 }
 
 abbrev pub is_open : ℕ → ℕ → Bool
 is_open s found = nat_lt 0 s && (found == word s 0)
 
 -- the machine after its wanted step found this word
-abbrev pub took_at : Setup → Mach → ℕ → Place → Mach
+abbrev pub took_at : Setup → Data → ℕ → Place → Data
 took_at S m found Idle = m
-took_at S m found AtTry = record m { place = AtTryReq; seq = seq found; owner = pay found; tries = m.tries + 1; steps = m.steps + 1 }
-took_at S m found AtTryReq = after_try_req S m (is_open m.seq found)
-took_at S m found (AtTryCell a) = after_try_cell S m a found (nat_lt m.seq (seq found))
-took_at S m found (AtWord j) = after_word m j (nat_lt (j + 1) (length m.op))
-took_at S m found AtAnn = record m { place = AtCur; steps = m.steps + 1 }
-took_at S m found AtCur = record m { place = AtReq; seq = seq found; owner = pay found; rounds = m.rounds + 1; first = first_of m (seq found) (m.rounds == 0); steps = m.steps + 1 }
-took_at S m found AtReq = after_req S m (is_open m.seq found)
-took_at S m found AtOwn = after_own S m found (nat_lt m.seq (seq found)) (pay found == m.made) (m.seq == S.limit)
-took_at S m found AtShape = after_shape S m found (nat_lt m.seq (seq found))
-took_at S m found (AtReply j) = after_reply S m j found (nat_lt m.seq (seq found))
-took_at S m found AtCall = after_call S m found (get_or m.known (ticket_cell S m.scan) None)
-took_at S m found AtTicket = after_ticket S m found (nat_lt m.seq (seq found))
-took_at S m found (AtScript j) = after_script S m j found (nat_lt (j + 1) (pay m.heard))
-took_at S m found (AtCell a) = after_cell S m a found (nat_lt m.seq (seq found))
-took_at S m found AtStore = record m { place = AtStoreUp; steps = m.steps + 1 }
-took_at S m found AtStoreUp = record m { place = AtSwap; kept = word (m.seq + 1) 0; steps = m.steps + 1 }
-took_at S m found AtCurUp = after_cur_up m (nat_lt 0 (length m.log))
-took_at S m found AtSwap = after_swap m (found == word m.seq m.owner)
-took_at S m found (AtTarget j) = after_target m j found (nat_lt (seq found) m.seq)
-took_at S m found (AtChange j f) = record m { place = AtAgain j; steps = m.steps + 1 }
-took_at S m found (AtAgain j) = record m { place = AtTargetUp j found; steps = m.steps + 1 }
-took_at S m found (AtTargetUp j f) = next m j (nat_lt (j + 1) (length m.log))
-took_at S m found (AtCopy x) = after_copy m x found (nat_lt (x + 1) (2 * get_or (got_more m found) 0 0 + 1))
-took_at S m found AtLook = after_look S m (found == word m.seq 0) (m.rounds == 0)
-took_at S m found AtKeep = record m { place = AtLog 0; steps = m.steps + 1 }
-took_at S m found (AtLog x) = record m { place = AtLogUp x; steps = m.steps + 1 }
-took_at S m found (AtLogUp x) = after_log m x (nat_lt (x + 1) (length (log_words m.log)))
-took_at S m found AtClose = record m { place = AtCloseUp; steps = m.steps + 1 }
-took_at S m found AtCloseUp = after_close S m m.helps (m.rounds == 0)
+took_at S m found TryCurrent = record m { place = TryRequest; seq = seq found; owner = pay found; tries = m.tries + 1; steps = m.steps + 1 }
+took_at S m found TryRequest = after_try_request S m (is_open m.seq found)
+took_at S m found (TryCell a) = after_try_cell S m a found (nat_lt m.seq (seq found))
+took_at S m found (StoreScript j) = after_store_script m j (nat_lt (j + 1) (length m.op))
+took_at S m found StoreAnnouncement = record m { place = LoadCurrent; steps = m.steps + 1 }
+took_at S m found LoadCurrent = record m { place = LoadRequest; seq = seq found; owner = pay found; rounds = m.rounds + 1; first = first_of m (seq found) (m.rounds == 0); steps = m.steps + 1 }
+took_at S m found LoadRequest = after_load_request S m (is_open m.seq found)
+took_at S m found LoadOwnTicket = after_own_ticket S m found (nat_lt m.seq (seq found)) (pay found == m.made) (m.seq == S.limit)
+took_at S m found LoadShape = after_load_shape S m found (nat_lt m.seq (seq found))
+took_at S m found (LoadReply j) = after_load_reply S m j found (nat_lt m.seq (seq found))
+took_at S m found LoadAnnouncement = after_announcement S m found (get_or m.known (ticket_cell S m.scan) None)
+took_at S m found LoadTicket = after_load_ticket S m found (nat_lt m.seq (seq found))
+took_at S m found (LoadScript j) = after_load_script S m j found (nat_lt (j + 1) (pay m.heard))
+took_at S m found (LoadCell a) = after_load_cell S m a found (nat_lt m.seq (seq found))
+took_at S m found StoreRequest = record m { place = RaiseRequest; steps = m.steps + 1 }
+took_at S m found RaiseRequest = record m { place = ExchangeCurrent; kept = word (m.seq + 1) 0; steps = m.steps + 1 }
+took_at S m found RaiseCurrent = after_raise_current m (nat_lt 0 (length m.log))
+took_at S m found ExchangeCurrent = after_exchange m (found == word m.seq m.owner)
+took_at S m found (LoadTarget j) = after_load_target m j found (nat_lt (seq found) m.seq)
+took_at S m found (ExchangeTarget j f) = record m { place = ReloadTarget j; steps = m.steps + 1 }
+took_at S m found (ReloadTarget j) = record m { place = RaiseTarget j found; steps = m.steps + 1 }
+took_at S m found (RaiseTarget j f) = next_entry m j (nat_lt (j + 1) (length m.log))
+took_at S m found (CopyLog x) = after_copy_log m x found (nat_lt (x + 1) (2 * get_or (got_more m found) 0 0 + 1))
+took_at S m found LookAgain = after_look_again S m (found == word m.seq 0) (m.rounds == 0)
+took_at S m found RaiseOld = record m { place = StoreLog 0; steps = m.steps + 1 }
+took_at S m found (StoreLog x) = record m { place = RaiseLog x; steps = m.steps + 1 }
+took_at S m found (RaiseLog x) = after_raise_log m x (nat_lt (x + 1) (length (log_words m.log)))
+took_at S m found CloseRequest = record m { place = RaiseClosed; steps = m.steps + 1 }
+took_at S m found RaiseClosed = after_raise_closed S m m.helps (m.rounds == 0)

@@ -4,19 +4,19 @@ use Rattle.std.proofs.Common.{get_or, set, take, zero, suc}
 use Rattle.of_cell.specs.Words.{word}
 use Rattle.of_mem.specs.Meaning.{Meaning}
 use Rattle.of_core.specs.declared.place.Place.{Place}
-use Rattle.of_core.specs.declared.place.Place.TheVariants.{Idle, AtTry, AtTryReq, AtTryCell, AtWord, AtAnn, AtCur, AtReq, AtCopy, AtLook, AtOwn, AtShape, AtReply, AtCall, AtTicket, AtScript, AtCell, AtKeep, AtLog, AtLogUp, AtStore, AtStoreUp, AtSwap, AtCurUp, AtTarget, AtChange, AtAgain, AtTargetUp, AtClose, AtCloseUp}
-use Rattle.of_core.specs.Machine.{Setup, Mach, Call, want_at, word_of, left, took_at, data_at, req_at, log_at, up, said_at}
+use Rattle.of_core.specs.declared.place.Place.TheVariants.{Idle, TryCurrent, TryRequest, TryCell, StoreScript, StoreAnnouncement, LoadCurrent, LoadRequest, CopyLog, LookAgain, LoadOwnTicket, LoadShape, LoadReply, LoadAnnouncement, LoadTicket, LoadScript, LoadCell, RaiseOld, StoreLog, RaiseLog, StoreRequest, RaiseRequest, ExchangeCurrent, RaiseCurrent, LoadTarget, ExchangeTarget, ReloadTarget, RaiseTarget, CloseRequest, RaiseClosed}
+use Rattle.of_core.specs.Machine.{Setup, Data, Call, want_at, word_of, left, took_at, data_at, request_at, log_at, durable_at, script_at}
 
 pub record Batch : Type 0 where
   pub owner : ℕ
   pub log : List (ℕ × ℕ)
   pub calls : List Call
   -- the announcements that stood when it was committed
-  pub anns : ℕ → ℕ
+  pub announcements : ℕ → ℕ
 
 pub record World : Type 0 where
   pub words : List ℕ
-  pub machines : List Mach
+  pub machines : List Data
   pub batches : List Batch
   -- the cells that were loaded for evictions, with the words found
   pub loaded : List (ℕ × ℕ)
@@ -28,55 +28,55 @@ pub record Start : Type 0 where
   pub cells : List ℕ
 
 -- the announcement of caller i, and its first n script words
-abbrev pub said_word : Setup → List ℕ → ℕ → ℕ → ℕ
-said_word S ws i x = get_or ws (said_at S i x) 0
+abbrev pub script_word : Setup → List ℕ → ℕ → ℕ → ℕ
+script_word S ws i x = get_or ws (script_at S i x) 0
 
-abbrev pub ann : Setup → List ℕ → ℕ → ℕ
-ann S ws i = get_or ws (said_at S i S.instrs) 0
+abbrev pub announcement_of : Setup → List ℕ → ℕ → ℕ
+announcement_of S ws i = get_or ws (script_at S i S.instrs) 0
 
-abbrev pub said : Setup → List ℕ → ℕ → ℕ → List ℕ
-said S ws i zero = []
-said S ws i (suc n) = said S ws i n ++ said_word S ws i n ∷ []
+abbrev pub script_of : Setup → List ℕ → ℕ → ℕ → List ℕ
+script_of S ws i zero = []
+script_of S ws i (suc n) = script_of S ws i n ++ script_word S ws i n ∷ []
 
 -- what the step commits
-abbrev pub one_batch : Setup → List ℕ → Mach → Bool → List Batch
-one_batch S ws m true = record { owner = m.caller; log = m.log; calls = m.calls; anns = λ c. ann S ws c } ∷ []
+abbrev pub one_batch : Setup → List ℕ → Data → Bool → List Batch
+one_batch S ws m true = record { owner = m.caller; log = m.log; calls = m.calls; announcements = λ c. announcement_of S ws c } ∷ []
 one_batch S ws m false = []
 
-abbrev pub commits_at : Setup → List ℕ → Mach → ℕ → Place → List Batch
+abbrev pub commits_at : Setup → List ℕ → Data → ℕ → Place → List Batch
 commits_at S ws m found Idle = []
-commits_at S ws m found AtTry = []
-commits_at S ws m found AtTryReq = []
-commits_at S ws m found (AtTryCell a) = []
-commits_at S ws m found (AtWord j) = []
-commits_at S ws m found AtAnn = []
-commits_at S ws m found AtCur = []
-commits_at S ws m found AtReq = []
-commits_at S ws m found (AtCopy x) = []
-commits_at S ws m found AtLook = []
-commits_at S ws m found AtOwn = []
-commits_at S ws m found AtShape = []
-commits_at S ws m found (AtReply j) = []
-commits_at S ws m found AtCall = []
-commits_at S ws m found AtTicket = []
-commits_at S ws m found (AtScript j) = []
-commits_at S ws m found AtKeep = []
-commits_at S ws m found (AtLog x) = []
-commits_at S ws m found (AtLogUp x) = []
-commits_at S ws m found AtStoreUp = []
-commits_at S ws m found AtCurUp = []
-commits_at S ws m found (AtAgain j) = []
-commits_at S ws m found (AtTargetUp j f) = []
-commits_at S ws m found AtCloseUp = []
-commits_at S ws m found (AtCell a) = []
-commits_at S ws m found AtStore = []
-commits_at S ws m found AtSwap = one_batch S ws m (found == word m.seq m.owner)
-commits_at S ws m found (AtTarget j) = []
-commits_at S ws m found (AtChange j f) = []
-commits_at S ws m found AtClose = []
+commits_at S ws m found TryCurrent = []
+commits_at S ws m found TryRequest = []
+commits_at S ws m found (TryCell a) = []
+commits_at S ws m found (StoreScript j) = []
+commits_at S ws m found StoreAnnouncement = []
+commits_at S ws m found LoadCurrent = []
+commits_at S ws m found LoadRequest = []
+commits_at S ws m found (CopyLog x) = []
+commits_at S ws m found LookAgain = []
+commits_at S ws m found LoadOwnTicket = []
+commits_at S ws m found LoadShape = []
+commits_at S ws m found (LoadReply j) = []
+commits_at S ws m found LoadAnnouncement = []
+commits_at S ws m found LoadTicket = []
+commits_at S ws m found (LoadScript j) = []
+commits_at S ws m found RaiseOld = []
+commits_at S ws m found (StoreLog x) = []
+commits_at S ws m found (RaiseLog x) = []
+commits_at S ws m found RaiseRequest = []
+commits_at S ws m found RaiseCurrent = []
+commits_at S ws m found (ReloadTarget j) = []
+commits_at S ws m found (RaiseTarget j f) = []
+commits_at S ws m found RaiseClosed = []
+commits_at S ws m found (LoadCell a) = []
+commits_at S ws m found StoreRequest = []
+commits_at S ws m found ExchangeCurrent = one_batch S ws m (found == word m.seq m.owner)
+commits_at S ws m found (LoadTarget j) = []
+commits_at S ws m found (ExchangeTarget j f) = []
+commits_at S ws m found CloseRequest = []
 
 -- the wanted step of the machine m of caller i, at the place p
-abbrev pub stepped_at : Setup → ℕ → Mach → Place → World → World
+abbrev pub stepped_at : Setup → ℕ → Data → Place → World → World
 stepped_at S i m p w =
     let c = word_of (want_at S m p) in
     let found = get_or w.words c 0 in
@@ -101,7 +101,7 @@ unfoldable pub state : Start → List Batch → ℕ → List ℕ
 state B bs k = built B.seq B.cells (take (k - B.seq) bs)
 
 abbrev pub no_batch : Batch
-no_batch = record { owner = 0; log = []; calls = []; anns = λ c. 0 }
+no_batch = record { owner = 0; log = []; calls = []; announcements = λ c. 0 }
 
 -- batch k, of those that stand
 unfoldable pub batch : Start → List Batch → ℕ → Batch
@@ -111,27 +111,27 @@ batch B bs k = get_or bs (k - B.seq - 1) no_batch
 abbrev pub at : Start → List Batch → ℕ → ℕ → ℕ
 at B bs k a = get_or (state B bs k) a 0
 
-abbrev pub cur : List ℕ → ℕ
-cur ws = get_or ws 0 0
+abbrev pub current_word : List ℕ → ℕ
+current_word ws = get_or ws 0 0
 
-abbrev pub req : List ℕ → ℕ → ℕ
-req ws i = get_or ws (i + 1) 0
+abbrev pub request_of : List ℕ → ℕ → ℕ
+request_of ws i = get_or ws (i + 1) 0
 
-abbrev pub log_cell : Setup → List ℕ → ℕ → ℕ → ℕ
-log_cell S ws i x = get_or ws (log_at S i x) 0
+abbrev pub log_word : Setup → List ℕ → ℕ → ℕ → ℕ
+log_word S ws i x = get_or ws (log_at S i x) 0
 
 -- the durable words
-abbrev pub dur : Setup → List ℕ → ℕ → ℕ
-dur S ws c = get_or ws (up S c) 0
+abbrev pub durable_word : Setup → List ℕ → ℕ → ℕ
+durable_word S ws c = get_or ws (durable_at S c) 0
 
-abbrev pub dur_req : Setup → List ℕ → ℕ → ℕ
-dur_req S ws i = get_or ws (up S (req_at i)) 0
+abbrev pub durable_request : Setup → List ℕ → ℕ → ℕ
+durable_request S ws i = get_or ws (durable_at S (request_at i)) 0
 
-abbrev pub dur_cell : Setup → List ℕ → ℕ → ℕ
-dur_cell S ws a = get_or ws (up S (data_at S a)) 0
+abbrev pub durable_cell : Setup → List ℕ → ℕ → ℕ
+durable_cell S ws a = get_or ws (durable_at S (data_at S a)) 0
 
-abbrev pub dur_log : Setup → List ℕ → ℕ → ℕ → ℕ
-dur_log S ws i x = get_or ws (up S (log_at S i x)) 0
+abbrev pub durable_log : Setup → List ℕ → ℕ → ℕ → ℕ
+durable_log S ws i x = get_or ws (durable_at S (log_at S i x)) 0
 
 abbrev pub cell : Setup → List ℕ → ℕ → ℕ
 cell S ws a = get_or ws (S.callers + 1 + a) 0
