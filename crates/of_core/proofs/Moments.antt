@@ -14,15 +14,15 @@ use Rattle.of_core.specs.World.{World, Start, Batch, announcement_of, state, bat
 use Rattle.of_core.specs.Good.{IsRequest, IsLogWord, Good, Core, At, after_calls, Replies, numbers, ticket_in, Told, Rests, Fresh, last, IsLoaded, Opened, risen}
 use Rattle.of_core.specs.Events.{idle, first_place, opened, Event, Begins, Turns, Loads, Evicts, machine, happens, MayHappen, run, IsSchedule, idles, zeros, opening, replay, Legal, UsesOne, IsTold, IsSound}
 use Rattle.of_core.proofs.States.{state_length, state_start, batch_is}
-use Rattle.of_core.proofs.Steps.{assemble, moves_not, logs_of}
+use Rattle.of_core.proofs.Assembling.{assemble, moves_not, logs_of}
 use Rattle.of_core.specs.Bound.{bound, Within, Told_within}
-use Rattle.of_core.proofs.Bounds.{opened_within}
-use Rattle.of_core.proofs.Kept.{core_kept, step_kept}
-use Rattle.of_core.proofs.Ups.{raise_kept}
-use Rattle.of_core.proofs.Claim.{claim}
+use Rattle.of_core.proofs.StepBound.{opened_within}
+use Rattle.of_core.proofs.StepKept.{core_kept, step_kept}
+use Rattle.of_core.proofs.RaiseSteps.{raise_kept}
+use Rattle.of_core.proofs.Recovery.{claim}
 use Rattle.of_core.proofs.Overlays.{calls_length}
 use Rattle.of_core.proofs.Tickets.{ticket_upto}
-use Rattle.of_core.proofs.Writes.{held_now}
+use Rattle.of_core.proofs.Touches.{held_now}
 use Rattle.std.proofs.lemmas.List.Elements.{All-append}
 
 module _ (S : Setup) (Lawful : List ℕ → Type 0) (sound : Sound S.meaning Lawful (base S) S.cells) (B : Start) where

@@ -10,7 +10,7 @@ use Rattle.of_core.specs.World.{Batch, Start, script_word, batch, at, current_wo
 use Rattle.of_core.specs.Good.{last, holder, risen, Kinds, IsRequest, IsLogWord, Shared, Opened, Durable, Held, WasCur, IsLoaded, IsLog}
 use Rattle.of_core.proofs.States.{later, old}
 use Rattle.of_core.proofs.Logs.{room_for, length-log_words}
-use Rattle.of_core.proofs.Stable.{heard_as}
+use Rattle.of_core.proofs.Stability.{heard_as}
 
 module _ (S : Setup) (Lawful : List ℕ → Type 0) (B : Start) (ws : List ℕ) (bs : List Batch) (g : Shared S Lawful B ws bs) (c w : ℕ) (e : IsLoaded S B ws bs (c, w)) where
   abbrev pub vs : List ℕ

@@ -13,8 +13,10 @@ use Rattle.of_core.specs.World.{World, Batch, Start, batch, current_word, reques
 use Rattle.of_core.specs.Good.{Helper, Goes, Moves, last, holder, Keeps, IsRequest, IsLogWord, Shared, Begun, Round, Past, Applies, At, Core, Mode, Calm, Logs, IsLoaded, risen, Held, Mode}
 use Rattle.of_core.proofs.Logs.{length-log_words}
 use Rattle.of_core.proofs.Raises.{vs, behind, table, here, rises, low, cur_same, req_same, cell_same, log_same, raise_shared}
-use Rattle.of_core.proofs.Steps.{assemble_read, resumed_at, quiet_from}
-use Rattle.of_core.proofs.Stable.{at_stable, loaded_stable, log_in, same_row}
+use Rattle.of_core.proofs.Assembling.{assemble_read}
+use Rattle.of_core.proofs.Tries.{resumed_at}
+use Rattle.of_core.proofs.Rounds.{quiet_from}
+use Rattle.of_core.proofs.Stability.{at_stable, loaded_stable, log_in, same_row}
 
 module _ (S : Setup) (Lawful : List ℕ → Type 0) (B : Start) where
   -- a raise is no machine's, so it leaves what is true of each

@@ -9,11 +9,17 @@ use Rattle.of_core.specs.Machine.{Setup, Data, base, want_at, word_of, took_at}
 use Rattle.of_core.specs.World.{World, Start, stepped_at}
 use Rattle.of_core.specs.Bound.{Within}
 use Rattle.of_core.specs.Good.{Good, Core, Goes, Moves, At}
-use Rattle.of_core.proofs.Bounds.{within}
-use Rattle.of_core.proofs.Steps.{try_current_kept, try_request_kept, try_cell_kept, idle_kept, load_current_kept, load_request_kept, copy_log_kept, look_again_kept, own_ticket_kept, load_shape_kept, load_reply_kept, load_announcement_kept, load_ticket_kept, load_script_kept, load_cell_kept}
-use Rattle.of_core.proofs.Says.{store_script_kept, store_announcement_kept}
-use Rattle.of_core.proofs.Writes.{store_log_kept, store_request_kept, exchange_current_kept, load_target_kept, exchange_target_kept, reload_target_kept, close_request_kept}
-use Rattle.of_core.proofs.Ups.{raise_old_kept, raise_log_kept, raise_request_kept, raise_current_kept, raise_target_kept, raise_closed_kept}
+use Rattle.of_core.proofs.StepBound.{within}
+use Rattle.of_core.proofs.Tries.{try_current_kept, try_request_kept, try_cell_kept}
+use Rattle.of_core.proofs.Rounds.{idle_kept, load_current_kept, load_request_kept}
+use Rattle.of_core.proofs.Helping.{copy_log_kept, look_again_kept}
+use Rattle.of_core.proofs.OwnReply.{own_ticket_kept, load_shape_kept, load_reply_kept}
+use Rattle.of_core.proofs.Scans.{load_announcement_kept, load_ticket_kept, load_script_kept, load_cell_kept}
+use Rattle.of_core.proofs.Announcing.{store_script_kept, store_announcement_kept}
+use Rattle.of_core.proofs.LogWrites.{store_log_kept, store_request_kept}
+use Rattle.of_core.proofs.Committing.{exchange_current_kept}
+use Rattle.of_core.proofs.Applying.{load_target_kept, exchange_target_kept, reload_target_kept, close_request_kept}
+use Rattle.of_core.proofs.RaiseSteps.{raise_old_kept, raise_log_kept, raise_request_kept, raise_current_kept, raise_target_kept, raise_closed_kept}
 
 pub core_kept : (S : Setup) (Lawful : List ℕ → Type 0) → Sound S.meaning Lawful (base S) S.cells → (B : Start) (w : World) → Core S Lawful B w → (i : ℕ) (m : Data) → i < S.callers → get_or w.machines i m ≡ m → Goes S Lawful B i w (stepped_at S i m m.place w)
 core_kept S Lawful sound B w g i m h e = go m.place refl (g.each i m h e)

@@ -11,7 +11,7 @@ use Rattle.of_core.specs.Good.{Core, Opened, last, holder, risen, IsLog}
 use Rattle.of_core.specs.Recover.{first_named, entries, is_replayed, or_else, replayed, recovered}
 use Rattle.of_core.proofs.States.{old, named_at, unnamed}
 use Rattle.of_core.proofs.Logs.{length-log_words, words_at}
-use Rattle.of_core.proofs.Steps.{logs_of}
+use Rattle.of_core.proofs.Assembling.{logs_of}
 
 both : (a b : Bool) → (a && b) ≡ true → (a ≡ true) × (b ≡ true)
 both true true e = (refl, refl)

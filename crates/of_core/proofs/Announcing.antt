@@ -11,10 +11,11 @@ use Rattle.of_core.specs.Machine.{Setup, Data, Call, size, durable_at, request_a
 use Rattle.of_core.specs.World.{World, Start, script_of, script_word, announcement_of, batch, at, current_word, request_of, cell, log_word, durable_word, stepped_at}
 use Rattle.of_core.specs.Good.{Goes, last, holder, risen, IsRequest, Keeps, Heard, Fresh, Calm, Quieted, Opened, Datas, Durable, At, Core, ticket_in}
 use Rattle.of_core.proofs.Logs.{room_for}
-use Rattle.of_core.proofs.Stable.{log_in, heard_as, same_row}
-use Rattle.of_core.proofs.Steps.{assemble, not_newer}
+use Rattle.of_core.proofs.Stability.{log_in, heard_as, same_row}
+use Rattle.of_core.proofs.Assembling.{assemble}
+use Rattle.of_core.proofs.Tests.{not_newer}
 use Rattle.of_core.proofs.Tickets.{ticket_upto, tickets_grow}
-use Rattle.of_core.proofs.Writes.{Touches, moves_of, shared_of, durable_of, kinds_same}
+use Rattle.of_core.proofs.Touches.{Touches, moves_of, shared_of, durable_of, kinds_same}
 
 said_below : (S : Setup) (ws vs : List ℕ) (c n : ℕ) → ((x : ℕ) → x < n → script_word S vs c x ≡ script_word S ws c x) → script_of S vs c n ≡ script_of S ws c n
 said_below S ws vs c zero f = refl

@@ -11,7 +11,10 @@ use Rattle.of_core.specs.Bound.{bound, unknowns, applying, behind_help, lost, ro
 use Rattle.of_core.specs.Events.{opened, first_place}
 use Rattle.of_core.specs.Good.{At, Core, Applies}
 use Rattle.of_core.proofs.Logs.{room_for, length-log_words}
-use Rattle.of_core.proofs.Steps.{differ, mark_some, own_row_old, done_now, ticket_in_cells}
+use Rattle.of_core.proofs.Tests.{differ, mark_some}
+use Rattle.of_core.proofs.Rounds.{own_row_old}
+use Rattle.of_core.proofs.OwnReply.{done_now}
+use Rattle.of_core.proofs.Scans.{ticket_in_cells}
 
 unknowns_all : (n : ℕ) → unknowns (replicate n None) ≡ n
 unknowns_all zero = refl
