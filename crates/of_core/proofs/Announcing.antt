@@ -7,9 +7,15 @@ use Rattle.of_cell.specs.Words.{word, seq, pay}
 use Rattle.of_cell.proofs.Order.{seq_word, pay_word}
 use Rattle.of_mem.specs.Meaning.{Meaning}
 use Rattle.of_core.specs.declared.place.Place.TheVariants.{StoreScript, StoreAnnouncement}
-use Rattle.of_core.specs.Machine.{Setup, Data, Call, size, durable_at, request_at, log_at, script_at, after_store_script, took_at}
-use Rattle.of_core.specs.World.{World, Start, script_of, script_word, announcement_of, batch, at, current_word, request_of, cell, log_word, durable_word, stepped_at}
-use Rattle.of_core.specs.Good.{Goes, last, holder, risen, IsRequest, Keeps, Heard, Fresh, Calm, Quieted, Opened, Datas, Durable, At, Core, ticket_in}
+use Rattle.of_core.specs.Table.{Setup, size, durable_at, request_at, log_at, script_at, script_of, script_word, announcement_of, current_word, request_of, cell, log_word, durable_word, last, holder, risen}
+use Rattle.of_core.specs.Machine.{Data, Call}
+use Rattle.of_core.specs.Steps.{after_store_script, took_at}
+use Rattle.of_core.specs.World.{World, Start, stepped_at}
+use Rattle.of_core.specs.History.{batch, at, ticket_in}
+use Rattle.of_core.specs.Shared.{IsRequest, Heard, Opened, Datas, Durable}
+use Rattle.of_core.specs.Rounds.{Keeps, Fresh, Calm, Quieted}
+use Rattle.of_core.specs.Invariant.{At, Core}
+use Rattle.of_core.specs.Moves.{Goes}
 use Rattle.of_core.proofs.Logs.{room_for}
 use Rattle.of_core.proofs.Stability.{log_in, heard_as, same_row}
 use Rattle.of_core.proofs.Assembling.{assemble}

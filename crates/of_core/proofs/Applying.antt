@@ -9,9 +9,17 @@ use Rattle.of_cell.proofs.Order.{seq_mono, seq_less, seq_word, pay_word, word_et
 use Rattle.of_mem.specs.Meaning.{Meaning, Sound}
 use Rattle.of_mem.specs.declared.work.RawReply.{RawReply}
 use Rattle.of_core.specs.declared.place.Place.TheVariants.{StoreLog, StoreRequest, ExchangeCurrent, LoadTarget, ExchangeTarget, ReloadTarget, CloseRequest}
-use Rattle.of_core.specs.Machine.{Setup, Data, Call, script_at, size, durable_at, request_at, data_at, entry, base, after_load_target, after_exchange, log_words, log_at, took_at, next_round}
-use Rattle.of_core.specs.World.{World, Batch, Start, announcement_of, script_word, state, batch, at, current_word, request_of, cell, log_word, durable_word, durable_request, durable_cell, durable_log, stepped_at, one_batch}
-use Rattle.of_core.specs.Good.{Helper, Goes, Moves, last, holder, Heard, Kinds, IsRequest, IsLogWord, Shared, Begun, Between, Round, Past, Over, Announced, Quieted, HasCall, no_call, ticket_in, ticket_among, Applies, At, Core, Opened, Counted, Datas, Requests, Stands, IsLog, IsEntry, Mode, Calm, Stored, Durable, Held, risen}
+use Rattle.of_core.specs.Table.{Setup, script_at, size, durable_at, request_at, data_at, base, log_at, announcement_of, script_word, current_word, request_of, cell, log_word, durable_word, durable_request, durable_cell, durable_log, last, holder, risen}
+use Rattle.of_core.specs.Machine.{Data, Call, entry, log_words, no_call}
+use Rattle.of_core.specs.Steps.{after_load_target, after_exchange, took_at, next_round}
+use Rattle.of_core.specs.World.{World, Batch, Start, stepped_at, one_batch}
+use Rattle.of_core.specs.History.{state, batch, at, HasCall, ticket_in, ticket_among}
+use Rattle.of_core.specs.Shared.{Heard, Kinds, IsRequest, IsLogWord, Shared, Opened, Counted, Datas, Requests, Stands, IsLog, IsEntry, Durable, Held}
+use Rattle.of_core.specs.Rounds.{Helper, Begun, Between, Round, Past, Quieted, Calm}
+use Rattle.of_core.specs.Scan.{Over, Announced}
+use Rattle.of_core.specs.Transaction.{Applies, Mode, Stored}
+use Rattle.of_core.specs.Invariant.{At, Core}
+use Rattle.of_core.specs.Moves.{Goes, Moves}
 use Rattle.of_core.proofs.States.{state_same, batch_same, batch_new, old, named_at, named_later, unnamed, cases_named}
 use Rattle.of_core.proofs.Logs.{turned_same, words_at, length-log_words}
 use Rattle.of_core.proofs.Assembling.{assemble, assemble_read, logs_of, small_words}

@@ -12,9 +12,11 @@ use Rattle.of_cell.specs.Words.{word, pay}
 use Rattle.of_cell.proofs.Order.{pay_word}
 use Rattle.of_mem.specs.declared.work.RawReply.{RawReply}
 use Rattle.of_mem.specs.Meaning.{Once, written, Meaning, Finishes}
-use Rattle.of_core.specs.Machine.{Setup, base, listed, own_cells, flat, log_words, turned}
-use Rattle.of_core.specs.World.{changed}
-use Rattle.of_core.specs.Good.{IsEntry, IsLog, Turned}
+use Rattle.of_core.specs.Table.{Setup, base}
+use Rattle.of_core.specs.Machine.{listed, own_cells, flat, log_words, turned}
+use Rattle.of_core.specs.History.{changed}
+use Rattle.of_core.specs.Shared.{IsEntry, IsLog}
+use Rattle.of_core.specs.Transaction.{Turned}
 use Rattle.of_core.proofs.States.{all_tail}
 
 pub written_append : (xs : List ℕ) (es ds : List (ℕ × ℕ)) → written xs (es ++ ds) ≡ written (written xs es) ds

@@ -6,9 +6,12 @@ use Rattle.std.proofs.lemmas.List.{length-map, get_or_default}
 use Rattle.of_cell.specs.Words.{word, pay}
 use Rattle.of_cell.proofs.Order.{pay_word}
 use Rattle.of_mem.specs.Meaning.{Meaning, Sound, SameFrom, written}
-use Rattle.of_core.specs.Machine.{Setup, Call, base, ticket_cell, shape_cell, reply_cell}
-use Rattle.of_core.specs.World.{Batch, Start, state, batch, at, changed}
-use Rattle.of_core.specs.Good.{IsLog, IsStart, Names, OwnIn, Overlay, Taken, Shows, Last, Absent, InRow, Rising, Stands, no_call, ticket_in, numbers, after_calls, Replies}
+use Rattle.of_core.specs.Table.{Setup, base, ticket_cell, shape_cell, reply_cell}
+use Rattle.of_core.specs.Machine.{Call, no_call}
+use Rattle.of_core.specs.World.{Batch, Start}
+use Rattle.of_core.specs.History.{state, batch, at, changed, Shows, Last, Absent, InRow, Rising, ticket_in, numbers, after_calls, Replies}
+use Rattle.of_core.specs.Shared.{IsLog, IsStart, Stands}
+use Rattle.of_core.specs.Scan.{Names, OwnIn, Overlay, Taken}
 use Rattle.of_core.proofs.States.{state_same, batch_same, batch_new, state_next, state_length, old, changed_at, changed_other}
 use Rattle.of_core.proofs.Logs.{room_for, pay_changed, length-written}
 use Rattle.of_core.proofs.Overlays.{calls_length, calls_lawful}

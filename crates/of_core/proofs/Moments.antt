@@ -9,13 +9,18 @@ use Rattle.of_core.specs.declared.place.Place.{Place}
 use Rattle.of_core.specs.declared.place.Place.TheVariants.{Idle, TryCurrent, TryRequest, TryCell, StoreScript, StoreAnnouncement, LoadCurrent, LoadRequest, CopyLog, LookAgain, LoadOwnTicket, LoadShape, LoadReply, LoadAnnouncement, LoadTicket, LoadScript, LoadCell, RaiseOld, StoreLog, RaiseLog, StoreRequest, RaiseRequest, ExchangeCurrent, RaiseCurrent, LoadTarget, ExchangeTarget, ReloadTarget, RaiseTarget, CloseRequest, RaiseClosed}
 use Rattle.of_core.specs.declared.place.Outcome.{Outcome}
 use Rattle.of_core.specs.declared.place.Outcome.TheVariants.{Answered, Spent}
-use Rattle.of_core.specs.Machine.{Setup, Data, Call, base, size, durable_at, request_at, data_at, log_at, script_at, ticket_cell}
-use Rattle.of_core.specs.World.{World, Start, Batch, announcement_of, state, batch, no_batch, log_word, at}
-use Rattle.of_core.specs.Good.{IsRequest, IsLogWord, Good, Core, At, after_calls, Replies, numbers, ticket_in, Told, Rests, Fresh, last, IsLoaded, Opened, risen}
-use Rattle.of_core.specs.Events.{idle, first_place, opened, Event, Begins, Turns, Loads, Evicts, machine, happens, MayHappen, run, IsSchedule, idles, zeros, opening, replay, Legal, UsesOne, IsTold, IsSound}
+use Rattle.of_core.specs.Table.{Setup, base, size, durable_at, request_at, data_at, log_at, script_at, ticket_cell, announcement_of, log_word, last, risen}
+use Rattle.of_core.specs.Machine.{Data, Call, idle, first_place, opened}
+use Rattle.of_core.specs.World.{World, Start, Batch}
+use Rattle.of_core.specs.History.{state, batch, no_batch, at, after_calls, Replies, numbers, ticket_in, replay, Legal}
+use Rattle.of_core.specs.Shared.{IsRequest, IsLogWord, Opened}
+use Rattle.of_core.specs.Rounds.{Fresh}
+use Rattle.of_core.specs.Invariant.{Good, Core, At, Told, Rests, IsLoaded}
+use Rattle.of_core.specs.Bound.{bound, Within, Told_within}
+use Rattle.of_core.specs.Events.{Event, Begins, Turns, Loads, Evicts, machine, happens, MayHappen, run, IsSchedule, idles, zeros, opening}
+use Rattle.of_core.specs.Claim.{UsesOne, IsTold, IsSound}
 use Rattle.of_core.proofs.States.{state_length, state_start, batch_is}
 use Rattle.of_core.proofs.Assembling.{assemble, moves_not, logs_of}
-use Rattle.of_core.specs.Bound.{bound, Within, Told_within}
 use Rattle.of_core.proofs.StepBound.{opened_within}
 use Rattle.of_core.proofs.StepKept.{core_kept, step_kept}
 use Rattle.of_core.proofs.RaiseSteps.{raise_kept}

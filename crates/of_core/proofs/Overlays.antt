@@ -7,8 +7,11 @@ use Rattle.std.proofs.lemmas.List.Elements.{All-append}
 use Rattle.std.proofs.lemmas.List.{get_or_append_left, get_or-append_right, get_or-set_same, get_or-set_other, set-set, set_comm, get_or_past, get_or-take, length-take, get_or_push, get_or_default}
 use Rattle.of_mem.specs.declared.work.RawReply.{RawReply}
 use Rattle.of_mem.specs.Meaning.{Once, written, SameFrom, Meaning, Finishes, Sound, Fits, Agrees, marked}
-use Rattle.of_core.specs.Machine.{Setup, Call, base, listed, own_cells, put, put_by, put_all, merged, ticket_cell, shape_cell, reply_cell}
-use Rattle.of_core.specs.Good.{IsEntry, IsLog, Names, OwnIn, Overlay, InRow, no_call, after_calls, Replies}
+use Rattle.of_core.specs.Table.{Setup, base, ticket_cell, shape_cell, reply_cell}
+use Rattle.of_core.specs.Machine.{Call, listed, own_cells, put, put_by, put_all, merged, no_call}
+use Rattle.of_core.specs.History.{InRow, after_calls, Replies}
+use Rattle.of_core.specs.Shared.{IsEntry, IsLog}
+use Rattle.of_core.specs.Scan.{Names, OwnIn, Overlay}
 use Rattle.of_core.proofs.States.{once_tail}
 use Rattle.of_core.proofs.Logs.{written_append, drop_written, own_below, once_few, room_for, whole_log, length-listed, listed_at, length-written, own_is, IsOwn}
 

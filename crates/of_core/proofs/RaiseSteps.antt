@@ -8,9 +8,16 @@ use Rattle.of_cell.proofs.Order.{seq_word, pay_word, seq_mono, word_later, word_
 use Rattle.of_mem.specs.Meaning.{Meaning, Sound}
 use Rattle.of_core.specs.declared.place.Place.{Place}
 use Rattle.of_core.specs.declared.place.Place.TheVariants.{RaiseOld, StoreLog, RaiseLog, RaiseRequest, ExchangeCurrent, RaiseCurrent, RaiseTarget, RaiseClosed}
-use Rattle.of_core.specs.Machine.{Setup, Data, request_at, data_at, log_at, entry, base, after_raise_log, log_words, next_entry, after_raise_current, after_raise_closed, durable_at, took_at}
-use Rattle.of_core.specs.World.{World, Batch, Start, batch, current_word, request_of, cell, log_word, durable_word, durable_request, durable_cell, durable_log, stepped_at}
-use Rattle.of_core.specs.Good.{Helper, Goes, Moves, last, holder, Keeps, IsRequest, IsLogWord, Shared, Begun, Round, Past, Applies, At, Core, Mode, Calm, Logs, IsLoaded, risen, Held, Mode}
+use Rattle.of_core.specs.Table.{Setup, request_at, data_at, log_at, base, durable_at, current_word, request_of, cell, log_word, durable_word, durable_request, durable_cell, durable_log, last, holder, risen}
+use Rattle.of_core.specs.Machine.{Data, entry, log_words}
+use Rattle.of_core.specs.Steps.{after_raise_log, next_entry, after_raise_current, after_raise_closed, took_at}
+use Rattle.of_core.specs.World.{World, Batch, Start, stepped_at}
+use Rattle.of_core.specs.History.{batch}
+use Rattle.of_core.specs.Shared.{IsRequest, IsLogWord, Shared, Held}
+use Rattle.of_core.specs.Rounds.{Helper, Keeps, Begun, Round, Past, Calm}
+use Rattle.of_core.specs.Transaction.{Applies, Mode, Logs}
+use Rattle.of_core.specs.Invariant.{At, Core, IsLoaded}
+use Rattle.of_core.specs.Moves.{Goes, Moves}
 use Rattle.of_core.proofs.Logs.{length-log_words}
 use Rattle.of_core.proofs.Raises.{vs, behind, table, here, rises, low, cur_same, req_same, cell_same, log_same, raise_shared}
 use Rattle.of_core.proofs.Assembling.{assemble_read}

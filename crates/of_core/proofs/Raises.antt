@@ -5,9 +5,12 @@ use Rattle.std.proofs.lemmas.List.{get_or-set_same, get_or-set_other}
 use Rattle.of_cell.specs.Words.{word, seq, pay}
 use Rattle.of_cell.proofs.Order.{word_eta, seq_mono, seq_less}
 use Rattle.of_mem.specs.Meaning.{Meaning}
-use Rattle.of_core.specs.Machine.{Setup, size, durable_at, script_at, log_words, request_at, log_at}
-use Rattle.of_core.specs.World.{Batch, Start, script_word, batch, at, current_word, request_of, cell, log_word, durable_word, durable_request, durable_cell, durable_log}
-use Rattle.of_core.specs.Good.{last, holder, risen, Kinds, IsRequest, IsLogWord, Shared, Opened, Durable, Held, WasCur, IsLoaded, IsLog}
+use Rattle.of_core.specs.Table.{Setup, size, durable_at, script_at, request_at, log_at, script_word, current_word, request_of, cell, log_word, durable_word, durable_request, durable_cell, durable_log, last, holder, risen}
+use Rattle.of_core.specs.Machine.{log_words}
+use Rattle.of_core.specs.World.{Batch, Start}
+use Rattle.of_core.specs.History.{batch, at}
+use Rattle.of_core.specs.Shared.{Kinds, IsRequest, IsLogWord, Shared, Opened, Durable, Held, IsLog}
+use Rattle.of_core.specs.Invariant.{WasCur, IsLoaded}
 use Rattle.of_core.proofs.States.{later, old}
 use Rattle.of_core.proofs.Logs.{room_for, length-log_words}
 use Rattle.of_core.proofs.Stability.{heard_as}

@@ -5,10 +5,13 @@ use Rattle.std.proofs.lemmas.Bool.Decides.{nat_tests}
 use Rattle.of_cell.specs.Words.{word, seq, pay}
 use Rattle.of_cell.proofs.Order.{seq_word, pay_word, word_inj}
 use Rattle.of_mem.specs.Meaning.{Meaning}
-use Rattle.of_core.specs.Machine.{Setup, log_words, request_at}
-use Rattle.of_core.specs.World.{World, Start, batch, at, request_of, durable_word, durable_request, durable_cell, durable_log}
-use Rattle.of_core.specs.Good.{Core, Opened, last, holder, risen, IsLog}
-use Rattle.of_core.specs.Recover.{first_named, entries, is_replayed, or_else, replayed, recovered}
+use Rattle.of_core.specs.Table.{Setup, request_at, request_of, durable_word, durable_request, durable_cell, durable_log, last, holder, risen}
+use Rattle.of_core.specs.Machine.{log_words}
+use Rattle.of_core.specs.World.{World, Start}
+use Rattle.of_core.specs.History.{batch, at}
+use Rattle.of_core.specs.Shared.{Opened, IsLog}
+use Rattle.of_core.specs.Invariant.{Core}
+use Rattle.of_core.specs.Claim.{first_named, entries, is_replayed, or_else, replayed, recovered}
 use Rattle.of_core.proofs.States.{old, named_at, unnamed}
 use Rattle.of_core.proofs.Logs.{length-log_words, words_at}
 use Rattle.of_core.proofs.Assembling.{logs_of}

@@ -10,10 +10,17 @@ use Rattle.of_core.specs.declared.place.Place.{Place}
 use Rattle.of_core.specs.declared.place.Place.TheVariants.{Idle, TryCurrent, TryRequest, TryCell, StoreScript, StoreAnnouncement, LoadCurrent, LoadRequest, CopyLog, LookAgain, LoadOwnTicket, LoadShape, LoadReply, LoadAnnouncement, LoadTicket, LoadScript, LoadCell, RaiseOld, StoreLog, RaiseLog, StoreRequest, RaiseRequest, ExchangeCurrent, RaiseCurrent, LoadTarget, ExchangeTarget, ReloadTarget, RaiseTarget, CloseRequest, RaiseClosed}
 use Rattle.of_core.specs.declared.place.Outcome.{Outcome}
 use Rattle.of_core.specs.declared.place.Outcome.TheVariants.{Answered, Spent}
-use Rattle.of_core.specs.Machine.{Setup, Data, Call, entry, log_words, size, request_at, data_at, log_at}
-use Rattle.of_core.specs.World.{Batch, Start, script_of, script_word, announcement_of, state, batch, current_word, request_of, cell, log_word, durable_word, durable_cell}
+use Rattle.of_core.specs.Table.{Setup, size, request_at, data_at, log_at, script_of, script_word, announcement_of, current_word, request_of, cell, log_word, durable_word, durable_cell, last, holder, risen}
+use Rattle.of_core.specs.Machine.{Data, Call, entry, log_words}
+use Rattle.of_core.specs.World.{Batch, Start}
+use Rattle.of_core.specs.History.{state, batch, ticket_in, ticket_among}
+use Rattle.of_core.specs.Shared.{Heard, Kinds, IsRequest, IsLogWord, Shared, Held}
+use Rattle.of_core.specs.Rounds.{Cur, Trying, Helper, Watches, Begun, Fresh, Round, Looks, Past, Mine, Quieted, Calm}
+use Rattle.of_core.specs.Scan.{Over, Hears, Reads, Taken, Announced}
+use Rattle.of_core.specs.Transaction.{Applies, Mode, Owns, Logs, Copies, Stored}
+use Rattle.of_core.specs.Invariant.{Told, At, WasCur, IsLoaded}
+use Rattle.of_core.specs.Moves.{Moves}
 use Rattle.of_core.proofs.Logs.{length-log_words, room_for}
-use Rattle.of_core.specs.Good.{Cur, Trying, Helper, Watches, Moves, last, holder, Heard, Kinds, IsRequest, IsLogWord, Shared, Begun, Fresh, Round, Looks, Past, Over, Hears, Reads, Taken, Announced, Mine, Quieted, ticket_in, ticket_among, Applies, Told, At, Mode, Calm, Owns, Logs, Copies, Stored, Held, WasCur, IsLoaded, risen}
 
 -- a batch's owner has a request of at least its sequence
 pub floor_of : (S : Setup) (Lawful : List ℕ → Type 0) (B : Start) (ws : List ℕ) (bs : List Batch) → Shared S Lawful B ws bs → (k : ℕ) → B.seq < k → k ≤ last ws → word k 0 ≤ request_of ws (batch B bs k).owner

@@ -5,11 +5,13 @@ use Rattle.of_cell.specs.Words.{word, seq, pay}
 use Rattle.of_mem.specs.Meaning.{Meaning, Walked, Needs, Gives}
 use Rattle.of_core.specs.declared.place.Place.{Place}
 use Rattle.of_core.specs.declared.place.Place.TheVariants.{Idle, TryCurrent, TryRequest, TryCell, StoreScript, StoreAnnouncement, LoadCurrent, LoadRequest, CopyLog, LookAgain, LoadOwnTicket, LoadShape, LoadReply, LoadAnnouncement, LoadTicket, LoadScript, LoadCell, RaiseOld, StoreLog, RaiseLog, StoreRequest, RaiseRequest, ExchangeCurrent, RaiseCurrent, LoadTarget, ExchangeTarget, ReloadTarget, RaiseTarget, CloseRequest, RaiseClosed}
-use Rattle.of_core.specs.Machine.{reads, read_ran, tried, resumed, after_try_request, over_try, after_try_cell, Setup, Data, want_at, word_of, took_at, ticket_cell, shape_cell, reply_cell, unknown, learned, after_store_script, after_load_request, after_copy_log, after_look_again, after_own_ticket, after_load_shape, shape_read, after_load_reply, reply_read, asks_more, first_mark, after_announcement, weighed, after_load_ticket, after_load_script, script_more, ran, next_call, with_run, after_load_cell, merged, after_raise_log, after_exchange, after_raise_current, after_load_target, next_entry, after_raise_closed, is_open, log_words, got_more}
-use Rattle.of_core.specs.World.{World, Start, cell}
+use Rattle.of_core.specs.Table.{Setup, ticket_cell, shape_cell, reply_cell, cell}
+use Rattle.of_core.specs.Machine.{Data, unknown, learned, merged, log_words, opened, first_place}
+use Rattle.of_core.specs.Steps.{reads, read_ran, tried, resumed, after_try_request, over_try, after_try_cell, want_at, word_of, took_at, after_store_script, after_load_request, after_copy_log, after_look_again, after_own_ticket, after_load_shape, shape_read, after_load_reply, reply_read, asks_more, first_mark, after_announcement, weighed, after_load_ticket, after_load_script, script_more, ran, next_call, with_run, after_load_cell, after_raise_log, after_exchange, after_raise_current, after_load_target, next_entry, after_raise_closed, is_open, got_more}
+use Rattle.of_core.specs.World.{World, Start}
+use Rattle.of_core.specs.Transaction.{Applies}
+use Rattle.of_core.specs.Invariant.{At, Core}
 use Rattle.of_core.specs.Bound.{bound, unknowns, applying, behind_help, lost, rounds_left, behind_apply, helped, tries_left, announced_left, scan_left, Within}
-use Rattle.of_core.specs.Events.{opened, first_place}
-use Rattle.of_core.specs.Good.{At, Core, Applies}
 use Rattle.of_core.proofs.Logs.{room_for, length-log_words}
 use Rattle.of_core.proofs.Tests.{differ, mark_some}
 use Rattle.of_core.proofs.Rounds.{own_row_old}

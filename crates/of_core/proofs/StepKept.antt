@@ -5,10 +5,13 @@ use Rattle.std.proofs.lemmas.List.{get_or-set_same, get_or-set_other}
 use Rattle.of_mem.specs.Meaning.{Meaning, Sound}
 use Rattle.of_core.specs.declared.place.Place.{Place}
 use Rattle.of_core.specs.declared.place.Place.TheVariants.{Idle, TryCurrent, TryRequest, TryCell, StoreScript, StoreAnnouncement, LoadCurrent, LoadRequest, CopyLog, LookAgain, LoadOwnTicket, LoadShape, LoadReply, LoadAnnouncement, LoadTicket, LoadScript, LoadCell, RaiseOld, StoreLog, RaiseLog, StoreRequest, RaiseRequest, ExchangeCurrent, RaiseCurrent, LoadTarget, ExchangeTarget, ReloadTarget, RaiseTarget, CloseRequest, RaiseClosed}
-use Rattle.of_core.specs.Machine.{Setup, Data, base, want_at, word_of, took_at}
+use Rattle.of_core.specs.Table.{Setup, base}
+use Rattle.of_core.specs.Machine.{Data}
+use Rattle.of_core.specs.Steps.{want_at, word_of, took_at}
 use Rattle.of_core.specs.World.{World, Start, stepped_at}
+use Rattle.of_core.specs.Invariant.{Good, Core, At}
+use Rattle.of_core.specs.Moves.{Goes, Moves}
 use Rattle.of_core.specs.Bound.{Within}
-use Rattle.of_core.specs.Good.{Good, Core, Goes, Moves, At}
 use Rattle.of_core.proofs.StepBound.{within}
 use Rattle.of_core.proofs.Tries.{try_current_kept, try_request_kept, try_cell_kept}
 use Rattle.of_core.proofs.Rounds.{idle_kept, load_current_kept, load_request_kept}

@@ -4,9 +4,11 @@ use Rattle.std.specs.List.{All}
 use Rattle.std.proofs.lemmas.Bool.{cases_lt}
 use Rattle.of_cell.specs.Words.{seq}
 use Rattle.of_mem.specs.Meaning.{Meaning}
-use Rattle.of_core.specs.Machine.{Setup, Call, base}
-use Rattle.of_core.specs.World.{Batch, Start, batch, at}
-use Rattle.of_core.specs.Good.{Stands, Last, LastCall, InRow, ticket_in, no_call, IsLog, IsStart}
+use Rattle.of_core.specs.Table.{Setup, base}
+use Rattle.of_core.specs.Machine.{Call, no_call}
+use Rattle.of_core.specs.World.{Batch, Start}
+use Rattle.of_core.specs.History.{batch, at, Last, LastCall, InRow, ticket_in}
+use Rattle.of_core.specs.Shared.{Stands, IsLog, IsStart}
 use Rattle.of_core.proofs.States.{old}
 use Rattle.of_core.proofs.Logs.{room_for}
 

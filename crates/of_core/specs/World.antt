@@ -1,11 +1,12 @@
 -- Words, machines and history, and what a step does to them.
-use Rattle.std.specs.Prelude.{ℕ, ◌+◌, ◌-◌, ◌==◌, List, [], ◌∷◌, ◌++◌, Bool, true, false}
-use Rattle.std.proofs.Common.{get_or, set, take, zero, suc}
-use Rattle.of_cell.specs.Words.{word}
-use Rattle.of_mem.specs.Meaning.{Meaning}
+use Rattle.std.specs.Prelude.{ℕ, ◌+◌, ◌==◌, ◌-◌, List, [], ◌∷◌, ◌++◌, Bool, true, false}
+use Rattle.std.proofs.Common.{get_or, set}
+use Rattle.of_cell.specs.Words.{word, seq}
 use Rattle.of_core.specs.declared.place.Place.{Place}
 use Rattle.of_core.specs.declared.place.Place.TheVariants.{Idle, TryCurrent, TryRequest, TryCell, StoreScript, StoreAnnouncement, LoadCurrent, LoadRequest, CopyLog, LookAgain, LoadOwnTicket, LoadShape, LoadReply, LoadAnnouncement, LoadTicket, LoadScript, LoadCell, RaiseOld, StoreLog, RaiseLog, StoreRequest, RaiseRequest, ExchangeCurrent, RaiseCurrent, LoadTarget, ExchangeTarget, ReloadTarget, RaiseTarget, CloseRequest, RaiseClosed}
-use Rattle.of_core.specs.Machine.{Setup, Data, Call, want_at, word_of, left, took_at, data_at, request_at, log_at, durable_at, script_at}
+use Rattle.of_core.specs.Table.{Setup, announcement_of}
+use Rattle.of_core.specs.Machine.{Call, Data}
+use Rattle.of_core.specs.Steps.{want_at, word_of, left, took_at}
 
 pub record Batch : Type 0 where
   pub owner : ℕ
@@ -26,17 +27,6 @@ pub record Start : Type 0 where
   pub seq : ℕ
   pub owner : ℕ
   pub cells : List ℕ
-
--- the announcement of caller i, and its first n script words
-abbrev pub script_word : Setup → List ℕ → ℕ → ℕ → ℕ
-script_word S ws i x = get_or ws (script_at S i x) 0
-
-abbrev pub announcement_of : Setup → List ℕ → ℕ → ℕ
-announcement_of S ws i = get_or ws (script_at S i S.instrs) 0
-
-abbrev pub script_of : Setup → List ℕ → ℕ → ℕ → List ℕ
-script_of S ws i zero = []
-script_of S ws i (suc n) = script_of S ws i n ++ script_word S ws i n ∷ []
 
 -- what the step commits
 abbrev pub one_batch : Setup → List ℕ → Data → Bool → List Batch
@@ -86,52 +76,3 @@ stepped_at S i m p w =
       batches = w.batches ++ commits_at S w.words m found p;
       loaded = w.loaded;
     }
-
--- the data words with a log's entries at sequence k
-abbrev pub changed : ℕ → List ℕ → List (ℕ × ℕ) → List ℕ
-changed k ws [] = ws
-changed k ws (e ∷ es) = changed k (set ws e.0 (word k e.1)) es
-
-abbrev pub built : ℕ → List ℕ → List Batch → List ℕ
-built s ws [] = ws
-built s ws (b ∷ bs) = built (s + 1) (changed (s + 1) ws b.log) bs
-
--- the data words after batch k
-unfoldable pub state : Start → List Batch → ℕ → List ℕ
-state B bs k = built B.seq B.cells (take (k - B.seq) bs)
-
-abbrev pub no_batch : Batch
-no_batch = record { owner = 0; log = []; calls = []; announcements = λ c. 0 }
-
--- batch k, of those that stand
-unfoldable pub batch : Start → List Batch → ℕ → Batch
-batch B bs k = get_or bs (k - B.seq - 1) no_batch
-
--- a data word after batch k
-abbrev pub at : Start → List Batch → ℕ → ℕ → ℕ
-at B bs k a = get_or (state B bs k) a 0
-
-abbrev pub current_word : List ℕ → ℕ
-current_word ws = get_or ws 0 0
-
-abbrev pub request_of : List ℕ → ℕ → ℕ
-request_of ws i = get_or ws (i + 1) 0
-
-abbrev pub log_word : Setup → List ℕ → ℕ → ℕ → ℕ
-log_word S ws i x = get_or ws (log_at S i x) 0
-
--- the durable words
-abbrev pub durable_word : Setup → List ℕ → ℕ → ℕ
-durable_word S ws c = get_or ws (durable_at S c) 0
-
-abbrev pub durable_request : Setup → List ℕ → ℕ → ℕ
-durable_request S ws i = get_or ws (durable_at S (request_at i)) 0
-
-abbrev pub durable_cell : Setup → List ℕ → ℕ → ℕ
-durable_cell S ws a = get_or ws (durable_at S (data_at S a)) 0
-
-abbrev pub durable_log : Setup → List ℕ → ℕ → ℕ → ℕ
-durable_log S ws i x = get_or ws (durable_at S (log_at S i x)) 0
-
-abbrev pub cell : Setup → List ℕ → ℕ → ℕ
-cell S ws a = get_or ws (S.callers + 1 + a) 0

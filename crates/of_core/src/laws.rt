@@ -1,8 +1,8 @@
 //! Laws of all schedules.
 ghost use Rattle.std.specs.Prelude.{◌+◌, ◌*◌, ◌<◌, ◌≤◌};
 ghost use Rattle.of_mem.specs.declared.work.TheConstants.{MOST_INSTRS};
-ghost use Rattle.of_core.specs.Events.{EveryMoment};
-ghost use Rattle.of_core.specs.Good.{StepKept, setup_of};
+ghost use Rattle.of_core.specs.Table.{setup_of};
+ghost use Rattle.of_core.specs.Laws.{EveryMoment, StepKept};
 
 use of_mem::Work;
 

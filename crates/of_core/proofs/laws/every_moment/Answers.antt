@@ -1,6 +1,6 @@
 use Rattle.std.proofs.Common.{arith}
 use Rattle.of_core.proofs.laws.every_moment.Goals as goal
-use Rattle.of_core.specs.Good.{setup_of}
+use Rattle.of_core.specs.Table.{setup_of}
 use Rattle.of_core.proofs.Moments.{every_moment}
 
 pub returns : goal.returns

@@ -1,5 +1,5 @@
 use Rattle.of_core.proofs.laws.step_kept.Goals as goal
-use Rattle.of_core.specs.Good.{setup_of}
+use Rattle.of_core.specs.Table.{setup_of}
 use Rattle.of_core.proofs.StepKept.{step_kept}
 
 pub returns : goal.returns
