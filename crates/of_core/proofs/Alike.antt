@@ -12,7 +12,7 @@ use Rattle.of_mem.specs.declared.work.RawReply.{RawReply}
 use Rattle.of_core.specs.declared.place.Place.TheVariants.{Idle, TryCurrent, TryRequest, TryCell, LoadCurrent, LoadRequest, CopyLog, LookAgain, LoadOwnTicket, LoadShape, LoadReply, LoadAnnouncement, LoadTicket, LoadScript, LoadCell}
 use Rattle.of_core.specs.Table.{Setup, request_at, data_at, log_at, script_at, ticket_cell, shape_cell, reply_cell, base, script_of, script_word, announcement_of, current_word, request_of, cell, log_word, durable_request, last, holder, risen}
 use Rattle.of_core.specs.Machine.{Data, Call, unknown, log_of, pairs, flat, log_words, learned, own_cells, merged, put_all, no_call}
-use Rattle.of_core.specs.Steps.{reads, read_ran, tried, resumed, after_try_request, over_try, after_try_cell, ran, after_load_request, after_load_cell, after_copy_log, after_look_again, entered, got_more, is_open, took_at, next_round, next_call, with_run, call_run, own_raw, weighed, after_announcement, after_load_ticket, script_more, runs, after_load_script, told, asks_more, after_own_ticket, shape_read, after_load_shape, reply_read, after_load_reply, first_of, first_mark}
+use Rattle.of_core.specs.Steps.{read_on, read_ran, tried, resumed, after_try_request, over_try, after_try_cell, ran, after_load_request, after_load_cell, after_copy_log, after_look_again, entered, got_more, is_open, took_at, next_round, next_call, with_run, call_run, own_raw, weighed, after_announcement, after_load_ticket, script_more, runs, after_load_script, told, asks_more, after_own_ticket, shape_read, after_load_shape, reply_read, after_load_reply, first_of, first_mark}
 use Rattle.of_core.specs.World.{World, Batch, Start, stepped_at}
 use Rattle.of_core.specs.History.{state, batch, at, HasCall, Last, LastCall, InRow, Rising, ticket_in, numbers}
 use Rattle.of_core.specs.Shared.{Shared, Opened, IsLog}

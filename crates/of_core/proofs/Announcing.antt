@@ -10,7 +10,7 @@ use Rattle.of_core.specs.declared.place.Place.TheVariants.{StoreScript, StoreAnn
 use Rattle.of_core.specs.Table.{Setup, size, durable_at, request_at, log_at, script_at, script_of, script_word, announcement_of, current_word, request_of, cell, log_word, durable_word, last, holder, risen}
 use Rattle.of_core.specs.Machine.{Data, Call}
 use Rattle.of_core.specs.Steps.{after_store_script, took_at}
-use Rattle.of_core.specs.World.{World, Start, stepped_at}
+use Rattle.of_core.specs.World.{Read, World, Start, stepped_at}
 use Rattle.of_core.specs.History.{batch, at, ticket_in}
 use Rattle.of_core.specs.Shared.{IsRequest, Heard, Opened, Datas, Durable}
 use Rattle.of_core.specs.Rounds.{Keeps, Fresh, Calm, Quieted}
@@ -115,8 +115,8 @@ module _ (S : Setup) (Lawful : List ℕ → Type 0) (B : Start) (w : World) (g :
     keeps u k = (rw (req_same i h) k.0, λ l. rw cur_same (k.1 l))
 
     -- the rest of what has to be shown
-    stored : (t : Touches S Lawful B i w.words vs w.batches) → Heard S B vs w.batches → (n : Data) → At S B vs w.batches i n n.place
-        → Goes S Lawful B i w (record { words = vs; machines = set w.machines i n; batches = w.batches ++ []; loaded = w.loaded })
+    stored : {rs : List Read} → (t : Touches S Lawful B i w.words vs w.batches) → Heard S B vs w.batches → (n : Data) → At S B vs w.batches i n n.place
+        → Goes S Lawful B i w (record { words = vs; machines = set w.machines i n; batches = w.batches ++ []; reads = rs; loaded = w.loaded })
     stored t hd n a =
         rw (append-nil w.batches)
         (assemble S Lawful B w g i h vs w.batches n (moves_of S Lawful B i w.words vs w.batches t g.shared) (shared_of S Lawful B i w.words vs w.batches t g.shared datas (durable t) hd (kinds_same S Lawful B i w.words vs w.batches t g.shared (λ j l. subst (λ (y : ℕ). IsRequest B w.words w.batches j y) (sym (req_same j l)) (g.shared.kinds.requests j l)) log_same)) a)

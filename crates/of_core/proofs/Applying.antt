@@ -12,7 +12,7 @@ use Rattle.of_core.specs.declared.place.Place.TheVariants.{StoreLog, StoreReques
 use Rattle.of_core.specs.Table.{Setup, script_at, size, durable_at, request_at, data_at, base, log_at, announcement_of, script_word, current_word, request_of, cell, log_word, durable_word, durable_request, durable_cell, durable_log, last, holder, risen}
 use Rattle.of_core.specs.Machine.{Data, Call, entry, log_words, no_call}
 use Rattle.of_core.specs.Steps.{after_load_target, after_exchange, took_at, next_round}
-use Rattle.of_core.specs.World.{World, Batch, Start, stepped_at, one_batch}
+use Rattle.of_core.specs.World.{Read, World, Batch, Start, stepped_at, one_batch}
 use Rattle.of_core.specs.History.{state, batch, at, HasCall, ticket_in, ticket_among}
 use Rattle.of_core.specs.Shared.{Heard, Kinds, IsRequest, IsLogWord, Shared, Opened, Counted, Datas, Requests, Stands, IsLog, IsEntry, Durable, Held}
 use Rattle.of_core.specs.Rounds.{Helper, Begun, Between, Round, Past, Quieted, Calm}
@@ -124,8 +124,8 @@ module _ (S : Setup) (Lawful : List ℕ → Type 0) (B : Start) where
         n : Data
         n = took_at S m found (ExchangeTarget j f)
 
-        go : (b : Bool) → (found == f) ≡ b
-            → Goes S Lawful B i w (record { words = set w.words (S.callers + 1 + x) (if b then new else found); machines = set w.machines i n; batches = w.batches ++ []; loaded = w.loaded })
+        go : {rs : List Read} → (b : Bool) → (found == f) ≡ b
+            → Goes S Lawful B i w (record { words = set w.words (S.callers + 1 + x) (if b then new else found); machines = set w.machines i n; batches = w.batches ++ []; reads = rs; loaded = w.loaded })
         go false q =
             let y : found ≡ f → ⊥ = grind (arith, nat_tests) in
             assemble_read S Lawful B w g i h _ _ n (set-get_or w.words (S.callers + 1 + x) 0) (append-nil w.batches)
@@ -268,8 +268,8 @@ module _ (S : Setup) (Lawful : List ℕ → Type 0) (B : Start) where
         owner_in : m.owner < S.callers
         owner_in = rw (← a.0.committed) (g.shared.counted.owners m.seq a.0.after a.0.upto)
 
-        go : (b : Bool) → (found == word m.seq 0) ≡ b
-            → Goes S Lawful B i w (record { words = set w.words (m.owner + 1) (if b then word m.seq 1 else found); machines = set w.machines i n; batches = w.batches ++ []; loaded = w.loaded })
+        go : {rs : List Read} → (b : Bool) → (found == word m.seq 0) ≡ b
+            → Goes S Lawful B i w (record { words = set w.words (m.owner + 1) (if b then word m.seq 1 else found); machines = set w.machines i n; batches = w.batches ++ []; reads = rs; loaded = w.loaded })
         go false q =
             let z : found ≡ word m.seq 0 → ⊥ = grind (arith, nat_tests) in
             let f : word m.seq 0 ≤ found = rw a.0.committed at (floor_of S Lawful B w.words w.batches g.shared m.seq a.0.after a.0.upto) in

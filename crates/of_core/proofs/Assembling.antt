@@ -12,8 +12,8 @@ use Rattle.of_mem.specs.declared.work.RawReply.{RawReply}
 use Rattle.of_core.specs.declared.place.Place.TheVariants.{Idle, TryCurrent, TryRequest, TryCell, LoadCurrent, LoadRequest, CopyLog, LookAgain, LoadOwnTicket, LoadShape, LoadReply, LoadAnnouncement, LoadTicket, LoadScript, LoadCell}
 use Rattle.of_core.specs.Table.{Setup, request_at, data_at, log_at, script_at, ticket_cell, shape_cell, reply_cell, base, script_of, script_word, announcement_of, current_word, request_of, cell, log_word, durable_request, last, holder, risen}
 use Rattle.of_core.specs.Machine.{Data, Call, unknown, log_of, pairs, flat, log_words, learned, own_cells, merged, put_all, no_call}
-use Rattle.of_core.specs.Steps.{reads, read_ran, tried, resumed, after_try_request, over_try, after_try_cell, ran, after_load_request, after_load_cell, after_copy_log, after_look_again, entered, got_more, is_open, took_at, next_round, next_call, with_run, call_run, own_raw, weighed, after_announcement, after_load_ticket, script_more, runs, after_load_script, told, asks_more, after_own_ticket, shape_read, after_load_shape, reply_read, after_load_reply, first_of, first_mark}
-use Rattle.of_core.specs.World.{World, Batch, Start, stepped_at}
+use Rattle.of_core.specs.Steps.{read_on, read_ran, tried, resumed, after_try_request, over_try, after_try_cell, ran, after_load_request, after_load_cell, after_copy_log, after_look_again, entered, got_more, is_open, took_at, next_round, next_call, with_run, call_run, own_raw, weighed, after_announcement, after_load_ticket, script_more, runs, after_load_script, told, asks_more, after_own_ticket, shape_read, after_load_shape, reply_read, after_load_reply, first_of, first_mark}
+use Rattle.of_core.specs.World.{Read, World, Batch, Start, stepped_at}
 use Rattle.of_core.specs.History.{state, batch, at, HasCall, Last, LastCall, InRow, Rising, ticket_in, numbers}
 use Rattle.of_core.specs.Shared.{Shared, Opened, IsLog}
 use Rattle.of_core.specs.Rounds.{Cur, Trying, Helper, Watches, Fresh, Begun, Round, Looks, Past, Finds, ReadUpto, Calm}
@@ -29,9 +29,9 @@ use Rattle.of_core.proofs.Stability.{at_stable, loaded_stable, floor_of}
 
 module _ (S : Setup) (Lawful : List ℕ → Type 0) (B : Start) where
   -- what has to be shown of a step
-  pub assemble : (w : World) → Core S Lawful B w → (i : ℕ) → i < S.callers → (vs : List ℕ) (cs : List Batch) (m : Data)
+  pub assemble : {rs : List Read} → (w : World) → Core S Lawful B w → (i : ℕ) → i < S.callers → (vs : List ℕ) (cs : List Batch) (m : Data)
       → Moves S B i w.words w.batches vs cs → Shared S Lawful B vs cs → At S B vs cs i m m.place
-      → Goes S Lawful B i w (record { words = vs; machines = set w.machines i m; batches = cs; loaded = w.loaded })
+      → Goes S Lawful B i w (record { words = vs; machines = set w.machines i m; batches = cs; reads = rs; loaded = w.loaded })
   assemble w g i h vs cs m v s a = record {
     moves = v;
     core = record {
@@ -73,9 +73,9 @@ module _ (S : Setup) (Lawful : List ℕ → Type 0) (B : Start) where
   }
 
   -- a step that changes no word
-  pub assemble_read : (w : World) → Core S Lawful B w → (i : ℕ) → i < S.callers → (vs : List ℕ) (cs : List Batch) (m : Data)
+  pub assemble_read : {rs : List Read} → (w : World) → Core S Lawful B w → (i : ℕ) → i < S.callers → (vs : List ℕ) (cs : List Batch) (m : Data)
       → vs ≡ w.words → cs ≡ w.batches → At S B w.words w.batches i m m.place
-      → Goes S Lawful B i w (record { words = vs; machines = set w.machines i m; batches = cs; loaded = w.loaded })
+      → Goes S Lawful B i w (record { words = vs; machines = set w.machines i m; batches = cs; reads = rs; loaded = w.loaded })
   assemble_read w g i h vs cs m e f a = rw (e, f) (assemble w g i h w.words w.batches m (moves_not i w.words w.batches g.shared) g.shared a)
 
   pairs_flat : (es : List (ℕ × ℕ)) → pairs (flat es) ≡ es

@@ -12,7 +12,7 @@ use Rattle.of_core.specs.declared.place.Place.TheVariants.{StoreLog, StoreReques
 use Rattle.of_core.specs.Table.{Setup, script_at, size, durable_at, request_at, data_at, base, log_at, announcement_of, script_word, current_word, request_of, cell, log_word, durable_word, durable_request, durable_cell, durable_log, last, holder, risen}
 use Rattle.of_core.specs.Machine.{Data, Call, entry, log_words, no_call}
 use Rattle.of_core.specs.Steps.{after_load_target, after_exchange, took_at, next_round}
-use Rattle.of_core.specs.World.{World, Batch, Start, stepped_at, one_batch}
+use Rattle.of_core.specs.World.{Read, World, Batch, Start, stepped_at, one_batch}
 use Rattle.of_core.specs.History.{state, batch, at, HasCall, ticket_in, ticket_among}
 use Rattle.of_core.specs.Shared.{Heard, Kinds, IsRequest, IsLogWord, Shared, Opened, Counted, Datas, Requests, Stands, IsLog, IsEntry, Durable, Held}
 use Rattle.of_core.specs.Rounds.{Helper, Begun, Between, Round, Past, Quieted, Calm}
@@ -49,8 +49,8 @@ module _ (S : Setup) (Lawful : List ℕ → Type 0) (B : Start) where
         ci : m.caller ≡ i
         ci = round.begun.caller
 
-        go : (b : Bool) → (current_word w.words == word m.seq m.owner) ≡ b
-            → Goes S Lawful B i w (record { words = set w.words 0 (if b then word (m.seq + 1) m.caller else current_word w.words); machines = set w.machines i (after_exchange m b); batches = w.batches ++ one_batch S w.words m b; loaded = w.loaded })
+        go : {rs : List Read} → (b : Bool) → (current_word w.words == word m.seq m.owner) ≡ b
+            → Goes S Lawful B i w (record { words = set w.words 0 (if b then word (m.seq + 1) m.caller else current_word w.words); machines = set w.machines i (after_exchange m b); batches = w.batches ++ one_batch S w.words m b; reads = rs; loaded = w.loaded })
         go false q =
             assemble_read S Lawful B w g i h _ _ (after_exchange m false) (set-get_or w.words 0 0) (append-nil w.batches)
             (begun_as S Lawful B w g i m h m _ round.begun refl refl refl refl refl refl, calm (later_now (cases_lt m.seq (last w.words))), between (later_now (cases_lt m.seq (last w.words))))

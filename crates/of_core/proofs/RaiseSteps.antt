@@ -11,7 +11,7 @@ use Rattle.of_core.specs.declared.place.Place.TheVariants.{RaiseOld, StoreLog, R
 use Rattle.of_core.specs.Table.{Setup, request_at, data_at, log_at, base, durable_at, current_word, request_of, cell, log_word, durable_word, durable_request, durable_cell, durable_log, last, holder, risen}
 use Rattle.of_core.specs.Machine.{Data, entry, log_words}
 use Rattle.of_core.specs.Steps.{after_raise_log, next_entry, after_raise_current, after_raise_closed, took_at}
-use Rattle.of_core.specs.World.{World, Batch, Start, stepped_at}
+use Rattle.of_core.specs.World.{Read, World, Batch, Start, stepped_at}
 use Rattle.of_core.specs.History.{batch}
 use Rattle.of_core.specs.Shared.{IsRequest, IsLogWord, Shared, Held}
 use Rattle.of_core.specs.Rounds.{Helper, Keeps, Begun, Round, Past, Calm}
@@ -51,7 +51,7 @@ module _ (S : Setup) (Lawful : List ℕ → Type 0) (B : Start) where
 
   -- what a raise to a word that the cell has held leaves
   abbrev pub raised : World → ℕ → ℕ → World
-  raised w c v = record { words = set w.words (durable_at S c) (max (durable_word S w.words c) v); machines = w.machines; batches = w.batches; loaded = w.loaded }
+  raised w c v = record { words = set w.words (durable_at S c) (max (durable_word S w.words c) v); machines = w.machines; batches = w.batches; reads = w.reads; loaded = w.loaded }
 
   pub raise_kept : (w : World) → Core S Lawful B w → (c v : ℕ) → IsLoaded S B w.words w.batches (c, v) → Core S Lawful B (raised w c v)
   raise_kept w g c v e = record {
@@ -64,9 +64,9 @@ module _ (S : Setup) (Lawful : List ℕ → Type 0) (B : Start) where
   -- the machine m of caller i raises
   module _ (w : World) (g : Core S Lawful B w) (i : ℕ) (m : Data) (h : i < S.callers) (own : get_or w.machines i m ≡ m) where
     -- behind the raise it goes on as n
-    after_raise : (c v : ℕ) (e : IsLoaded S B w.words w.batches (c, v)) (n : Data)
+    after_raise : {rs : List Read} → (c v : ℕ) (e : IsLoaded S B w.words w.batches (c, v)) (n : Data)
         → (At S B (raised w c v).words w.batches i m m.place → v ≤ durable_word S (raised w c v).words c → At S B (raised w c v).words w.batches i n n.place)
-        → Goes S Lawful B i w (record { words = set w.words (durable_at S c) (max (durable_word S w.words c) v); machines = set w.machines i n; batches = w.batches ++ []; loaded = w.loaded })
+        → Goes S Lawful B i w (record { words = set w.words (durable_at S c) (max (durable_word S w.words c) v); machines = set w.machines i n; batches = w.batches ++ []; reads = rs; loaded = w.loaded })
     after_raise c v e n f =
         let g1 : Core S Lawful B (raised w c v) = raise_kept w g c v e in
         record {
@@ -87,8 +87,8 @@ module _ (S : Setup) (Lawful : List ℕ → Type 0) (B : Start) where
 
     -- what the machine's place says after the raise, and before it goes on
     module _ (p : Place) (is : m.place ≡ p) (c v : ℕ) (e : IsLoaded S B w.words w.batches (c, v)) where
-      goes_on : (n : Data) → (At S B (raised w c v).words w.batches i m p → v ≤ durable_word S (raised w c v).words c → (durable_word S (raised w c v).words c ≤ get_or (raised w c v).words c 0) → At S B (raised w c v).words w.batches i n n.place)
-          → Goes S Lawful B i w (record { words = set w.words (durable_at S c) (max (durable_word S w.words c) v); machines = set w.machines i n; batches = w.batches ++ []; loaded = w.loaded })
+      goes_on : {rs : List Read} → (n : Data) → (At S B (raised w c v).words w.batches i m p → v ≤ durable_word S (raised w c v).words c → (durable_word S (raised w c v).words c ≤ get_or (raised w c v).words c 0) → At S B (raised w c v).words w.batches i n n.place)
+          → Goes S Lawful B i w (record { words = set w.words (durable_at S c) (max (durable_word S w.words c) v); machines = set w.machines i n; batches = w.batches ++ []; reads = rs; loaded = w.loaded })
       goes_on n f = after_raise c v e n (λ b u. f (subst (λ (q : Place). At S B (raised w c v).words w.batches i m q) is b) u (low S Lawful B w.words w.batches g.shared c v e c e.place))
 
     begun_to : (xs : List ℕ) (n : Data) → Begun S B xs w.batches i m → n.caller ≡ m.caller → n.made ≡ m.made → n.op ≡ m.op → n.rounds ≡ m.rounds → n.first ≡ m.first → Keeps B xs w.batches i n.kept → Begun S B xs w.batches i n

@@ -7,7 +7,7 @@ use Rattle.of_core.specs.declared.place.Place.{Place}
 use Rattle.of_core.specs.declared.place.Place.TheVariants.{Idle, TryCurrent, TryRequest, TryCell, StoreScript, StoreAnnouncement, LoadCurrent, LoadRequest, CopyLog, LookAgain, LoadOwnTicket, LoadShape, LoadReply, LoadAnnouncement, LoadTicket, LoadScript, LoadCell, RaiseOld, StoreLog, RaiseLog, StoreRequest, RaiseRequest, ExchangeCurrent, RaiseCurrent, LoadTarget, ExchangeTarget, ReloadTarget, RaiseTarget, CloseRequest, RaiseClosed}
 use Rattle.of_core.specs.Table.{Setup, ticket_cell, shape_cell, reply_cell, cell}
 use Rattle.of_core.specs.Machine.{Data, unknown, learned, merged, log_words, opened, first_place}
-use Rattle.of_core.specs.Steps.{reads, read_ran, tried, resumed, after_try_request, over_try, after_try_cell, want_at, word_of, took_at, after_store_script, after_load_request, after_copy_log, after_look_again, after_own_ticket, after_load_shape, shape_read, after_load_reply, reply_read, asks_more, first_mark, after_announcement, weighed, after_load_ticket, after_load_script, script_more, ran, next_call, with_run, after_load_cell, after_raise_log, after_exchange, after_raise_current, after_load_target, next_entry, after_raise_closed, is_open, got_more}
+use Rattle.of_core.specs.Steps.{read_on, read_ran, tried, resumed, after_try_request, over_try, after_try_cell, want_at, word_of, took_at, after_store_script, after_load_request, after_copy_log, after_look_again, after_own_ticket, after_load_shape, shape_read, after_load_reply, reply_read, asks_more, first_mark, after_announcement, weighed, after_load_ticket, after_load_script, script_more, ran, next_call, with_run, after_load_cell, after_raise_log, after_exchange, after_raise_current, after_load_target, next_entry, after_raise_closed, is_open, got_more}
 use Rattle.of_core.specs.World.{World, Start}
 use Rattle.of_core.specs.Transaction.{Applies}
 use Rattle.of_core.specs.Invariant.{At, Core}
@@ -122,7 +122,7 @@ module _ (S : Setup) where
       sum : (s i x k l : ℕ) → s + (i - x + 1) ≤ l → x ≤ k → s + 1 + (i - k) ≤ l
       sum s i x k l h f = omega arith
 
-  reads_within : (n : Data) → n.steps + 1 + (unknowns n.known + tries_left S n) ≤ bound S → Within S (reads S n) (reads S n).place
+  reads_within : (n : Data) → n.steps + 1 + (unknowns n.known + tries_left S n) ≤ bound S → Within S (read_on S n) (read_on S n).place
   reads_within n h = go (S.meaning.walk n.known n.op)
     where
       fewer_by : (s x l : ℕ) → s + 1 + x ≤ l → s + 1 ≤ l

@@ -12,7 +12,7 @@ use Rattle.of_mem.specs.declared.work.RawReply.{RawReply}
 use Rattle.of_core.specs.declared.place.Place.TheVariants.{Idle, TryCurrent, TryRequest, TryCell, LoadCurrent, LoadRequest, CopyLog, LookAgain, LoadOwnTicket, LoadShape, LoadReply, LoadAnnouncement, LoadTicket, LoadScript, LoadCell}
 use Rattle.of_core.specs.Table.{Setup, request_at, data_at, log_at, script_at, ticket_cell, shape_cell, reply_cell, base, script_of, script_word, announcement_of, current_word, request_of, cell, log_word, durable_request, last, holder, risen}
 use Rattle.of_core.specs.Machine.{Data, Call, unknown, log_of, pairs, flat, log_words, learned, own_cells, merged, put_all, no_call}
-use Rattle.of_core.specs.Steps.{reads, read_ran, tried, resumed, after_try_request, over_try, after_try_cell, ran, after_load_request, after_load_cell, after_copy_log, after_look_again, entered, got_more, is_open, took_at, next_round, next_call, with_run, call_run, own_raw, weighed, after_announcement, after_load_ticket, script_more, runs, after_load_script, told, asks_more, after_own_ticket, shape_read, after_load_shape, reply_read, after_load_reply, first_of, first_mark}
+use Rattle.of_core.specs.Steps.{read_on, read_ran, tried, resumed, after_try_request, over_try, after_try_cell, ran, after_load_request, after_load_cell, after_copy_log, after_look_again, entered, got_more, is_open, took_at, next_round, next_call, with_run, call_run, own_raw, weighed, after_announcement, after_load_ticket, script_more, runs, after_load_script, told, asks_more, after_own_ticket, shape_read, after_load_shape, reply_read, after_load_reply, first_of, first_mark}
 use Rattle.of_core.specs.World.{World, Batch, Start, stepped_at}
 use Rattle.of_core.specs.History.{state, batch, at, HasCall, Last, LastCall, InRow, Rising, ticket_in, numbers}
 use Rattle.of_core.specs.Shared.{Shared, Opened, IsLog}
@@ -56,7 +56,7 @@ module _ (S : Setup) (Lawful : List ℕ → Type 0) (B : Start) where
 
     -- a try goes on by its walk
     reads_at : (n : Data) → Sound S.meaning Lawful (base S) S.cells → Trying S B w.words w.batches i n → Cur S B w.words w.batches n.seq n.owner → Calm S B w.words w.batches i n.seq → Watches S B w.words w.batches n.seq n.known
-        → At S B w.words w.batches i (reads S n) (reads S n).place
+        → At S B w.words w.batches i (read_on S n) (read_on S n).place
     reads_at n sound p c o k = go (S.meaning.walk n.known n.op) refl (sound.walks n.known xs n.op size (g.shared.stands.lawful n.seq c.from upto) k.agrees)
       where
         upto : n.seq ≤ B.seq + length w.batches

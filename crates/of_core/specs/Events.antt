@@ -48,4 +48,4 @@ abbrev pub zeros : Setup → Start
 zeros S = record { seq = 0; owner = 0; cells = replicate S.cells 0 }
 
 abbrev pub opening : Setup → ℕ → World
-opening S n = record { words = replicate n 0; machines = idles 0 S.callers; batches = []; loaded = [] }
+opening S n = record { words = replicate n 0; machines = idles 0 S.callers; batches = []; reads = []; loaded = [] }

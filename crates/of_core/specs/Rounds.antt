@@ -6,7 +6,7 @@ use Rattle.of_mem.specs.Meaning.{marked, Agrees}
 use Rattle.std.specs.List.{All}
 use Rattle.of_core.specs.Table.{Setup, ticket_cell, shape_cell, reply_cell, request_of, log_word, durable_request, announcement_of, script_of, last, holder}
 use Rattle.of_core.specs.Machine.{Call, Data}
-use Rattle.of_core.specs.Steps.{left, reads}
+use Rattle.of_core.specs.Steps.{left, read_on}
 use Rattle.of_core.specs.World.{Batch, Start}
 use Rattle.of_core.specs.History.{batch, numbers, ticket_in}
 use Rattle.of_core.specs.Shared.{IsRequest}

@@ -169,12 +169,12 @@ abbrev pub read_ran : Data → Walked → Data
 read_ran m (Needs a) = record m { place = TryCell a; steps = m.steps + 1 }
 read_ran m (Gives es r) = record m { place = Idle; answer = Some (Answered m.seq false r (m.steps + 1)); steps = 0 }
 
-abbrev pub reads : Setup → Data → Data
-reads S m = read_ran m (S.meaning.walk m.known m.op)
+abbrev pub read_on : Setup → Data → Data
+read_on S m = read_ran m (S.meaning.walk m.known m.op)
 
 -- a try goes on behind its help
 abbrev pub tried : Setup → Data → Data
-tried S m = reads S (record m { known = unknown S; helps = false })
+tried S m = read_on S (record m { known = unknown S; helps = false })
 
 -- a round or a try goes on behind its help
 abbrev pub resumed : Setup → Data → (in_try : Bool) → Data
@@ -191,7 +191,7 @@ over_try m false = record m { place = StoreScript 0; steps = m.steps + 1 }
 
 abbrev pub after_try_cell : Setup → Data → ℕ → ℕ → (newer : Bool) → Data
 after_try_cell S m a found true = over_try m (nat_lt m.tries 4)
-after_try_cell S m a found false = reads S (record m { known = learned S m a found })
+after_try_cell S m a found false = read_on S (record m { known = learned S m a found })
 
 abbrev pub after_load_request : Setup → Data → (opened : Bool) → Data
 after_load_request S m true = record m { place = CopyLog 0; got = []; helps = true; steps = m.steps + 1 }

@@ -1,9 +1,12 @@
 -- Words, machines and history, and what a step does to them.
-use Rattle.std.specs.Prelude.{ℕ, ◌+◌, ◌==◌, ◌-◌, List, [], ◌∷◌, ◌++◌, Bool, true, false}
+use Rattle.std.specs.Prelude.{ℕ, ◌+◌, ◌==◌, ◌-◌, List, [], ◌∷◌, ◌++◌, Bool, true, false, Option, Some, None}
 use Rattle.std.proofs.Common.{get_or, set}
 use Rattle.of_cell.specs.Words.{word, seq}
 use Rattle.of_core.specs.declared.place.Place.{Place}
 use Rattle.of_core.specs.declared.place.Place.TheVariants.{Idle, TryCurrent, TryRequest, TryCell, StoreScript, StoreAnnouncement, LoadCurrent, LoadRequest, CopyLog, LookAgain, LoadOwnTicket, LoadShape, LoadReply, LoadAnnouncement, LoadTicket, LoadScript, LoadCell, RaiseOld, StoreLog, RaiseLog, StoreRequest, RaiseRequest, ExchangeCurrent, RaiseCurrent, LoadTarget, ExchangeTarget, ReloadTarget, RaiseTarget, CloseRequest, RaiseClosed}
+use Rattle.of_mem.specs.declared.work.RawReply.{RawReply}
+use Rattle.of_core.specs.declared.place.Outcome.{Outcome}
+use Rattle.of_core.specs.declared.place.Outcome.TheVariants.{Answered, Spent}
 use Rattle.of_core.specs.Table.{Setup, announcement_of}
 use Rattle.of_core.specs.Machine.{Call, Data}
 use Rattle.of_core.specs.Steps.{want_at, word_of, left, took_at}
@@ -15,10 +18,20 @@ pub record Batch : Type 0 where
   -- the announcements that stood when it was committed
   pub announcements : ℕ → ℕ
 
+-- a call that was answered without being announced: it read the state at this sequence
+pub record Read : Type 0 where
+  pub caller : ℕ
+  pub ticket : ℕ
+  pub op : List ℕ
+  pub raw : RawReply
+  pub seq : ℕ
+
+-- the words, each caller's machine, and the history: the batches in order, and beside them the reads in the order of their answers
 pub record World : Type 0 where
   pub words : List ℕ
   pub machines : List Data
   pub batches : List Batch
+  pub reads : List Read
   -- the cells that were loaded for evictions, with the words found
   pub loaded : List (ℕ × ℕ)
 
@@ -65,6 +78,22 @@ commits_at S ws m found (LoadTarget j) = []
 commits_at S ws m found (ExchangeTarget j f) = []
 commits_at S ws m found CloseRequest = []
 
+-- the read that an outcome of the machine is
+abbrev pub read_of : Data → Option Outcome → List Read
+read_of d None = []
+read_of d (Some (Answered s false raw n)) = record { caller = d.caller; ticket = d.made; op = d.op; raw = raw; seq = s } ∷ []
+read_of d (Some (Answered s true raw n)) = []
+read_of d (Some (Spent s)) = []
+
+abbrev pub read_by : Data → Place → List Read
+read_by d Idle = read_of d d.answer
+read_by d p = []
+
+-- the read that the step from the place p has answered, where the machine is d after it
+abbrev pub answers_at : Data → Place → List Read
+answers_at d Idle = []
+answers_at d p = read_by d d.place
+
 -- the wanted step of the machine m of caller i, at the place p
 abbrev pub stepped_at : Setup → ℕ → Data → Place → World → World
 stepped_at S i m p w =
@@ -74,5 +103,6 @@ stepped_at S i m p w =
       words = set w.words c (left (want_at S m p) found);
       machines = set w.machines i (took_at S m found p);
       batches = w.batches ++ commits_at S w.words m found p;
+      reads = w.reads ++ answers_at (took_at S m found p) p;
       loaded = w.loaded;
     }
