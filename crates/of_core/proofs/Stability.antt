@@ -133,7 +133,7 @@ module _ (S : Setup) (Lawful : List ℕ → Type 0) (B : Start) (i : ℕ) (ws : 
   from_start = omega (arith, shared.counted.count)
 
   -- a ticket cell stays, or takes the ticket that its caller announces
-  tick_how : (j : ℕ) → j < S.callers → (ticket_in S B cs (last vs) j ≡ ticket_in S B bs (last ws) j)
+  pub tick_how : (j : ℕ) → j < S.callers → (ticket_in S B cs (last vs) j ≡ ticket_in S B bs (last ws) j)
       ⊎ ((ticket_in S B cs (last vs) j ≡ seq (announcement_of S ws j)) × (ticket_in S B bs (last ws) j < seq (announcement_of S ws j)) × (last ws < S.limit))
   tick_how j l = go (cases_lt (last ws) (last vs))
     where
@@ -151,7 +151,7 @@ module _ (S : Setup) (Lawful : List ℕ → Type 0) (B : Start) (i : ℕ) (ws : 
       go (inl q) = omega arith
       go (inr q) = omega (arith, q.0, q.1)
 
-  tick_same : (s j : ℕ) → B.seq ≤ s → s ≤ last ws → ticket_in S B cs s j ≡ ticket_in S B bs s j
+  pub tick_same : (s j : ℕ) → B.seq ≤ s → s ≤ last ws → ticket_in S B cs s j ≡ ticket_in S B bs s j
   tick_same s j l u = ap (λ (xs : List ℕ). ticket_among S xs j) (v.states s l u)
 
   -- of a caller that announces something to be run no word changes

@@ -8,12 +8,12 @@ use Rattle.of_mem.specs.declared.work.RawReply.{RawReply}
 use Rattle.of_core.specs.declared.place.Place.{Place}
 use Rattle.of_core.specs.declared.place.Place.TheVariants.{Idle, TryCurrent, TryRequest, TryCell, StoreScript, StoreAnnouncement, LoadCurrent, LoadRequest, CopyLog, LookAgain, LoadOwnTicket, LoadShape, LoadReply, LoadAnnouncement, LoadTicket, LoadScript, LoadCell, RaiseOld, StoreLog, RaiseLog, StoreRequest, RaiseRequest, ExchangeCurrent, RaiseCurrent, LoadTarget, ExchangeTarget, ReloadTarget, RaiseTarget, CloseRequest, RaiseClosed}
 use Rattle.of_core.specs.Table.{Setup, ticket_cell, announcement_of}
-use Rattle.of_core.specs.Machine.{Data, unknown, learned, log_words, merged}
+use Rattle.of_core.specs.Machine.{Data, IsOpen, unknown, learned, log_words, merged}
 use Rattle.of_core.specs.Steps.{read_on, read_ran, tried, resumed, after_try_request, over_try, after_try_cell, after_load_request, after_copy_log, after_look_again, after_own_ticket, after_load_shape, after_load_reply, after_announcement, after_load_ticket, after_load_script, after_load_cell, after_raise_log, after_exchange, after_raise_current, after_load_target, next_entry, after_raise_closed, after_store_script, first_of, ran, runs, weighed, next_call, with_run, asks_more, shape_read, reply_read, got_more, script_more, first_mark, is_open, took_at}
 use Rattle.of_core.specs.World.{World, Batch, Start, commits_at, one_batch}
 use Rattle.of_core.specs.History.{state, at}
 use Rattle.of_core.specs.Rounds.{Finds, Looks}
-use Rattle.of_core.specs.Order.{IsTrying, IsOpen}
+use Rattle.of_core.specs.Order.{IsTrying}
 use Rattle.of_core.specs.Facts.{Facts, Counts, EndsWith, loads_at, rests_at}
 use Rattle.of_core.specs.Invariant.{At, Core}
 use Rattle.of_core.proofs.States.{old}
@@ -31,7 +31,7 @@ zero_tested x false e q = cc
 
 module _ (S : Setup) (Lawful : List ℕ → Type 0) (B : Start) (w : World) (g : Core S Lawful B w) (i : ℕ) (m : Data) (h : i < S.callers) (n : ℕ) where
   -- a step that neither loads the current-transaction word nor commits
-  on : (p : Place) (d : Data) → d.caller ≡ m.caller → d.made ≡ m.made → d.op ≡ m.op → loads_at p ≡ false → rests_at d d.place ≤ rests_at m p → (IsTrying d d.place → IsTrying m p × (d.seq ≡ m.seq)) → Counts S m p d d.place → Facts S m n p d []
+  on : (p : Place) (d : Data) → d.caller ≡ m.caller → d.made ≡ m.made → d.op ≡ m.op → loads_at p ≡ false → rests_at d d.place ≤ rests_at m p → (IsTrying d d.place → IsTrying m p × (d.seq ≡ m.seq)) → Counts S m p d → Facts S m n p d []
   on p d a b c e r t k = record {
     caller = a;
     made = b;
@@ -40,6 +40,7 @@ module _ (S : Setup) (Lawful : List ℕ → Type 0) (B : Start) (w : World) (g :
     rests = λ q. omega (arith, r);
     owner = λ j x l. absurd (omega arith);
     few = omega arith;
+    tries = λ q. refl;
     trying = λ q. inl (t q);
     counts = k;
   }
@@ -75,7 +76,7 @@ module _ (S : Setup) (Lawful : List ℕ → Type 0) (B : Start) (w : World) (g :
   heard_old p f = omega (arith, ap seq f.heard, old S B w.batches g.shared.start (logs_of S Lawful B w g) m.seq (ticket_cell S i) p.round.from (at_risen S Lawful B w g i m h m p) (ticket_in_cells S Lawful B w g i m h i h))
 
   pub step_facts : (p : Place) → IsOpen p → At S B w.words w.batches i m p → Facts S m n p (took_at S m n p) (commits_at S w.words m n p)
-  step_facts Idle o a = absurd o
+  step_facts Idle o a = cc
   step_facts TryCurrent o a = record {
     caller = refl;
     made = refl;
@@ -84,6 +85,7 @@ module _ (S : Setup) (Lawful : List ℕ → Type 0) (B : Start) (w : World) (g :
     rests = λ q. cc;
     owner = λ j x l. absurd (omega arith);
     few = omega arith;
+    tries = λ q. refl;
     trying = λ q. inr (refl, refl);
     counts = (refl, refl);
   }
@@ -115,6 +117,7 @@ module _ (S : Setup) (Lawful : List ℕ → Type 0) (B : Start) (w : World) (g :
     rests = λ q. cc;
     owner = λ j x l. absurd (omega arith);
     few = omega arith;
+    tries = λ q. refl;
     trying = λ q. absurd q;
     counts = (refl, refl);
   }
@@ -190,6 +193,7 @@ module _ (S : Setup) (Lawful : List ℕ → Type 0) (B : Start) (w : World) (g :
         rests = λ q. omega arith;
         owner = λ j x l. one j x l;
         few = omega arith;
+        tries = λ q. absurd q;
         trying = λ q. let z : false ≡ true = q.0 in cc;
         counts = (refl, refl);
       }

@@ -7,9 +7,9 @@ use Rattle.of_core.specs.declared.place.Place.TheVariants.{Idle, TryCurrent, Sto
 use Rattle.of_core.specs.declared.place.Outcome.{Outcome}
 use Rattle.of_core.specs.declared.place.Outcome.TheVariants.{Answered, Spent}
 use Rattle.of_core.specs.Table.{Setup}
-use Rattle.of_core.specs.Machine.{Data}
+use Rattle.of_core.specs.Machine.{Data, is_idle}
 use Rattle.of_core.specs.World.{Batch}
-use Rattle.of_core.specs.Order.{IsTrying, IsOpen}
+use Rattle.of_core.specs.Order.{IsTrying}
 
 -- the step loads the current-transaction word
 abbrev pub loads_at : Place → Bool
@@ -34,9 +34,12 @@ EndsWith S m p (Some (Answered s true raw steps)) = (s ≤ m.seq) × (steps ≡ 
 EndsWith S m p (Some (Spent s)) = (s ≡ m.seq) × (s ≡ S.limit)
 
 -- after the step the call is open and has made one step more, or it has ended with an answer
-abbrev pub Counts : Setup → Data → Place → Data → Place → Type 0
-Counts S m p d Idle = EndsWith S m p d.answer
-Counts S m p d q = (d.steps ≡ m.steps + 1) × (d.answer ≡ m.answer)
+abbrev pub CountsBy : Setup → Data → Place → Data → (ended : Bool) → Type 0
+CountsBy S m p d true = EndsWith S m p d.answer
+CountsBy S m p d false = (d.steps ≡ m.steps + 1) × (d.answer ≡ m.answer)
+
+abbrev pub Counts : Setup → Data → Place → Data → Type 0
+Counts S m p d = CountsBy S m p d (is_idle d.place)
 
 -- the step from the place p that found n has led from m to d and committed these batches
 pub record Facts (S : Setup) (m : Data) (n : ℕ) (p : Place) (d : Data) (added : List Batch) : Type 0 where
@@ -50,6 +53,7 @@ pub record Facts (S : Setup) (m : Data) (n : ℕ) (p : Place) (d : Data) (added 
   -- what is committed is the caller's
   pub owner : All (λ (b : Batch). b.owner ≡ m.caller) added
   pub few : length added ≤ 1
-  -- a try goes on at its sequence, or has just begun
+  -- a try commits nothing, and it goes on at its sequence or has just begun
+  pub tries : IsTrying m p → added ≡ []
   pub trying : IsTrying d d.place → (IsTrying m p × (d.seq ≡ m.seq)) ⊎ ((p ≡ TryCurrent) × (d.seq ≡ seq n))
-  pub counts : Counts S m p d d.place
+  pub counts : Counts S m p d

@@ -1,5 +1,5 @@
 -- One call as a machine: what it holds.
-use Rattle.std.specs.Prelude.{ℕ, ◌+◌, ◌*◌, ◌==◌, nat_lt, ◌-◌, List, [], ◌∷◌, ◌++◌, length, Option, Some, None, Bool, true, false, if◌then◌else◌}
+use Rattle.std.specs.Prelude.{◌≡◌, ℕ, ◌+◌, ◌*◌, ◌==◌, nat_lt, ◌-◌, List, [], ◌∷◌, ◌++◌, length, Option, Some, None, Bool, true, false, if◌then◌else◌}
 use Rattle.std.proofs.Common.{get_or, set, take, drop, replicate}
 use Rattle.of_cell.specs.Words.{seq, pay}
 use Rattle.of_mem.specs.declared.work.RawReply.{RawReply}
@@ -46,6 +46,14 @@ pub record Data : Type 0 where
   pub heard : ℕ
   pub script : List ℕ
   pub calls : List Call
+
+-- whether no call is open
+abbrev pub is_idle : Place → Bool
+is_idle Idle = true
+is_idle p = false
+
+abbrev pub IsOpen : Place → Type 0
+IsOpen p = is_idle p ≡ false
 
 abbrev pub entry : Data → ℕ → ℕ × ℕ
 entry m j = get_or m.log j (0, 0)

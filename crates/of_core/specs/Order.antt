@@ -1,12 +1,12 @@
 -- The order of one caller's calls: reads that were answered without being announced stand between its calls in the batches.
-use Rattle.std.specs.Prelude.{◌≡◌, ℕ, ◌+◌, ◌<◌, ◌≤◌, ◌⊎◌, List, [], length, Bool, true}
+use Rattle.std.specs.Prelude.{◌≡◌, ℕ, ◌+◌, ◌<◌, ◌≤◌, ◌⊎◌, List, [], length, Bool, true, false}
 use Rattle.std.specs.List.{All}
 use Rattle.std.proofs.Common.{get_or}
 use Rattle.of_mem.specs.declared.work.RawReply.{RawReply}
 use Rattle.of_core.specs.declared.place.Place.{Place}
 use Rattle.of_core.specs.declared.place.Place.TheVariants.{Idle, TryCurrent, TryRequest, TryCell, StoreScript, StoreAnnouncement, LoadCurrent, LoadRequest, CopyLog, LookAgain, LoadOwnTicket, LoadShape, LoadReply, LoadAnnouncement, LoadTicket, LoadScript, LoadCell, RaiseOld, StoreLog, RaiseLog, StoreRequest, RaiseRequest, ExchangeCurrent, RaiseCurrent, LoadTarget, ExchangeTarget, ReloadTarget, RaiseTarget, CloseRequest, RaiseClosed}
 use Rattle.of_core.specs.Table.{Setup, last, risen}
-use Rattle.of_core.specs.Machine.{Call, Data}
+use Rattle.of_core.specs.Machine.{Call, Data, is_idle}
 use Rattle.of_core.specs.World.{World, Start, Batch, Read}
 use Rattle.of_core.specs.History.{batch, ticket_in, numbers}
 
@@ -51,15 +51,13 @@ IsTrying m CloseRequest = (m.helps ≡ true) × (m.rounds ≡ 0)
 IsTrying m RaiseClosed = (m.helps ≡ true) × (m.rounds ≡ 0)
 IsTrying m p = ⊥
 
--- a call is open
-abbrev pub IsOpen : Place → Type 0
-IsOpen Idle = ⊥
-IsOpen p = Unit {0}
-
 -- the read's call was made before the open one, or is not newer than an idle machine's last
+abbrev pub OlderBy : Data → Read → (idle : Bool) → Type 0
+OlderBy m r true = r.ticket ≤ m.made
+OlderBy m r false = r.ticket < m.made
+
 abbrev pub IsOlder : Data → Place → Read → Type 0
-IsOlder m Idle r = r.ticket ≤ m.made
-IsOlder m p r = r.ticket < m.made
+IsOlder m p r = OlderBy m r (is_idle p)
 
 -- what a machine has behind it: its caller's reads are older, and in a try none of them, and no call of its caller in a batch, is newer than the state that is read
 pub record Behind (S : Setup) (B : Start) (ws : List ℕ) (bs : List Batch) (rs : List Read) (i : ℕ) (m : Data) (p : Place) : Type 0 where

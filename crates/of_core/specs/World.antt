@@ -8,7 +8,7 @@ use Rattle.of_mem.specs.declared.work.RawReply.{RawReply}
 use Rattle.of_core.specs.declared.place.Outcome.{Outcome}
 use Rattle.of_core.specs.declared.place.Outcome.TheVariants.{Answered, Spent}
 use Rattle.of_core.specs.Table.{Setup, announcement_of}
-use Rattle.of_core.specs.Machine.{Call, Data}
+use Rattle.of_core.specs.Machine.{Call, Data, is_idle}
 use Rattle.of_core.specs.Steps.{want_at, word_of, left, took_at}
 
 pub record Batch : Type 0 where
@@ -85,14 +85,14 @@ read_of d (Some (Answered s false raw n)) = record { caller = d.caller; ticket =
 read_of d (Some (Answered s true raw n)) = []
 read_of d (Some (Spent s)) = []
 
-abbrev pub read_by : Data → Place → List Read
-read_by d Idle = read_of d d.answer
-read_by d p = []
-
 -- the read that the step from the place p has answered, where the machine is d after it
+abbrev pub answers_by : Data → (was_idle now_idle : Bool) → List Read
+answers_by d true now_idle = []
+answers_by d false true = read_of d d.answer
+answers_by d false false = []
+
 abbrev pub answers_at : Data → Place → List Read
-answers_at d Idle = []
-answers_at d p = read_by d d.place
+answers_at d p = answers_by d (is_idle p) (is_idle d.place)
 
 -- the wanted step of the machine m of caller i, at the place p
 abbrev pub stepped_at : Setup → ℕ → Data → Place → World → World
