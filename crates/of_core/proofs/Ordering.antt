@@ -380,3 +380,70 @@ module _ (S : Setup) (Lawful : List ℕ → Type 0) (B : Start) (w : World) (g :
           let same : d ≡ n = sym (get_or-set_same w.machines i d n i_in) ∙ (rw q at e) in
           subst (λ (x : Data). Behind S B vs cs (w.reads ++ rs) j x x.place) same (rw q own_behind)
       go j n l e (inr q) = others_behind j n l q (sym (get_or-set_other w.machines i j d n q) ∙ e)
+
+-- a step of an open call keeps the order
+module _ (S : Setup) (Lawful : List ℕ → Type 0) (B : Start) (w : World) (g : Core S Lawful B w) (i : ℕ) (m : Data) (h : i < S.callers) (n : ℕ) (d : Data) (added : List Batch) (f : Facts S m n m.place d added) (was_open : IsOpen m.place)
+    (found : m.place ≡ TryCurrent → seq n ≡ last w.words) (vs : List ℕ) (shared : Shared S Lawful B vs (w.batches ++ added)) (a : At S B vs (w.batches ++ added) i d d.place) where
+  older_open : (r : Read) → IsOlder m m.place r → IsOlder d d.place r
+  older_open r q =
+      let p : OlderBy m r false = subst (λ (b : Bool). OlderBy m r b) was_open q in
+      as_older d r (is_idle d.place) (omega (arith, p, f.made))
+
+  answered : (b : Bool) → is_idle d.place ≡ b → CountsBy S m m.place d b → (answers_by d false b ≡ []) ⊎ ((r : Read) × (answers_by d false b ≡ r ∷ []) × Answer S B i w.words m d vs (w.batches ++ added) r)
+  answered false e c = inl refl
+  answered true e c = ended d.answer c at_rest.told
+    where
+      at_rest : Rests S B vs (w.batches ++ added) i d
+      at_rest = subst (λ (p : Place). At S B vs (w.batches ++ added) i d p) (idle_is d.place e) a
+
+      ended : (x : Option Outcome) → EndsWith S m m.place x → Told S B vs (w.batches ++ added) i d x → (read_of d x ≡ []) ⊎ ((r : Read) × (read_of d x ≡ r ∷ []) × Answer S B i w.words m d vs (w.batches ++ added) r)
+      ended None c t = absurd c
+      ended (Some (Spent s)) c t = inl refl
+      ended (Some (Answered s true raw k)) c t = inl refl
+      ended (Some (Answered s false raw k)) c t = inr (
+        record { caller = d.caller; ticket = d.made; op = d.op; raw = raw; seq = s },
+        refl,
+        record {
+          caller = at_rest.caller;
+          ticket = f.made;
+          seq = c.1;
+          trying = c.0;
+          was_open = was_open;
+          is_read = record { caller = rw at_rest.caller h; from = t.0; upto = t.1; only = t.4; reply = t.3 };
+          older = subst (λ (b : Bool). OlderBy d (record { caller = d.caller; ticket = d.made; op = d.op; raw = raw; seq = s }) b) (sym e) (omega arith);
+          still = same_last (f.tries c.0) shared.counted.count;
+        },
+      )
+        where
+          same_last : added ≡ [] → last vs ≡ B.seq + length (w.batches ++ added) → last vs ≡ last w.words
+          same_last q c = c ∙ ap (λ (xs : List Batch). B.seq + length (w.batches ++ xs)) q ∙ ap (λ (xs : List Batch). B.seq + length xs) (append-nil w.batches) ∙ sym g.shared.counted.count
+
+  pub orderly : Orderly S B i w.words m d vs (w.batches ++ added) (answers_at d m.place)
+  orderly = record {
+    older = older_open;
+    trying = λ t. go (f.trying t);
+    answers = subst (λ (q : Bool). (answers_by d q (is_idle d.place) ≡ []) ⊎ ((r : Read) × (answers_by d q (is_idle d.place) ≡ r ∷ []) × Answer S B i w.words m d vs (w.batches ++ added) r)) (sym was_open) (answered (is_idle d.place) refl f.counts);
+  }
+    where
+      go : (IsTrying m m.place × (d.seq ≡ m.seq)) ⊎ ((m.place ≡ TryCurrent) × (d.seq ≡ seq n)) → (IsTrying m m.place × (d.seq ≡ m.seq)) ⊎ ((m.place ≡ TryCurrent) × (d.seq ≡ last w.words))
+      go (inl q) = inl q
+      go (inr q) = inr (q.0, q.1 ∙ found q.0)
+
+-- a turn of an idle machine changes nothing of it
+pub orderly_idle : (S : Setup) (B : Start) (i : ℕ) (ws : List ℕ) (m d : Data) (vs : List ℕ) (cs : List Batch) → d ≡ m → is_idle m.place ≡ true → Orderly S B i ws m d vs cs (answers_at d m.place)
+orderly_idle S B i ws m d vs cs e q = rw e (record {
+  older = λ r x. x;
+  trying = λ t. inl (t, refl);
+  answers = subst (λ (b : Bool). (answers_by m b (is_idle m.place) ≡ []) ⊎ ((r : Read) × (answers_by m b (is_idle m.place) ≡ r ∷ []) × Answer S B i ws m m vs cs r)) (sym q) (inl refl);
+})
+
+-- the order speaks of no word but the last sequence and the durable one
+pub order_same : (S : Setup) (B : Start) (w : World) (vs : List ℕ) → Order S B w → last vs ≡ last w.words → risen S w.words ≤ risen S vs → Order S B (record w { words = vs })
+order_same S B w vs o e l = record {
+  ordered = record {
+    reads = λ k d u. let p = o.ordered.reads k d u in record { caller = p.caller; from = p.from; upto = omega (arith, p.upto); only = p.only; reply = p.reply };
+    successive = o.ordered.successive;
+    apart = o.ordered.apart;
+  };
+  behind = λ i m h q. let b = o.behind i m h q in record { older = b.older; seen = b.seen; still = λ t. b.still t ∙ ap (λ (k : ℕ). ticket_in S B w.batches k i) (sym e) };
+}
