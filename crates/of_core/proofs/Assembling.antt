@@ -1,0 +1,114 @@
+-- What is to be shown of a step: what it guarantees the others, the facts of words and history after it, and those of its own place.
+use Rattle.std.proofs.Common.{◌≡◌, ℕ, zero, suc, ◌+◌, ◌*◌, ◌-◌, ◌<◌, ◌≤◌, ◌⊎◌, ◌==◌, inl, inr, List, [], ◌∷◌, ◌++◌, length, get_or, set, take, refl, sym, ◌∙◌, ap, subst, arith, length-set, length-append, Option, Some, None, Bool, true, false, nat_lt, if◌then◌else◌}
+use Rattle.std.specs.List.{All}
+use Rattle.std.proofs.lemmas.Bool.{cases_eq, cases_lt}
+use Rattle.std.proofs.lemmas.Bool.Decides.{nat_tests}
+use Rattle.std.proofs.lemmas.List.{append-nil, set-get_or, length-map, take_more, take_all, get_or-take, length-take-le, length-replicate, get_or-replicate, get_or_past, get_or-map, get_or-set_same, get_or-set_other, get_or_push, get_or_append_left}
+use Rattle.std.proofs.lemmas.List.Elements.{All-append}
+use Rattle.of_cell.specs.Words.{word, seq, pay}
+use Rattle.of_cell.proofs.Order.{pay_small, seq_word, pay_word, word_eta, pay_zero}
+use Rattle.of_mem.specs.Meaning.{marked, Meaning, Walked, Needs, Gives, Fits, Finishes, Sound, written}
+use Rattle.of_mem.specs.declared.work.RawReply.{RawReply}
+use Rattle.of_core.specs.declared.place.Place.TheVariants.{Idle, TryCurrent, TryRequest, TryCell, LoadCurrent, LoadRequest, CopyLog, LookAgain, LoadOwnTicket, LoadShape, LoadReply, LoadAnnouncement, LoadTicket, LoadScript, LoadCell}
+use Rattle.of_core.specs.Table.{Setup, request_at, data_at, log_at, script_at, ticket_cell, shape_cell, reply_cell, base, script_of, script_word, announcement_of, current_word, request_of, cell, log_word, durable_request, last, holder, risen}
+use Rattle.of_core.specs.Machine.{Data, Call, unknown, log_of, pairs, flat, log_words, learned, own_cells, merged, put_all, no_call}
+use Rattle.of_core.specs.Steps.{read_on, read_ran, tried, resumed, after_try_request, over_try, after_try_cell, ran, after_load_request, after_load_cell, after_copy_log, after_look_again, entered, got_more, is_open, took_at, next_round, next_call, with_run, call_run, own_raw, weighed, after_announcement, after_load_ticket, script_more, runs, after_load_script, told, asks_more, after_own_ticket, shape_read, after_load_shape, reply_read, after_load_reply, first_of, first_mark}
+use Rattle.of_core.specs.World.{Read, World, Batch, Start, stepped_at}
+use Rattle.of_core.specs.History.{state, batch, at, HasCall, Last, LastCall, InRow, Rising, ticket_in, numbers}
+use Rattle.of_core.specs.Shared.{Shared, Opened, IsLog}
+use Rattle.of_core.specs.Rounds.{Cur, Trying, Helper, Watches, Fresh, Begun, Round, Looks, Past, Finds, ReadUpto, Calm}
+use Rattle.of_core.specs.Scan.{Over, Scans, Hears, Reads, Taken, Announced}
+use Rattle.of_core.specs.Transaction.{Turned, Applies, Mode, Copies}
+use Rattle.of_core.specs.Invariant.{At, Core}
+use Rattle.of_core.specs.Moves.{Goes, Moves}
+use Rattle.of_core.proofs.States.{state_length, later, old}
+use Rattle.of_core.proofs.Logs.{turned_is, length-log_words, room_for}
+use Rattle.of_core.proofs.Overlays.{extended, walk_fits, merged_unknown}
+use Rattle.of_core.proofs.Tickets.{tickets_grow, row_old}
+use Rattle.of_core.proofs.Stability.{at_stable, loaded_stable, floor_of}
+
+module _ (S : Setup) (Lawful : List ℕ → Type 0) (B : Start) where
+  -- what has to be shown of a step
+  pub assemble : {rs : List Read} → (w : World) → Core S Lawful B w → (i : ℕ) → i < S.callers → (vs : List ℕ) (cs : List Batch) (m : Data)
+      → Moves S B i w.words w.batches vs cs → Shared S Lawful B vs cs → At S B vs cs i m m.place
+      → Goes S Lawful B i w (record { words = vs; machines = set w.machines i m; batches = cs; reads = rs; loaded = w.loaded })
+  assemble w g i h vs cs m v s a = record {
+    moves = v;
+    core = record {
+      shared = s;
+      members = length-set w.machines i m ∙ g.members;
+      loaded = λ k d l. loaded_stable S Lawful B i w.words w.batches vs cs v g.shared s.kinds (get_or w.loaded k d) (g.loaded k d l);
+      each = λ j n l e. go j n l e (cases_eq j i);
+    };
+  }
+    where
+      go : (j : ℕ) (n : Data) → j < S.callers → get_or (set w.machines i m) j n ≡ n → (j ≡ i) ⊎ (j ≡ i → ⊥) → At S B vs cs j n n.place
+      go j n l e (inl q) =
+          let i_in : i < length w.machines = omega (arith, g.members) in
+          let same : m ≡ n = sym (get_or-set_same w.machines i m n i_in) ∙ (rw q at e) in
+          subst (λ (x : Data). At S B vs cs j x x.place) same (rw q a)
+      go j n l e (inr q) =
+          at_stable S Lawful B i w.words w.batches vs cs v g.shared j l q n n.place (g.each j n l (sym (get_or-set_other w.machines i j m n q) ∙ e))
+
+  pub moves_not : (i : ℕ) (ws : List ℕ) (bs : List Batch) → Shared S Lawful B ws bs → Moves S B i ws bs ws bs
+  moves_not i ws bs g = record {
+    same = λ e. refl;
+    states = λ k l m. refl;
+    batches = λ k l m. refl;
+    limit = g.counted.limit;
+    newer = λ k l m. absurd (omega arith);
+    tickets = λ k j l m. absurd (omega arith);
+    snapshot = λ k j l m. absurd (omega arith);
+    script_of = λ j x l u. inl refl;
+    announcements = λ j l. inl refl;
+    newer_owner = λ k l m. absurd (omega arith);
+    requests = λ j l n. inl refl;
+    changes = λ a l. inl refl;
+    logs = λ j l n x u. refl;
+    log_how = λ j x l u. inl refl;
+    newer_logs = λ k x l m. absurd (omega arith);
+    rise = λ c l. omega arith;
+    durs = λ c l. omega arith;
+    low = g.durable.low;
+  }
+
+  -- a step that changes no word
+  pub assemble_read : {rs : List Read} → (w : World) → Core S Lawful B w → (i : ℕ) → i < S.callers → (vs : List ℕ) (cs : List Batch) (m : Data)
+      → vs ≡ w.words → cs ≡ w.batches → At S B w.words w.batches i m m.place
+      → Goes S Lawful B i w (record { words = vs; machines = set w.machines i m; batches = cs; reads = rs; loaded = w.loaded })
+  assemble_read w g i h vs cs m e f a = rw (e, f) (assemble w g i h w.words w.batches m (moves_not i w.words w.batches g.shared) g.shared a)
+
+  pairs_flat : (es : List (ℕ × ℕ)) → pairs (flat es) ≡ es
+  pairs_flat [] = refl
+  pairs_flat (e ∷ es) = ap (λ (ds : List (ℕ × ℕ)). e ∷ ds) (pairs_flat es)
+
+  pub log_back : (es : List (ℕ × ℕ)) → log_of (log_words es) ≡ es
+  log_back es = pairs_flat es
+
+  pub small_flat : (es : List (ℕ × ℕ)) → All (λ (e : ℕ × ℕ). (e.0 < 4294967296) × (e.1 < 4294967296)) es → (x : ℕ) → get_or (flat es) x 0 < 4294967296
+  small_flat [] h x = omega arith
+  small_flat (e ∷ es) h zero = (h 0 (0, 0) (omega arith)).0
+  small_flat (e ∷ es) h (suc zero) = (h 0 (0, 0) (omega arith)).1
+  small_flat (e ∷ es) h (suc (suc x)) = small_flat es (λ k d l. h (suc k) d (omega arith)) x
+
+  pub small_words : (es : List (ℕ × ℕ)) → S.cells < 4294967296 → IsLog S es → (x : ℕ) → get_or (log_words es) x 0 < 4294967296
+  small_words es c h zero = omega (arith, h.few)
+  small_words es c h (suc x) = small_flat es (λ k d l. (omega (arith, (h.entries k d l).0), (h.entries k d l).1)) x
+
+  pub number_at : (bs : List Batch) (k x : ℕ) → get_or (numbers B bs k) x 0 ≡ pay (at B bs k x)
+  number_at bs k x = go (cases_lt x (length (state B bs k)))
+    where
+      go : (x < length (state B bs k)) ⊎ (length (state B bs k) ≤ x) → get_or (numbers B bs k) x 0 ≡ pay (at B bs k x)
+      go (inl l) = get_or-map pay (state B bs k) x 0 0 l
+      go (inr l) = get_or_past (numbers B bs k) x 0 (rw length-map l) ∙ sym (ap pay (get_or_past (state B bs k) x 0 l) ∙ pay_zero)
+
+  pub logs_of : (w : World) → Core S Lawful B w → (k : ℕ) → B.seq < k → k ≤ B.seq + length w.batches → IsLog S (batch B w.batches k).log
+  logs_of w g k l m = g.shared.counted.logs k l (omega (arith, g.shared.counted.count))
+
+  -- the machine m of caller i, at its place
+  module _ (w : World) (g : Core S Lawful B w) (i : ℕ) (m : Data) (h : i < S.callers) where
+    pub same_words : (c : ℕ) → set w.words c (get_or w.words c 0) ≡ w.words
+    same_words c = set-get_or w.words c 0
+
+    pub same_batches : w.batches ++ [] ≡ w.batches
+    same_batches = append-nil w.batches

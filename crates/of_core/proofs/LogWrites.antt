@@ -1,0 +1,297 @@
+-- A machine stores its log and its request.
+use Rattle.std.proofs.Common.{◌≡◌, ℕ, zero, suc, ◌+◌, ◌*◌, ◌-◌, ◌<◌, ◌≤◌, ◌⊎◌, ◌==◌, inl, inr, List, [], ◌∷◌, ◌++◌, length, get_or, set, refl, sym, ◌∙◌, ap, subst, arith, length-set, length-append, Bool, true, false, if◌then◌else◌, nat_lt}
+use Rattle.std.specs.List.{All}
+use Rattle.std.proofs.lemmas.Bool.{cases_eq, cases_lt}
+use Rattle.std.proofs.lemmas.Bool.Decides.{nat_tests}
+use Rattle.std.proofs.lemmas.List.{append-nil, set-get_or, get_or-set_same, get_or-set_other}
+use Rattle.of_cell.specs.Words.{word, seq, pay}
+use Rattle.of_cell.proofs.Order.{seq_mono, seq_less, seq_word, pay_word, word_eta, seq_from, word_above, word_more}
+use Rattle.of_mem.specs.Meaning.{Meaning, Sound}
+use Rattle.of_mem.specs.declared.work.RawReply.{RawReply}
+use Rattle.of_core.specs.declared.place.Place.TheVariants.{StoreLog, StoreRequest, ExchangeCurrent, LoadTarget, ExchangeTarget, ReloadTarget, CloseRequest}
+use Rattle.of_core.specs.Table.{Setup, script_at, size, durable_at, request_at, data_at, base, log_at, announcement_of, script_word, current_word, request_of, cell, log_word, durable_word, durable_request, durable_cell, durable_log, last, holder, risen}
+use Rattle.of_core.specs.Machine.{Data, Call, entry, log_words, no_call}
+use Rattle.of_core.specs.Steps.{after_load_target, after_exchange, took_at, next_round}
+use Rattle.of_core.specs.World.{World, Batch, Start, stepped_at, one_batch}
+use Rattle.of_core.specs.History.{state, batch, at, HasCall, ticket_in, ticket_among}
+use Rattle.of_core.specs.Shared.{Heard, Kinds, IsRequest, IsLogWord, Shared, Opened, Counted, Datas, Requests, Stands, IsLog, IsEntry, Durable, Held}
+use Rattle.of_core.specs.Rounds.{Helper, Begun, Between, Round, Past, Quieted, Calm}
+use Rattle.of_core.specs.Scan.{Over, Announced}
+use Rattle.of_core.specs.Transaction.{Applies, Mode, Stored}
+use Rattle.of_core.specs.Invariant.{At, Core}
+use Rattle.of_core.specs.Moves.{Goes, Moves}
+use Rattle.of_core.proofs.States.{state_same, batch_same, batch_new, old, named_at, named_later, unnamed, cases_named}
+use Rattle.of_core.proofs.Logs.{turned_same, words_at, length-log_words}
+use Rattle.of_core.proofs.Assembling.{assemble, assemble_read, logs_of, small_words}
+use Rattle.of_core.proofs.Alike.{begun_as}
+use Rattle.of_core.proofs.Rounds.{two_rounds}
+use Rattle.of_core.proofs.Stability.{at_stable, floor_of, log_in, heard_as, said_as, same_row}
+use Rattle.of_core.proofs.LongerHistory.{grown, ticket_new}
+use Rattle.of_core.proofs.Touches.{Touches, durable_of, heard_of, kinds_of, kinds_same, moves_of, over_of, past_of, request_same, shared_of}
+
+module _ (S : Setup) (Lawful : List ℕ → Type 0) (B : Start) where
+
+  module _ (w : World) (g : Core S Lawful B w) (i : ℕ) (m : Data) (h : i < S.callers) where
+    -- the machine stores a word of its log
+    pub store_log_kept : (x : ℕ) → At S B w.words w.batches i m (StoreLog x) → Goes S Lawful B i w (stepped_at S i m (StoreLog x) w)
+    store_log_kept x a =
+        rw (append-nil w.batches)
+        (assemble S Lawful B w g i h vs w.batches (took_at S m (log_word S w.words m.caller x) (StoreLog x)) (moves_of S Lawful B i w.words vs w.batches touches g.shared)
+        (shared_of S Lawful B i w.words vs w.batches touches g.shared datas durable (heard_of S Lawful B i w.words vs w.batches touches g.shared behind counts) kinds) (
+          record {
+            stored = record {
+              past = past_of S Lawful B i w.words vs w.batches touches g.shared behind m h st.past _ refl refl refl refl refl refl refl refl refl;
+              over = over_of S Lawful B i w.words vs w.batches touches g.shared behind m.seq m.made m.op m.raw m.calls m.log S.callers st.over;
+              each = λ y l. stored y l (cases_eq y x);
+              durable = λ y l. dur_same (log_at S i y) (log_in S i y h (omega (arith, x_in, l))) ∙ st.durable y l;
+              rest = λ y l u. rw (log_row y u (λ q. omega arith)) (st.rest y (omega arith) u);
+            };
+            own = rw (req_same i h) a.0.own;
+            level = dur_same (request_at i) (omega arith) ∙ a.0.level ∙ sym (req_same i h);
+            shut = λ k l u o. rw (req_same i h) (a.0.shut k l (rw cur_same at u) o);
+          },
+          a.1,
+        ))
+      where
+        st : Stored S B w.words w.batches i m x x
+        st = a.0.stored
+
+        new : ℕ
+        new = word (m.seq + 1) (get_or (log_words m.log) x 0)
+
+        vs : List ℕ
+        vs = set w.words (log_at S m.caller x) new
+
+        ci : m.caller ≡ i
+        ci = st.past.looks.round.begun.caller
+
+        x_in : x < 2 * S.cells + 1
+        x_in = omega (arith, length-log_words m.log, st.over.over.is_log.few, a.1)
+
+        fits : log_at S i x < length w.words
+        fits = omega (arith, log_in S i x h x_in, g.shared.room)
+
+        here : log_word S vs i x ≡ new
+        here = rw ci (get_or-set_same w.words (log_at S i x) new 0 fits)
+
+        elsewhere : (d : ℕ) → (d ≡ log_at S i x → ⊥) → get_or vs d 0 ≡ get_or w.words d 0
+        elsewhere d q = rw ci (get_or-set_other w.words (log_at S i x) d new 0 q)
+
+        up_here : log_word S w.words i x ≤ new
+        up_here = omega (arith, seq_less (log_word S w.words i x) new (omega (arith, st.rest x (omega arith) x_in, seq_from (m.seq + 1) (get_or (log_words m.log) x 0) new (omega arith))))
+
+        behind : (j y : ℕ) → script_word S vs j y ≡ script_word S w.words j y
+        behind j y = elsewhere (script_at S j y) (omega (arith, log_in S i x h x_in))
+
+        counts : (j : ℕ) → j < S.callers → pay (log_word S vs j 0) ≤ S.cells
+        counts j l = count (cases_eq (log_at S j 0) (log_at S i x))
+          where
+            count : (log_at S j 0 ≡ log_at S i x) ⊎ (log_at S j 0 ≡ log_at S i x → ⊥) → pay (log_word S vs j 0) ≤ S.cells
+            count (inr q) = rw (elsewhere (log_at S j 0) q) (g.shared.heard.counts j l)
+            count (inl q) =
+                let e : j ≡ i = same_row j i (2 * S.cells + 1) 0 x (omega arith) x_in (omega arith) in
+                let z : x ≡ 0 = omega (arith, ap (λ (k : ℕ). k * (2 * S.cells + 1)) e) in
+                let v : new ≡ word (m.seq + 1) (length m.log) = ap (λ (k : ℕ). word (m.seq + 1) (get_or (log_words m.log) k 0)) z in
+                rw (q, here, v, pay_word (m.seq + 1) (length m.log) (omega (arith, st.over.over.is_log.few, g.shared.little))) st.over.over.is_log.few
+
+        cell_same : (y : ℕ) → y < S.cells → cell S vs y ≡ cell S w.words y
+        cell_same y l = elsewhere (S.callers + 1 + y) (omega arith)
+
+        cur_same : current_word vs ≡ current_word w.words
+        cur_same = elsewhere 0 (omega arith)
+
+        req_same : (j : ℕ) → j < S.callers → request_of vs j ≡ request_of w.words j
+        req_same j l = elsewhere (j + 1) (omega arith)
+
+        log_other : (j y : ℕ) → y < 2 * S.cells + 1 → (j ≡ i → ⊥) → log_word S vs j y ≡ log_word S w.words j y
+        log_other j y l q = elsewhere (log_at S j y) (λ e. q (same_row j i (2 * S.cells + 1) y x l x_in (omega arith)))
+
+        log_row : (y : ℕ) → y < 2 * S.cells + 1 → (y ≡ x → ⊥) → log_word S vs i y ≡ log_word S w.words i y
+        log_row y l q = elsewhere (log_at S i y) (omega arith)
+
+        dur_same : (c : ℕ) → c < size S → durable_word S vs c ≡ durable_word S w.words c
+        dur_same c l = elsewhere (durable_at S c) (omega (arith, log_in S i x h x_in))
+
+        rises : (c : ℕ) → (c ≡ log_at S i x) ⊎ (c ≡ log_at S i x → ⊥) → get_or w.words c 0 ≤ get_or vs c 0
+        rises c (inl q) = rw q (omega (arith, here, up_here))
+        rises c (inr q) = omega (arith, elsewhere c q)
+
+        log_how : (j y : ℕ) → j < S.callers → y < 2 * S.cells + 1 → (j ≡ i) ⊎ (j ≡ i → ⊥) → (y ≡ x) ⊎ (y ≡ x → ⊥) → (log_word S vs j y ≡ log_word S w.words j y) ⊎ (seq (log_word S w.words j y) < seq (log_word S vs j y))
+        log_how j y l u (inr q) r = inl (log_other j y u q)
+        log_how j y l u (inl q) (inr r) = inl (rw q (log_row y u r))
+        log_how j y l u (inl q) (inl r) = inr (rw (q, r, here) (omega (arith, st.rest x (omega arith) x_in, seq_from (m.seq + 1) (get_or (log_words m.log) x 0) new (omega arith))))
+
+        fits_word : (y : ℕ) → get_or (log_words m.log) y 0 < 4294967296
+        fits_word y = small_words S Lawful B m.log g.shared.little st.over.over.is_log y
+
+        touches : (Touches S Lawful B) i w.words vs w.batches
+        touches = record {
+          room = length-set w.words (log_at S m.caller x) new;
+          current_word = cur_same;
+          requests = λ j l q. inl (req_same j l);
+          logs = λ j l q y u. log_other j y u q;
+          changes = λ y l. inl (cell_same y l);
+          rise = λ c l. rises c (cases_eq c (log_at S i x));
+          durs = dur_same;
+          log_how = λ j y l u. log_how j y l u (cases_eq j i) (cases_eq y x);
+          script_of = λ j y l u. inl (behind j y);
+          announcements = λ j l. inl (behind j S.instrs);
+        }
+
+        kinds : Kinds S B vs w.batches
+        kinds = kinds_of S Lawful B i w.words vs w.batches touches g.shared (λ j l. request_same S Lawful B i w.words vs w.batches touches g.shared j l (req_same j l)) (λ j y l u. is_log_word j y l u (cases_eq j i) (cases_eq y x)) (λ j y l u. sized j y l u (cases_eq j i) (cases_eq (2 * y + 1) x))
+          where
+            is_log_word : (j y : ℕ) → j < S.callers → y < 2 * S.cells + 1 → (j ≡ i) ⊎ (j ≡ i → ⊥) → (y ≡ x) ⊎ (y ≡ x → ⊥) → IsLogWord B w.words w.batches j y (log_word S vs j y)
+            is_log_word j y l u (inr q) r = subst (λ (v : ℕ). IsLogWord B w.words w.batches j y v) (sym (log_other j y u q)) (g.shared.kinds.logs j y l u)
+            is_log_word j y l u (inl q) (inr r) = subst (λ (v : ℕ). IsLogWord B w.words w.batches j y v) (sym (ap (λ (k : ℕ). log_word S vs k y) q ∙ log_row y u r ∙ ap (λ (k : ℕ). log_word S w.words k y) (sym q))) (g.shared.kinds.logs j y l u)
+            is_log_word j y l u (inl q) (inl r) = λ a b o.
+                let e : log_word S vs j y ≡ new = ap (λ (k : ℕ). log_word S vs k y) q ∙ ap (log_word S vs i) r ∙ here in
+                let f : seq (log_word S vs j y) ≡ m.seq + 1 = ap seq e ∙ seq_word (m.seq + 1) (get_or (log_words m.log) x 0) (fits_word x) in
+                absurd (st.past.looks.round.unowned (seq (log_word S vs j y)) (omega (arith, f)) b (o ∙ q))
+
+            sized : (j y : ℕ) → j < S.callers → y < S.cells → (j ≡ i) ⊎ (j ≡ i → ⊥) → (2 * y + 1 ≡ x) ⊎ (2 * y + 1 ≡ x → ⊥) → pay (log_word S vs j (2 * y + 1)) < S.cells
+            sized j y l u (inr q) r = rw (log_other j (2 * y + 1) (omega arith) q) (g.shared.kinds.sized j y l u)
+            sized j y l u (inl q) (inr r) = rw (q, log_row (2 * y + 1) (omega arith) r) (g.shared.kinds.sized i y h u)
+            sized j y l u (inl q) (inl r) =
+                let in_log : y < length m.log = omega (arith, a.1, length-log_words m.log) in
+                let e : log_word S vs j (2 * y + 1) ≡ new = ap (λ (k : ℕ). log_word S vs k (2 * y + 1)) q ∙ ap (log_word S vs i) r ∙ here in
+                let p : pay new ≡ get_or (log_words m.log) x 0 = pay_word (m.seq + 1) (get_or (log_words m.log) x 0) (fits_word x) in
+                let n : get_or (log_words m.log) x 0 ≡ (entry m y).0 = ap (λ (k : ℕ). get_or (log_words m.log) k 0) (sym r) ∙ (words_at m.log y in_log).0 in
+                omega (arith, ap pay e, p, n, (st.over.over.is_log.entries y (0, 0) in_log).0)
+
+        open_same : Opened B w.words → Opened B vs
+        open_same o = record { any = rw cur_same o.any; asks = rw cur_same (req_same (holder w.words) g.shared.counted.owner_in ∙ o.asks) }
+
+        datas : Datas S B vs w.batches
+        datas = record { each = λ y l. each y l (g.shared.datas.each y l) }
+          where
+            each : (y : ℕ) → y < S.cells → (cell S w.words y ≡ at B w.batches (last w.words) y) ⊎ (Opened B w.words × (cell S w.words y ≡ at B w.batches (last w.words - 1) y))
+                → (cell S vs y ≡ at B w.batches (last vs) y) ⊎ (Opened B vs × (cell S vs y ≡ at B w.batches (last vs - 1) y))
+            each y l (inl q) = inl (rw cur_same (cell_same y l ∙ q))
+            each y l (inr (o, q)) = inr (open_same o, rw cur_same (cell_same y l ∙ q))
+
+        durable : Durable S B vs w.batches
+        durable = durable_of S Lawful B i w.words vs w.batches touches g.shared (λ y l. rw (cell_same y l) (g.shared.durable.fresh y l)) step (λ y l. cells (g.shared.durable.cells y l)) logs
+          where
+            step : (last w.words ≡ risen S w.words) ⊎ ((last w.words ≡ risen S w.words + 1) × Opened B w.words) → (last w.words ≡ risen S w.words) ⊎ ((last w.words ≡ risen S w.words + 1) × Opened B vs)
+            step (inl q) = inl q
+            step (inr q) = inr (q.0, open_same q.1)
+
+            cells : {p q r : Type 0} → p ⊎ (Opened B w.words × q × r) → p ⊎ (Opened B vs × q × r)
+            cells (inl d) = inl d
+            cells (inr d) = inr (open_same d.0, d.1, d.2)
+
+            -- an owner whose durable request is its batch's stores no log
+            logs : (k : ℕ) → B.seq < k → k ≤ last w.words → (j : ℕ) → (batch B w.batches k).owner ≡ j → durable_request S w.words j ≡ word k 0 → (y : ℕ) → y < 2 * S.cells + 1 → log_word S vs j y ≡ log_word S w.words j y
+            logs k l u j o q y v = log_other j y v (λ e. let z : word k 0 < request_of w.words i = a.0.shut k l u (o ∙ e) in let r : durable_request S w.words i ≡ word k 0 = rw e at q in omega (arith, a.0.level))
+
+        stored : (y : ℕ) → y < x + 1 → (y ≡ x) ⊎ (y ≡ x → ⊥) → log_word S vs i y ≡ word (m.seq + 1) (get_or (log_words m.log) y 0)
+        stored y l (inl q) = rw q here
+        stored y l (inr q) = log_row y (omega (arith, x_in)) q ∙ st.each y (omega arith)
+
+    -- the machine stores its request
+    pub store_request_kept : At S B w.words w.batches i m StoreRequest → Goes S Lawful B i w (stepped_at S i m StoreRequest w)
+    store_request_kept a =
+        rw (append-nil w.batches)
+        (assemble S Lawful B w g i h vs w.batches (took_at S m (request_of w.words m.caller) StoreRequest) (moves_of S Lawful B i w.words vs w.batches touches g.shared)
+        (shared_of S Lawful B i w.words vs w.batches touches g.shared datas durable (heard_of S Lawful B i w.words vs w.batches touches g.shared behind (λ j l. rw (log_same j 0) (g.shared.heard.counts j l))) (kinds_same S Lawful B i w.words vs w.batches touches g.shared (λ j l. request j l (cases_eq j i)) (λ j y l u. log_same j y))) (
+          record {
+            past = past_of S Lawful B i w.words vs w.batches touches g.shared behind m h st.past _ refl refl refl refl refl refl refl refl refl;
+            over = over_of S Lawful B i w.words vs w.batches touches g.shared behind m.seq m.made m.op m.raw m.calls m.log S.callers st.over;
+            each = λ y l. log_same i y ∙ st.each y l;
+            durable = λ y l. dur_same (log_at S i y) (log_in S i y h (omega (arith, length-log_words m.log, st.over.over.is_log.few, l))) ∙ st.durable y l;
+            rest = λ y l u. rw (log_same i y) (st.rest y l u);
+          },
+          here,
+        ))
+      where
+        st : Stored S B w.words w.batches i m (length (log_words m.log)) (length (log_words m.log))
+        st = a.stored
+
+        new : ℕ
+        new = word (m.seq + 1) 0
+
+        vs : List ℕ
+        vs = set w.words (m.caller + 1) new
+
+        ci : m.caller ≡ i
+        ci = st.past.looks.round.begun.caller
+
+        here : request_of vs i ≡ word (m.seq + 1) 0
+        here = rw ci (get_or-set_same w.words (i + 1) new 0 (omega (arith, g.shared.room)))
+
+        up_here : request_of w.words i < new
+        up_here = word_above (m.seq + 1) 0 (request_of w.words i) (omega (arith, a.own))
+
+        elsewhere : (c : ℕ) → (c ≡ i + 1 → ⊥) → get_or vs c 0 ≡ get_or w.words c 0
+        elsewhere c q = rw ci (get_or-set_other w.words (i + 1) c new 0 q)
+
+        cell_same : (x : ℕ) → x < S.cells → cell S vs x ≡ cell S w.words x
+        cell_same x l = elsewhere (S.callers + 1 + x) (omega arith)
+
+        cur_same : current_word vs ≡ current_word w.words
+        cur_same = elsewhere 0 (omega arith)
+
+        req_same : (j : ℕ) → (j ≡ i → ⊥) → request_of vs j ≡ request_of w.words j
+        req_same j q = elsewhere (j + 1) (omega arith)
+
+        log_same : (j x : ℕ) → log_word S vs j x ≡ log_word S w.words j x
+        log_same j x = elsewhere (log_at S j x) (omega arith)
+
+        behind : (j y : ℕ) → script_word S vs j y ≡ script_word S w.words j y
+        behind j y = elsewhere (script_at S j y) (omega arith)
+
+        dur_same : (c : ℕ) → c < size S → durable_word S vs c ≡ durable_word S w.words c
+        dur_same c l = elsewhere (durable_at S c) (omega arith)
+
+        rises : (c : ℕ) → (c ≡ i + 1) ⊎ (c ≡ i + 1 → ⊥) → get_or w.words c 0 ≤ get_or vs c 0
+        rises c (inl q) = rw q (omega (arith, here, up_here))
+        rises c (inr q) = omega (arith, elsewhere c q)
+
+        touches : (Touches S Lawful B) i w.words vs w.batches
+        touches = record {
+          room = length-set w.words (m.caller + 1) new;
+          current_word = cur_same;
+          requests = λ j l q. inl (req_same j q);
+          logs = λ j l q x u. log_same j x;
+          changes = λ x l. inl (cell_same x l);
+          rise = λ c l. rises c (cases_eq c (i + 1));
+          durs = dur_same;
+          log_how = λ j y l u. inl (log_same j y);
+          script_of = λ j y l u. inl (behind j y);
+          announcements = λ j l. inl (behind j S.instrs);
+        }
+
+        request : (j : ℕ) → j < S.callers → (j ≡ i) ⊎ (j ≡ i → ⊥) → IsRequest B w.words w.batches j (request_of vs j)
+        request j l (inr q) = request_same S Lawful B i w.words vs w.batches touches g.shared j l (req_same j q)
+        request j l (inl q) = λ a. inl (ap pay (ap (request_of vs) q ∙ here) ∙ pay_word (m.seq + 1) 0 (omega arith))
+
+        -- the open transaction isn't this caller's
+        open_same : Opened B w.words → Opened B vs
+        open_same o = go (cases_eq (holder w.words) i)
+          where
+            go : (holder w.words ≡ i) ⊎ (holder w.words ≡ i → ⊥) → Opened B vs
+            go (inl q) =
+                let z : word (last w.words) 0 < request_of w.words i = a.shut (last w.words) o.any (omega arith) (sym (g.shared.counted.owner o.any) ∙ q) in
+                let r : request_of w.words i ≡ word (last w.words) 0 = rw q at o.asks in
+                absurd (omega arith)
+            go (inr q) = record { any = rw cur_same o.any; asks = rw cur_same (req_same (holder w.words) q ∙ o.asks) }
+
+        datas : Datas S B vs w.batches
+        datas = record { each = λ x l. go x l (g.shared.datas.each x l) }
+          where
+            go : (x : ℕ) → x < S.cells → (cell S w.words x ≡ at B w.batches (last w.words) x) ⊎ (Opened B w.words × (cell S w.words x ≡ at B w.batches (last w.words - 1) x))
+                → (cell S vs x ≡ at B w.batches (last vs) x) ⊎ (Opened B vs × (cell S vs x ≡ at B w.batches (last vs - 1) x))
+            go x l (inl q) = inl (rw cur_same (cell_same x l ∙ q))
+            go x l (inr (o, q)) = inr (open_same o, rw cur_same (cell_same x l ∙ q))
+
+        durable : Durable S B vs w.batches
+        durable = durable_of S Lawful B i w.words vs w.batches touches g.shared (λ y l. rw (cell_same y l) (g.shared.durable.fresh y l)) step (λ y l. cells (g.shared.durable.cells y l)) (λ k l u j o q x v. log_same j x)
+          where
+            step : (last w.words ≡ risen S w.words) ⊎ ((last w.words ≡ risen S w.words + 1) × Opened B w.words) → (last w.words ≡ risen S w.words) ⊎ ((last w.words ≡ risen S w.words + 1) × Opened B vs)
+            step (inl q) = inl q
+            step (inr q) = inr (q.0, open_same q.1)
+
+            cells : {p q r : Type 0} → p ⊎ (Opened B w.words × q × r) → p ⊎ (Opened B vs × q × r)
+            cells (inl d) = inl d
+            cells (inr d) = inr (open_same d.0, d.1, d.2)

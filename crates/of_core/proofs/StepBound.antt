@@ -1,0 +1,471 @@
+-- No call makes more steps than the bound.
+use Rattle.std.proofs.Common.{◌≡◌, ℕ, zero, suc, ◌+◌, ◌*◌, ◌-◌, ◌<◌, ◌≤◌, ◌==◌, List, [], ◌∷◌, length, get_or, set, replicate, refl, sym, ◌∙◌, ap, subst, arith, Option, Some, None, Bool, true, false, nat_lt}
+use Rattle.std.proofs.lemmas.Bool.Decides.{nat_tests}
+use Rattle.of_cell.specs.Words.{word, seq, pay}
+use Rattle.of_mem.specs.Meaning.{Meaning, Walked, Needs, Gives}
+use Rattle.of_core.specs.declared.place.Place.{Place}
+use Rattle.of_core.specs.declared.place.Place.TheVariants.{Idle, TryCurrent, TryRequest, TryCell, StoreScript, StoreAnnouncement, LoadCurrent, LoadRequest, CopyLog, LookAgain, LoadOwnTicket, LoadShape, LoadReply, LoadAnnouncement, LoadTicket, LoadScript, LoadCell, RaiseOld, StoreLog, RaiseLog, StoreRequest, RaiseRequest, ExchangeCurrent, RaiseCurrent, LoadTarget, ExchangeTarget, ReloadTarget, RaiseTarget, CloseRequest, RaiseClosed}
+use Rattle.of_core.specs.Table.{Setup, ticket_cell, shape_cell, reply_cell, cell}
+use Rattle.of_core.specs.Machine.{Data, unknown, learned, merged, log_words, opened, first_place}
+use Rattle.of_core.specs.Steps.{read_on, read_ran, tried, resumed, after_try_request, over_try, after_try_cell, want_at, word_of, took_at, after_store_script, after_load_request, after_copy_log, after_look_again, after_own_ticket, after_load_shape, shape_read, after_load_reply, reply_read, asks_more, first_mark, after_announcement, weighed, after_load_ticket, after_load_script, script_more, ran, next_call, with_run, after_load_cell, after_raise_log, after_exchange, after_raise_current, after_load_target, next_entry, after_raise_closed, is_open, got_more}
+use Rattle.of_core.specs.World.{World, Start}
+use Rattle.of_core.specs.Transaction.{Applies}
+use Rattle.of_core.specs.Invariant.{At, Core}
+use Rattle.of_core.specs.Bound.{bound, unknowns, applying, behind_help, lost, rounds_left, behind_apply, helped, tries_left, announced_left, scan_left, Within}
+use Rattle.of_core.proofs.Logs.{room_for, length-log_words}
+use Rattle.of_core.proofs.Tests.{differ, mark_some}
+use Rattle.of_core.proofs.Rounds.{own_row_old}
+use Rattle.of_core.proofs.OwnReply.{done_now}
+use Rattle.of_core.proofs.Scans.{ticket_in_cells}
+
+unknowns_all : (n : ℕ) → unknowns (replicate n None) ≡ n
+unknowns_all zero = refl
+unknowns_all (suc n) = ap suc (unknowns_all n)
+
+-- one more cell is known
+unknowns_set : (ks : List (Option ℕ)) (a v : ℕ) → a < length ks → get_or ks a None ≡ None → unknowns (set ks a (Some v)) + 1 ≡ unknowns ks
+unknowns_set [] a v l e = absurd (omega arith)
+unknowns_set (None ∷ ks) zero v l e = omega arith
+unknowns_set (Some x ∷ ks) zero v l e = cc
+unknowns_set (None ∷ ks) (suc a) v l e = omega (arith, unknowns_set ks a v (omega arith) e)
+unknowns_set (Some x ∷ ks) (suc a) v l e = unknowns_set ks a v (omega arith) e
+
+try_cost : (r q : ℕ) → r ≤ 3 → (4 - (r + 1)) * q + q ≡ (4 - r) * q
+try_cost zero q l = omega arith
+try_cost (suc zero) q l = omega arith
+try_cost (suc (suc zero)) q l = omega arith
+try_cost (suc (suc (suc zero))) q l = omega arith
+try_cost (suc (suc (suc (suc r)))) q l = absurd (omega arith)
+
+round_cost : (r q : ℕ) → r ≤ 2 → (3 - (r + 1)) * q + q ≡ (3 - r) * q
+round_cost zero q l = omega arith
+round_cost (suc zero) q l = omega arith
+round_cost (suc (suc zero)) q l = omega arith
+round_cost (suc (suc (suc r))) q l = absurd (omega arith)
+
+row_cost : (n s q : ℕ) → s + 1 < n → (n - (s + 1) - 1) * q + q ≡ (n - s - 1) * q
+row_cost n s q l = let e : n - s - 1 ≡ n - (s + 1) - 1 + 1 = omega arith in rw e (plus (n - (s + 1) - 1))
+  where
+    plus : (d : ℕ) → d * q + q ≡ (d + 1) * q
+    plus d = grind arith
+
+-- one step less is left
+fewer : (s a b l : ℕ) → s + a ≤ l → b + 1 ≤ a → s + 1 + b ≤ l
+fewer s a b l h k = omega arith
+
+next_sum : (st k x y u t r l : ℕ) → x + k ≡ y → st + 1 + (y + u + t + r) ≤ l → st + 1 + (k + (x + u + t + r)) ≤ l
+next_sum st k x y u t r l e h = omega arith
+
+done_sum : (st y u t r l : ℕ) → st + 1 + (y + u + t + r) ≤ l → st + 1 + (t + r) ≤ l
+done_sum st y u t r l h = omega arith
+
+-- one cell more is known
+known_sum : (st a y u v t r l : ℕ) → v + 1 ≡ u → st + (a + (y + u + t + r)) ≤ l → st + 1 + (a + (y + v + t + r)) ≤ l
+known_sum st a y u v t r l e h = omega arith
+
+known_sum0 : (st y u v t r l : ℕ) → v + 1 ≡ u → st + (y + u + t + r) ≤ l → st + 1 + (y + v + t + r) ≤ l
+known_sum0 st y u v t r l e h = omega arith
+
+again_sum0 : (st y u t r l : ℕ) → 1 ≤ t → st + (y + u + t + r) ≤ l → st + 1 + r ≤ l
+again_sum0 st y u t r l k h = omega arith
+
+-- the round begins again
+again_sum : (st a y u t r l : ℕ) → 1 ≤ t → st + (a + (y + u + t + r)) ≤ l → st + 1 + r ≤ l
+again_sum st a y u t r l k h = omega arith
+
+-- a whole round
+round_sum : (st m p x q l : ℕ) → x + (11 * m + p + 13) ≡ q → st + (q + (4 * m + 3)) ≤ l → st + 1 + (6 * m + 6 + (5 * m + p + 6 + (x + (4 * m + 3)))) ≤ l
+round_sum st m p x q l e h = omega arith
+
+-- a call that opens
+pub opened_within : (S : Setup) (m : Data) (op : List ℕ) → Within S (opened S m op) (opened S m op).place
+opened_within S m op = go (S.meaning.reads_only op)
+  where
+    sum : (i m p : ℕ) → 0 + (i - 0 + 1 + (3 * (11 * m + p + 13) + (4 * m + 3))) ≤ i + 1 + 3 * (15 * m + p + 15) + 4 * (7 * m + 7)
+    sum i m p = omega arith
+
+    first : (i m p : ℕ) → 0 + ((4 - 0) * (7 * m + 7) + (i + 1 + (3 * (11 * m + p + 13) + (4 * m + 3)))) ≤ i + 1 + 3 * (15 * m + p + 15) + 4 * (7 * m + 7)
+    first i m p = omega arith
+
+    go : (b : Bool) → Within S (record (opened S m op) { place = first_place b }) (first_place b)
+    go true = record { told = λ q. cc; steps = first S.instrs S.cells (S.callers * (S.instrs + 1)) }
+    go false = record { told = λ q. cc; steps = sum S.instrs S.cells (S.callers * (S.instrs + 1)) }
+
+module _ (S : Setup) where
+  -- the scan goes on behind the caller that it has come to
+  next_within : (n : Data) → n.scan < S.callers → n.steps + 1 + scan_left S n ≤ bound S → (b : Bool) → nat_lt (n.scan + 1) S.callers ≡ b → Within S (next_call n b) (next_call n b).place
+  next_within n l h true e = record {
+    told = λ q. cc;
+    steps = next_sum n.steps (S.instrs + 1) ((S.callers - (n.scan + 1) - 1) * (S.instrs + 1)) ((S.callers - n.scan - 1) * (S.instrs + 1)) (unknowns n.known) (4 * S.cells + 6) (rounds_left S n) (bound S)
+        (row_cost S.callers n.scan (S.instrs + 1) (let z : n.scan + 1 < S.callers = grind (arith, nat_tests) in z)) h;
+  }
+  next_within n l h false e = record { told = λ q. cc; steps = done_sum n.steps ((S.callers - n.scan - 1) * (S.instrs + 1)) (unknowns n.known) (4 * S.cells + 6) (rounds_left S n) (bound S) h }
+
+  weighed_within : (n : Data) → n.scan < S.callers → n.steps + 1 + (S.instrs + scan_left S n) ≤ bound S → (b : Bool) → Within S (weighed S n b) (weighed S n b).place
+  weighed_within n l h true = record { told = λ q. cc; steps = same n.steps S.instrs (scan_left S n) (bound S) h }
+    where
+      same : (s k x l : ℕ) → s + 1 + (k + x) ≤ l → s + 1 + (k - 0 + x) ≤ l
+      same s k x l h = omega arith
+  weighed_within n l h false = next_within n l (less n.steps S.instrs (scan_left S n) (bound S) h) (nat_lt (n.scan + 1) S.callers) refl
+    where
+      less : (s k x l : ℕ) → s + 1 + (k + x) ≤ l → s + 1 + x ≤ l
+      less s k x l h = omega arith
+
+  ran_within : (n : Data) → n.scan < S.callers → n.steps + 1 + scan_left S n ≤ bound S → (r : Walked) → Within S (ran S n r) (ran S n r).place
+  ran_within n l h (Needs a) = record { told = λ q. cc; steps = h }
+  ran_within n l h (Gives es r) = next_within (with_run S n es r) l h (nat_lt (n.scan + 1) S.callers) refl
+
+  asks_within : (n : Data) (x j : ℕ) → n.steps + (S.instrs - x + 1) ≤ bound S → x ≤ j → (r : Option ℕ) → ((k : ℕ) → r ≡ Some k → x ≤ k) → Within S (asks_more n r) (asks_more n r).place
+  asks_within n x j h l None f = record { steps = omega arith; told = λ q. omega arith }
+  asks_within n x j h l (Some k) f = record { told = λ q. cc; steps = sum n.steps S.instrs x k (bound S) h (f k refl) }
+    where
+      sum : (s i x k l : ℕ) → s + (i - x + 1) ≤ l → x ≤ k → s + 1 + (i - k) ≤ l
+      sum s i x k l h f = omega arith
+
+  reads_within : (n : Data) → n.steps + 1 + (unknowns n.known + tries_left S n) ≤ bound S → Within S (read_on S n) (read_on S n).place
+  reads_within n h = go (S.meaning.walk n.known n.op)
+    where
+      fewer_by : (s x l : ℕ) → s + 1 + x ≤ l → s + 1 ≤ l
+      fewer_by s x l h = omega arith
+
+      go : (r : Walked) → Within S (read_ran n r) (read_ran n r).place
+      go (Needs a) = record { told = λ q. cc; steps = h }
+      go (Gives es r) = record { steps = omega arith; told = λ q. fewer_by n.steps (unknowns n.known + tries_left S n) (bound S) h }
+
+  tried_within : (n : Data) → n.steps + 1 + (S.cells + tries_left S n) ≤ bound S → Within S (tried S n) (tried S n).place
+  tried_within n h = reads_within (record n { known = unknown S; helps = false }) (rw (unknowns_all S.cells) h)
+
+  resumed_within : (n : Data) (b : Bool) → n.steps + 1 + helped S n b ≤ bound S → Within S (resumed S n b) (resumed S n b).place
+  resumed_within n true h = tried_within n h
+  resumed_within n false h = record { told = λ q. cc; steps = h }
+
+  module _ (Lawful : List ℕ → Type 0) (B : Start) (w : World) (g : Core S Lawful B w) (i : ℕ) (m : Data) (h : i < S.callers) where
+    n_cells : (j : ℕ) → Applies S B w.words w.batches i m j → length m.log ≤ S.cells
+    n_cells j p = rw p.log.many (g.shared.counted.logs m.seq p.after p.upto).few
+
+    words_row : S.instrs + 1 ≤ S.callers * (S.instrs + 1)
+    words_row = let r : i * (S.instrs + 1) + (S.instrs + 1) ≤ S.callers * (S.instrs + 1) = room_for i S.callers (S.instrs + 1) h in omega arith
+
+    -- each step leaves one less
+    pub within : (p : Place) → At S B w.words w.batches i m p → Within S m p → m.place ≡ p
+        → Within S (took_at S m (get_or w.words (word_of (want_at S m p)) 0) p) (took_at S m (get_or w.words (word_of (want_at S m p)) 0) p).place
+    within Idle a t e = subst (λ (q : Place). Within S m q) (sym e) t
+    within TryCurrent a t e = record { told = λ q. cc; steps = sum m.steps S.cells ((4 - (m.tries + 1)) * (7 * S.cells + 7)) ((4 - m.tries) * (7 * S.cells + 7)) (announced_left S) (bound S) (try_cost m.tries (7 * S.cells + 7) a.3) t.steps }
+      where
+        sum : (s c x y r l : ℕ) → x + (7 * c + 7) ≡ y → s + (y + r) ≤ l → s + 1 + (7 * c + 6 + (x + r)) ≤ l
+        sum s c x y r l e h = omega arith
+    within TryRequest a t e = go (is_open m.seq (get_or w.words (m.owner + 1) 0))
+      where
+        opens : (s c r l : ℕ) → s + (7 * c + 6 + r) ≤ l → s + 1 + (2 * c + 1 - 0 + 1 + (4 * c + 3) + (c + r)) ≤ l
+        opens s c r l h = omega arith
+
+        closed : (s c r l : ℕ) → s + (7 * c + 6 + r) ≤ l → s + 1 + (c + r) ≤ l
+        closed s c r l h = omega arith
+
+        trying : (b : Bool) → (m.rounds == 0) ≡ b → m.steps + 1 + (2 * S.cells + 1 - 0 + 1 + applying S + helped S m b) ≤ bound S
+        trying true q = opens m.steps S.cells (tries_left S m) (bound S) t.steps
+        trying false q = absurd (differ m.rounds 0 q a.0.fresh.rounds)
+
+        go : (b : Bool) → Within S (after_try_request S m b) (after_try_request S m b).place
+        go true = record { told = λ q. cc; steps = trying (m.rounds == 0) refl }
+        go false = tried_within m (closed m.steps S.cells (tries_left S m) (bound S) t.steps)
+    within (TryCell x) a t e = go (nat_lt m.seq (seq found))
+      where
+        found : ℕ
+        found = get_or w.words (word_of (want_at S m (TryCell x))) 0
+
+        one : unknowns (learned S m x found) + 1 ≡ unknowns m.known
+        one = unknowns_set m.known x (pay found) (omega (arith, a.3.all, a.4)) a.5
+
+        again : (s u v r l : ℕ) → v + 1 ≡ u → s + (u + r) ≤ l → s + 1 + r ≤ l
+        again s u v r l e h = omega arith
+
+        aloud : (s u v x y r l : ℕ) → v + 1 ≡ u → s + (u + (x + (y + 1 + r))) ≤ l → s + 1 + (y - 0 + 1 + r) ≤ l
+        aloud s u v x y r l e h = omega arith
+
+        less : (s u v r l : ℕ) → v + 1 ≡ u → s + (u + r) ≤ l → s + 1 + (v + r) ≤ l
+        less s u v r l e h = omega arith
+
+        over : (b : Bool) → Within S (over_try m b) (over_try m b).place
+        over true = record { told = λ q. cc; steps = again m.steps (unknowns m.known) (unknowns (learned S m x found)) (tries_left S m) (bound S) one t.steps }
+        over false = record { told = λ q. cc; steps = aloud m.steps (unknowns m.known) (unknowns (learned S m x found)) ((4 - m.tries) * (7 * S.cells + 7)) S.instrs (3 * lost S + applying S) (bound S) one t.steps }
+
+        go : (b : Bool) → Within S (after_try_cell S m x found b) (after_try_cell S m x found b).place
+        go true = over (nat_lt m.tries 4)
+        go false = reads_within (record m { known = learned S m x found }) (less m.steps (unknowns m.known) (unknowns (learned S m x found)) (tries_left S m) (bound S) one t.steps)
+    within (StoreScript j) a t e = go (nat_lt (j + 1) (length m.op))
+      where
+        more : (s i j x l : ℕ) → j < i → s + (i - j + 1 + x) ≤ l → s + 1 + (i - (j + 1) + 1 + x) ≤ l
+        more s i j x l k h = omega arith
+
+        last : (s i j x l : ℕ) → j < i → s + (i - j + 1 + x) ≤ l → s + 1 + (1 + x) ≤ l
+        last s i j x l k h = omega arith
+
+        j_in : j < S.instrs
+        j_in = omega (arith, a.2, a.0.words)
+
+        go : (b : Bool) → Within S (after_store_script m j b) (after_store_script m j b).place
+        go true = record { told = λ q. cc; steps = more m.steps S.instrs j (3 * lost S + applying S) (bound S) j_in t.steps }
+        go false = record { told = λ q. cc; steps = last m.steps S.instrs j (3 * lost S + applying S) (bound S) j_in t.steps }
+    within StoreAnnouncement a t e = record { told = λ q. cc; steps = sum m.steps m.rounds (lost S) (applying S) (bound S) a.0.rounds t.steps }
+      where
+        sum : (s r q x l : ℕ) → r ≡ 0 → s + (1 + (3 * q + x)) ≤ l → s + 1 + ((3 - r) * q + x) ≤ l
+        sum s r q x l e h = rw e (omega arith)
+    within LoadCurrent a t e = record { told = λ q. cc; steps = round_sum m.steps S.cells (S.callers * (S.instrs + 1)) ((3 - (m.rounds + 1)) * lost S) ((3 - m.rounds) * lost S) (bound S) (round_cost m.rounds (lost S) a.2.few) t.steps }
+    within LoadRequest a t e = go (is_open m.seq (get_or w.words (m.owner + 1) 0))
+      where
+        opens : (s c x l : ℕ) → s + (6 * c + 6 + x) ≤ l → s + 1 + (2 * c + 1 - 0 + 1 + (4 * c + 3) + x) ≤ l
+        opens s c x l h = omega arith
+
+        closed : (s c x l : ℕ) → s + (6 * c + 6 + x) ≤ l → s + 1 + x ≤ l
+        closed s c x l h = omega arith
+
+        round : (b : Bool) → (m.rounds == 0) ≡ b → m.steps + 1 + (2 * S.cells + 1 - 0 + 1 + applying S + helped S m b) ≤ bound S
+        round false q = opens m.steps S.cells (behind_help S + rounds_left S m) (bound S) t.steps
+        round true q = let z : m.rounds ≡ 0 = grind (arith, nat_tests) in absurd (omega (arith, a.0.begun_one))
+
+        go : (b : Bool) → Within S (after_load_request S m b) (after_load_request S m b).place
+        go true = record { told = λ q. cc; steps = round (m.rounds == 0) refl }
+        go false = record { told = λ q. cc; steps = closed m.steps S.cells (behind_help S + rounds_left S m) (bound S) t.steps }
+    within (CopyLog x) a t e = go (nat_lt (x + 1) (2 * get_or (got_more m found) 0 0 + 1))
+      where
+        found : ℕ
+        found = get_or w.words (word_of (want_at S m (CopyLog x))) 0
+
+        more : (s c x k r l : ℕ) → x < c → s + (c - x + 1 + k + r) ≤ l → s + 1 + (c - (x + 1) + 1 + k + r) ≤ l
+        more s c x k r l z h = omega arith
+
+        last : (s c x k r l : ℕ) → x < c → s + (c - x + 1 + k + r) ≤ l → s + 1 + (1 + k + r) ≤ l
+        last s c x k r l z h = omega arith
+
+        go : (b : Bool) → Within S (after_copy_log m x found b) (after_copy_log m x found b).place
+        go true = record { told = λ q. cc; steps = more m.steps (2 * S.cells + 1) x (applying S) (helped S m (m.rounds == 0)) (bound S) a.2 t.steps }
+        go false = record { told = λ q. cc; steps = last m.steps (2 * S.cells + 1) x (applying S) (helped S m (m.rounds == 0)) (bound S) a.2 t.steps }
+    within LookAgain a t e = go (get_or w.words (m.owner + 1) 0 == word m.seq 0) (m.rounds == 0) t.steps
+      where
+        opens : (s k r l : ℕ) → s + (1 + k + r) ≤ l → s + 1 + (k + r) ≤ l
+        opens s k r l h = omega arith
+
+        closed : (s k r l : ℕ) → s + (1 + k + r) ≤ l → s + 1 + r ≤ l
+        closed s k r l h = omega arith
+
+        helping : (b : Bool) → b ≡ true → m.steps + 1 + (applying S + behind_apply S m b) ≤ bound S
+        helping true q = opens m.steps (applying S) (helped S m (m.rounds == 0)) (bound S) t.steps
+        helping false q = cc
+
+        go : (b d : Bool) → m.steps + (1 + applying S + helped S m d) ≤ bound S → Within S (after_look_again S m b d) (after_look_again S m b d).place
+        go true d u = record { told = λ q. cc; steps = helping m.helps a.0.helps }
+        go false d u = resumed_within m d (closed m.steps (applying S) (helped S m d) (bound S) u)
+    within LoadOwnTicket a t e = go (nat_lt m.seq (seq found)) (pay found == m.made) (m.seq == S.limit)
+      where
+        found : ℕ
+        found = get_or w.words (word_of (want_at S m LoadOwnTicket)) 0
+
+        newer : (s x r l : ℕ) → 1 ≤ x → s + (x + r) ≤ l → s + 1 + r ≤ l
+        newer s x r l z h = omega arith
+
+        shape : (s k c p r l : ℕ) → k + 1 ≤ p → s + (5 * c + p + 6 + r) ≤ l → s + 1 + (k + 1) ≤ l
+        shape s k c p r l z h = omega arith
+
+        call : (s k c p u y r l : ℕ) → u + 1 ≡ c → k + y ≡ p → s + (5 * c + p + 6 + r) ≤ l → s + 1 + (k + (y + u + (4 * c + 6) + r)) ≤ l
+        call s k c p u y r l z q h = omega arith
+
+        one_row : (n s q : ℕ) → s ≡ 0 → 0 < n → q + (n - s - 1) * q ≡ n * q
+        one_row (suc n) s q e l = rw e (grind arith)
+        one_row zero s q e l = absurd (omega arith)
+
+        cells_in : ticket_cell S m.caller < S.cells
+        cells_in = rw a.0.round.begun.caller (ticket_in_cells S Lawful B w g i m h i h)
+
+        known_one : unknowns (learned S m (ticket_cell S m.caller) found) + 1 ≡ S.cells
+        known_one = unknowns_set m.known (ticket_cell S m.caller) (pay found) (omega (arith, a.0.all, cells_in)) (none_at m.known a.2) ∙ ap unknowns a.2 ∙ unknowns_all S.cells
+          where
+            none_of : (n y : ℕ) → get_or {A = Option ℕ} (replicate n None) y None ≡ None
+            none_of zero y = refl
+            none_of (suc n) zero = refl
+            none_of (suc n) (suc y) = none_of n y
+
+            none_at : (ks : List (Option ℕ)) → ks ≡ unknown S → get_or ks (ticket_cell S m.caller) None ≡ None
+            none_at ks q = rw q (none_of S.cells (ticket_cell S m.caller))
+
+        go : (b c d : Bool) → Within S (after_own_ticket S m found b c d) (after_own_ticket S m found b c d).place
+        go true c d = record { told = λ q. cc; steps = newer m.steps (behind_help S) (rounds_left S m) (bound S) (omega arith) t.steps }
+        go false true d = record { told = λ q. cc; steps = shape m.steps S.instrs S.cells (S.callers * (S.instrs + 1)) (rounds_left S m) (bound S) words_row t.steps }
+        go false false true = record { steps = omega arith; told = λ q. tt }
+        go false false false = record {
+          told = λ q. cc;
+          steps = call m.steps (S.instrs + 1) S.cells (S.callers * (S.instrs + 1)) (unknowns (learned S m (ticket_cell S m.caller) found)) ((S.callers - m.scan - 1) * (S.instrs + 1)) (rounds_left S m) (bound S)
+              known_one (one_row S.callers m.scan (S.instrs + 1) a.5 (omega arith)) t.steps;
+        }
+    within LoadShape a t e = go (nat_lt m.seq (seq found)) refl
+      where
+        found : ℕ
+        found = cell S w.words (shape_cell S m.caller)
+
+        same : (s i l : ℕ) → s + (i + 1) ≤ l → s + (i - 0 + 1) ≤ l
+        same s i l h = omega arith
+
+        fresh : seq (cell S w.words (shape_cell S m.caller)) ≤ m.seq
+        fresh = rw a.0.round.begun.caller (own_row_old S Lawful B w g i m h m a.0 (done_now S Lawful B w g i m h m a.2) (shape_cell S i) (omega arith, omega arith))
+
+        go : (b : Bool) → nat_lt m.seq (seq found) ≡ b → Within S (after_load_shape S m found b) (after_load_shape S m found b).place
+        go true q = let z : m.seq < seq found = grind (arith, nat_tests) in absurd (omega (arith, fresh))
+        go false q = asks_within (shape_read S m found) 0 0 (same m.steps S.instrs (bound S) t.steps) (omega arith) (first_mark (pay found) 0 S.instrs) (λ k z. omega arith)
+    within (LoadReply j) a t e = go (nat_lt m.seq (seq found)) refl
+      where
+        found : ℕ
+        found = cell S w.words (reply_cell S m.caller j)
+
+        fresh : seq (cell S w.words (reply_cell S m.caller j)) ≤ m.seq
+        fresh = rw a.0.round.begun.caller (own_row_old S Lawful B w g i m h m a.0 (done_now S Lawful B w g i m h m a.2) (reply_cell S i j) (omega arith, omega (arith, a.4)))
+
+        less : (s i j l : ℕ) → j < i → s + (i - j) ≤ l → s + (i - (j + 1) + 1) ≤ l
+        less s i j l z h = omega arith
+
+        go : (b : Bool) → nat_lt m.seq (seq found) ≡ b → Within S (after_load_reply S m j found b) (after_load_reply S m j found b).place
+        go true q = let z : m.seq < seq found = grind (arith, nat_tests) in absurd (omega (arith, fresh))
+        go false q = asks_within (reply_read m j found) (j + 1) (j + 1) (less m.steps S.instrs j (bound S) a.4 t.steps) (omega arith) (first_mark m.raw.shape (j + 1) (S.instrs - j - 1)) (λ k z. (mark_some m.raw.shape (j + 1) (S.instrs - j - 1) k z).0)
+    within LoadAnnouncement a t e = go (get_or m.known (ticket_cell S m.scan) None)
+      where
+        found : ℕ
+        found = get_or w.words (word_of (want_at S m LoadAnnouncement)) 0
+
+        less : (s k x l : ℕ) → s + (k + 1 + x) ≤ l → s + 1 + (k + x) ≤ l
+        less s k x l h = omega arith
+
+        go : (r : Option ℕ) → Within S (after_announcement S m found r) (after_announcement S m found r).place
+        go None = record { told = λ q. cc; steps = less m.steps S.instrs (scan_left S m) (bound S) t.steps }
+        go (Some v) = weighed_within (record m { heard = found }) a.3 (less m.steps S.instrs (scan_left S m) (bound S) t.steps) (nat_lt v (seq found))
+    within LoadTicket a t e = go (nat_lt m.seq (seq found))
+      where
+        found : ℕ
+        found = get_or w.words (word_of (want_at S m LoadTicket)) 0
+
+        go : (b : Bool) → Within S (after_load_ticket S m found b) (after_load_ticket S m found b).place
+        go true = record { told = λ q. cc; steps = again_sum m.steps S.instrs ((S.callers - m.scan - 1) * (S.instrs + 1)) (unknowns m.known) (4 * S.cells + 6) (rounds_left S m) (bound S) (omega arith) t.steps }
+        go false = weighed_within (record m { known = learned S m (ticket_cell S m.scan) found }) a.3
+            (known_sum m.steps S.instrs ((S.callers - m.scan - 1) * (S.instrs + 1)) (unknowns m.known) (unknowns (learned S m (ticket_cell S m.scan) found)) (4 * S.cells + 6) (rounds_left S m) (bound S)
+            (unknowns_set m.known (ticket_cell S m.scan) (pay found) (omega (arith, a.0.looks.all, ticket_in_cells S Lawful B w g i m h m.scan a.3)) a.5) t.steps)
+            (nat_lt (pay found) (seq m.heard))
+    within (LoadScript j) a t e = go (nat_lt (j + 1) (pay m.heard))
+      where
+        found : ℕ
+        found = get_or w.words (word_of (want_at S m (LoadScript j))) 0
+
+        j_in : j < S.instrs
+        j_in = omega (arith, a.6, a.4.small)
+
+        more : (s i j x l : ℕ) → j < i → s + (i - j + x) ≤ l → s + 1 + (i - (j + 1) + x) ≤ l
+        more s i j x l z h = omega arith
+
+        last : (s i j x l : ℕ) → j < i → s + (i - j + x) ≤ l → s + 1 + x ≤ l
+        last s i j x l z h = omega arith
+
+        go : (b : Bool) → Within S (after_load_script S m j found b) (after_load_script S m j found b).place
+        go true = record { told = λ q. cc; steps = more m.steps S.instrs j (scan_left S m) (bound S) j_in t.steps }
+        go false = ran_within (record m { script = script_more m found }) a.3 (last m.steps S.instrs j (scan_left S m) (bound S) j_in t.steps) (S.meaning.walk (merged m.known m.log) (script_more m found))
+    within (LoadCell x) a t e = go (nat_lt m.seq (seq found))
+      where
+        found : ℕ
+        found = get_or w.words (word_of (want_at S m (LoadCell x))) 0
+
+        go : (b : Bool) → Within S (after_load_cell S m x found b) (after_load_cell S m x found b).place
+        go true = record { told = λ q. cc; steps = again_sum0 m.steps ((S.callers - m.scan - 1) * (S.instrs + 1)) (unknowns m.known) (4 * S.cells + 6) (rounds_left S m) (bound S) (omega arith) t.steps }
+        go false = ran_within (record m { known = learned S m x found }) a.3
+            (known_sum0 m.steps ((S.callers - m.scan - 1) * (S.instrs + 1)) (unknowns m.known) (unknowns (learned S m x found)) (4 * S.cells + 6) (rounds_left S m) (bound S)
+            (unknowns_set m.known x (pay found) (omega (arith, a.0.looks.all, a.6)) a.7) t.steps)
+            (S.meaning.walk (merged (learned S m x found) m.log) m.script)
+    within RaiseOld a t e = record { told = λ q. cc; steps = sum m.steps S.cells (rounds_left S m) (bound S) t.steps }
+      where
+        sum : (s c r l : ℕ) → s + (4 * c + 6 + r) ≤ l → s + 1 + (2 * (2 * c + 1 - 0) + 3 + r) ≤ l
+        sum s c r l h = omega arith
+    within (StoreLog x) a t e = record { told = λ q. cc; steps = sum m.steps (2 * (2 * S.cells + 1 - x)) (rounds_left S m) (bound S) t.steps }
+      where
+        sum : (s y r l : ℕ) → s + (y + 3 + r) ≤ l → s + 1 + (y + 2 + r) ≤ l
+        sum s y r l h = omega arith
+    within (RaiseLog x) a t e = go (nat_lt (x + 1) (length (log_words m.log)))
+      where
+        x_in : x < 2 * S.cells + 1
+        x_in = omega (arith, length-log_words m.log, a.0.stored.over.over.is_log.few, a.1)
+
+        more : (s c x r l : ℕ) → x < c → s + (2 * (c - x) + 2 + r) ≤ l → s + 1 + (2 * (c - (x + 1)) + 3 + r) ≤ l
+        more s c x r l z h = omega arith
+
+        last : (s c x r l : ℕ) → x < c → s + (2 * (c - x) + 2 + r) ≤ l → s + 1 + (3 + r) ≤ l
+        last s c x r l z h = omega arith
+
+        go : (b : Bool) → Within S (after_raise_log m x b) (after_raise_log m x b).place
+        go true = record { told = λ q. cc; steps = more m.steps (2 * S.cells + 1) x (rounds_left S m) (bound S) x_in t.steps }
+        go false = record { told = λ q. cc; steps = last m.steps (2 * S.cells + 1) x (rounds_left S m) (bound S) x_in t.steps }
+    within StoreRequest a t e = record { told = λ q. cc; steps = fewer m.steps (3 + rounds_left S m) (2 + rounds_left S m) (bound S) t.steps (omega arith) }
+    within RaiseRequest a t e = record { told = λ q. cc; steps = fewer m.steps (2 + rounds_left S m) (1 + rounds_left S m) (bound S) t.steps (omega arith) }
+    within ExchangeCurrent a t e = go (get_or w.words 0 0 == word m.seq m.owner)
+      where
+        won : (s y k l : ℕ) → s + (1 + (y + k)) ≤ l → s + 1 + (k + 0) ≤ l
+        won s y k l h = omega arith
+
+        go : (b : Bool) → Within S (after_exchange m b) (after_exchange m b).place
+        go true = record { told = λ q. cc; steps = won m.steps ((3 - m.rounds) * lost S) (applying S) (bound S) t.steps }
+        go false = record { told = λ q. cc; steps = fewer m.steps (1 + rounds_left S m) (rounds_left S m) (bound S) t.steps (omega arith) }
+    within RaiseCurrent a t e = go (nat_lt 0 (length m.log))
+      where
+        more : (s c r l : ℕ) → s + (4 * c + 3 + r) ≤ l → s + 1 + (4 * (c - 0) + 2 + r) ≤ l
+        more s c r l h = omega arith
+
+        none : (s c r l : ℕ) → s + (4 * c + 3 + r) ≤ l → s + 1 + (2 + r) ≤ l
+        none s c r l h = omega arith
+
+        go : (b : Bool) → Within S (after_raise_current m b) (after_raise_current m b).place
+        go true = record { told = λ q. cc; steps = more m.steps S.cells (behind_apply S m m.helps) (bound S) t.steps }
+        go false = record { told = λ q. cc; steps = none m.steps S.cells (behind_apply S m m.helps) (bound S) t.steps }
+    within (LoadTarget j) a t e = go (nat_lt (seq found) m.seq)
+      where
+        found : ℕ
+        found = get_or w.words (word_of (want_at S m (LoadTarget j))) 0
+
+        older : (s y r l : ℕ) → s + (y + 2 + r) ≤ l → s + 1 + (y + 1 + r) ≤ l
+        older s y r l h = omega arith
+
+        newer : (s y r l : ℕ) → s + (y + 2 + r) ≤ l → s + 1 + (y - 1 + r) ≤ l
+        newer s y r l h = omega arith
+
+        go : (b : Bool) → Within S (after_load_target m j found b) (after_load_target m j found b).place
+        go true = record { told = λ q. cc; steps = older m.steps (4 * (S.cells - j)) (behind_apply S m m.helps) (bound S) t.steps }
+        go false = record { told = λ q. cc; steps = newer m.steps (4 * (S.cells - j)) (behind_apply S m m.helps) (bound S) t.steps }
+    within (ExchangeTarget j f) a t e = record { told = λ q. cc; steps = sum m.steps (4 * (S.cells - j)) (behind_apply S m m.helps) (bound S) t.steps }
+      where
+        sum : (s y r l : ℕ) → s + (y + 1 + r) ≤ l → s + 1 + (y + r) ≤ l
+        sum s y r l h = omega arith
+    within (ReloadTarget j) a t e = record { told = λ q. cc; steps = sum m.steps S.cells j (behind_apply S m m.helps) (bound S) (omega (arith, a.1, n_cells j a.0)) t.steps }
+      where
+        sum : (s c j r l : ℕ) → j < c → s + (4 * (c - j) + r) ≤ l → s + 1 + (4 * (c - j) - 1 + r) ≤ l
+        sum s c j r l z h = omega arith
+    within (RaiseTarget j f) a t e = go (nat_lt (j + 1) (length m.log))
+      where
+        j_in : j < S.cells
+        j_in = omega (arith, a.1, n_cells j a.0)
+
+        more : (s c j r l : ℕ) → j < c → s + (4 * (c - j) - 1 + r) ≤ l → s + 1 + (4 * (c - (j + 1)) + 2 + r) ≤ l
+        more s c j r l z h = omega arith
+
+        last : (s c j r l : ℕ) → j < c → s + (4 * (c - j) - 1 + r) ≤ l → s + 1 + (2 + r) ≤ l
+        last s c j r l z h = omega arith
+
+        go : (b : Bool) → Within S (next_entry m j b) (next_entry m j b).place
+        go true = record { told = λ q. cc; steps = more m.steps S.cells j (behind_apply S m m.helps) (bound S) j_in t.steps }
+        go false = record { told = λ q. cc; steps = last m.steps S.cells j (behind_apply S m m.helps) (bound S) j_in t.steps }
+    within CloseRequest a t e = record { told = λ q. cc; steps = sum m.steps (behind_apply S m m.helps) (bound S) t.steps }
+      where
+        sum : (s r l : ℕ) → s + (2 + r) ≤ l → s + 1 + (1 + r) ≤ l
+        sum s r l h = omega arith
+    within RaiseClosed a t e = go m.helps (m.rounds == 0) refl t.steps
+      where
+        sum : (s r l : ℕ) → s + (1 + r) ≤ l → s + 1 + r ≤ l
+        sum s r l h = omega arith
+
+        sum0 : (s l : ℕ) → s + (1 + 0) ≤ l → s + 1 ≤ l
+        sum0 s l h = omega arith
+
+        go : (b d : Bool) → (m.rounds == 0) ≡ d → m.steps + (1 + behind_apply S m b) ≤ bound S → Within S (after_raise_closed S m b d) (after_raise_closed S m b d).place
+        go true d q u = resumed_within m d (subst (λ (x : Bool). m.steps + 1 + helped S m x ≤ bound S) q (sum m.steps (helped S m (m.rounds == 0)) (bound S) u))
+        go false d q u = record { steps = omega arith; told = λ q. sum0 m.steps (bound S) u }

@@ -1,0 +1,168 @@
+-- A read is tried before it is announced.
+use Rattle.std.proofs.Common.{◌≡◌, ℕ, zero, suc, ◌+◌, ◌*◌, ◌-◌, ◌<◌, ◌≤◌, ◌⊎◌, ◌==◌, inl, inr, List, [], ◌∷◌, ◌++◌, length, get_or, set, take, refl, sym, ◌∙◌, ap, subst, arith, length-set, length-append, Option, Some, None, Bool, true, false, nat_lt, if◌then◌else◌}
+use Rattle.std.specs.List.{All}
+use Rattle.std.proofs.lemmas.Bool.{cases_eq, cases_lt}
+use Rattle.std.proofs.lemmas.Bool.Decides.{nat_tests}
+use Rattle.std.proofs.lemmas.List.{append-nil, set-get_or, length-map, take_more, take_all, get_or-take, length-take-le, length-replicate, get_or-replicate, get_or_past, get_or-map, get_or-set_same, get_or-set_other, get_or_push, get_or_append_left}
+use Rattle.std.proofs.lemmas.List.Elements.{All-append}
+use Rattle.of_cell.specs.Words.{word, seq, pay}
+use Rattle.of_cell.proofs.Order.{pay_small, seq_word, pay_word, word_eta, pay_zero}
+use Rattle.of_mem.specs.Meaning.{marked, Meaning, Walked, Needs, Gives, Fits, Finishes, Sound, written}
+use Rattle.of_mem.specs.declared.work.RawReply.{RawReply}
+use Rattle.of_core.specs.declared.place.Place.TheVariants.{Idle, TryCurrent, TryRequest, TryCell, LoadCurrent, LoadRequest, CopyLog, LookAgain, LoadOwnTicket, LoadShape, LoadReply, LoadAnnouncement, LoadTicket, LoadScript, LoadCell}
+use Rattle.of_core.specs.Table.{Setup, request_at, data_at, log_at, script_at, ticket_cell, shape_cell, reply_cell, base, script_of, script_word, announcement_of, current_word, request_of, cell, log_word, durable_request, last, holder, risen}
+use Rattle.of_core.specs.Machine.{Data, Call, unknown, log_of, pairs, flat, log_words, learned, own_cells, merged, put_all, no_call}
+use Rattle.of_core.specs.Steps.{read_on, read_ran, tried, resumed, after_try_request, over_try, after_try_cell, ran, after_load_request, after_load_cell, after_copy_log, after_look_again, entered, got_more, is_open, took_at, next_round, next_call, with_run, call_run, own_raw, weighed, after_announcement, after_load_ticket, script_more, runs, after_load_script, told, asks_more, after_own_ticket, shape_read, after_load_shape, reply_read, after_load_reply, first_of, first_mark}
+use Rattle.of_core.specs.World.{World, Batch, Start, stepped_at}
+use Rattle.of_core.specs.History.{state, batch, at, HasCall, Last, LastCall, InRow, Rising, ticket_in, numbers}
+use Rattle.of_core.specs.Shared.{Shared, Opened, IsLog}
+use Rattle.of_core.specs.Rounds.{Cur, Trying, Helper, Watches, Fresh, Begun, Round, Looks, Past, Finds, ReadUpto, Calm}
+use Rattle.of_core.specs.Scan.{Over, Scans, Hears, Reads, Taken, Announced}
+use Rattle.of_core.specs.Transaction.{Turned, Applies, Mode, Copies}
+use Rattle.of_core.specs.Invariant.{At, Core}
+use Rattle.of_core.specs.Moves.{Goes, Moves}
+use Rattle.of_core.proofs.States.{state_length, later, old}
+use Rattle.of_core.proofs.Logs.{turned_is, length-log_words, room_for}
+use Rattle.of_core.proofs.Overlays.{extended, walk_fits, merged_unknown}
+use Rattle.of_core.proofs.Tickets.{tickets_grow, row_old}
+use Rattle.of_core.proofs.Stability.{at_stable, loaded_stable, floor_of}
+use Rattle.of_core.proofs.Alike.{calm_more, fresh_as, trying_as}
+use Rattle.of_core.proofs.Assembling.{assemble_read, logs_of, number_at, same_batches, same_words}
+use Rattle.of_core.proofs.Rounds.{entered_at, n_is, not_open, opened_is, quiet_from}
+use Rattle.of_core.proofs.Tests.{differ, not_newer}
+
+module _ (S : Setup) (Lawful : List ℕ → Type 0) (B : Start) where
+
+  -- the machine m of caller i, at its place
+  module _ (w : World) (g : Core S Lawful B w) (i : ℕ) (m : Data) (h : i < S.callers) where
+    -- a cell that isn't newer than a round or a try is that of its state
+    cell_seen : (s o : ℕ) (known : List (Option ℕ)) → Cur S B w.words w.batches s o → Watches S B w.words w.batches s known → (x : ℕ) → x < S.cells → seq (cell S w.words x) ≤ s → cell S w.words x ≡ at B w.batches s x
+    cell_seen s o known c p x l fresh = go (g.shared.datas.each x l)
+      where
+        go : (cell S w.words x ≡ at B w.batches (last w.words) x) ⊎ (Opened B w.words × (cell S w.words x ≡ at B w.batches (last w.words - 1) x)) → cell S w.words x ≡ at B w.batches s x
+        go (inl q) = q ∙ later S B w.batches g.shared.start (logs_of S Lawful B w g) s (last w.words) x c.from c.upto (omega (arith, n_is S Lawful B w g i m h)) l (rw (← q) fresh)
+        go (inr (op, q)) =
+            let ne : s ≡ last w.words → ⊥ = λ e. let z : word s 0 < request_of w.words (holder w.words) = p.quiet e (omega (arith, op.any)) in omega (arith, op.asks, ap (λ (k : ℕ). word k 0) e) in
+            q ∙ later S B w.batches g.shared.start (logs_of S Lawful B w g) s (last w.words - 1) x c.from (omega (arith, c.upto)) (omega (arith, n_is S Lawful B w g i m h)) l (rw (← q) fresh)
+
+    seen_risen : (s o : ℕ) (known : List (Option ℕ)) → Cur S B w.words w.batches s o → Watches S B w.words w.batches s known → s ≤ risen S w.words
+    seen_risen s o known c p = go g.shared.durable.step
+      where
+        go : (last w.words ≡ risen S w.words) ⊎ ((last w.words ≡ risen S w.words + 1) × Opened B w.words) → s ≤ risen S w.words
+        go (inl q) = omega (arith, c.upto)
+        go (inr (q, op)) =
+            let ne : s ≡ last w.words → ⊥ = λ e. let z : word s 0 < request_of w.words (holder w.words) = p.quiet e (omega (arith, op.any)) in omega (arith, op.asks, ap (λ (k : ℕ). word k 0) e) in
+            omega (arith, c.upto)
+
+    -- a try goes on by its walk
+    reads_at : (n : Data) → Sound S.meaning Lawful (base S) S.cells → Trying S B w.words w.batches i n → Cur S B w.words w.batches n.seq n.owner → Calm S B w.words w.batches i n.seq → Watches S B w.words w.batches n.seq n.known
+        → At S B w.words w.batches i (read_on S n) (read_on S n).place
+    reads_at n sound p c o k = go (S.meaning.walk n.known n.op) refl (sound.walks n.known xs n.op size (g.shared.stands.lawful n.seq c.from upto) k.agrees)
+      where
+        upto : n.seq ≤ B.seq + length w.batches
+        upto = omega (arith, c.upto, n_is S Lawful B w g i m h)
+
+        xs : List ℕ
+        xs = numbers B w.batches n.seq
+
+        size : length (numbers B w.batches n.seq) ≡ S.cells
+        size = length-map (state B w.batches n.seq) pay ∙ state_length S B w.batches g.shared.start (logs_of S Lawful B w g) n.seq c.from upto
+
+        go : (r : Walked) → S.meaning.walk n.known n.op ≡ r → Fits S.meaning (base S) S.cells n.known xs n.op (S.meaning.walk n.known n.op) → At S B w.words w.batches i (read_ran n r) (read_ran n r).place
+        go (Needs a) e f = let f' = rw e at f in (trying_as S Lawful B w g i m h n _ p refl refl refl refl refl refl, c, o, k, f'.1, f'.2)
+        go (Gives es r) e f = record {
+          caller = p.fresh.caller;
+          calm = calm_more S Lawful B w g i m h n.seq (last w.words) c.upto o;
+          kept = p.fresh.kept;
+          quieted = p.fresh.quieted;
+          upto = omega (arith, p.fresh.above);
+          older = omega (arith, p.fresh.newer);
+          told = (c.from, seen_risen n.seq n.owner n.known c k, c.upto, (rw e at f).reply, p.reads);
+        }
+
+    none_known : (x v : ℕ) → get_or (unknown S) x None ≡ Some v → ⊥
+    none_known x v q = elim_none (sym (unknown_at (cases_lt x S.cells)) ∙ q)
+      where
+        unknown_at : (x < S.cells) ⊎ (S.cells ≤ x) → get_or (unknown S) x None ≡ None
+        unknown_at (inl l) = get_or-replicate S.cells x None None l
+        unknown_at (inr l) = get_or_past (unknown S) x None (rw length-replicate l)
+
+        elim_none : ◌≡◌ {A = Option ℕ} None (Some v) → ⊥
+        elim_none q = cc
+
+    tried_at : (n : Data) → Sound S.meaning Lawful (base S) S.cells → Trying S B w.words w.batches i n → Cur S B w.words w.batches n.seq n.owner → Calm S B w.words w.batches i n.seq
+        → (n.seq ≡ last w.words → B.seq < n.seq → word n.seq 0 < request_of w.words (holder w.words)) → At S B w.words w.batches i (tried S n) (tried S n).place
+    tried_at n sound p c o quiet = reads_at (record n { known = unknown S; helps = false }) sound (trying_as S Lawful B w g i m h n _ p refl refl refl refl refl refl) c o
+        (record { quiet = quiet; agrees = λ x v q. absurd (none_known x v q); all = length-replicate S.cells None })
+
+    pub resumed_at : (n : Data) → Sound S.meaning Lawful (base S) S.cells → Helper S B w.words w.batches i n → Cur S B w.words w.batches n.seq n.owner → Calm S B w.words w.batches i n.seq
+        → (n.seq ≡ last w.words → B.seq < n.seq → word n.seq 0 < request_of w.words (holder w.words)) → (b : Bool) → (n.rounds == 0) ≡ b → At S B w.words w.batches i (resumed S n b) (resumed S n b).place
+    resumed_at n sound (inl p) c o quiet true e = let z : n.rounds ≡ 0 = grind (arith, nat_tests) in absurd (omega (arith, p.begun_one))
+    resumed_at n sound (inl p) c o quiet false e = entered_at S Lawful B w g i m h n p o quiet
+    resumed_at n sound (inr p) c o quiet true e = tried_at n sound p c o quiet
+    resumed_at n sound (inr p) c o quiet false e = absurd (differ n.rounds 0 e p.fresh.rounds)
+
+    pub try_current_kept : At S B w.words w.batches i m TryCurrent → Goes S Lawful B i w (stepped_at S i m TryCurrent w)
+    try_current_kept a = assemble_read S Lawful B w g i h _ _ (took_at S m (current_word w.words) TryCurrent) (same_words S Lawful B w g i m h 0) (same_batches S Lawful B w g i m h) (
+      record { fresh = fresh_as S Lawful B w g i m h m _ a.0 refl refl refl refl refl; reads = a.2; few = omega (arith, a.3) },
+      record {
+        from = omega (arith, n_is S Lawful B w g i m h);
+        upto = omega arith;
+        same = λ e. refl;
+        owner_in = g.shared.counted.owner_in;
+        committed = λ l. sym (g.shared.counted.owner l);
+        first = g.shared.counted.first;
+      },
+      a.1,
+    )
+
+    pub try_request_kept : Sound S.meaning Lawful (base S) S.cells → At S B w.words w.batches i m TryRequest → Goes S Lawful B i w (stepped_at S i m TryRequest w)
+    try_request_kept sound a = assemble_read S Lawful B w g i h _ _ (took_at S m (request_of w.words m.owner) TryRequest) (same_words S Lawful B w g i m h (m.owner + 1)) (same_batches S Lawful B w g i m h) (
+        go (is_open m.seq (request_of w.words m.owner)) refl)
+      where
+        after : (0 < m.seq) × (request_of w.words m.owner ≡ word m.seq 0) → (m.seq ≡ B.seq) ⊎ (m.seq ≡ B.seq → ⊥) → B.seq < m.seq
+        after q (inl e) =
+            let z : word B.seq 0 < request_of w.words B.owner = g.shared.requests.floor (omega (arith, q.0)) in
+            absurd (omega (arith, q.1, ap (λ (k : ℕ). word k 0) e, ap (request_of w.words) (a.1.first e)))
+        after q (inr e) = omega (arith, a.1.from)
+
+        go : (b : Bool) → is_open m.seq (request_of w.words m.owner) ≡ b → At S B w.words w.batches i (after_try_request S m b) (after_try_request S m b).place
+        go true eb = (
+          record {
+            helper = inr (trying_as S Lawful B w g i m h m _ a.0 refl refl refl refl refl refl);
+            current_word = a.1;
+            calm = a.2;
+            helps = refl;
+            after = after (opened_is S Lawful B w g i m h m.seq (request_of w.words m.owner) eb) (cases_eq m.seq B.seq);
+            many = refl;
+            count = λ l. absurd (omega arith);
+            copied = λ q. (omega arith, refl);
+          },
+          λ q. omega arith,
+          omega arith,
+        )
+        go false eb = tried_at m sound a.0 a.1 a.2 (quiet_from S Lawful B w g i m h m.seq m.owner a.1 (λ l. not_open S Lawful B w g i m h m.seq (request_of w.words m.owner) eb (omega (arith, l))))
+
+    pub try_cell_kept : Sound S.meaning Lawful (base S) S.cells → (x : ℕ) → At S B w.words w.batches i m (TryCell x) → Goes S Lawful B i w (stepped_at S i m (TryCell x) w)
+    try_cell_kept sound x a = assemble_read S Lawful B w g i h _ _ (took_at S m (cell S w.words x) (TryCell x)) (same_words S Lawful B w g i m h (data_at S x)) (same_batches S Lawful B w g i m h) (
+        go (nat_lt m.seq (seq (cell S w.words x))) refl)
+      where
+        over : (b : Bool) → nat_lt m.tries 4 ≡ b → At S B w.words w.batches i (over_try m b) (over_try m b).place
+        over true e = (fresh_as S Lawful B w g i m h m _ a.0.fresh refl refl refl refl refl, calm_more S Lawful B w g i m h m.seq (last w.words) a.1.upto a.2, a.0.reads, let z : m.tries < 4 = grind (arith, nat_tests) in omega arith)
+        over false e = (fresh_as S Lawful B w g i m h m _ a.0.fresh refl refl refl refl refl, calm_more S Lawful B w g i m h m.seq (last w.words) a.1.upto a.2, omega (arith, a.0.fresh.some), refl)
+
+        go : (b : Bool) → nat_lt m.seq (seq (cell S w.words x)) ≡ b → At S B w.words w.batches i (after_try_cell S m x (cell S w.words x) b) (after_try_cell S m x (cell S w.words x) b).place
+        go true e = over (nat_lt m.tries 4) refl
+        go false e = reads_at (record m { known = learned S m x (cell S w.words x) }) sound (trying_as S Lawful B w g i m h m _ a.0 refl refl refl refl refl refl) a.1 a.2
+            (record { quiet = a.3.quiet; agrees = λ y v q. knows y v q (cases_eq y x); all = length-set m.known x (Some (pay (cell S w.words x))) ∙ a.3.all })
+          where
+            this : get_or (numbers B w.batches m.seq) x 0 ≡ pay (cell S w.words x)
+            this = number_at S Lawful B w.batches m.seq x ∙ ap pay (sym (cell_seen m.seq m.owner m.known a.1 a.3 x a.4 (not_newer m.seq (seq (cell S w.words x)) e)))
+
+            knows : (y v : ℕ) → get_or (learned S m x (cell S w.words x)) y None ≡ Some v → (y ≡ x) ⊎ (y ≡ x → ⊥) → get_or (numbers B w.batches m.seq) y 0 ≡ v
+            knows y v q (inl e) =
+                let s : get_or (learned S m x (cell S w.words x)) x None ≡ Some (pay (cell S w.words x)) = get_or-set_same m.known x (Some (pay (cell S w.words x))) None (omega (arith, a.3.all, a.4)) in
+                let t : Some v ≡ Some (pay (cell S w.words x)) = sym (rw e at q) ∙ s in
+                let u : v ≡ pay (cell S w.words x) = cc in
+                rw e (this ∙ sym u)
+            knows y v q (inr e) = a.3.agrees y v (sym (get_or-set_other m.known x y (Some (pay (cell S w.words x))) None e) ∙ q)

@@ -1,0 +1,99 @@
+-- What every moment claims: its history is legal, each round uses one state, and what recovery reads off the durable words.
+use Rattle.std.specs.Prelude.{ℕ, ◌+◌, ◌*◌, ◌==◌, nat_lt, ◌-◌, List, [], ◌∷◌, length, Option, Some, None, Bool, true, false, if◌then◌else◌, ◌&&◌, ◌≡◌, ◌≤◌, ◌<◌, map, nat_le}
+use Rattle.std.proofs.Common.{zero, suc}
+use Rattle.of_cell.specs.Words.{word, seq, pay}
+use Rattle.of_mem.specs.Meaning.{Agrees, SameFrom}
+use Rattle.of_core.specs.declared.place.Place.{Place}
+use Rattle.of_core.specs.declared.place.Place.TheVariants.{Idle, TryCurrent, TryRequest, TryCell, StoreScript, StoreAnnouncement, LoadCurrent, LoadRequest, CopyLog, LookAgain, LoadOwnTicket, LoadShape, LoadReply, LoadAnnouncement, LoadTicket, LoadScript, LoadCell, RaiseOld, StoreLog, RaiseLog, StoreRequest, RaiseRequest, ExchangeCurrent, RaiseCurrent, LoadTarget, ExchangeTarget, ReloadTarget, RaiseTarget, CloseRequest, RaiseClosed}
+use Rattle.of_core.specs.declared.place.Outcome.{Outcome}
+use Rattle.of_core.specs.declared.place.Outcome.TheVariants.{Answered, Spent}
+use Rattle.std.specs.List.{All}
+use Rattle.of_core.specs.Table.{Setup, base, durable_word, durable_request, durable_cell, durable_log, risen}
+use Rattle.of_core.specs.Machine.{Call, Data}
+use Rattle.of_core.specs.World.{World, Start}
+use Rattle.of_core.specs.History.{state, batch, at, numbers, replay, Legal, Last, Rising, HasCall}
+use Rattle.of_core.specs.Bound.{bound}
+use Rattle.of_core.specs.Events.{machine}
+
+-- the first of n entries of p's durable log at sequence d, from entry j on, that names the cell a
+abbrev pub first_named : Setup → List ℕ → ℕ → ℕ → ℕ → ℕ → ℕ → Option ℕ
+first_named S ws p d a j zero = None
+first_named S ws p d a j (suc n) =
+    if (durable_log S ws p (2 * j + 1) == word d a) && (seq (durable_log S ws p (2 * j + 2)) == d) then Some (durable_log S ws p (2 * j + 2)) else first_named S ws p d a (j + 1) n
+
+-- how many entries it has
+abbrev pub entries : Setup → List ℕ → ℕ → ℕ → ℕ
+entries S ws p d = if (seq (durable_log S ws p 0) == d) && nat_le (pay (durable_log S ws p 0)) S.cells then pay (durable_log S ws p 0) else 0
+
+abbrev pub is_replayed : Setup → List ℕ → Bool
+is_replayed S ws = nat_lt 0 (risen S ws) && (nat_lt (pay (durable_word S ws 0)) S.callers && (durable_request S ws (pay (durable_word S ws 0)) == word (risen S ws) 0))
+
+abbrev pub or_else : Option ℕ → ℕ → ℕ
+or_else None w = w
+or_else (Some v) w = v
+
+abbrev pub replayed : Setup → List ℕ → ℕ → (open_ older : Bool) → ℕ
+replayed S ws a true true = or_else (first_named S ws (pay (durable_word S ws 0)) (risen S ws) a 0 (entries S ws (pay (durable_word S ws 0)) (risen S ws))) (durable_cell S ws a)
+replayed S ws a true false = durable_cell S ws a
+replayed S ws a false older = durable_cell S ws a
+
+-- the recovered word of data cell a
+abbrev pub recovered : Setup → List ℕ → ℕ → ℕ
+recovered S ws a = replayed S ws a (is_replayed S ws) (nat_lt (seq (durable_cell S ws a)) (risen S ws))
+
+-- a machine in a round has loaded cells of one state alone
+abbrev pub UsesOne : Start → World → Data → Place → Type 0
+UsesOne B w m Idle = Unit {0}
+UsesOne B w m TryCurrent = Unit {0}
+UsesOne B w m TryRequest = Unit {0}
+UsesOne B w m (TryCell x) = Agrees m.known (numbers B w.batches m.seq)
+UsesOne B w m (StoreScript j) = Unit {0}
+UsesOne B w m StoreAnnouncement = Unit {0}
+UsesOne B w m LoadCurrent = Unit {0}
+UsesOne B w m LoadRequest = Unit {0}
+UsesOne B w m (CopyLog x) = Unit {0}
+UsesOne B w m LookAgain = Unit {0}
+UsesOne B w m LoadOwnTicket = Agrees m.known (numbers B w.batches m.seq)
+UsesOne B w m LoadShape = Agrees m.known (numbers B w.batches m.seq)
+UsesOne B w m (LoadReply j) = Agrees m.known (numbers B w.batches m.seq)
+UsesOne B w m LoadAnnouncement = Agrees m.known (numbers B w.batches m.seq)
+UsesOne B w m LoadTicket = Agrees m.known (numbers B w.batches m.seq)
+UsesOne B w m (LoadScript j) = Agrees m.known (numbers B w.batches m.seq)
+UsesOne B w m (LoadCell x) = Agrees m.known (numbers B w.batches m.seq)
+UsesOne B w m RaiseOld = Agrees m.known (numbers B w.batches m.seq)
+UsesOne B w m (StoreLog x) = Agrees m.known (numbers B w.batches m.seq)
+UsesOne B w m (RaiseLog x) = Agrees m.known (numbers B w.batches m.seq)
+UsesOne B w m StoreRequest = Agrees m.known (numbers B w.batches m.seq)
+UsesOne B w m RaiseRequest = Agrees m.known (numbers B w.batches m.seq)
+UsesOne B w m ExchangeCurrent = Agrees m.known (numbers B w.batches m.seq)
+UsesOne B w m RaiseCurrent = Unit {0}
+UsesOne B w m (LoadTarget j) = Unit {0}
+UsesOne B w m (ExchangeTarget j f) = Unit {0}
+UsesOne B w m (ReloadTarget j) = Unit {0}
+UsesOne B w m (RaiseTarget j f) = Unit {0}
+UsesOne B w m CloseRequest = Unit {0}
+UsesOne B w m RaiseClosed = Unit {0}
+
+-- what an answer says of the history
+abbrev pub IsTold : Setup → Start → World → ℕ → Data → Option Outcome → Type 0
+IsTold S B w i m None = Unit {0}
+IsTold S B w i m (Some (Answered s false raw steps)) = (steps ≤ bound S) × (B.seq ≤ s) × (s ≤ risen S w.words) × (S.meaning.reply (numbers B w.batches s) m.op ≡ raw) × (S.meaning.reads_only m.op ≡ true)
+IsTold S B w i m (Some (Answered s true raw steps)) = (steps ≤ bound S) × (B.seq < s) × (s ≤ risen S w.words) × HasCall S (batch B w.batches s).calls i m.made m.op raw
+IsTold S B w i m (Some (Spent s)) = (s ≡ S.limit) × (B.seq + length w.batches ≡ s) × ((k : ℕ) → B.seq < k → k ≤ s → All (λ (c : Call). c.caller ≡ i → c.ticket < m.made) (batch B w.batches k).calls)
+
+pub record IsSound (S : Setup) (B : Start) (w : World) : Type 0 where
+  pub legal : Legal S.meaning (map pay B.cells) w.batches
+  pub state : SameFrom (base S) (numbers B w.batches (B.seq + length w.batches)) (replay S.meaning (map pay B.cells) w.batches)
+  -- no batch is empty, a batch's calls stand by caller, and each caller's tickets rise
+  pub some : (k : ℕ) → B.seq < k → k ≤ B.seq + length w.batches → 0 < length (batch B w.batches k).calls
+  pub ordered : (k : ℕ) → B.seq < k → k ≤ B.seq + length w.batches → Rising (batch B w.batches k).calls
+  pub tickets : (j k : ℕ) → B.seq < j → j < k → k ≤ B.seq + length w.batches
+      → All (λ (c : Call). All (λ (d : Call). d.caller ≡ c.caller → c.ticket < d.ticket) (batch B w.batches k).calls) (batch B w.batches j).calls
+  -- recovery of the durable words gives the state after the batches up to the durable sequence, and each caller's own cells in it hold its last call
+  pub recovers : (a : ℕ) → a < S.cells → recovered S w.words a ≡ at B w.batches (risen S w.words) a
+  pub reaches : risen S w.words ≤ B.seq + length w.batches
+  pub own : (i : ℕ) → i < S.callers → Last S B w.batches (risen S w.words) i
+  pub one : (i : ℕ) → i < S.callers → UsesOne B w (machine w i) (machine w i).place
+  -- no call makes more steps than the bound
+  pub within : (i : ℕ) → i < S.callers → (machine w i).steps ≤ bound S
+  pub answered : (i : ℕ) → i < S.callers → (machine w i).place ≡ Idle → IsTold S B w i (machine w i) (machine w i).answer

@@ -1,0 +1,51 @@
+-- Events, schedules and the moments that they leave.
+use Rattle.std.specs.Prelude.{ℕ, ◌+◌, max, ◌-◌, List, [], ◌∷◌, ◌++◌, length, ◌≡◌, ◌≤◌, ◌<◌}
+use Rattle.std.proofs.Common.{get_or, set, replicate, zero, suc}
+use Rattle.of_cell.specs.Words.{seq}
+use Rattle.of_core.specs.declared.place.Place.TheVariants.{Idle}
+use Rattle.of_core.specs.Table.{Setup, size, durable_at}
+use Rattle.of_core.specs.Machine.{Data, idle, opened}
+use Rattle.of_core.specs.World.{World, Start, stepped_at}
+
+pub data Event : Type 0 where
+  Begins : ℕ → List ℕ → Event
+  Turns : ℕ → Event
+  -- a cell is loaded for an eviction, and a loaded word is raised
+  Loads : ℕ → Event
+  Evicts : ℕ → Event
+
+abbrev pub machine : World → ℕ → Data
+machine w i = get_or w.machines i (idle i)
+
+abbrev pub evicted : Setup → World → ℕ × ℕ → World
+evicted S w e = record w { words = set w.words (durable_at S e.0) (max (get_or w.words (durable_at S e.0) 0) e.1) }
+
+abbrev pub happens : Setup → World → Event → World
+happens S w (Begins i op) = record w { machines = set w.machines i (opened S (machine w i) op) }
+happens S w (Loads c) = record w { loaded = w.loaded ++ (c, get_or w.words c 0) ∷ [] }
+happens S w (Evicts k) = evicted S w (get_or w.loaded k (0, 0))
+happens S w (Turns i) = stepped_at S i (machine w i) (machine w i).place w
+
+abbrev pub MayHappen : Setup → World → Event → Type 0
+MayHappen S w (Begins i op) = (i < S.callers) × ((machine w i).place ≡ Idle) × (1 ≤ length op) × (length op ≤ S.instrs) × ((machine w i).made + 1 < 4294967296)
+MayHappen S w (Loads c) = c < size S
+MayHappen S w (Evicts k) = k < length w.loaded
+MayHappen S w (Turns i) = i < S.callers
+
+abbrev pub run : Setup → World → List Event → World
+run S w [] = w
+run S w (e ∷ es) = run S (happens S w e) es
+
+abbrev pub IsSchedule : Setup → World → List Event → Type 0
+IsSchedule S w [] = Unit {0}
+IsSchedule S w (e ∷ es) = MayHappen S w e × IsSchedule S (happens S w e) es
+
+abbrev pub idles : ℕ → ℕ → List Data
+idles i zero = []
+idles i (suc n) = idle i ∷ idles (suc i) n
+
+abbrev pub zeros : Setup → Start
+zeros S = record { seq = 0; owner = 0; cells = replicate S.cells 0 }
+
+abbrev pub opening : Setup → ℕ → World
+opening S n = record { words = replicate n 0; machines = idles 0 S.callers; batches = []; reads = []; loaded = [] }

@@ -1,0 +1,128 @@
+-- What the invariant says of a call that is announced, tried or in a round.
+use Rattle.std.specs.Prelude.{ℕ, ◌+◌, ◌*◌, ◌-◌, List, [], ◌∷◌, length, Option, true, ◌≡◌, ◌≤◌, ◌<◌, ◌⊎◌}
+use Rattle.std.proofs.Common.{get_or}
+use Rattle.of_cell.specs.Words.{word, seq, pay}
+use Rattle.of_mem.specs.Meaning.{marked, Agrees}
+use Rattle.std.specs.List.{All}
+use Rattle.of_core.specs.Table.{Setup, ticket_cell, shape_cell, reply_cell, request_of, log_word, durable_request, announcement_of, script_of, last, holder}
+use Rattle.of_core.specs.Machine.{Call, Data}
+use Rattle.of_core.specs.Steps.{left, read_on}
+use Rattle.of_core.specs.World.{Batch, Start}
+use Rattle.of_core.specs.History.{batch, numbers, ticket_in}
+use Rattle.of_core.specs.Shared.{IsRequest}
+
+-- what a machine knows its own durable request to have
+abbrev pub Keeps : Start → List ℕ → List Batch → ℕ → ℕ → Type 0
+Keeps B ws bs i v = (v ≤ request_of ws i) × IsRequest B ws bs i v
+
+-- caller i announces nothing that is to be run
+abbrev pub Quieted : Setup → Start → List ℕ → List Batch → ℕ → Type 0
+Quieted S B ws bs i = (seq (announcement_of S ws i) ≤ ticket_in S B bs (last ws) i) ⊎ (last ws ≡ S.limit)
+
+-- a call that isn't announced yet
+pub record Fresh (S : Setup) (B : Start) (ws : List ℕ) (bs : List Batch) (i : ℕ) (m : Data) : Type 0 where
+  pub caller : m.caller ≡ i
+  pub ticket : m.made < 4294967296
+  pub words : length m.op ≤ S.instrs
+  pub some : 1 ≤ length m.op
+  pub kept : Keeps B ws bs i m.kept
+  pub above : ticket_in S B bs (last ws) i < m.made
+  pub quieted : Quieted S B ws bs i
+  pub newer : seq (announcement_of S ws i) < m.made
+  pub rounds : m.rounds ≡ 0
+
+-- each call of caller i in the batches that has this ticket is this one
+abbrev pub Mine : Start → List ℕ → List Batch → ℕ → ℕ → List ℕ → Type 0
+Mine B ws bs i t op = (k : ℕ) → B.seq < k → k ≤ last ws → All (λ (c : Call). c.caller ≡ i → c.ticket ≡ t → c.op ≡ op) (batch B bs k).calls
+
+-- a call that is announced
+pub record Begun (S : Setup) (B : Start) (ws : List ℕ) (bs : List Batch) (i : ℕ) (m : Data) : Type 0 where
+  pub caller : m.caller ≡ i
+  pub ticket : m.made < 4294967296
+  pub words : length m.op ≤ S.instrs
+  pub some : 1 ≤ length m.op
+  pub kept : Keeps B ws bs i m.kept
+  pub says : announcement_of S ws i ≡ word m.made (length m.op)
+  pub script : script_of S ws i (length m.op) ≡ m.op
+  pub upto : ticket_in S B bs (last ws) i ≤ m.made
+  pub beyond : ticket_in S B bs B.seq i < m.made
+  pub mine : Mine B ws bs i m.made m.op
+  -- it was announced before its first round
+  pub known : 1 ≤ m.rounds → (B.seq ≤ m.first) × ((k : ℕ) → m.first < k → k ≤ last ws → (batch B bs k).announcements i ≡ announcement_of S ws i)
+
+-- a round at m.seq; own is the highest sequence of one's own request
+pub record Round (S : Setup) (B : Start) (ws : List ℕ) (bs : List Batch) (i : ℕ) (m : Data) : Type 0 where
+  pub begun : Begun S B ws bs i m
+  pub from : B.seq ≤ m.seq
+  pub upto : m.seq ≤ last ws
+  pub same : m.seq ≡ last ws → m.owner ≡ holder ws
+  pub owner_in : m.owner < S.callers
+  pub committed : B.seq < m.seq → (batch B bs m.seq).owner ≡ m.owner
+  pub first : m.seq ≡ B.seq → m.owner ≡ B.owner
+  -- none of one's own was committed since
+  pub unowned : (k : ℕ) → m.seq < k → k ≤ last ws → (batch B bs k).owner ≡ i → ⊥
+  -- each round is at a later sequence
+  pub later : m.first + m.rounds ≤ m.seq + 1
+  pub begun_one : 1 ≤ m.rounds
+  pub few : m.rounds ≤ 3
+
+-- CUR was (s, o) at a moment
+pub record Cur (S : Setup) (B : Start) (ws : List ℕ) (bs : List Batch) (s o : ℕ) : Type 0 where
+  pub from : B.seq ≤ s
+  pub upto : s ≤ last ws
+  pub same : s ≡ last ws → o ≡ holder ws
+  pub owner_in : o < S.callers
+  pub committed : B.seq < s → (batch B bs s).owner ≡ o
+  pub first : s ≡ B.seq → o ≡ B.owner
+
+-- a try of a read
+pub record Trying (S : Setup) (B : Start) (ws : List ℕ) (bs : List Batch) (i : ℕ) (m : Data) : Type 0 where
+  pub fresh : Fresh S B ws bs i m
+  pub reads : S.meaning.reads_only m.op ≡ true
+  pub few : m.tries ≤ 4
+
+-- who helps: a machine in a round or in a try
+abbrev pub Helper : Setup → Start → List ℕ → List Batch → ℕ → Data → Type 0
+Helper S B ws bs i m = Round S B ws bs i m ⊎ Trying S B ws bs i m
+
+-- past the look at the request, a try or a round knows cells of its state
+pub record Watches (S : Setup) (B : Start) (ws : List ℕ) (bs : List Batch) (s : ℕ) (known : List (Option ℕ)) : Type 0 where
+  pub quiet : s ≡ last ws → B.seq < s → word s 0 < request_of ws (holder ws)
+  pub agrees : Agrees known (numbers B bs s)
+  pub all : length known ≡ S.cells
+
+-- between two rounds
+pub record Between (ws : List ℕ) (m : Data) : Type 0 where
+  pub few : m.rounds ≤ 2
+  pub later : 1 ≤ m.rounds → m.first + m.rounds ≤ last ws
+
+-- past the look at the request: the transaction of the round's sequence isn't open
+pub record Looks (S : Setup) (B : Start) (ws : List ℕ) (bs : List Batch) (i : ℕ) (m : Data) : Type 0 where
+  pub round : Round S B ws bs i m
+  pub quiet : m.seq ≡ last ws → B.seq < m.seq → word m.seq 0 < request_of ws (holder ws)
+  pub agrees : Agrees m.known (numbers B bs m.seq)
+  pub all : length m.known ≡ S.cells
+
+-- past the look at one's own ticket: the call isn't in the history up to m.seq, and it isn't the last
+pub record Past (S : Setup) (B : Start) (ws : List ℕ) (bs : List Batch) (i : ℕ) (m : Data) : Type 0 where
+  pub looks : Looks S B ws bs i m
+  pub under : m.seq < S.limit
+  pub left : ticket_in S B bs m.seq i < m.made
+
+-- a machine that has nothing under way: its own request and log words are no newer than n, its request is durable, and its own batches are closed
+pub record Calm (S : Setup) (B : Start) (ws : List ℕ) (bs : List Batch) (i n : ℕ) : Type 0 where
+  pub own : seq (request_of ws i) ≤ n
+  pub level : durable_request S ws i ≡ request_of ws i
+  pub shut : (k : ℕ) → B.seq < k → k ≤ last ws → (batch B bs k).owner ≡ i → word k 0 < request_of ws i
+  pub logs : (y : ℕ) → y < 2 * S.cells + 1 → seq (log_word S ws i y) ≤ n
+
+-- one's own ticket cell in the round's state holds the call
+pub record Finds (S : Setup) (st : List ℕ) (i : ℕ) (m : Data) : Type 0 where
+  pub heard : m.heard ≡ get_or st (ticket_cell S i) 0
+  pub there : pay m.heard ≡ m.made
+
+-- the shape and the marked replies below j are those of the own cells
+pub record ReadUpto (S : Setup) (st : List ℕ) (i : ℕ) (m : Data) (j : ℕ) : Type 0 where
+  pub shape : m.raw.shape ≡ pay (get_or st (shape_cell S i) 0)
+  pub replies : (y : ℕ) → y < j → marked m.raw.shape y ≡ true → get_or m.raw.values y 0 ≡ pay (get_or st (reply_cell S i y) 0)
+  pub many : length m.raw.values ≡ S.instrs

@@ -1,0 +1,108 @@
+-- Words, machines and history, and what a step does to them.
+use Rattle.std.specs.Prelude.{ℕ, ◌+◌, ◌==◌, ◌-◌, List, [], ◌∷◌, ◌++◌, Bool, true, false, Option, Some, None}
+use Rattle.std.proofs.Common.{get_or, set}
+use Rattle.of_cell.specs.Words.{word, seq}
+use Rattle.of_core.specs.declared.place.Place.{Place}
+use Rattle.of_core.specs.declared.place.Place.TheVariants.{Idle, TryCurrent, TryRequest, TryCell, StoreScript, StoreAnnouncement, LoadCurrent, LoadRequest, CopyLog, LookAgain, LoadOwnTicket, LoadShape, LoadReply, LoadAnnouncement, LoadTicket, LoadScript, LoadCell, RaiseOld, StoreLog, RaiseLog, StoreRequest, RaiseRequest, ExchangeCurrent, RaiseCurrent, LoadTarget, ExchangeTarget, ReloadTarget, RaiseTarget, CloseRequest, RaiseClosed}
+use Rattle.of_mem.specs.declared.work.RawReply.{RawReply}
+use Rattle.of_core.specs.declared.place.Outcome.{Outcome}
+use Rattle.of_core.specs.declared.place.Outcome.TheVariants.{Answered, Spent}
+use Rattle.of_core.specs.Table.{Setup, announcement_of}
+use Rattle.of_core.specs.Machine.{Call, Data, is_idle}
+use Rattle.of_core.specs.Steps.{want_at, word_of, left, took_at}
+
+pub record Batch : Type 0 where
+  pub owner : ℕ
+  pub log : List (ℕ × ℕ)
+  pub calls : List Call
+  -- the announcements that stood when it was committed
+  pub announcements : ℕ → ℕ
+
+-- a call that was answered without being announced: it read the state at this sequence
+pub record Read : Type 0 where
+  pub caller : ℕ
+  pub ticket : ℕ
+  pub op : List ℕ
+  pub raw : RawReply
+  pub seq : ℕ
+
+-- the words, each caller's machine, and the history: the batches in order, and beside them the reads in the order of their answers
+pub record World : Type 0 where
+  pub words : List ℕ
+  pub machines : List Data
+  pub batches : List Batch
+  pub reads : List Read
+  -- the cells that were loaded for evictions, with the words found
+  pub loaded : List (ℕ × ℕ)
+
+-- where a table starts: the sequence, and the data words
+pub record Start : Type 0 where
+  pub seq : ℕ
+  pub owner : ℕ
+  pub cells : List ℕ
+
+-- what the step commits
+abbrev pub one_batch : Setup → List ℕ → Data → Bool → List Batch
+one_batch S ws m true = record { owner = m.caller; log = m.log; calls = m.calls; announcements = λ c. announcement_of S ws c } ∷ []
+one_batch S ws m false = []
+
+abbrev pub commits_at : Setup → List ℕ → Data → ℕ → Place → List Batch
+commits_at S ws m found Idle = []
+commits_at S ws m found TryCurrent = []
+commits_at S ws m found TryRequest = []
+commits_at S ws m found (TryCell a) = []
+commits_at S ws m found (StoreScript j) = []
+commits_at S ws m found StoreAnnouncement = []
+commits_at S ws m found LoadCurrent = []
+commits_at S ws m found LoadRequest = []
+commits_at S ws m found (CopyLog x) = []
+commits_at S ws m found LookAgain = []
+commits_at S ws m found LoadOwnTicket = []
+commits_at S ws m found LoadShape = []
+commits_at S ws m found (LoadReply j) = []
+commits_at S ws m found LoadAnnouncement = []
+commits_at S ws m found LoadTicket = []
+commits_at S ws m found (LoadScript j) = []
+commits_at S ws m found RaiseOld = []
+commits_at S ws m found (StoreLog x) = []
+commits_at S ws m found (RaiseLog x) = []
+commits_at S ws m found RaiseRequest = []
+commits_at S ws m found RaiseCurrent = []
+commits_at S ws m found (ReloadTarget j) = []
+commits_at S ws m found (RaiseTarget j f) = []
+commits_at S ws m found RaiseClosed = []
+commits_at S ws m found (LoadCell a) = []
+commits_at S ws m found StoreRequest = []
+commits_at S ws m found ExchangeCurrent = one_batch S ws m (found == word m.seq m.owner)
+commits_at S ws m found (LoadTarget j) = []
+commits_at S ws m found (ExchangeTarget j f) = []
+commits_at S ws m found CloseRequest = []
+
+-- the read that an outcome of the machine is
+abbrev pub read_of : Data → Option Outcome → List Read
+read_of d None = []
+read_of d (Some (Answered s false raw n)) = record { caller = d.caller; ticket = d.made; op = d.op; raw = raw; seq = s } ∷ []
+read_of d (Some (Answered s true raw n)) = []
+read_of d (Some (Spent s)) = []
+
+-- the read that the step from the place p has answered, where the machine is d after it
+abbrev pub answers_by : Data → (was_idle now_idle : Bool) → List Read
+answers_by d true now_idle = []
+answers_by d false true = read_of d d.answer
+answers_by d false false = []
+
+abbrev pub answers_at : Data → Place → List Read
+answers_at d p = answers_by d (is_idle p) (is_idle d.place)
+
+-- the wanted step of the machine m of caller i, at the place p
+abbrev pub stepped_at : Setup → ℕ → Data → Place → World → World
+stepped_at S i m p w =
+    let c = word_of (want_at S m p) in
+    let found = get_or w.words c 0 in
+    record {
+      words = set w.words c (left (want_at S m p) found);
+      machines = set w.machines i (took_at S m found p);
+      batches = w.batches ++ commits_at S w.words m found p;
+      reads = w.reads ++ answers_at (took_at S m found p) p;
+      loaded = w.loaded;
+    }
