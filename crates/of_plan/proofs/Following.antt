@@ -231,6 +231,9 @@ limit_range : (o : Option ℕ) → IfSome o (λ x. (1 ≤ x) × (x ≤ 429496729
 limit_range None h = tt
 limit_range (Some x) h = (h.1, tt)
 
+pub lines_range : (h : Heading) (es : List Entry) → IsHeading h → AreEntries h es → AllByRecursion LineInRange (plan_lines h es)
+lines_range h es k a = (tt, (k.few_callers, (k.few_blocks, all-both LineInRange (limit_lines h.limit) (map Body es ++ End ∷ []) (limit_range h.limit k.limit_range) (entries_range h es k a.in_range a.few_turns))))
+
 -- ---- a text that is read is spelled so, and one that is spelled is read so
 
 pub record Reads (text : List ℕ) (plan : Plan) : Type 0 where
@@ -258,10 +261,9 @@ pub read : (text : List ℕ) (plan : Plan) → SpellsPlan text plan → Reads te
 read text plan s =
     let h = s.heading in
     let es = s.entries in
-    let limit = limit_range h.limit s.heading_fits.limit_range in
     record {
       said = plan_lines h es;
-      range = (tt, (s.heading_fits.few_callers, (s.heading_fits.few_blocks, all-both LineInRange (limit_lines h.limit) (map Body es ++ End ∷ []) limit (entries_range h es s.heading_fits s.entries_fit.in_range s.entries_fit.few_turns))));
+      range = lines_range h es s.heading_fits s.entries_fit;
       each = s.each;
       last = after Ended h es;
       leads = follows h es s.heading_fits s.entries_fit;

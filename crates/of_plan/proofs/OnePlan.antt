@@ -1,10 +1,9 @@
 -- A text has at most one plan.
 use Rattle.std.proofs.Common.{◌≡◌, ℕ, List, sym, ap, ◌∙◌}
 use Rattle.of_script.proofs.Instrs.{some_is}
-use Rattle.of_plan.specs.declared.line.Line.{Line}
 use Rattle.of_plan.specs.Plan.{Plan}
 use Rattle.of_plan.specs.Grammar.{SpellsPlan}
-use Rattle.of_plan.specs.Progress.{Progress, plan_at, start, follow}
+use Rattle.of_plan.specs.Progress.{plan_at, start, follow}
 use Rattle.of_plan.proofs.LineLaws.{same_lines}
 use Rattle.of_plan.proofs.Following.{read}
 

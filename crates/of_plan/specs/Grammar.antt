@@ -24,9 +24,12 @@ abbrev pub limit_lines : Option ℕ → List Line
 limit_lines None = []
 limit_lines (Some x) = Limit x ∷ []
 
+abbrev pub heading_lines : Heading → List Line
+heading_lines h = Title ∷ Callers h.callers ∷ Blocks h.blocks ∷ limit_lines h.limit
+
 -- the lines that aren't skipped: a heading, the entries, and the end
 abbrev pub plan_lines : Heading → List Entry → List Line
-plan_lines h entries = (Title ∷ Callers h.callers ∷ Blocks h.blocks ∷ limit_lines h.limit) ++ (map Body entries ++ End ∷ [])
+plan_lines h entries = heading_lines h ++ (map Body entries ++ End ∷ [])
 
 pub record IsHeading (h : Heading) : Type 0 where
   pub some_callers : 1 ≤ h.callers
