@@ -7,7 +7,7 @@ ghost use Rattle.of_plan.specs.Parsed.{IsRefused};
 ghost use Rattle.of_plan.specs.Plan.{Plan};
 ghost use Rattle.of_plan.specs.declared.parsing.PlanErr.TheVariants.{Memory};
 
-use crate::plan::Plan;
+use crate::plan::{GREATEST_LIMIT, Plan};
 use crate::reading::{Reading, Stage};
 use of_script::text::cut;
 use std::alloc::{AllocError, Global};
@@ -40,7 +40,7 @@ fn begun(alloc: Global) -> Reading
         stage: Stage::Start,
         callers: 0,
         blocks: 0,
-        limit: 4294967294,
+        limit: GREATEST_LIMIT,
         scripts: Vec::new(alloc),
         stops: Vec::new(alloc),
         schedule: Vec::new(alloc),
