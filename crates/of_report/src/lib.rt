@@ -1,6 +1,7 @@
 //! Reports of runs and their texts.
 #![tactic(auto)]
 
+pub mod laws;
 mod printing;
 mod report;
 pub mod store;
