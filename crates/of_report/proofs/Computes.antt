@@ -5,29 +5,29 @@ use Rattle.std.specs.Ordering.{nat_cmp, eq_by_cmp}
 use Rattle.std.specs.Cmp.{nat_cmp_total}
 use Rattle.std.proofs.lemmas.List.{nil_from_length}
 
-no_entries : entries (empty {X = ℕ} {R = nat_cmp}) ≡ []
+pub no_entries : entries (empty {X = ℕ} {R = nat_cmp}) ≡ []
 no_entries = nil_from_length _ (sym (len-entries empty) ∙ len-empty nat_cmp ℕ)
 
-entries_put : (m : FinMap nat_cmp ℕ) (k v : ℕ) → entries (insert m k v) ≡ put nat_cmp k v (entries m)
+pub entries_put : (m : FinMap nat_cmp ℕ) (k v : ℕ) → entries (insert m k v) ≡ put nat_cmp k v (entries m)
 entries_put m k v = entries-insert nat_cmp_total m k v
 
-get_put : (m : FinMap nat_cmp ℕ) (k v q : ℕ) → get (insert m k v) q ≡ cond (eq_by_cmp nat_cmp q k) (Some v) (get m q)
+pub get_put : (m : FinMap nat_cmp ℕ) (k v q : ℕ) → get (insert m k v) q ≡ cond (eq_by_cmp nat_cmp q k) (Some v) (get m q)
 get_put m k v q = get-insert nat_cmp_total m k v q
 
-get_none : (q : ℕ) → get (empty {X = ℕ} {R = nat_cmp}) q ≡ None
+pub get_none : (q : ℕ) → get (empty {X = ℕ} {R = nat_cmp}) q ≡ None
 get_none q = get-empty nat_cmp q
 
-len_none : len (empty {X = ℕ} {R = nat_cmp}) ≡ 0
+pub len_none : len (empty {X = ℕ} {R = nat_cmp}) ≡ 0
 len_none = len-empty nat_cmp ℕ
 
-len_put : (m : FinMap nat_cmp ℕ) (k v : ℕ) → len (insert m k v) ≡ cond (contains_key m k) (len m) (len m + 1)
+pub len_put : (m : FinMap nat_cmp ℕ) (k v : ℕ) → len (insert m k v) ≡ cond (contains_key m k) (len m) (len m + 1)
 len_put m k v = len-insert nat_cmp_total m k v
 
 always : (b : Bool) (x : Option ℕ) → cond b x x ≡ x
 always true x = refl
 always false x = refl
 
-none_removed : (k : ℕ) → remove (empty {X = ℕ} {R = nat_cmp}) k ≡ empty
+pub none_removed : (k : ℕ) → remove (empty {X = ℕ} {R = nat_cmp}) k ≡ empty
 none_removed k = same_map nat_cmp_total nat_cmp-IsAntisymmetric (remove (empty {X = ℕ} {R = nat_cmp}) k) empty (λ q.
     get-remove nat_cmp_total (empty {X = ℕ} {R = nat_cmp}) k q ∙ ap (λ (o : Option ℕ). cond (eq_by_cmp nat_cmp q k) None o) (get-empty nat_cmp q) ∙ always (eq_by_cmp nat_cmp q k) None ∙ sym (get-empty nat_cmp q))
 

@@ -5,5 +5,7 @@ pub mod laws;
 mod printing;
 mod report;
 pub mod store;
+#[cfg(test)]
+mod tests;
 
 pub use report::{Entry, Line, Report};
