@@ -2,6 +2,7 @@
 use Rattle.std.specs.Prelude.{ℕ, List, [], ◌∷◌, ◌++◌, flat_map, codes, decimal, if◌then◌else◌, ◌==◌}
 use Rattle.std.specs.List.{enumerate_from, range_with_len}
 use Rattle.std.specs.FinMap as fm
+use Rattle.of_script.specs.declared.instr.TheConstants.{QUEUES}
 use Rattle.of_store.specs.State.{State, queue}
 
 -- a register that is 0 has no line
@@ -20,9 +21,9 @@ abbrev pub queue_line : ℕ × List ℕ → List ℕ
 queue_line (q, []) = []
 queue_line (q, item ∷ items) = ((codes "queue " ++ decimal q) ++ flat_map item_text (item ∷ items)) ++ codes "\n"
 
--- the lines of the four queues
+-- the lines of the queues, which every store has the same number of
 abbrev pub queue_lines : State → List ℕ
-queue_lines s = flat_map (λ q. queue_line (q, queue s q)) (range_with_len 0 4)
+queue_lines s = flat_map (λ q. queue_line (q, queue s q)) (range_with_len 0 QUEUES)
 
 -- the registers in order, the keys in ascending order, the queues in order
 abbrev pub store_text : State → List ℕ

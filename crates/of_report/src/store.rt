@@ -5,6 +5,7 @@ ghost use Rattle.std.specs.List.{enumerate_from};
 ghost use Rattle.std.specs.FinMap as fm;
 ghost use Rattle.of_report.specs.StoreText.{register_line, key_line, queue_line, queue_lines, store_text};
 
+use of_script::QUEUES;
 use of_store::Store;
 use std::alloc::AllocError;
 use std::collections::VecDeque;
@@ -65,7 +66,7 @@ fn put_keys(out: &mut String, store: &Store) -> Result<(), AllocError>
 fn put_queues(out: &mut String, store: &Store) -> Result<(), AllocError>
     ensures { OnOk result (string_bytes out.new ≡ string_bytes out.old ++ queue_lines store.now) }
 {
-    for number in 0..4 {
+    for number in 0..QUEUES as u32 {
         put_queue(out, number, store.queue(number))?;
     }
     Ok(())
