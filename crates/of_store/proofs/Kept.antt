@@ -1,5 +1,5 @@
 -- How many keys and items a store keeps, after each change.
-use Rattle.std.proofs.Common.{◌≡◌, ℕ, ◌+◌, ◌<◌, ◌≤◌, List, [], ◌∷◌, ◌++◌, length, inl, inr, Option, Some, None, is_some, true, false, refl, ap, ◌∙◌, arith}
+use Rattle.std.proofs.Common.{◌≡◌, ℕ, ◌+◌, ◌<◌, ◌≤◌, List, [], ◌++◌, length, inl, inr, Option, Some, None, is_some, true, false, refl, ap, ◌∙◌, arith}
 use Rattle.std.specs.FinMap as fm
 use Rattle.std.proofs.lemmas.Bool.Decides.{eqb_tells}
 use Rattle.std.specs.FinMap.{len-insert, len-empty, len-remove, empty_of_len, get-empty}
