@@ -1,7 +1,7 @@
 ghost use Rattle.std.specs.Prelude.{◌≡◌, ◌<◌, ◌==◌, [], length, IfOk, slice_index_or};
 ghost use Rattle.of_wset.specs.Pairs.{value_at, put, IsMap};
 
-use crate::table::{Entry, Found, find};
+use crate::table::{Entry, Found, find, free};
 use std::alloc::{AllocError, Global};
 use std::marker::Model;
 
@@ -97,9 +97,7 @@ impl WriteSet {
     pub fn clear(&mut self)
         ensures { self.new ≡ record self.old { entries = [] } }
     {
-        for entry in &self.entries {
-            self.table[entry.place] = None;
-        }
+        free(self.entries.as_slice(), self.table.as_mut_slice());
         self.entries.clear();
     }
 }
