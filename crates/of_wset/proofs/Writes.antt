@@ -1,11 +1,11 @@
 -- What a write and a clear keep: the entries stay a map that the table finds.
-use Rattle.std.proofs.Common.{◌≡◌, ◌≢◌, ℕ, zero, suc, ◌+◌, ◌*◌, ◌^◌, ◌<◌, ◌≤◌, ◌⊎◌, inl, inr, List, [], ◌∷◌, ◌++◌, length, map, Option, Some, None, get_or, set, refl, sym, ◌∙◌, ap, subst, arith, length-append, length-set, replicate}
+use Rattle.std.proofs.Common.{◌≡◌, ℕ, ◌+◌, ◌*◌, ◌<◌, ◌≤◌, ◌⊎◌, inl, inr, List, [], ◌∷◌, ◌++◌, length, Option, Some, None, get_or, set, refl, sym, ◌∙◌, ap, subst, arith, length-append, length-set, replicate}
 use Rattle.std.specs.Int.{IsNextPowerOfTwo}
 use Rattle.std.proofs.lemmas.Bool.{cases_eq}
 use Rattle.std.proofs.lemmas.Nat.{pow_pos}
 use Rattle.std.proofs.lemmas.List.{get_or-set_same, get_or-set_other, get_or_append_left, get_or_push, get_or_default, get_or-replicate, length-replicate}
 use Rattle.of_wset.specs.declared.table.Entry.{Entry}
-use Rattle.of_wset.specs.Table.{entry, held, nowhere, IsTaken, Reaches, IsTable, IsAbsent, IsFree, IsWriteSet}
+use Rattle.of_wset.specs.Table.{entry, held, nowhere, IsTaken, Reaches, IsFree, IsWriteSet}
 use Rattle.of_wset.proofs.Lookups.{taken_below}
 use Rattle.of_wset.proofs.Maps.{few}
 
