@@ -1,5 +1,5 @@
 -- A look-up: some place is free, so the walk for an address ends, and where it ends at a free place the address is absent.
-use Rattle.std.proofs.Common.{◌≡◌, ◌≢◌, ℕ, ◌+◌, ◌-◌, ◌<◌, ◌≤◌, ◌⊎◌, inl, inr, List, length, map, Option, Some, None, get_or, eqb, true, refl, sym, ◌∙◌, ap, subst, arith}
+use Rattle.std.proofs.Common.{◌≡◌, ◌≢◌, ℕ, ◌-◌, ◌<◌, ◌≤◌, ◌⊎◌, inl, inr, List, length, map, Option, Some, None, get_or, eqb, true, sym, ◌∙◌, ap, arith}
 use Rattle.std.specs.List.{list_any}
 use Rattle.std.proofs.lemmas.Map.Steps.{le-length_from_below}
 use Rattle.std.proofs.lemmas.List.Folds.{list_any_at}
@@ -8,7 +8,7 @@ use Rattle.std.proofs.lemmas.Bool.{cases_eq, cases_lt, cases_order}
 use Rattle.std.proofs.lemmas.List.{get_or-map, length-map, get_or_past}
 use Rattle.of_wset.specs.declared.table.Entry.{Entry}
 use Rattle.of_wset.specs.Walk.{hash_place, next_place, steps}
-use Rattle.of_wset.specs.Table.{entry, held, nowhere, IsTaken, Reaches, IsTable, IsAbsent, IsFree, Passes}
+use Rattle.of_wset.specs.Table.{entry, held, nowhere, IsTaken, IsTable, IsAbsent, IsFree, Passes}
 use Rattle.of_wset.proofs.Walks.{steps_below, steps_none, steps_same, steps_next, before_next, before_round}
 
 equals : (a b : ℕ) → a ≡ b → eqb a b ≡ true

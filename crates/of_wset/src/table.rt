@@ -1,8 +1,8 @@
 //! How an address is looked up: by a walk over the taken places of a hashed table.
 
-ghost use Rattle.std.specs.Prelude.{◌≡◌, ◌<◌, length};
+ghost use Rattle.std.specs.Prelude.{◌≡◌, ◌<◌, length, EachIndex};
 ghost use Rattle.of_wset.specs.Walk.{hash_place, next_place};
-ghost use Rattle.of_wset.specs.Table.{IsTable, EndsAt};
+ghost use Rattle.of_wset.specs.Table.{held, IsTable, EndsAt};
 
 /// A pair that was written, and its place in the table.
 #[derive(Clone, Copy)]
@@ -58,4 +58,14 @@ pub fn find(entries: &[Entry], table: &[Option<u32>], addr: u32) -> Found
         place = next_place(places, place);
     }
     Found::Free(place)
+}
+
+/// Frees the place of each entry, which leaves every place free.
+pub fn free(entries: &[Entry], table: &mut [Option<u32>])
+    requires { IsTable entries.now table.old }
+    ensures { EachIndex table.new (λ p. held table.new p ≡ None) }
+{
+    for entry in entries {
+        table[entry.place] = None;
+    }
 }

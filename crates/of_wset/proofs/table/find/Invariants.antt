@@ -1,4 +1,4 @@
-use Rattle.std.proofs.Common.{◌≡◌, ℕ, ◌-◌, ◌<◌, length}
+use Rattle.std.proofs.Common.{◌-◌, ◌<◌, length}
 use Rattle.of_wset.specs.Walk.{hash_place, steps}
 use Rattle.of_wset.specs.Table.{Passes}
 use Rattle.of_wset.proofs.table.find.Given as goal
