@@ -11,6 +11,7 @@ use Rattle.of_mem.proofs.Heaps.{chain_copy}
 use Rattle.of_mem.proofs.Runs.{run_ended}
 use Rattle.of_alloc.specs.Blocks.{IsFreeList, IsOut, IsGiven, GivesTo}
 use Rattle.of_alloc.specs.BlockPrograms.{give_program}
+use Rattle.of_alloc.proofs.Takings.{free_small}
 
 module _ (o blocks : ℕ) (m : ℕ → ℕ) (free : List ℕ) (b : ℕ) (h : IsFreeList o blocks m free) (out : IsOut o m free b) where
   abbrev linked : ℕ → ℕ
@@ -43,15 +44,8 @@ module _ (o blocks : ℕ) (m : ℕ → ℕ) (free : List ℕ) (b : ℕ) (h : IsF
     cells = other;
   }
 
-  front_small : blocks ≤ 512 → m (free_at o) < 4294967296
-  front_small few = go free h
-    where
-      go : (l : List ℕ) → IsFreeList o blocks m l → m (free_at o) < 4294967296
-      go [] k = omega (arith, k.linked)
-      go (x ∷ l) k = omega (arith, k.linked.0, k.below.0, k.few)
-
   inside : blocks ≤ 512 → Inside o (cells_at o blocks) (give_program o b) m
-  inside few = (omega arith, omega arith, (omega arith, omega (arith, out.0, h.few), front_small few, (omega arith, omega arith, omega (arith, out.0, h.few), tt)))
+  inside few = (omega arith, omega arith, (omega arith, omega (arith, out.0, h.few), free_small o blocks m free h few, (omega arith, omega arith, omega (arith, out.0, h.few), tt)))
 
   given_to : blocks ≤ 512 → (p q : Pad) → IsPartOf p m → RunsAs (give_program o b) p tt q → (n : ℕ → ℕ) × IsPartOf q n × IsGiven o blocks m free b n
   given_to few p q is e = (given, (run_ended o (cells_at o blocks) (give_program o b) p q m tt is (inside few) e).part, is_given)

@@ -23,6 +23,10 @@ next_small : (o blocks : ℕ) (m : ℕ → ℕ) (b : ℕ) (l : List ℕ) → IsF
 next_small o blocks m b [] h few = omega (arith, h.linked.1)
 next_small o blocks m b (x ∷ l) h few = omega (arith, h.linked.1.0, h.below.1.0, h.few)
 
+pub free_small : (o blocks : ℕ) (m : ℕ → ℕ) (free : List ℕ) → IsFreeList o blocks m free → blocks ≤ 512 → m (free_at o) < 4294967296
+free_small o blocks m [] h few = omega (arith, h.linked)
+free_small o blocks m (x ∷ l) h few = omega (arith, h.linked.0, h.below.0, h.few)
+
 module _ (o blocks : ℕ) (m : ℕ → ℕ) where
   abbrev from_front : ℕ → ℕ → ℕ
   from_front b = changed m (free_at o) (m (link_at o b))

@@ -15,6 +15,14 @@ length_total chains (suc n) c l = elim (cases_lt c n) [
       | inr k ↦ let e : c ≡ n = omega arith in rw e (omega arith)
     ]
 
+-- two chains have no more blocks than all
+pub two_total : (chains : ℕ → List ℕ) (n c : ℕ) → 1 ≤ c → c < n → length (chains 0) + length (chains c) ≤ total chains n
+two_total chains zero c k l = absurd (omega arith)
+two_total chains (suc n) c k l = elim (cases_lt c n) [
+      | inl q ↦ let r : length (chains 0) + length (chains c) ≤ total chains n = two_total chains n c k q in omega arith
+      | inr q ↦ let e : c ≡ n = omega arith in let r : length (chains 0) ≤ total chains n = length_total chains n 0 (omega arith) in rw e (omega arith)
+    ]
+
 -- the chains of the free list, of the buckets and of the queues, and the blocks that are out
 pub all_chains : (chains : ℕ → List ℕ) → total chains 38 ≡ total chains 33 + length (chains 33) + length (chains 34) + length (chains 35) + length (chains 36) + length (chains 37)
 all_chains chains = refl

@@ -116,3 +116,13 @@ chain_apart o m cell b (x ∷ xs) ys h = (
   λ (e : x ≡ b). (each_right (λ z. z ≢ x) xs (b ∷ ys) (chain_once o m cell x (xs ++ b ∷ ys) h)).0 (sym e),
   chain_apart o m (link_at o x) b xs ys h.1,
 )
+
+-- the chain behind one of its blocks
+pub chain_rest : (o : ℕ) (m : ℕ → ℕ) (cell b : ℕ) (xs ys : List ℕ) → IsChain o m cell (xs ++ b ∷ ys) → IsChain o m (link_at o b) ys
+chain_rest o m cell b [] ys h = h.1
+chain_rest o m cell b (x ∷ xs) ys h = chain_rest o m (link_at o x) b xs ys h.1
+
+-- a pointer to a block is a word
+pub pointer_small : (o blocks : ℕ) → blocks ≤ 512 → (m : ℕ → ℕ) (cell : ℕ) (l : List ℕ) → IsChain o m cell l → Each (λ b. b < blocks) l → m cell < 4294967296
+pointer_small o blocks few m cell [] h k = omega arith
+pointer_small o blocks few m cell (b ∷ l) h k = omega (arith, h.0, k.0)

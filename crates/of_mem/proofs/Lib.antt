@@ -11,3 +11,4 @@ pub mod Writes
 pub mod Overlaid
 pub mod Sounds
 pub mod Counts
+pub mod Calls
