@@ -1,5 +1,5 @@
 -- The order of steps: what a machine asks for at each place, and how it goes on with the word that was found.
-use Rattle.std.specs.Prelude.{ℕ, ◌+◌, ◌*◌, ◌==◌, nat_lt, max, ◌-◌, List, [], ◌∷◌, ◌++◌, length, Option, Some, None, Bool, true, false, if◌then◌else◌, ◌&&◌}
+use Rattle.std.specs.Prelude.{◌≡◌, ℕ, ◌+◌, ◌*◌, ◌==◌, nat_lt, max, ◌-◌, List, [], ◌∷◌, ◌++◌, length, Option, Some, None, Bool, true, false, if◌then◌else◌, ◌&&◌}
 use Rattle.std.proofs.Common.{get_or, set, replicate, zero, suc}
 use Rattle.of_cell.specs.Words.{word, seq, pay}
 use Rattle.of_mem.specs.declared.work.RawReply.{RawReply}
@@ -10,7 +10,7 @@ use Rattle.of_core.specs.declared.place.Op.{Op}
 use Rattle.of_core.specs.declared.place.Op.TheVariants.{Load, Store, Exchange, Raise}
 use Rattle.of_core.specs.declared.place.Outcome.TheVariants.{Answered, Spent}
 use Rattle.of_core.specs.Table.{Setup, request_at, data_at, log_at, durable_at, script_at, ticket_cell, shape_cell, reply_cell}
-use Rattle.of_core.specs.Machine.{Call, Data, entry, opened, log_words, log_of, turned, unknown, learned, merged, put_all, own_cells}
+use Rattle.of_core.specs.Machine.{Call, Data, entry, log_words, log_of, turned, unknown, learned, merged, put_all, own_cells}
 
 abbrev pub want_at : Setup → Data → Place → Op
 want_at S m Idle = Load 0
@@ -43,6 +43,10 @@ want_at S m ExchangeCurrent = Exchange 0 (word m.seq m.owner) (word (m.seq + 1) 
 want_at S m (LoadTarget j) = Load (data_at S (entry m j).0)
 want_at S m (ExchangeTarget j found) = Exchange (data_at S (entry m j).0) found (word m.seq (entry m j).1)
 want_at S m CloseRequest = Exchange (request_at m.owner) (word m.seq 0) (word m.seq 1)
+
+-- the step that the machine asks for next
+unfoldable pub want : Setup → Data → Op
+want S m = want_at S m m.place
 
 abbrev pub word_of : Op → ℕ
 word_of (Load c) = c
@@ -267,3 +271,20 @@ took_at S m found (StoreLog x) = record m { place = RaiseLog x; steps = m.steps 
 took_at S m found (RaiseLog x) = after_raise_log m x (nat_lt (x + 1) (length (log_words m.log)))
 took_at S m found CloseRequest = record m { place = RaiseClosed; steps = m.steps + 1 }
 took_at S m found RaiseClosed = after_raise_closed S m m.helps (m.rounds == 0)
+
+unfoldable pub took : Setup → Data → ℕ → Data
+took S m found = took_at S m found m.place
+
+-- what the words are after it
+abbrev pub words_after : Op → List ℕ → List ℕ
+words_after o ws = set ws (word_of o) (left o (get_or ws (word_of o) 0))
+
+-- the number is what the step finds on these words; a store finds any number
+abbrev pub FoundBy : Op → List ℕ → ℕ → Type 0
+FoundBy (Load c) ws n = n ≡ get_or ws c 0
+FoundBy (Store c v) ws n = Unit {0}
+FoundBy (Exchange c old new) ws n = n ≡ get_or ws c 0
+FoundBy (Raise c v) ws n = n ≡ get_or ws c 0
+
+abbrev pub finds : Setup → List ℕ → Data → ℕ
+finds S ws m = get_or ws (word_of (want S m)) 0

@@ -1,5 +1,5 @@
 -- The words of the shared table: which stand where, and what they are called.
-use Rattle.std.specs.Prelude.{ℕ, ◌+◌, ◌*◌, ◌-◌, List, [], ◌∷◌, ◌++◌, ◌%◌}
+use Rattle.std.specs.Prelude.{ℕ, ◌+◌, ◌*◌, List, [], ◌∷◌, ◌++◌, ◌%◌}
 use Rattle.std.proofs.Common.{get_or, zero, suc}
 use Rattle.of_cell.specs.Words.{seq, pay}
 use Rattle.of_mem.specs.Meaning.{Meaning}
@@ -36,6 +36,10 @@ size S = S.callers + 1 + S.cells + S.callers * (2 * S.cells + 1)
 
 abbrev pub durable_at : Setup → ℕ → ℕ
 durable_at S c = size S + c
+
+-- how many words the table has: cells, durable words, and a row of script words and announcement for each caller
+abbrev pub table_size : Setup → ℕ
+table_size S = size S + size S + S.callers * (S.instrs + 1)
 
 -- script word x of caller i; the last of its row is the announcement
 abbrev pub script_at : Setup → ℕ → ℕ → ℕ

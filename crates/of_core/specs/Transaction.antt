@@ -1,8 +1,8 @@
 -- What the invariant says of one's own log and request, and of a transaction that is copied or applied.
-use Rattle.std.specs.Prelude.{ℕ, ◌+◌, ◌*◌, ◌-◌, List, [], ◌∷◌, length, Bool, true, false, ◌≡◌, ◌≤◌, ◌<◌, ◌⊎◌}
+use Rattle.std.specs.Prelude.{ℕ, ◌+◌, ◌*◌, List, length, Bool, true, false, ◌≡◌, ◌≤◌, ◌<◌, ◌⊎◌}
 use Rattle.std.proofs.Common.{get_or, take}
 use Rattle.of_cell.specs.Words.{word, seq}
-use Rattle.of_core.specs.Table.{Setup, current_word, request_of, cell, log_word, durable_request, durable_cell, durable_log, announcement_of, last}
+use Rattle.of_core.specs.Table.{Setup, request_of, cell, log_word, durable_request, durable_cell, durable_log, announcement_of, last}
 use Rattle.of_core.specs.Machine.{Data, entry, log_words}
 use Rattle.of_core.specs.World.{Batch, Start}
 use Rattle.of_core.specs.History.{batch, ticket_in, HasCall}
