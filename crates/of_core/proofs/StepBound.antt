@@ -140,7 +140,7 @@ module _ (S : Setup) where
   resumed_within n false h = record { told = λ q. cc; steps = h }
 
   module _ (Lawful : List ℕ → Type 0) (B : Start) (w : World) (g : Core S Lawful B w) (i : ℕ) (m : Data) (h : i < S.callers) where
-    n_cells : (j : ℕ) → Applies S B w.words w.batches i m j → length m.log ≤ S.cells
+    pub n_cells : (j : ℕ) → Applies S B w.words w.batches i m j → length m.log ≤ S.cells
     n_cells j p = rw p.log.many (g.shared.counted.logs m.seq p.after p.upto).few
 
     words_row : S.instrs + 1 ≤ S.callers * (S.instrs + 1)

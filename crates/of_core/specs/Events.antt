@@ -1,5 +1,5 @@
 -- Events, schedules and the moments that they leave.
-use Rattle.std.specs.Prelude.{◌==◌, if◌then◌else◌, ℕ, ◌+◌, max, List, [], ◌∷◌, ◌++◌, length, ◌≡◌, ◌≤◌, ◌<◌}
+use Rattle.std.specs.Prelude.{◌==◌, Bool, true, false, ℕ, ◌+◌, max, List, [], ◌∷◌, ◌++◌, length, ◌≡◌, ◌≤◌, ◌<◌}
 use Rattle.std.proofs.Common.{get_or, set, replicate, zero, suc}
 use Rattle.of_core.specs.declared.place.Place.TheVariants.{Idle}
 use Rattle.of_core.specs.Table.{Setup, size, durable_at}
@@ -58,10 +58,14 @@ zeros S = record { seq = 0; owner = 0; cells = replicate S.cells 0 }
 abbrev pub opening : Setup → ℕ → World
 opening S n = record { words = replicate n 0; machines = idles 0 S.callers; batches = []; reads = []; loaded = [] }
 
+abbrev pub counted : Bool → ℕ
+counted true = 1
+counted false = 0
+
 -- how many of the events are turns of caller i
 abbrev pub one_turn : ℕ → Event → ℕ
 one_turn i (Begins j op) = 0
-one_turn i (Turns j) = if i == j then 1 else 0
+one_turn i (Turns j) = counted (i == j)
 one_turn i (Loads c) = 0
 one_turn i (Evicts k) = 0
 one_turn i (Raises c) = 0
