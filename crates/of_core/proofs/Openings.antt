@@ -9,10 +9,15 @@ use Rattle.of_core.specs.Table.{Setup, base, size, durable_at, request_at, data_
 use Rattle.of_core.specs.Machine.{Data, idle}
 use Rattle.of_core.specs.History.{at, ticket_in}
 use Rattle.of_core.specs.Order.{Order, Behind}
+use Rattle.of_core.specs.Facts.{rests}
 use Rattle.of_core.specs.Invariant.{Good, Core, At}
 use Rattle.of_core.specs.Bound.{Within}
 use Rattle.of_core.specs.Events.{idles, zeros, opening}
 use Rattle.of_core.proofs.States.{state_start}
+
+pub idle_rests : (i : ℕ) → rests (idle i) ≡ 0
+unfolding rests
+idle_rests i = refl
 
 -- the start
 module _ (S : Setup) (Lawful : List ℕ → Type 0) (sound : Sound S.meaning Lawful (base S) S.cells) (some : 0 < S.callers) (few : S.callers < 4294967296) (own_in : base S ≤ S.cells) (total : ℕ) (room : size S + size S + S.callers * (S.instrs + 1) ≤ total) (narrow : S.instrs ≤ 16) (little : S.cells < 4294967296) where

@@ -9,13 +9,14 @@ use Rattle.of_core.specs.Table.{Setup, base}
 use Rattle.of_core.specs.Machine.{Data}
 use Rattle.of_core.specs.Steps.{want, want_at, word_of, took_at, FoundBy}
 use Rattle.of_core.specs.World.{World, Start, stepped, stepped_at, answers_at, commits_at}
-use Rattle.of_core.specs.Invariant.{Good, Core, At}
+use Rattle.of_core.specs.Invariant.{Good, Core, At, IsLoaded}
 use Rattle.of_core.specs.Moves.{Goes, Moves}
 use Rattle.of_core.specs.Bound.{Within}
 use Rattle.of_core.specs.Machine.{is_idle}
 use Rattle.of_core.proofs.StepBound.{within}
 use Rattle.of_core.proofs.StepFacts.{step_facts}
 use Rattle.of_core.proofs.Ordering.{Orderly, idle_is, orderly, orderly_idle, order_after}
+use Rattle.of_core.proofs.Stability.{loaded_stable}
 use Rattle.of_core.proofs.Found.{stepped_is}
 use Rattle.of_cell.specs.Words.{seq}
 use Rattle.of_core.proofs.Tries.{try_current_kept, try_request_kept, try_cell_kept}
@@ -101,3 +102,8 @@ module _ (S : Setup) (Lawful : List ℕ → Type 0) (sound : Sound S.meaning Law
 
   pub step_moves : (n : ℕ) → FoundBy (want S m) w.words n → Moves S B i w.words w.batches (stepped S i m n w).words (stepped S i m n w).batches
   step_moves n f = subst (λ (v : World). Moves S B i w.words w.batches v.words v.batches) (sym (stepped_is S i m n w f)) goes.moves
+
+  -- a word that was loaded stays one that its cell has held
+  pub loaded_stays : (n : ℕ) → FoundBy (want S m) w.words n → (e : ℕ × ℕ) → IsLoaded S B w.words w.batches e → IsLoaded S B (stepped S i m n w).words (stepped S i m n w).batches e
+  loaded_stays n f e l = subst (λ (v : World). IsLoaded S B v.words v.batches e) (sym (stepped_is S i m n w f))
+      (loaded_stable S Lawful B i w.words w.batches (stepped_at S i m m.place w).words (stepped_at S i m m.place w).batches goes.moves g.core.shared goes.core.shared.kinds e l)
