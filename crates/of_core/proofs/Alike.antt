@@ -7,7 +7,6 @@ use Rattle.of_core.specs.Rounds.{Trying, Helper, Fresh, Begun, Round, Looks, Pas
 use Rattle.of_core.specs.Invariant.{Core}
 
 module _ (S : Setup) (Lawful : List ℕ → Type 0) (B : Start) where
-
   -- the machine m of caller i, at its place
   module _ (w : World) (g : Core S Lawful B w) (i : ℕ) (m : Data) (h : i < S.callers) where
     pub begun_as : (n q : Data) → Begun S B w.words w.batches i n → q.caller ≡ n.caller → q.made ≡ n.made → q.op ≡ n.op → q.kept ≡ n.kept → q.rounds ≡ n.rounds → q.first ≡ n.first → Begun S B w.words w.batches i q

@@ -22,7 +22,6 @@ use Rattle.of_core.proofs.Stability.{at_stable, floor_of}
 use Rattle.of_core.proofs.Touches.{Touches, durable_of, heard_of, held_now, kinds_same, moves_of, request_same, shared_of}
 
 module _ (S : Setup) (Lawful : List ℕ → Type 0) (B : Start) where
-
   module _ (w : World) (g : Core S Lawful B w) (i : ℕ) (m : Data) (h : i < S.callers) where
     -- an applying machine goes on with what its place says of the words
     applies_as : (xs : List ℕ) (j k : ℕ) → Applies S B xs w.batches i m j → (n : Data)

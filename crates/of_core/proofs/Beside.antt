@@ -1,14 +1,12 @@
 -- The invariant speaks of no word behind the table's own.
-use Rattle.std.proofs.Common.{◌≡◌, ℕ, ◌+◌, ◌*◌, ◌-◌, ◌<◌, ◌≤◌, ◌⊎◌, inl, inr, List, length, get_or, set, refl, sym, ◌∙◌, ap, subst, arith, length-set}
+use Rattle.std.proofs.Common.{◌≡◌, ℕ, ◌+◌, ◌*◌, ◌-◌, ◌<◌, ◌≤◌, ◌⊎◌, inl, inr, List, get_or, set, sym, ◌∙◌, ap, subst, arith, length-set}
 use Rattle.std.proofs.lemmas.List.{get_or-set_other}
 use Rattle.of_cell.specs.Words.{seq}
-use Rattle.of_core.specs.Table.{Setup, size, table_size, data_at, durable_at, request_at, log_at, script_at, current_word, request_of, cell, log_word, durable_word, script_word, last, holder, risen}
-use Rattle.of_core.specs.Machine.{Data}
-use Rattle.of_core.specs.World.{World, Start, Batch}
-use Rattle.of_core.specs.History.{at, batch}
+use Rattle.of_core.specs.Table.{Setup, table_size, durable_at, log_at, script_at, current_word, request_of, cell, log_word, script_word, last, holder, risen}
+use Rattle.of_core.specs.World.{World, Start}
+use Rattle.of_core.specs.History.{at}
 use Rattle.of_core.specs.Shared.{Shared, Opened, Datas, Durable, IsRequest}
-use Rattle.of_core.specs.Order.{Order}
-use Rattle.of_core.specs.Invariant.{Core, Good, IsLoaded}
+use Rattle.of_core.specs.Invariant.{Good, IsLoaded}
 use Rattle.of_core.proofs.Logs.{room_for}
 use Rattle.of_core.proofs.Touches.{Touches, durable_of, kinds_same, moves_of, shared_of}
 use Rattle.of_core.proofs.Stability.{at_stable, heard_as, loaded_stable, log_in}

@@ -25,7 +25,6 @@ use Rattle.of_core.proofs.Tickets.{ticket_upto}
 use Rattle.of_core.proofs.Replays.{upto, replay_length}
 
 module _ (S : Setup) (Lawful : List ℕ → Type 0) (sound : Sound S.meaning Lawful (base S) S.cells) (B : Start) where
-
   module _ (w : World) (g : Core S Lawful B w) where
     -- a read that the state at its sequence meets, meets the replay up to it
     read_meets : (r : Read) → IsRead S B w.batches (risen S w.words) r → risen S w.words ≤ B.seq + length w.batches → ReadMeets S B w.batches r

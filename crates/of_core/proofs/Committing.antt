@@ -28,7 +28,6 @@ use Rattle.of_core.proofs.LongerHistory.{grown, ticket_new}
 use Rattle.of_core.proofs.Touches.{differ, equals}
 
 module _ (S : Setup) (Lawful : List ℕ → Type 0) (B : Start) where
-
   module _ (w : World) (g : Core S Lawful B w) (i : ℕ) (m : Data) (h : i < S.callers) where
     -- the exchange of the current transaction
     pub exchange_current_kept : Sound S.meaning Lawful (base S) S.cells → At S B w.words w.batches i m ExchangeCurrent → Goes S Lawful B i w (stepped_at S i m ExchangeCurrent w)

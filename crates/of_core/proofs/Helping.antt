@@ -24,7 +24,6 @@ use Rattle.of_core.proofs.Rounds.{quiet_from}
 use Rattle.of_core.proofs.Tries.{resumed_at}
 
 module _ (S : Setup) (Lawful : List ℕ → Type 0) (B : Start) where
-
   -- the machine m of caller i, at its place
   module _ (w : World) (g : Core S Lawful B w) (i : ℕ) (m : Data) (h : i < S.callers) where
     -- where the last transaction is open, its owner's log words are its log

@@ -1,5 +1,5 @@
 -- A call that stays open has made fewer steps than the bound.
-use Rattle.std.proofs.Common.{◌≡◌, ℕ, zero, suc, ◌+◌, ◌*◌, ◌-◌, ◌<◌, ◌≤◌, ◌⊎◌, ◌==◌, inl, inr, List, [], ◌∷◌, length, get_or, set, refl, sym, ◌∙◌, ap, subst, arith, Bool, true, false, if◌then◌else◌}
+use Rattle.std.proofs.Common.{◌≡◌, ℕ, ◌+◌, ◌<◌, ◌≤◌, ◌⊎◌, ◌==◌, inl, inr, List, [], ◌∷◌, get_or, refl, sym, ◌∙◌, ap, subst, arith, Bool, true, false}
 use Rattle.std.proofs.lemmas.Bool.{cases_eq}
 use Rattle.std.proofs.lemmas.Bool.Decides.{nat_tests}
 use Rattle.std.proofs.lemmas.List.{get_or-set_same, get_or-set_other, get_or_default}
@@ -11,7 +11,7 @@ use Rattle.of_core.specs.Machine.{Data, IsOpen, is_idle, idle}
 use Rattle.of_core.specs.Steps.{finds, took}
 use Rattle.of_core.specs.World.{World, Start}
 use Rattle.of_core.specs.Invariant.{At, Good}
-use Rattle.of_core.specs.Bound.{bound, rest_at, Within}
+use Rattle.of_core.specs.Bound.{bound, rest_at}
 use Rattle.of_core.specs.Events.{counted, Event, Begins, Turns, Loads, Evicts, Raises, happens, MayHappen, machine, run, turns, one_turn, IsSchedule, StaysOpen}
 use Rattle.of_core.proofs.Happenings.{event_good}
 use Rattle.of_core.proofs.StepTaken.{step_taken}

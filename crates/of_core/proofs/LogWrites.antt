@@ -20,7 +20,6 @@ use Rattle.of_core.proofs.Stability.{log_in, same_row}
 use Rattle.of_core.proofs.Touches.{Touches, durable_of, heard_of, kinds_of, kinds_same, moves_of, over_of, past_of, request_same, shared_of}
 
 module _ (S : Setup) (Lawful : List ℕ → Type 0) (B : Start) where
-
   module _ (w : World) (g : Core S Lawful B w) (i : ℕ) (m : Data) (h : i < S.callers) where
     -- the machine stores a word of its log
     pub store_log_kept : (x : ℕ) → At S B w.words w.batches i m (StoreLog x) → Goes S Lawful B i w (stepped_at S i m (StoreLog x) w)

@@ -304,8 +304,12 @@ module _ (S : Setup) (Lawful : List ℕ → Type 0) (B : Start) (w : World) (g :
       up =
           let same : k - 1 + 1 ≡ k = omega arith in
           let p : ticket_in S B cs (k - 1) (get_or (batch B cs k).calls x c).caller < (get_or (batch B cs k).calls x c).ticket = (rw same at (shared.stands.rises (k - 1) (omega (arith, from_start)) (omega (arith, shared.counted.count)))) x c z in
-          omega (arith, p, tickets_grow S Lawful B cs shared.stands (last w.words) (k - 1) (get_or (batch B cs k).calls x c).caller from_start (omega arith) (omega (arith, shared.counted.count)) in_range,
-          tick_same S Lawful B i w.words w.batches vs cs v g.shared (last w.words) (get_or (batch B cs k).calls x c).caller from_start (omega arith))
+          omega (
+            arith,
+            p,
+            tickets_grow S Lawful B cs shared.stands (last w.words) (k - 1) (get_or (batch B cs k).calls x c).caller from_start (omega arith) (omega (arith, shared.counted.count)) in_range,
+            tick_same S Lawful B i w.words w.batches vs cs v g.shared (last w.words) (get_or (batch B cs k).calls x c).caller from_start (omega arith),
+          )
 
       loud : ((get_or (batch B cs k).calls x c).ticket ≡ seq (announcement_of S w.words (get_or (batch B cs k).calls x c).caller)) × (last w.words < S.limit)
       loud = go (v.tickets k (get_or (batch B cs k).calls x c).caller l u in_range)

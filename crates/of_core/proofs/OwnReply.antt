@@ -23,7 +23,6 @@ use Rattle.of_core.proofs.Rounds.{again, at_risen, cell_of, grows_to, learn, own
 use Rattle.of_core.proofs.Tests.{differ, mark_none, mark_some, not_newer}
 
 module _ (S : Setup) (Lawful : List ℕ → Type 0) (B : Start) where
-
   -- the machine m of caller i, at its place
   module _ (w : World) (g : Core S Lawful B w) (i : ℕ) (m : Data) (h : i < S.callers) where
     -- the last call up to the round is the open one, where one's own ticket cell has its ticket

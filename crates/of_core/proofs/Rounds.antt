@@ -23,7 +23,6 @@ use Rattle.of_core.proofs.Alike.{begun_as, calm_more, round_as}
 use Rattle.of_core.proofs.Assembling.{assemble_read, logs_of, number_at, same_batches, same_words}
 
 module _ (S : Setup) (Lawful : List ℕ → Type 0) (B : Start) where
-
   -- the machine m of caller i, at its place
   module _ (w : World) (g : Core S Lawful B w) (i : ℕ) (m : Data) (h : i < S.callers) where
     pub idle_kept : At S B w.words w.batches i m m.place → Goes S Lawful B i w (stepped_at S i m Idle w)

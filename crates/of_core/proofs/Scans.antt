@@ -28,7 +28,6 @@ use Rattle.of_core.proofs.Rounds.{again, at_risen, cell_of, learn_past, own_seq,
 use Rattle.of_core.proofs.Tests.{differ, not_newer}
 
 module _ (S : Setup) (Lawful : List ℕ → Type 0) (B : Start) where
-
   -- the machine m of caller i, at its place
   module _ (w : World) (g : Core S Lawful B w) (i : ℕ) (m : Data) (h : i < S.callers) where
     -- the scan goes on behind a caller whose announcement is done

@@ -22,7 +22,6 @@ use Rattle.of_core.proofs.Rounds.{entered_at, n_is, not_open, opened_is, quiet_f
 use Rattle.of_core.proofs.Tests.{differ, not_newer}
 
 module _ (S : Setup) (Lawful : List ℕ → Type 0) (B : Start) where
-
   -- the machine m of caller i, at its place
   module _ (w : World) (g : Core S Lawful B w) (i : ℕ) (m : Data) (h : i < S.callers) where
     -- a cell that isn't newer than a round or a try is that of its state

@@ -1,5 +1,5 @@
 -- Worked schedules, computed by the definitions.
-use Rattle.std.proofs.Common.{◌≡◌, ℕ, List, [], ◌∷◌, length, Option, Some, None, true, false, refl, get_or}
+use Rattle.std.proofs.Common.{◌≡◌, [], ◌∷◌, length, Some, true, false, refl}
 use Rattle.of_cell.specs.Words.{word, seq, pay}
 use Rattle.of_mem.specs.Meaning.{marked}
 use Rattle.of_core.specs.declared.place.Place.TheVariants.{LoadCurrent, RaiseClosed, StoreAnnouncement}

@@ -1,6 +1,6 @@
 -- Small works for worked schedules.
 use Rattle.std.specs.Prelude.{ℕ, ◌+◌, ◌*◌, ◌^◌, ◌-◌, ◌==◌, List, [], ◌∷◌, ◌++◌, length, Option, Some, None, Bool, true, false}
-use Rattle.std.proofs.Common.{get_or, set, replicate, zero, suc}
+use Rattle.std.proofs.Common.{get_or, replicate, zero, suc}
 use Rattle.of_mem.specs.declared.work.RawReply.{RawReply}
 use Rattle.of_mem.specs.Meaning.{Meaning, Walked, Needs, Gives, written}
 use Rattle.of_core.specs.Table.{Setup, setup_of, table_size}

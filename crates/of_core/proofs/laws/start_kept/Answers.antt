@@ -8,6 +8,7 @@ returns g c =
     let S = setup_of (g.W.Work.many c.args.work) (g.W.Work.size c.args.work) c.args.limit (g.W.Work.meaning c.args.work) in
     record {
       start = λ n room. (
-          start_good S (g.W.Work.lawful c.args.work) (g.met.W.Work.sound c.args.work) c.requires.some (omega (arith, c.requires.few)) c.requires.fits n room (omega arith) (omega (arith, c.requires.cells)),
-          idle_rests);
+        start_good S (g.W.Work.lawful c.args.work) (g.met.W.Work.sound c.args.work) c.requires.some (omega (arith, c.requires.few)) c.requires.fits n room (omega arith) (omega (arith, c.requires.cells)),
+        idle_rests,
+      );
     }
