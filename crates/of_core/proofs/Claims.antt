@@ -8,7 +8,7 @@ use Rattle.of_core.specs.declared.place.Place.TheVariants.{Idle, TryCurrent, Try
 use Rattle.of_core.specs.declared.place.Outcome.{Outcome}
 use Rattle.of_core.specs.declared.place.Outcome.TheVariants.{Answered, Spent}
 use Rattle.of_core.specs.Table.{Setup, base, last, risen}
-use Rattle.of_core.specs.Machine.{Data, Call, idle}
+use Rattle.of_core.specs.Machine.{Data, Call, no_machine}
 use Rattle.of_core.specs.World.{World, Start}
 use Rattle.of_core.specs.History.{state, batch, numbers, ticket_in, replay}
 use Rattle.of_core.specs.Shared.{Opened}
@@ -67,7 +67,7 @@ module _ (S : Setup) (Lawful : List ℕ → Type 0) (sound : Sound S.meaning Law
         reach (inr q) = omega (arith, g.shared.counted.count, q.0)
 
         own : (i : ℕ) → i < S.callers → get_or w.machines i (machine w i) ≡ machine w i
-        own i h = get_or_default w.machines i (machine w i) (idle i) (omega (arith, g.members))
+        own i h = get_or_default w.machines i (machine w i) no_machine (omega (arith, g.members))
 
         -- each caller's tickets rise from batch to batch
         rise : (j k : ℕ) → B.seq < j → j < k → k ≤ B.seq + length w.batches → (y : ℕ) (c : Call) → y < length (batch B w.batches j).calls → (z : ℕ) (d : Call) → z < length (batch B w.batches k).calls

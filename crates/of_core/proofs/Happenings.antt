@@ -8,7 +8,7 @@ use Rattle.of_mem.specs.Meaning.{Sound}
 use Rattle.of_core.specs.declared.place.Place.{Place}
 use Rattle.of_core.specs.declared.place.Place.TheVariants.{Idle, TryCurrent, StoreScript}
 use Rattle.of_core.specs.Table.{durable_word, Setup, base, size, log_word}
-use Rattle.of_core.specs.Machine.{is_idle, Data, idle, first_place, opened}
+use Rattle.of_core.specs.Machine.{is_idle, Data, no_machine, first_place, opened}
 use Rattle.of_core.specs.World.{Read, World, Start}
 use Rattle.of_core.specs.Shared.{IsRequest, IsLogWord}
 use Rattle.of_core.specs.Rounds.{Fresh}
@@ -118,8 +118,8 @@ module _ (S : Setup) (Lawful : List ℕ → Type 0) (B : Start) (w : World) (g :
       one (suc k) d l = absurd (omega arith)
 
   pub event_good : Sound S.meaning Lawful (base S) S.cells → (e : Event) → MayHappen S w e → Good S Lawful B (happens S w e)
-  event_good sound (Turns i) h = step_kept S Lawful sound B w g i (machine w i) h (get_or_default w.machines i (machine w i) (idle i) (omega (arith, g.core.members))) (finds S w.words (machine w i)) (found_now S w.words (machine w i))
+  event_good sound (Turns i) h = step_kept S Lawful sound B w g i (machine w i) h (get_or_default w.machines i (machine w i) no_machine (omega (arith, g.core.members))) (finds S w.words (machine w i)) (found_now S w.words (machine w i))
   event_good sound (Loads c) h = load_good c h
   event_good sound (Evicts k) h = evict_kept (get_or w.loaded k (0, 0)) (g.core.loaded k (0, 0) h)
   event_good sound (Raises c) h = evict_kept (c, get_or w.words c 0) (load_kept c h)
-  event_good sound (Begins i op) h = begin_kept i (machine w i) h.0 (get_or_default w.machines i (machine w i) (idle i) (omega (arith, g.core.members, h.0))) h.1 op h.2 h.3 h.4
+  event_good sound (Begins i op) h = begin_kept i (machine w i) h.0 (get_or_default w.machines i (machine w i) no_machine (omega (arith, g.core.members, h.0))) h.1 op h.2 h.3 h.4

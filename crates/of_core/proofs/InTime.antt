@@ -7,7 +7,7 @@ use Rattle.of_mem.specs.Meaning.{Sound}
 use Rattle.of_core.specs.declared.place.Place.{Place}
 use Rattle.of_core.specs.declared.place.Place.TheVariants.{Idle, TryCurrent, TryRequest, TryCell, StoreScript, StoreAnnouncement, LoadCurrent, LoadRequest, CopyLog, LookAgain, LoadOwnTicket, LoadShape, LoadReply, LoadAnnouncement, LoadTicket, LoadScript, LoadCell, RaiseOld, StoreLog, RaiseLog, StoreRequest, RaiseRequest, ExchangeCurrent, RaiseCurrent, LoadTarget, ExchangeTarget, ReloadTarget, RaiseTarget, CloseRequest, RaiseClosed}
 use Rattle.of_core.specs.Table.{Setup, base}
-use Rattle.of_core.specs.Machine.{Data, IsOpen, is_idle, idle}
+use Rattle.of_core.specs.Machine.{Data, IsOpen, is_idle, no_machine}
 use Rattle.of_core.specs.Steps.{finds, took}
 use Rattle.of_core.specs.World.{World, Start}
 use Rattle.of_core.specs.Invariant.{At, Good}
@@ -35,11 +35,11 @@ module _ (S : Setup) (Lawful : List ℕ → Type 0) (sound : Sound S.meaning Law
 
   module _ (i : ℕ) (h : i < S.callers) where
     of_machine : (w : World) → Good S Lawful B w → get_or w.machines i (machine w i) ≡ machine w i
-    of_machine w g = get_or_default w.machines i (machine w i) (idle i) (omega (arith, g.core.members))
+    of_machine w g = get_or_default w.machines i (machine w i) no_machine (omega (arith, g.core.members))
 
     own_turn : (w : World) → Good S Lawful B w → IsOpen (machine w i).place → IsOpen (machine (happens S w (Turns i)) i).place → (machine (happens S w (Turns i)) i).steps ≡ (machine w i).steps + counted (i == i)
     own_turn w g o q =
-        let x : machine (happens S w (Turns i)) i ≡ took S (machine w i) (finds S w.words (machine w i)) = get_or-set_same w.machines i _ (idle i) (omega (arith, g.core.members)) in
+        let x : machine (happens S w (Turns i)) i ≡ took S (machine w i) (finds S w.words (machine w i)) = get_or-set_same w.machines i _ no_machine (omega (arith, g.core.members)) in
         let now : IsOpen (took S (machine w i) (finds S w.words (machine w i))).place = subst (λ (d : Data). IsOpen d.place) x q in
         let t = step_taken S Lawful B w g i (machine w i) h (of_machine w g) o (finds S w.words (machine w i)) (found_now S w.words (machine w i)) in
         ap (λ (d : Data). d.steps) x ∙ (t.goes_on now).0 ∙ ap (λ (k : ℕ). (machine w i).steps + k) (sym (turned_once i))
@@ -53,14 +53,14 @@ module _ (S : Setup) (Lawful : List ℕ → Type 0) (sound : Sound S.meaning Law
       where
         go : (j ≡ i) ⊎ (j ≡ i → ⊥) → (machine (happens S w (Begins j op)) i).steps ≡ (machine w i).steps + 0
         go (inl e) = let z : true ≡ false = sym (ap is_idle m.1) ∙ ap (λ (k : ℕ). is_idle (machine w k).place) e ∙ o in cc
-        go (inr n) = ap (λ (d : Data). d.steps) (get_or-set_other w.machines j i _ (idle i) (λ e. n (sym e))) ∙ plus_zero (machine w i).steps
+        go (inr n) = ap (λ (d : Data). d.steps) (get_or-set_other w.machines j i _ no_machine (λ e. n (sym e))) ∙ plus_zero (machine w i).steps
           where
             plus_zero : (x : ℕ) → x ≡ x + 0
             plus_zero x = omega arith
     steps_rise w g (Turns j) m o q = go (cases_eq j i)
       where
         go : (j ≡ i) ⊎ (j ≡ i → ⊥) → (machine (happens S w (Turns j)) i).steps ≡ (machine w i).steps + counted (i == j)
-        go (inr n) = ap (λ (d : Data). d.steps) (get_or-set_other w.machines j i _ (idle i) (λ e. n (sym e))) ∙ plus_none (machine w i).steps (counted (i == j)) (turned_not i j n)
+        go (inr n) = ap (λ (d : Data). d.steps) (get_or-set_other w.machines j i _ no_machine (λ e. n (sym e))) ∙ plus_none (machine w i).steps (counted (i == j)) (turned_not i j n)
           where
             plus_none : (x y : ℕ) → y ≡ 0 → x ≡ x + y
             plus_none x y e = omega arith

@@ -15,20 +15,20 @@ use Rattle.of_core.specs.Bound.{Within}
 use Rattle.of_core.specs.Events.{idles, zeros, opening}
 use Rattle.of_core.proofs.States.{state_start}
 
-pub idle_rests : (i : ℕ) → rests (idle i) ≡ 0
+pub idle_rests : (S : Setup) (i made : ℕ) → rests (idle S i made) ≡ 0
 unfolding rests
-idle_rests i = refl
+idle_rests S i made = refl
 
 -- the start
 module _ (S : Setup) (Lawful : List ℕ → Type 0) (sound : Sound S.meaning Lawful (base S) S.cells) (some : 0 < S.callers) (few : S.callers < 4294967296) (own_in : base S ≤ S.cells) (total : ℕ) (room : size S + size S + S.callers * (S.instrs + 1) ≤ total) (narrow : S.instrs ≤ 16) (little : S.cells < 4294967296) where
-  idles_length : (i n : ℕ) → length (idles i n) ≡ n
+  idles_length : (i n : ℕ) → length (idles S i n) ≡ n
   idles_length i zero = refl
   idles_length i (suc n) = ap suc (idles_length (suc i) n)
 
-  idles_at : (j n i : ℕ) (d : Data) → i < n → get_or (idles j n) i d ≡ idle (j + i)
+  idles_at : (j n i : ℕ) (d : Data) → i < n → get_or (idles S j n) i d ≡ idle S (j + i) 0
   idles_at j zero i d h = absurd (omega arith)
-  idles_at j (suc n) zero d h = ap idle (omega arith)
-  idles_at j (suc n) (suc i) d h = idles_at (suc j) n i d (omega arith) ∙ ap idle (omega arith)
+  idles_at j (suc n) zero d h = ap (λ (k : ℕ). idle S k 0) (omega arith)
+  idles_at j (suc n) (suc i) d h = idles_at (suc j) n i d (omega arith) ∙ ap (λ (k : ℕ). idle S k 0) (omega arith)
 
   word_at : (c : ℕ) → get_or {A = ℕ} (replicate total 0) c 0 ≡ 0
   word_at c = go (cases_lt c total)
@@ -115,7 +115,7 @@ module _ (S : Setup) (Lawful : List ℕ → Type 0) (sound : Sound S.meaning Law
     };
     members = idles_length 0 S.callers;
     loaded = λ k d l. absurd (omega arith);
-    each = λ i m h e. let q : idle i ≡ m = ap idle (zero_plus i) ∙ sym (idles_at 0 S.callers i m h) ∙ e in
+    each = λ i m h e. let q : idle S i 0 ≡ m = ap (λ (k : ℕ). idle S k 0) (zero_plus i) ∙ sym (idles_at 0 S.callers i m h) ∙ e in
         subst (λ (x : Data). At S (zeros S) (replicate total 0) [] i x x.place) q
         (record { caller = refl; kept = (omega arith, λ l. absurd (omega (arith, seq_zero))); calm = record { own = rw (word_at (i + 1), seq_zero) (omega arith); level = word_at (durable_at S (request_at i)) ∙ sym (word_at (i + 1)); shut = λ k l u o. absurd (omega (arith, last_zero)); logs = λ y u. rw (word_at (log_at S i y), seq_zero) (omega arith) }; quieted = inl (omega (arith, ann_zero i)); upto = omega (arith, ticket_zero i); older = omega (arith, ann_zero i); told = tt });
   }
@@ -140,7 +140,7 @@ module _ (S : Setup) (Lawful : List ℕ → Type 0) (sound : Sound S.meaning Law
   start_order : Order S (zeros S) (opening S total)
   start_order = record {
     ordered = record { reads = λ k d l. absurd (omega arith); successive = λ j k l u. absurd (omega arith); apart = λ k l u. absurd (omega arith) };
-    behind = λ i m h e. let q : idle i ≡ m = ap idle (plus_zero i) ∙ sym (idles_at 0 S.callers i m h) ∙ e in
+    behind = λ i m h e. let q : idle S i 0 ≡ m = ap (λ (k : ℕ). idle S k 0) (plus_zero i) ∙ sym (idles_at 0 S.callers i m h) ∙ e in
         subst (λ (x : Data). Behind S (zeros S) (replicate total 0) [] [] i x x.place) q (record { older = λ k d l. absurd (omega arith); seen = λ t. absurd t; still = λ t. absurd t });
   }
     where
@@ -148,7 +148,7 @@ module _ (S : Setup) (Lawful : List ℕ → Type 0) (sound : Sound S.meaning Law
       plus_zero i = omega arith
 
   pub start_good : Good S Lawful (zeros S) (opening S total)
-  start_good = record { core = good_start; order = start_order; within = λ i m h e. let q : idle i ≡ m = ap idle (zero_plus i) ∙ sym (idles_at 0 S.callers i m h) ∙ e in subst (λ (x : Data). Within S x x.place) q (record { steps = omega arith; told = λ r. tt }) }
+  start_good = record { core = good_start; order = start_order; within = λ i m h e. let q : idle S i 0 ≡ m = ap (λ (k : ℕ). idle S k 0) (zero_plus i) ∙ sym (idles_at 0 S.callers i m h) ∙ e in subst (λ (x : Data). Within S x x.place) q (record { steps = omega arith; told = λ r. tt }) }
     where
       zero_plus : (i : ℕ) → i ≡ 0 + i
       zero_plus i = omega arith

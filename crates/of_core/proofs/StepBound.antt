@@ -7,7 +7,7 @@ use Rattle.of_core.specs.declared.place.Place.{Place}
 use Rattle.of_core.specs.declared.place.Place.TheVariants.{Idle, TryCurrent, TryRequest, TryCell, StoreScript, StoreAnnouncement, LoadCurrent, LoadRequest, CopyLog, LookAgain, LoadOwnTicket, LoadShape, LoadReply, LoadAnnouncement, LoadTicket, LoadScript, LoadCell, RaiseOld, StoreLog, RaiseLog, StoreRequest, RaiseRequest, ExchangeCurrent, RaiseCurrent, LoadTarget, ExchangeTarget, ReloadTarget, RaiseTarget, CloseRequest, RaiseClosed}
 use Rattle.of_core.specs.Table.{Setup, ticket_cell, shape_cell, reply_cell, cell}
 use Rattle.of_core.specs.Machine.{Data, unknown, learned, merged, log_words, opened, first_place}
-use Rattle.of_core.specs.Steps.{read_on, read_ran, tried, resumed, after_try_request, over_try, after_try_cell, want_at, word_of, took_at, after_store_script, after_load_request, after_copy_log, after_look_again, after_own_ticket, after_load_shape, shape_read, after_load_reply, reply_read, asks_more, first_mark, after_announcement, weighed, after_load_ticket, after_load_script, script_more, ran, next_call, with_run, after_load_cell, after_raise_log, after_exchange, after_raise_current, after_load_target, next_entry, after_raise_closed, is_open, got_more}
+use Rattle.of_core.specs.Steps.{read_on, read_ran, tried, resumed, after_try_request, over_try, after_try_cell, want_at, word_of, took_at, after_store_script, after_load_request, after_copy_log, after_look_again, after_own_ticket, after_load_shape, shape_read, after_load_reply, reply_read, asks_more, first_mark, after_announcement, weighed, after_load_ticket, after_load_script, script_more, ran, next_call, with_run, after_load_cell, after_raise_log, after_exchange, after_raise_current, after_load_target, next_entry, after_raise_closed, is_open, copy_more}
 use Rattle.of_core.specs.World.{World, Start}
 use Rattle.of_core.specs.Transaction.{Applies}
 use Rattle.of_core.specs.Invariant.{At, Core}
@@ -227,7 +227,7 @@ module _ (S : Setup) where
         go : (b : Bool) → Within S (after_load_request S m b) (after_load_request S m b).place
         go true = record { told = λ q. cc; steps = round (m.rounds == 0) refl }
         go false = record { told = λ q. cc; steps = closed m.steps S.cells (behind_help S + rounds_left S m) (bound S) t.steps }
-    within (CopyLog x) a t e = go (nat_lt (x + 1) (2 * get_or (got_more m found) 0 0 + 1))
+    within (CopyLog x) a t e = go (nat_lt (x + 1) (2 * get_or (copy_more m found) 0 0 + 1))
       where
         found : ℕ
         found = get_or w.words (word_of (want_at S m (CopyLog x))) 0

@@ -7,7 +7,7 @@ use Rattle.of_core.specs.declared.place.Place.{Place}
 use Rattle.of_core.specs.declared.place.Place.TheVariants.{Idle, TryCurrent, TryRequest, TryCell, StoreScript, StoreAnnouncement, LoadCurrent, LoadRequest, CopyLog, LookAgain, LoadOwnTicket, LoadShape, LoadReply, LoadAnnouncement, LoadTicket, LoadScript, LoadCell, RaiseOld, StoreLog, RaiseLog, StoreRequest, RaiseRequest, ExchangeCurrent, RaiseCurrent, LoadTarget, ExchangeTarget, ReloadTarget, RaiseTarget, CloseRequest, RaiseClosed}
 use Rattle.of_core.specs.Table.{Setup, ticket_cell}
 use Rattle.of_core.specs.Machine.{Data, IsOpen, unknown, learned, log_words, merged}
-use Rattle.of_core.specs.Steps.{read_ran, resumed, after_try_request, over_try, after_try_cell, after_load_request, after_copy_log, after_look_again, after_own_ticket, after_load_shape, after_load_reply, after_announcement, after_load_ticket, after_load_script, after_load_cell, after_raise_log, after_exchange, after_raise_current, after_load_target, next_entry, after_raise_closed, after_store_script, ran, weighed, next_call, with_run, asks_more, shape_read, reply_read, got_more, script_more, first_mark, is_open, took_at}
+use Rattle.of_core.specs.Steps.{read_ran, resumed, after_try_request, over_try, after_try_cell, after_load_request, after_copy_log, after_look_again, after_own_ticket, after_load_shape, after_load_reply, after_announcement, after_load_ticket, after_load_script, after_load_cell, after_raise_log, after_exchange, after_raise_current, after_load_target, next_entry, after_raise_closed, after_store_script, ran, weighed, next_call, with_run, asks_more, shape_read, reply_read, copy_more, script_more, first_mark, is_open, took_at}
 use Rattle.of_core.specs.World.{World, Batch, Start, commits_at, one_batch}
 use Rattle.of_core.specs.History.{state}
 use Rattle.of_core.specs.Rounds.{Finds, Looks}
@@ -127,7 +127,7 @@ module _ (S : Setup) (Lawful : List ℕ → Type 0) (B : Start) (w : World) (g :
       go : (b : Bool) → Facts S m n LoadRequest (after_load_request S m b) []
       go true = on LoadRequest (after_load_request S m true) refl refl refl refl (omega arith) (λ q. absurd (omega (arith, q, a.0.begun_one))) (refl, refl)
       go false = resumed_facts LoadRequest refl (omega arith) false (λ q. cc)
-  step_facts (CopyLog x) o a = go (nat_lt (x + 1) (2 * get_or (got_more m n) 0 0 + 1))
+  step_facts (CopyLog x) o a = go (nat_lt (x + 1) (2 * get_or (copy_more m n) 0 0 + 1))
     where
       go : (b : Bool) → Facts S m n (CopyLog x) (after_copy_log m x n b) []
       go true = on (CopyLog x) (after_copy_log m x n true) refl refl refl refl (omega arith) (λ q. (q, refl)) (refl, refl)

@@ -3,7 +3,7 @@ use Rattle.std.specs.Prelude.{◌==◌, Bool, true, false, ℕ, ◌+◌, max, Li
 use Rattle.std.proofs.Common.{get_or, set, replicate, zero, suc}
 use Rattle.of_core.specs.declared.place.Place.TheVariants.{Idle}
 use Rattle.of_core.specs.Table.{Setup, size, durable_at}
-use Rattle.of_core.specs.Machine.{Data, IsOpen, idle, opened}
+use Rattle.of_core.specs.Machine.{Data, IsOpen, no_machine, idle, opened}
 use Rattle.of_core.specs.Steps.{finds}
 use Rattle.of_core.specs.World.{World, Start, stepped}
 
@@ -17,7 +17,7 @@ pub data Event : Type 0 where
   Raises : ℕ → Event
 
 abbrev pub machine : World → ℕ → Data
-machine w i = get_or w.machines i (idle i)
+machine w i = get_or w.machines i no_machine
 
 abbrev pub evicted : Setup → World → ℕ × ℕ → World
 evicted S w e = record w { words = set w.words (durable_at S e.0) (max (get_or w.words (durable_at S e.0) 0) e.1) }
@@ -48,15 +48,15 @@ abbrev pub IsSchedule : Setup → World → List Event → Type 0
 IsSchedule S w [] = Unit {0}
 IsSchedule S w (e ∷ es) = MayHappen S w e × IsSchedule S (happens S w e) es
 
-abbrev pub idles : ℕ → ℕ → List Data
-idles i zero = []
-idles i (suc n) = idle i ∷ idles (suc i) n
+abbrev pub idles : Setup → ℕ → ℕ → List Data
+idles S i zero = []
+idles S i (suc n) = idle S i 0 ∷ idles S (suc i) n
 
 abbrev pub zeros : Setup → Start
 zeros S = record { seq = 0; owner = 0; cells = replicate S.cells 0 }
 
 abbrev pub opening : Setup → ℕ → World
-opening S n = record { words = replicate n 0; machines = idles 0 S.callers; batches = []; reads = []; loaded = [] }
+opening S n = record { words = replicate n 0; machines = idles S 0 S.callers; batches = []; reads = []; loaded = [] }
 
 abbrev pub counted : Bool → ℕ
 counted true = 1

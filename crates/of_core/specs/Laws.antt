@@ -62,7 +62,7 @@ BesideKept S Lawful =
 
 -- a table of zeros with idle machines meets the invariant, and an idle machine rests on nothing
 abbrev pub StartKept : Setup → (List ℕ → Type 0) → Type 0
-StartKept S Lawful = (n : ℕ) → table_size S ≤ n → Good S Lawful (zeros S) (opening S n) × ((i : ℕ) → rests (idle i) ≡ 0)
+StartKept S Lawful = (n : ℕ) → table_size S ≤ n → Good S Lawful (zeros S) (opening S n) × ((i made : ℕ) → rests (idle S i made) ≡ 0)
 
 -- whatever meets the invariant has a legal history, and recovery gives the state that its durable words name
 abbrev pub GoodIsSound : Setup → (List ℕ → Type 0) → Type 0

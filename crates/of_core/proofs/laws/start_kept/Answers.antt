@@ -9,6 +9,6 @@ returns g c =
     record {
       start = λ n room. (
         start_good S (g.W.Work.lawful c.args.work) (g.met.W.Work.sound c.args.work) c.requires.some (omega (arith, c.requires.few)) c.requires.fits n room (omega arith) (omega (arith, c.requires.cells)),
-        idle_rests,
+        idle_rests S,
       );
     }
