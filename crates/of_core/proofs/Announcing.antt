@@ -5,7 +5,6 @@ use Rattle.std.proofs.lemmas.Bool.Decides.{nat_tests}
 use Rattle.std.proofs.lemmas.List.{append-nil, take_more, take_all, get_or-set_same, get_or-set_other}
 use Rattle.of_cell.specs.Words.{word, seq, pay}
 use Rattle.of_cell.proofs.Order.{seq_word, pay_word}
-use Rattle.of_mem.specs.Meaning.{Meaning}
 use Rattle.of_core.specs.declared.place.Place.TheVariants.{StoreScript, StoreAnnouncement}
 use Rattle.of_core.specs.Table.{Setup, size, durable_at, request_at, log_at, script_at, script_of, script_word, announcement_of, current_word, request_of, cell, log_word, durable_word, last, holder, risen}
 use Rattle.of_core.specs.Machine.{Data, Call}

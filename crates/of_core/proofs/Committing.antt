@@ -1,36 +1,33 @@
 -- The current-transaction word is exchanged: a batch is committed, or the round was lost.
-use Rattle.std.proofs.Common.{◌≡◌, ℕ, zero, suc, ◌+◌, ◌*◌, ◌-◌, ◌<◌, ◌≤◌, ◌⊎◌, ◌==◌, inl, inr, List, [], ◌∷◌, ◌++◌, length, get_or, set, refl, sym, ◌∙◌, ap, subst, arith, length-set, length-append, Bool, true, false, if◌then◌else◌, nat_lt}
+use Rattle.std.proofs.Common.{◌≡◌, ℕ, ◌+◌, ◌*◌, ◌-◌, ◌<◌, ◌≤◌, ◌⊎◌, ◌==◌, inl, inr, List, [], ◌∷◌, ◌++◌, length, get_or, set, refl, sym, ◌∙◌, ap, subst, arith, length-set, length-append, Bool, true, false, if◌then◌else◌}
 use Rattle.std.specs.List.{All}
 use Rattle.std.proofs.lemmas.Bool.{cases_eq, cases_lt}
-use Rattle.std.proofs.lemmas.Bool.Decides.{nat_tests}
 use Rattle.std.proofs.lemmas.List.{append-nil, set-get_or, get_or-set_same, get_or-set_other}
 use Rattle.of_cell.specs.Words.{word, seq, pay}
-use Rattle.of_cell.proofs.Order.{seq_mono, seq_less, seq_word, pay_word, word_eta, seq_from, word_above, word_more}
-use Rattle.of_mem.specs.Meaning.{Meaning, Sound}
-use Rattle.of_mem.specs.declared.work.RawReply.{RawReply}
-use Rattle.of_core.specs.declared.place.Place.TheVariants.{StoreLog, StoreRequest, ExchangeCurrent, LoadTarget, ExchangeTarget, ReloadTarget, CloseRequest}
+use Rattle.of_cell.proofs.Order.{seq_mono, seq_less, seq_word, pay_word, word_eta}
+use Rattle.of_mem.specs.Meaning.{Sound}
+use Rattle.of_core.specs.declared.place.Place.TheVariants.{ExchangeCurrent}
 use Rattle.of_core.specs.Table.{Setup, script_at, size, durable_at, request_at, data_at, base, log_at, announcement_of, script_word, current_word, request_of, cell, log_word, durable_word, durable_request, durable_cell, durable_log, last, holder, risen}
-use Rattle.of_core.specs.Machine.{Data, Call, entry, log_words, no_call}
-use Rattle.of_core.specs.Steps.{after_load_target, after_exchange, took_at, next_round}
+use Rattle.of_core.specs.Machine.{Data, Call, log_words, no_call}
+use Rattle.of_core.specs.Steps.{after_exchange, next_round}
 use Rattle.of_core.specs.World.{Read, World, Batch, Start, stepped_at, one_batch}
 use Rattle.of_core.specs.History.{state, batch, at, HasCall, ticket_in, ticket_among}
-use Rattle.of_core.specs.Shared.{Heard, Kinds, IsRequest, IsLogWord, Shared, Opened, Counted, Datas, Requests, Stands, IsLog, IsEntry, Durable, Held}
-use Rattle.of_core.specs.Rounds.{Helper, Begun, Between, Round, Past, Quieted, Calm}
-use Rattle.of_core.specs.Scan.{Over, Announced}
-use Rattle.of_core.specs.Transaction.{Applies, Mode, Stored}
+use Rattle.of_core.specs.Shared.{Heard, IsRequest, IsLogWord, Shared, Opened, Counted, Datas, Requests, Stands, IsLog, Durable}
+use Rattle.of_core.specs.Rounds.{Between, Round, Calm}
+use Rattle.of_core.specs.Scan.{Announced}
+use Rattle.of_core.specs.Transaction.{Stored}
 use Rattle.of_core.specs.Invariant.{At, Core}
 use Rattle.of_core.specs.Moves.{Goes, Moves}
-use Rattle.of_core.proofs.States.{state_same, batch_same, batch_new, old, named_at, named_later, unnamed, cases_named}
-use Rattle.of_core.proofs.Logs.{turned_same, words_at, length-log_words}
+use Rattle.of_core.proofs.States.{state_same, batch_same, batch_new}
+use Rattle.of_core.proofs.Logs.{turned_same, length-log_words}
 use Rattle.of_core.proofs.Assembling.{assemble, assemble_read, logs_of, small_words}
 use Rattle.of_core.proofs.Alike.{begun_as}
 use Rattle.of_core.proofs.Rounds.{two_rounds}
-use Rattle.of_core.proofs.Stability.{at_stable, floor_of, log_in, heard_as, said_as, same_row}
+use Rattle.of_core.proofs.Stability.{log_in}
 use Rattle.of_core.proofs.LongerHistory.{grown, ticket_new}
 use Rattle.of_core.proofs.Touches.{differ, equals}
 
 module _ (S : Setup) (Lawful : List ℕ → Type 0) (B : Start) where
-
   module _ (w : World) (g : Core S Lawful B w) (i : ℕ) (m : Data) (h : i < S.callers) where
     -- the exchange of the current transaction
     pub exchange_current_kept : Sound S.meaning Lawful (base S) S.cells → At S B w.words w.batches i m ExchangeCurrent → Goes S Lawful B i w (stepped_at S i m ExchangeCurrent w)

@@ -1,38 +1,29 @@
 -- A helper copies the log of the open transaction and looks at the request again.
-use Rattle.std.proofs.Common.{◌≡◌, ℕ, zero, suc, ◌+◌, ◌*◌, ◌-◌, ◌<◌, ◌≤◌, ◌⊎◌, ◌==◌, inl, inr, List, [], ◌∷◌, ◌++◌, length, get_or, set, take, refl, sym, ◌∙◌, ap, subst, arith, length-set, length-append, Option, Some, None, Bool, true, false, nat_lt, if◌then◌else◌}
-use Rattle.std.specs.List.{All}
+use Rattle.std.proofs.Common.{◌≡◌, ℕ, ◌+◌, ◌*◌, ◌<◌, ◌≤◌, ◌⊎◌, ◌==◌, inl, inr, List, [], ◌∷◌, ◌++◌, length, get_or, take, refl, sym, ◌∙◌, ap, subst, arith, length-append, Bool, true, false, nat_lt}
 use Rattle.std.proofs.lemmas.Bool.{cases_eq, cases_lt}
 use Rattle.std.proofs.lemmas.Bool.Decides.{nat_tests}
-use Rattle.std.proofs.lemmas.List.{append-nil, set-get_or, length-map, take_more, take_all, get_or-take, length-take-le, length-replicate, get_or-replicate, get_or_past, get_or-map, get_or-set_same, get_or-set_other, get_or_push, get_or_append_left}
-use Rattle.std.proofs.lemmas.List.Elements.{All-append}
-use Rattle.of_cell.specs.Words.{word, seq, pay}
-use Rattle.of_cell.proofs.Order.{pay_small, seq_word, pay_word, word_eta, pay_zero}
-use Rattle.of_mem.specs.Meaning.{marked, Meaning, Walked, Needs, Gives, Fits, Finishes, Sound, written}
-use Rattle.of_mem.specs.declared.work.RawReply.{RawReply}
-use Rattle.of_core.specs.declared.place.Place.TheVariants.{Idle, TryCurrent, TryRequest, TryCell, LoadCurrent, LoadRequest, CopyLog, LookAgain, LoadOwnTicket, LoadShape, LoadReply, LoadAnnouncement, LoadTicket, LoadScript, LoadCell}
-use Rattle.of_core.specs.Table.{Setup, request_at, data_at, log_at, script_at, ticket_cell, shape_cell, reply_cell, base, script_of, script_word, announcement_of, current_word, request_of, cell, log_word, durable_request, last, holder, risen}
-use Rattle.of_core.specs.Machine.{Data, Call, unknown, log_of, pairs, flat, log_words, learned, own_cells, merged, put_all, no_call}
-use Rattle.of_core.specs.Steps.{read_on, read_ran, tried, resumed, after_try_request, over_try, after_try_cell, ran, after_load_request, after_load_cell, after_copy_log, after_look_again, entered, got_more, is_open, took_at, next_round, next_call, with_run, call_run, own_raw, weighed, after_announcement, after_load_ticket, script_more, runs, after_load_script, told, asks_more, after_own_ticket, shape_read, after_load_shape, reply_read, after_load_reply, first_of, first_mark}
-use Rattle.of_core.specs.World.{World, Batch, Start, stepped_at}
-use Rattle.of_core.specs.History.{state, batch, at, HasCall, Last, LastCall, InRow, Rising, ticket_in, numbers}
-use Rattle.of_core.specs.Shared.{Shared, Opened, IsLog}
-use Rattle.of_core.specs.Rounds.{Cur, Trying, Helper, Watches, Fresh, Begun, Round, Looks, Past, Finds, ReadUpto, Calm}
-use Rattle.of_core.specs.Scan.{Over, Scans, Hears, Reads, Taken, Announced}
+use Rattle.std.proofs.lemmas.List.{take_more, take_all, get_or-take, length-take-le, get_or_push, get_or_append_left}
+use Rattle.of_cell.specs.Words.{word, pay}
+use Rattle.of_cell.proofs.Order.{pay_word}
+use Rattle.of_mem.specs.Meaning.{Sound}
+use Rattle.of_core.specs.declared.place.Place.TheVariants.{CopyLog, LookAgain}
+use Rattle.of_core.specs.Table.{Setup, request_at, log_at, base, request_of, log_word, durable_request, last, holder}
+use Rattle.of_core.specs.Machine.{Data, log_of, log_words}
+use Rattle.of_core.specs.Steps.{after_copy_log, after_look_again, copy_more, took_at}
+use Rattle.of_core.specs.World.{World, Start, stepped_at}
+use Rattle.of_core.specs.History.{batch}
+use Rattle.of_core.specs.Shared.{Opened, IsLog}
+use Rattle.of_core.specs.Rounds.{Cur}
 use Rattle.of_core.specs.Transaction.{Turned, Applies, Mode, Copies}
 use Rattle.of_core.specs.Invariant.{At, Core}
-use Rattle.of_core.specs.Moves.{Goes, Moves}
-use Rattle.of_core.proofs.States.{state_length, later, old}
-use Rattle.of_core.proofs.Logs.{turned_is, length-log_words, room_for}
-use Rattle.of_core.proofs.Overlays.{extended, walk_fits, merged_unknown}
-use Rattle.of_core.proofs.Tickets.{tickets_grow, row_old}
-use Rattle.of_core.proofs.Stability.{at_stable, loaded_stable, floor_of}
+use Rattle.of_core.specs.Moves.{Goes}
+use Rattle.of_core.proofs.Logs.{turned_is, length-log_words}
 use Rattle.of_core.proofs.Alike.{helper_as}
 use Rattle.of_core.proofs.Assembling.{assemble_read, log_back, same_batches, same_words, small_words}
 use Rattle.of_core.proofs.Rounds.{quiet_from}
 use Rattle.of_core.proofs.Tries.{resumed_at}
 
 module _ (S : Setup) (Lawful : List ℕ → Type 0) (B : Start) where
-
   -- the machine m of caller i, at its place
   module _ (w : World) (g : Core S Lawful B w) (i : ℕ) (m : Data) (h : i < S.callers) where
     -- where the last transaction is open, its owner's log words are its log
@@ -62,7 +53,7 @@ module _ (S : Setup) (Lawful : List ℕ → Type 0) (B : Start) where
     -- a value of a log word fits its payload
     pub copy_log_kept : (x : ℕ) → At S B w.words w.batches i m (CopyLog x) → Goes S Lawful B i w (stepped_at S i m (CopyLog x) w)
     copy_log_kept x a = assemble_read S Lawful B w g i h _ _ (took_at S m found (CopyLog x)) (same_words S Lawful B w g i m h (log_at S m.owner x)) (same_batches S Lawful B w g i m h) (
-        go (nat_lt (x + 1) (2 * get_or (got_more m found) 0 0 + 1)) refl)
+        go (nat_lt (x + 1) (2 * get_or (copy_more m found) 0 0 + 1)) refl)
       where
         found : ℕ
         found = log_word S w.words m.owner x
@@ -73,55 +64,55 @@ module _ (S : Setup) (Lawful : List ℕ → Type 0) (B : Start) where
         c : Copies S B w.words w.batches i m x
         c = a.0
 
-        longer : length (got_more m found) ≡ x + 1
-        longer = length-append m.got (pay found ∷ []) ∙ rw c.many refl
+        longer : length (copy_more m found) ≡ x + 1
+        longer = length-append m.copy (pay found ∷ []) ∙ rw c.many refl
 
         -- the number of entries that was copied is at most that of the cells
-        count : get_or (got_more m found) 0 0 ≤ S.cells
+        count : get_or (copy_more m found) 0 0 ≤ S.cells
         count = count_of (cases_eq x 0)
           where
-            count_of : (x ≡ 0) ⊎ (x ≡ 0 → ⊥) → get_or (got_more m found) 0 0 ≤ S.cells
+            count_of : (x ≡ 0) ⊎ (x ≡ 0 → ⊥) → get_or (copy_more m found) 0 0 ≤ S.cells
             count_of (inl z) =
-                let e : get_or (m.got ++ pay found ∷ []) 0 0 ≡ pay found = get_or_push m.got (pay found) 0 0 (c.many ∙ z) in
+                let e : get_or (m.copy ++ pay found ∷ []) 0 0 ≡ pay found = get_or_push m.copy (pay found) 0 0 (c.many ∙ z) in
                 let f : pay (log_word S w.words m.owner x) ≡ pay (log_word S w.words m.owner 0) = ap (λ (k : ℕ). pay (log_word S w.words m.owner k)) z in
                 omega (arith, e, f, g.shared.heard.counts m.owner c.current_word.owner_in)
             count_of (inr z) =
-                let e : get_or (m.got ++ pay found ∷ []) 0 0 ≡ get_or m.got 0 0 = get_or_append_left m.got (pay found ∷ []) 0 0 (omega (arith, c.many)) in
+                let e : get_or (m.copy ++ pay found ∷ []) 0 0 ≡ get_or m.copy 0 0 = get_or_append_left m.copy (pay found ∷ []) 0 0 (omega (arith, c.many)) in
                 omega (arith, e, c.count (omega arith))
 
         log_is : IsLog S (batch B w.batches m.seq).log
         log_is = g.shared.counted.logs m.seq c.after c.current_word.upto
 
-        more : request_of w.words m.owner ≡ word m.seq 0 → (got_more m found ≡ take (x + 1) ls) × (x + 1 ≤ length ls)
+        more : request_of w.words m.owner ≡ word m.seq 0 → (copy_more m found ≡ take (x + 1) ls) × (x + 1 ≤ length ls)
         more q =
             let u : x < length ls = a.1 q in
             let e : found ≡ word m.seq (get_or ls x 0) = copied_word m x c.current_word c.after q u in
             let v : pay found ≡ get_or ls x 0 = ap pay e ∙ pay_word m.seq (get_or ls x 0) (small_words S Lawful B (batch B w.batches m.seq).log g.shared.little log_is x) in
             ((rw v (ap (λ (ys : List ℕ). ys ++ get_or ls x 0 ∷ []) (c.copied q).1)) ∙ sym (take_more ls x 0 u), omega arith)
 
-        size : request_of w.words m.owner ≡ word m.seq 0 → 2 * get_or (got_more m found) 0 0 + 1 ≡ length ls
+        size : request_of w.words m.owner ≡ word m.seq 0 → 2 * get_or (copy_more m found) 0 0 + 1 ≡ length ls
         size q =
-            let e : got_more m found ≡ take (x + 1) ls = (more q).0 in
+            let e : copy_more m found ≡ take (x + 1) ls = (more q).0 in
             rw (e, get_or-take (x + 1) ls 0 0 (omega arith)) (sym (length-log_words (batch B w.batches m.seq).log))
 
-        go : (b : Bool) → nat_lt (x + 1) (2 * get_or (got_more m found) 0 0 + 1) ≡ b → At S B w.words w.batches i (after_copy_log m x found b) (after_copy_log m x found b).place
+        go : (b : Bool) → nat_lt (x + 1) (2 * get_or (copy_more m found) 0 0 + 1) ≡ b → At S B w.words w.batches i (after_copy_log m x found b) (after_copy_log m x found b).place
         go true e = (
           record { helper = helper_as S Lawful B w g i m h m _ c.helper refl refl refl refl refl refl refl refl refl; current_word = c.current_word; calm = c.calm; helps = c.helps; after = c.after; many = longer; count = λ l. count; copied = λ q. ((more q).1, (more q).0) },
-          λ q. let z : x + 1 < 2 * get_or (got_more m found) 0 0 + 1 = grind (arith, nat_tests) in omega (arith, size q),
-          (let z : x + 1 < 2 * get_or (got_more m found) 0 0 + 1 = grind (arith, nat_tests) in omega (arith, count)),
+          λ q. let z : x + 1 < 2 * get_or (copy_more m found) 0 0 + 1 = grind (arith, nat_tests) in omega (arith, size q),
+          (let z : x + 1 < 2 * get_or (copy_more m found) 0 0 + 1 = grind (arith, nat_tests) in omega (arith, count)),
         )
         go false e = (
           record { helper = helper_as S Lawful B w g i m h m _ c.helper refl refl refl refl refl refl refl refl refl; current_word = c.current_word; calm = c.calm; helps = c.helps; after = c.after; many = refl; count = λ l. count; copied = λ q. (omega (arith, whole q), (more q).0 ∙ ap (λ (k : ℕ). take k ls) (sym (got_length q))) },
           λ q. whole q,
         )
           where
-            past : 2 * get_or (got_more m found) 0 0 + 1 ≤ x + 1
+            past : 2 * get_or (copy_more m found) 0 0 + 1 ≤ x + 1
             past = grind (arith, nat_tests)
 
-            got_length : request_of w.words m.owner ≡ word m.seq 0 → length (got_more m found) ≡ x + 1
+            got_length : request_of w.words m.owner ≡ word m.seq 0 → length (copy_more m found) ≡ x + 1
             got_length q = ap length (more q).0 ∙ length-take-le (x + 1) ls (more q).1
 
-            whole : request_of w.words m.owner ≡ word m.seq 0 → length (got_more m found) ≡ length ls
+            whole : request_of w.words m.owner ≡ word m.seq 0 → length (copy_more m found) ≡ length ls
             whole q = omega (arith, got_length q, size q, past, (more q).1)
 
     pub look_again_kept : Sound S.meaning Lawful (base S) S.cells → At S B w.words w.batches i m LookAgain → Goes S Lawful B i w (stepped_at S i m LookAgain w)
@@ -131,15 +122,15 @@ module _ (S : Setup) (Lawful : List ℕ → Type 0) (B : Start) where
         found : ℕ
         found = request_of w.words m.owner
 
-        c : Copies S B w.words w.batches i m (length m.got)
+        c : Copies S B w.words w.batches i m (length m.copy)
         c = a.0
 
         log : List (ℕ × ℕ)
         log = (batch B w.batches m.seq).log
 
-        is_log : found ≡ word m.seq 0 → log ≡ log_of m.got
+        is_log : found ≡ word m.seq 0 → log ≡ log_of m.copy
         is_log q =
-            let e : m.got ≡ log_words log = (c.copied q).1 ∙ take_all (length m.got) (log_words log) (omega (arith, a.1 q)) in
+            let e : m.copy ≡ log_words log = (c.copied q).1 ∙ take_all (length m.copy) (log_words log) (omega (arith, a.1 q)) in
             sym (ap log_of e ∙ log_back S Lawful B log)
 
         applies : (n : Data) → n.caller ≡ m.caller → n.made ≡ m.made → n.op ≡ m.op → n.seq ≡ m.seq → n.owner ≡ m.owner → Turned log n.log → n.helps ≡ true → n.kept ≡ m.kept → n.rounds ≡ m.rounds → n.first ≡ m.first → n.tries ≡ m.tries → Applies S B w.words w.batches i n 0
@@ -159,5 +150,5 @@ module _ (S : Setup) (Lawful : List ℕ → Type 0) (B : Start) where
         go : (b d : Bool) → (found == word m.seq 0) ≡ b → (m.rounds == 0) ≡ d → At S B w.words w.batches i (after_look_again S m b d) (after_look_again S m b d).place
         go true d eb ed =
             let q : found ≡ word m.seq 0 = grind (arith, nat_tests) in
-            applies _ refl refl refl refl refl (rw (is_log q) (turned_is (S.first m.caller (length (log_of m.got))) (log_of m.got))) c.helps refl refl refl refl
+            applies _ refl refl refl refl refl (rw (is_log q) (turned_is (S.begins m.caller (length (log_of m.copy))) (log_of m.copy))) c.helps refl refl refl refl
         go false d eb ed = resumed_at S Lawful B w g i m h m sound c.helper c.current_word c.calm (quiet_from S Lawful B w g i m h m.seq m.owner c.current_word (λ l. (let y : found ≡ word m.seq 0 → ⊥ = grind (arith, nat_tests) in y))) d ed

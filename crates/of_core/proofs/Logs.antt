@@ -11,7 +11,7 @@ use Rattle.std.proofs.lemmas.List.{get_or_append_left, get_or-append_right, get_
 use Rattle.of_cell.specs.Words.{word, pay}
 use Rattle.of_cell.proofs.Order.{pay_word}
 use Rattle.of_mem.specs.declared.work.RawReply.{RawReply}
-use Rattle.of_mem.specs.Meaning.{Once, written, Meaning, Finishes}
+use Rattle.of_mem.specs.Meaning.{Once, written, Finishes}
 use Rattle.of_core.specs.Table.{Setup, base}
 use Rattle.of_core.specs.Machine.{listed, own_cells, flat, log_words, turned}
 use Rattle.of_core.specs.History.{changed}

@@ -5,7 +5,7 @@ use Rattle.std.proofs.lemmas.Bool.{cases_eq, cases_lt, cases_order}
 use Rattle.std.proofs.lemmas.List.{length-map, get_or_default}
 use Rattle.of_cell.specs.Words.{word, pay}
 use Rattle.of_cell.proofs.Order.{pay_word}
-use Rattle.of_mem.specs.Meaning.{Meaning, Sound, SameFrom, written}
+use Rattle.of_mem.specs.Meaning.{Sound, SameFrom, written}
 use Rattle.of_core.specs.Table.{Setup, base, ticket_cell, shape_cell, reply_cell}
 use Rattle.of_core.specs.Machine.{Call, no_call}
 use Rattle.of_core.specs.World.{Batch, Start}

@@ -4,7 +4,7 @@ use Rattle.std.specs.List.{All}
 use Rattle.std.proofs.lemmas.Bool.{cases_eq, cases_lt}
 use Rattle.std.proofs.lemmas.List.{append-nil, get_or-set_same, get_or-set_other, get_or_append_left, get_or_push, get_or_default}
 use Rattle.std.proofs.lemmas.List.Elements.{All-append}
-use Rattle.of_cell.specs.Words.{word, seq, pay}
+use Rattle.of_cell.specs.Words.{seq, pay}
 use Rattle.of_cell.proofs.Order.{seq_word, seq_mono}
 use Rattle.of_core.specs.declared.place.Place.{Place}
 use Rattle.of_core.specs.declared.place.Place.TheVariants.{Idle, TryCurrent, TryRequest, TryCell, StoreScript, StoreAnnouncement, LoadCurrent, LoadRequest, CopyLog, LookAgain, LoadOwnTicket, LoadShape, LoadReply, LoadAnnouncement, LoadTicket, LoadScript, LoadCell, RaiseOld, StoreLog, RaiseLog, StoreRequest, RaiseRequest, ExchangeCurrent, RaiseCurrent, LoadTarget, ExchangeTarget, ReloadTarget, RaiseTarget, CloseRequest, RaiseClosed}
@@ -13,11 +13,10 @@ use Rattle.of_core.specs.declared.place.Outcome.TheVariants.{Answered, Spent}
 use Rattle.of_core.specs.Table.{Setup, last, risen, announcement_of}
 use Rattle.of_core.specs.Machine.{Call, Data, IsOpen, is_idle}
 use Rattle.of_core.specs.World.{World, Batch, Start, Read, read_of, answers_by, answers_at}
-use Rattle.of_core.specs.History.{batch, ticket_in, numbers}
+use Rattle.of_core.specs.History.{batch, ticket_in}
 use Rattle.of_core.specs.Shared.{Shared, Opened}
-use Rattle.of_core.specs.Rounds.{Begun, Cur, Helper, Trying, Quieted, Fresh}
-use Rattle.of_core.specs.Scan.{Announced}
-use Rattle.of_core.specs.Transaction.{Applies, Mode}
+use Rattle.of_core.specs.Rounds.{Begun, Cur, Helper, Trying, Quieted}
+use Rattle.of_core.specs.Transaction.{Mode}
 use Rattle.of_core.specs.Order.{IsRead, Successive, InOrder, Ordered, IsTrying, OlderBy, IsOlder, Behind, Order, no_read}
 use Rattle.of_core.specs.Facts.{Facts, EndsWith, CountsBy}
 use Rattle.of_core.specs.Invariant.{At, Core, Told, Rests}
@@ -25,7 +24,7 @@ use Rattle.of_core.specs.Moves.{Moves}
 use Rattle.of_core.proofs.Stability.{tick_how, tick_same}
 use Rattle.of_core.proofs.Tickets.{tickets_grow, ticket_upto}
 
-idle_is : (p : Place) → is_idle p ≡ true → p ≡ Idle
+pub idle_is : (p : Place) → is_idle p ≡ true → p ≡ Idle
 idle_is Idle e = refl
 idle_is TryCurrent e = cc
 idle_is TryRequest e = cc
@@ -305,8 +304,12 @@ module _ (S : Setup) (Lawful : List ℕ → Type 0) (B : Start) (w : World) (g :
       up =
           let same : k - 1 + 1 ≡ k = omega arith in
           let p : ticket_in S B cs (k - 1) (get_or (batch B cs k).calls x c).caller < (get_or (batch B cs k).calls x c).ticket = (rw same at (shared.stands.rises (k - 1) (omega (arith, from_start)) (omega (arith, shared.counted.count)))) x c z in
-          omega (arith, p, tickets_grow S Lawful B cs shared.stands (last w.words) (k - 1) (get_or (batch B cs k).calls x c).caller from_start (omega arith) (omega (arith, shared.counted.count)) in_range,
-          tick_same S Lawful B i w.words w.batches vs cs v g.shared (last w.words) (get_or (batch B cs k).calls x c).caller from_start (omega arith))
+          omega (
+            arith,
+            p,
+            tickets_grow S Lawful B cs shared.stands (last w.words) (k - 1) (get_or (batch B cs k).calls x c).caller from_start (omega arith) (omega (arith, shared.counted.count)) in_range,
+            tick_same S Lawful B i w.words w.batches vs cs v g.shared (last w.words) (get_or (batch B cs k).calls x c).caller from_start (omega arith),
+          )
 
       loud : ((get_or (batch B cs k).calls x c).ticket ≡ seq (announcement_of S w.words (get_or (batch B cs k).calls x c).caller)) × (last w.words < S.limit)
       loud = go (v.tickets k (get_or (batch B cs k).calls x c).caller l u in_range)
@@ -391,7 +394,7 @@ module _ (S : Setup) (Lawful : List ℕ → Type 0) (B : Start) (w : World) (g :
 
   answered : (b : Bool) → is_idle d.place ≡ b → CountsBy S m m.place d b → (answers_by d false b ≡ []) ⊎ ((r : Read) × (answers_by d false b ≡ r ∷ []) × Answer S B i w.words m d vs (w.batches ++ added) r)
   answered false e c = inl refl
-  answered true e c = ended d.answer c at_rest.told
+  answered true e c = ended d.answer c.0 at_rest.told
     where
       at_rest : Rests S B vs (w.batches ++ added) i d
       at_rest = subst (λ (p : Place). At S B vs (w.batches ++ added) i d p) (idle_is d.place e) a

@@ -5,7 +5,7 @@ use Rattle.std.proofs.lemmas.Bool.Decides.{nat_tests}
 use Rattle.std.proofs.lemmas.List.{append-nil}
 use Rattle.of_cell.specs.Words.{word, seq, pay}
 use Rattle.of_cell.proofs.Order.{seq_word, pay_word, seq_mono, word_later, word_next, word_eta}
-use Rattle.of_mem.specs.Meaning.{Meaning, Sound}
+use Rattle.of_mem.specs.Meaning.{Sound}
 use Rattle.of_core.specs.declared.place.Place.{Place}
 use Rattle.of_core.specs.declared.place.Place.TheVariants.{RaiseOld, StoreLog, RaiseLog, RaiseRequest, ExchangeCurrent, RaiseCurrent, RaiseTarget, RaiseClosed}
 use Rattle.of_core.specs.Table.{Setup, request_at, data_at, log_at, base, durable_at, current_word, request_of, cell, log_word, durable_word, durable_request, durable_cell, durable_log, last, holder, risen}
@@ -53,11 +53,14 @@ module _ (S : Setup) (Lawful : List ℕ → Type 0) (B : Start) where
   abbrev pub raised : World → ℕ → ℕ → World
   raised w c v = record { words = set w.words (durable_at S c) (max (durable_word S w.words c) v); machines = w.machines; batches = w.batches; reads = w.reads; loaded = w.loaded }
 
+  pub loaded_raise : (w : World) → (g : Core S Lawful B w) → (c v : ℕ) → (e : IsLoaded S B w.words w.batches (c, v)) → (d : ℕ × ℕ) → IsLoaded S B w.words w.batches d → IsLoaded S B (raised w c v).words w.batches d
+  loaded_raise w g c v e d l = loaded_stable S Lawful B 0 w.words w.batches (vs S Lawful B w.words w.batches g.shared c v e) w.batches (moves_raise w.words w.batches g.shared c v e 0) g.shared (raise_shared S Lawful B w.words w.batches g.shared c v e).kinds d l
+
   pub raise_kept : (w : World) → Core S Lawful B w → (c v : ℕ) → IsLoaded S B w.words w.batches (c, v) → Core S Lawful B (raised w c v)
   raise_kept w g c v e = record {
     shared = raise_shared S Lawful B w.words w.batches g.shared c v e;
     members = g.members;
-    loaded = λ k d l. loaded_stable S Lawful B 0 w.words w.batches (vs S Lawful B w.words w.batches g.shared c v e) w.batches (moves_raise w.words w.batches g.shared c v e 0) g.shared (raise_shared S Lawful B w.words w.batches g.shared c v e).kinds (get_or w.loaded k d) (g.loaded k d l);
+    loaded = λ k d l. loaded_raise w g c v e (get_or w.loaded k d) (g.loaded k d l);
     each = λ j n l q. at_stable S Lawful B (j + 1) w.words w.batches (vs S Lawful B w.words w.batches g.shared c v e) w.batches (moves_raise w.words w.batches g.shared c v e (j + 1)) g.shared j l (λ z. omega arith) n n.place (g.each j n l q);
   }
 

@@ -4,7 +4,6 @@ use Rattle.std.proofs.lemmas.Bool.{cases_eq}
 use Rattle.std.proofs.lemmas.Bool.Decides.{nat_tests}
 use Rattle.of_cell.specs.Words.{word, seq, pay}
 use Rattle.of_cell.proofs.Order.{seq_word, pay_word, word_inj}
-use Rattle.of_mem.specs.Meaning.{Meaning}
 use Rattle.of_core.specs.Table.{Setup, request_at, request_of, durable_word, durable_request, durable_cell, durable_log, last, holder, risen}
 use Rattle.of_core.specs.Machine.{log_words}
 use Rattle.of_core.specs.World.{World, Start}

@@ -1,38 +1,33 @@
 -- All announcements are looked through, and the calls that are new are run.
-use Rattle.std.proofs.Common.{◌≡◌, ℕ, zero, suc, ◌+◌, ◌*◌, ◌-◌, ◌<◌, ◌≤◌, ◌⊎◌, ◌==◌, inl, inr, List, [], ◌∷◌, ◌++◌, length, get_or, set, take, refl, sym, ◌∙◌, ap, subst, arith, length-set, length-append, Option, Some, None, Bool, true, false, nat_lt, if◌then◌else◌}
+use Rattle.std.proofs.Common.{◌≡◌, ℕ, zero, suc, ◌+◌, ◌<◌, ◌≤◌, ◌⊎◌, ◌==◌, inl, inr, List, [], ◌∷◌, ◌++◌, length, get_or, refl, sym, ◌∙◌, ap, subst, arith, length-append, Option, Some, None, Bool, true, false, nat_lt}
 use Rattle.std.specs.List.{All}
 use Rattle.std.proofs.lemmas.Bool.{cases_eq, cases_lt}
 use Rattle.std.proofs.lemmas.Bool.Decides.{nat_tests}
-use Rattle.std.proofs.lemmas.List.{append-nil, set-get_or, length-map, take_more, take_all, get_or-take, length-take-le, length-replicate, get_or-replicate, get_or_past, get_or-map, get_or-set_same, get_or-set_other, get_or_push, get_or_append_left}
+use Rattle.std.proofs.lemmas.List.{length-map, get_or_push, get_or_append_left}
 use Rattle.std.proofs.lemmas.List.Elements.{All-append}
 use Rattle.of_cell.specs.Words.{word, seq, pay}
-use Rattle.of_cell.proofs.Order.{pay_small, seq_word, pay_word, word_eta, pay_zero}
-use Rattle.of_mem.specs.Meaning.{marked, Meaning, Walked, Needs, Gives, Fits, Finishes, Sound, written}
+use Rattle.of_cell.proofs.Order.{seq_word, pay_word, word_eta}
+use Rattle.of_mem.specs.Meaning.{Walked, Needs, Gives, Fits, Finishes, Sound, written}
 use Rattle.of_mem.specs.declared.work.RawReply.{RawReply}
-use Rattle.of_core.specs.declared.place.Place.TheVariants.{Idle, TryCurrent, TryRequest, TryCell, LoadCurrent, LoadRequest, CopyLog, LookAgain, LoadOwnTicket, LoadShape, LoadReply, LoadAnnouncement, LoadTicket, LoadScript, LoadCell}
-use Rattle.of_core.specs.Table.{Setup, request_at, data_at, log_at, script_at, ticket_cell, shape_cell, reply_cell, base, script_of, script_word, announcement_of, current_word, request_of, cell, log_word, durable_request, last, holder, risen}
-use Rattle.of_core.specs.Machine.{Data, Call, unknown, log_of, pairs, flat, log_words, learned, own_cells, merged, put_all, no_call}
-use Rattle.of_core.specs.Steps.{read_on, read_ran, tried, resumed, after_try_request, over_try, after_try_cell, ran, after_load_request, after_load_cell, after_copy_log, after_look_again, entered, got_more, is_open, took_at, next_round, next_call, with_run, call_run, own_raw, weighed, after_announcement, after_load_ticket, script_more, runs, after_load_script, told, asks_more, after_own_ticket, shape_read, after_load_shape, reply_read, after_load_reply, first_of, first_mark}
-use Rattle.of_core.specs.World.{World, Batch, Start, stepped_at}
-use Rattle.of_core.specs.History.{state, batch, at, HasCall, Last, LastCall, InRow, Rising, ticket_in, numbers}
-use Rattle.of_core.specs.Shared.{Shared, Opened, IsLog}
-use Rattle.of_core.specs.Rounds.{Cur, Trying, Helper, Watches, Fresh, Begun, Round, Looks, Past, Finds, ReadUpto, Calm}
+use Rattle.of_core.specs.declared.place.Place.TheVariants.{LoadAnnouncement, LoadTicket, LoadScript, LoadCell}
+use Rattle.of_core.specs.Table.{Setup, data_at, script_at, ticket_cell, base, script_of, script_word, announcement_of, cell, last}
+use Rattle.of_core.specs.Machine.{Data, Call, learned, own_cells, merged, put_all, no_call}
+use Rattle.of_core.specs.Steps.{ran, after_load_cell, took_at, next_call, with_run, call_run, own_raw, weighed, after_announcement, after_load_ticket, script_more, runs, after_load_script}
+use Rattle.of_core.specs.World.{World, Start, stepped_at}
+use Rattle.of_core.specs.History.{state, batch, Rising, ticket_in, numbers}
+use Rattle.of_core.specs.Rounds.{Begun, Past, Calm}
 use Rattle.of_core.specs.Scan.{Over, Scans, Hears, Reads, Taken, Announced}
-use Rattle.of_core.specs.Transaction.{Turned, Applies, Mode, Copies}
 use Rattle.of_core.specs.Invariant.{At, Core}
-use Rattle.of_core.specs.Moves.{Goes, Moves}
-use Rattle.of_core.proofs.States.{state_length, later, old}
-use Rattle.of_core.proofs.Logs.{turned_is, length-log_words, room_for}
+use Rattle.of_core.specs.Moves.{Goes}
+use Rattle.of_core.proofs.States.{state_length}
+use Rattle.of_core.proofs.Logs.{room_for}
 use Rattle.of_core.proofs.Overlays.{extended, walk_fits, merged_unknown}
-use Rattle.of_core.proofs.Tickets.{tickets_grow, row_old}
-use Rattle.of_core.proofs.Stability.{at_stable, loaded_stable, floor_of}
 use Rattle.of_core.proofs.Alike.{past_as}
 use Rattle.of_core.proofs.Assembling.{assemble_read, logs_of, number_at, same_batches, same_words}
 use Rattle.of_core.proofs.Rounds.{again, at_risen, cell_of, learn_past, own_seq, two_rounds}
 use Rattle.of_core.proofs.Tests.{differ, not_newer}
 
 module _ (S : Setup) (Lawful : List ℕ → Type 0) (B : Start) where
-
   -- the machine m of caller i, at its place
   module _ (w : World) (g : Core S Lawful B w) (i : ℕ) (m : Data) (h : i < S.callers) where
     -- the scan goes on behind a caller whose announcement is done

@@ -4,7 +4,6 @@ use Rattle.std.specs.List.{All}
 use Rattle.std.proofs.lemmas.Bool.{cases_lt, cases_order}
 use Rattle.of_cell.proofs.Order.{seq_word, word_inj, seq_mono}
 use Rattle.of_cell.specs.Words.{word, seq, pay}
-use Rattle.of_mem.specs.Meaning.{Meaning}
 use Rattle.of_mem.specs.declared.work.RawReply.{RawReply}
 use Rattle.of_core.specs.declared.place.Place.{Place}
 use Rattle.of_core.specs.declared.place.Place.TheVariants.{Idle, TryCurrent, TryRequest, TryCell, StoreScript, StoreAnnouncement, LoadCurrent, LoadRequest, CopyLog, LookAgain, LoadOwnTicket, LoadShape, LoadReply, LoadAnnouncement, LoadTicket, LoadScript, LoadCell, RaiseOld, StoreLog, RaiseLog, StoreRequest, RaiseRequest, ExchangeCurrent, RaiseCurrent, LoadTarget, ExchangeTarget, ReloadTarget, RaiseTarget, CloseRequest, RaiseClosed}
@@ -514,7 +513,7 @@ module _ (S : Setup) (Lawful : List ℕ → Type 0) (B : Start) (i : ℕ) (ws : 
     at_stable m LoadCurrent h = (begun_stable m h.0, calm_stable (last ws) (last vs) grows h.1, record { few = h.2.few; later = λ l. omega (arith, h.2.later l, grows) })
     at_stable m LoadRequest h = (round_stable m h.0, calm_stable m.seq m.seq (omega arith) h.1)
     at_stable m (CopyLog x) h = (copies_stable m x h.0, λ q. rw (v.batches m.seq h.0.after h.0.current_word.upto) (h.1 (open_before m h.0.current_word h.0.after q)), h.2)
-    at_stable m LookAgain h = (copies_stable m (length m.got) h.0, λ q. rw (v.batches m.seq h.0.after h.0.current_word.upto) (h.1 (open_before m h.0.current_word h.0.after q)))
+    at_stable m LookAgain h = (copies_stable m (length m.copy) h.0, λ q. rw (v.batches m.seq h.0.after h.0.current_word.upto) (h.1 (open_before m h.0.current_word h.0.after q)))
     at_stable m LoadOwnTicket h = (looks_stable m h.0, calm_stable m.seq m.seq (omega arith) h.1, h.2, h.3, h.4, h.5)
     at_stable m LoadShape h = (looks_stable m h.0, calm_stable m.seq m.seq (omega arith) h.1, rw (v.states m.seq h.0.round.from h.0.round.upto) h.2)
     at_stable m (LoadReply y) h = (looks_stable m h.0, calm_stable m.seq m.seq (omega arith) h.1, rw (v.states m.seq h.0.round.from h.0.round.upto) h.2, rw (v.states m.seq h.0.round.from h.0.round.upto) h.3, h.4)

@@ -2,12 +2,12 @@
 use Rattle.std.proofs.Common.{◌≡◌, ℕ, zero, suc, ◌+◌, ◌*◌, ◌-◌, ◌<◌, ◌≤◌, ◌==◌, List, [], ◌∷◌, length, get_or, set, replicate, refl, sym, ◌∙◌, ap, subst, arith, Option, Some, None, Bool, true, false, nat_lt}
 use Rattle.std.proofs.lemmas.Bool.Decides.{nat_tests}
 use Rattle.of_cell.specs.Words.{word, seq, pay}
-use Rattle.of_mem.specs.Meaning.{Meaning, Walked, Needs, Gives}
+use Rattle.of_mem.specs.Meaning.{Walked, Needs, Gives}
 use Rattle.of_core.specs.declared.place.Place.{Place}
 use Rattle.of_core.specs.declared.place.Place.TheVariants.{Idle, TryCurrent, TryRequest, TryCell, StoreScript, StoreAnnouncement, LoadCurrent, LoadRequest, CopyLog, LookAgain, LoadOwnTicket, LoadShape, LoadReply, LoadAnnouncement, LoadTicket, LoadScript, LoadCell, RaiseOld, StoreLog, RaiseLog, StoreRequest, RaiseRequest, ExchangeCurrent, RaiseCurrent, LoadTarget, ExchangeTarget, ReloadTarget, RaiseTarget, CloseRequest, RaiseClosed}
 use Rattle.of_core.specs.Table.{Setup, ticket_cell, shape_cell, reply_cell, cell}
 use Rattle.of_core.specs.Machine.{Data, unknown, learned, merged, log_words, opened, first_place}
-use Rattle.of_core.specs.Steps.{read_on, read_ran, tried, resumed, after_try_request, over_try, after_try_cell, want_at, word_of, took_at, after_store_script, after_load_request, after_copy_log, after_look_again, after_own_ticket, after_load_shape, shape_read, after_load_reply, reply_read, asks_more, first_mark, after_announcement, weighed, after_load_ticket, after_load_script, script_more, ran, next_call, with_run, after_load_cell, after_raise_log, after_exchange, after_raise_current, after_load_target, next_entry, after_raise_closed, is_open, got_more}
+use Rattle.of_core.specs.Steps.{read_on, read_ran, tried, resumed, after_try_request, over_try, after_try_cell, want_at, word_of, took_at, after_store_script, after_load_request, after_copy_log, after_look_again, after_own_ticket, after_load_shape, shape_read, after_load_reply, reply_read, asks_more, first_mark, after_announcement, weighed, after_load_ticket, after_load_script, script_more, ran, next_call, with_run, after_load_cell, after_raise_log, after_exchange, after_raise_current, after_load_target, next_entry, after_raise_closed, is_open, copy_more}
 use Rattle.of_core.specs.World.{World, Start}
 use Rattle.of_core.specs.Transaction.{Applies}
 use Rattle.of_core.specs.Invariant.{At, Core}
@@ -140,7 +140,7 @@ module _ (S : Setup) where
   resumed_within n false h = record { told = λ q. cc; steps = h }
 
   module _ (Lawful : List ℕ → Type 0) (B : Start) (w : World) (g : Core S Lawful B w) (i : ℕ) (m : Data) (h : i < S.callers) where
-    n_cells : (j : ℕ) → Applies S B w.words w.batches i m j → length m.log ≤ S.cells
+    pub n_cells : (j : ℕ) → Applies S B w.words w.batches i m j → length m.log ≤ S.cells
     n_cells j p = rw p.log.many (g.shared.counted.logs m.seq p.after p.upto).few
 
     words_row : S.instrs + 1 ≤ S.callers * (S.instrs + 1)
@@ -227,7 +227,7 @@ module _ (S : Setup) where
         go : (b : Bool) → Within S (after_load_request S m b) (after_load_request S m b).place
         go true = record { told = λ q. cc; steps = round (m.rounds == 0) refl }
         go false = record { told = λ q. cc; steps = closed m.steps S.cells (behind_help S + rounds_left S m) (bound S) t.steps }
-    within (CopyLog x) a t e = go (nat_lt (x + 1) (2 * get_or (got_more m found) 0 0 + 1))
+    within (CopyLog x) a t e = go (nat_lt (x + 1) (2 * get_or (copy_more m found) 0 0 + 1))
       where
         found : ℕ
         found = get_or w.words (word_of (want_at S m (CopyLog x))) 0

@@ -1,20 +1,18 @@
 -- What one step of an open call does, by the place that it is made from.
-use Rattle.std.proofs.Common.{◌≡◌, ℕ, ◌+◌, ◌-◌, ◌<◌, ◌≤◌, zero, suc, ◌*◌, ◌⊎◌, ◌==◌, inl, inr, List, [], ◌∷◌, length, get_or, refl, sym, ◌∙◌, ap, arith, Option, Some, None, Bool, true, false, nat_lt}
-use Rattle.std.specs.List.{All}
+use Rattle.std.proofs.Common.{◌≡◌, ℕ, ◌+◌, ◌-◌, ◌<◌, ◌≤◌, zero, suc, ◌*◌, ◌==◌, inl, inr, List, [], length, get_or, refl, ap, arith, Option, Some, None, Bool, true, false, nat_lt}
 use Rattle.std.proofs.lemmas.Bool.Decides.{nat_tests}
 use Rattle.of_cell.specs.Words.{word, seq, pay}
 use Rattle.of_mem.specs.Meaning.{Walked, Needs, Gives}
-use Rattle.of_mem.specs.declared.work.RawReply.{RawReply}
 use Rattle.of_core.specs.declared.place.Place.{Place}
 use Rattle.of_core.specs.declared.place.Place.TheVariants.{Idle, TryCurrent, TryRequest, TryCell, StoreScript, StoreAnnouncement, LoadCurrent, LoadRequest, CopyLog, LookAgain, LoadOwnTicket, LoadShape, LoadReply, LoadAnnouncement, LoadTicket, LoadScript, LoadCell, RaiseOld, StoreLog, RaiseLog, StoreRequest, RaiseRequest, ExchangeCurrent, RaiseCurrent, LoadTarget, ExchangeTarget, ReloadTarget, RaiseTarget, CloseRequest, RaiseClosed}
-use Rattle.of_core.specs.Table.{Setup, ticket_cell, announcement_of}
+use Rattle.of_core.specs.Table.{Setup, ticket_cell}
 use Rattle.of_core.specs.Machine.{Data, IsOpen, unknown, learned, log_words, merged}
-use Rattle.of_core.specs.Steps.{read_on, read_ran, tried, resumed, after_try_request, over_try, after_try_cell, after_load_request, after_copy_log, after_look_again, after_own_ticket, after_load_shape, after_load_reply, after_announcement, after_load_ticket, after_load_script, after_load_cell, after_raise_log, after_exchange, after_raise_current, after_load_target, next_entry, after_raise_closed, after_store_script, first_of, ran, runs, weighed, next_call, with_run, asks_more, shape_read, reply_read, got_more, script_more, first_mark, is_open, took_at}
+use Rattle.of_core.specs.Steps.{read_ran, resumed, after_try_request, over_try, after_try_cell, after_load_request, after_copy_log, after_look_again, after_own_ticket, after_load_shape, after_load_reply, after_announcement, after_load_ticket, after_load_script, after_load_cell, after_raise_log, after_exchange, after_raise_current, after_load_target, next_entry, after_raise_closed, after_store_script, ran, weighed, next_call, with_run, asks_more, shape_read, reply_read, copy_more, script_more, first_mark, is_open, took_at}
 use Rattle.of_core.specs.World.{World, Batch, Start, commits_at, one_batch}
-use Rattle.of_core.specs.History.{state, at}
+use Rattle.of_core.specs.History.{state}
 use Rattle.of_core.specs.Rounds.{Finds, Looks}
 use Rattle.of_core.specs.Order.{IsTrying}
-use Rattle.of_core.specs.Facts.{Facts, Counts, EndsWith, loads_at, rests_at}
+use Rattle.of_core.specs.Facts.{Facts, Counts, loads_at, rests_at}
 use Rattle.of_core.specs.Invariant.{At, Core}
 use Rattle.of_core.proofs.States.{old}
 use Rattle.of_core.proofs.Assembling.{logs_of}
@@ -40,6 +38,7 @@ module _ (S : Setup) (Lawful : List ℕ → Type 0) (B : Start) (w : World) (g :
     rests = λ q. omega (arith, r);
     owner = λ j x l. absurd (omega arith);
     few = omega arith;
+    commits = λ q. absurd (omega arith);
     tries = λ q. refl;
     trying = λ q. inl (t q);
     counts = k;
@@ -48,7 +47,7 @@ module _ (S : Setup) (Lawful : List ℕ → Type 0) (B : Start) (w : World) (g :
   -- a try's run goes on as far as its cells are known
   read_facts : (p : Place) → loads_at p ≡ false → m.seq ≤ rests_at m p → IsTrying m p → (x : Data) → x.caller ≡ m.caller → x.made ≡ m.made → x.op ≡ m.op → x.seq ≡ m.seq → x.steps ≡ m.steps → x.answer ≡ m.answer → (r : Walked) → Facts S m n p (read_ran x r) []
   read_facts p e r t x a b c s k y (Needs z) = on p (read_ran x (Needs z)) a b c e (omega (arith, r, s)) (λ q. (t, s)) (omega (arith, k), y)
-  read_facts p e r t x a b c s k y (Gives es z) = on p (read_ran x (Gives es z)) a b c e (omega arith) (λ q. absurd q) (t, s, omega (arith, k))
+  read_facts p e r t x a b c s k y (Gives es z) = on p (read_ran x (Gives es z)) a b c e (omega arith) (λ q. absurd q) ((t, s, omega (arith, k)), r)
 
   resumed_facts : (p : Place) → loads_at p ≡ false → m.seq ≤ rests_at m p → (b : Bool) → (b ≡ true → IsTrying m p) → Facts S m n p (resumed S m b) []
   resumed_facts p e r true t = read_facts p e r (t refl) (record m { known = unknown S; helps = false }) refl refl refl refl refl refl (S.meaning.walk (unknown S) m.op)
@@ -69,7 +68,7 @@ module _ (S : Setup) (Lawful : List ℕ → Type 0) (B : Start) (w : World) (g :
 
   -- an answer from the history has the sequence of a ticket word of the round's state
   asks_facts : (p : Place) → loads_at p ≡ false → m.seq ≤ rests_at m p → seq m.heard ≤ m.seq → (x : Data) → x.caller ≡ m.caller → x.made ≡ m.made → x.op ≡ m.op → x.seq ≡ m.seq → x.heard ≡ m.heard → x.steps ≡ m.steps → x.answer ≡ m.answer → (r : Option ℕ) → Facts S m n p (asks_more x r) []
-  asks_facts p e r u x a b c s v k y None = on p (asks_more x None) a b c e (omega arith) (λ q. absurd q) (omega (arith, u, ap seq v), omega (arith, k))
+  asks_facts p e r u x a b c s v k y None = on p (asks_more x None) a b c e (omega arith) (λ q. absurd q) ((omega (arith, u, ap seq v), omega (arith, k)), r)
   asks_facts p e r u x a b c s v k y (Some j) = on p (asks_more x (Some j)) a b c e (omega (arith, r, s)) (λ q. absurd q) (omega (arith, k), y)
 
   heard_old : Looks S B w.words w.batches i m → Finds S (state B w.batches m.seq) i m → seq m.heard ≤ m.seq
@@ -85,6 +84,7 @@ module _ (S : Setup) (Lawful : List ℕ → Type 0) (B : Start) (w : World) (g :
     rests = λ q. cc;
     owner = λ j x l. absurd (omega arith);
     few = omega arith;
+    commits = λ q. absurd (omega arith);
     tries = λ q. refl;
     trying = λ q. inr (refl, refl);
     counts = (refl, refl);
@@ -117,6 +117,7 @@ module _ (S : Setup) (Lawful : List ℕ → Type 0) (B : Start) (w : World) (g :
     rests = λ q. cc;
     owner = λ j x l. absurd (omega arith);
     few = omega arith;
+    commits = λ q. absurd (omega arith);
     tries = λ q. refl;
     trying = λ q. absurd q;
     counts = (refl, refl);
@@ -126,7 +127,7 @@ module _ (S : Setup) (Lawful : List ℕ → Type 0) (B : Start) (w : World) (g :
       go : (b : Bool) → Facts S m n LoadRequest (after_load_request S m b) []
       go true = on LoadRequest (after_load_request S m true) refl refl refl refl (omega arith) (λ q. absurd (omega (arith, q, a.0.begun_one))) (refl, refl)
       go false = resumed_facts LoadRequest refl (omega arith) false (λ q. cc)
-  step_facts (CopyLog x) o a = go (nat_lt (x + 1) (2 * get_or (got_more m n) 0 0 + 1))
+  step_facts (CopyLog x) o a = go (nat_lt (x + 1) (2 * get_or (copy_more m n) 0 0 + 1))
     where
       go : (b : Bool) → Facts S m n (CopyLog x) (after_copy_log m x n b) []
       go true = on (CopyLog x) (after_copy_log m x n true) refl refl refl refl (omega arith) (λ q. (q, refl)) (refl, refl)
@@ -141,7 +142,7 @@ module _ (S : Setup) (Lawful : List ℕ → Type 0) (B : Start) (w : World) (g :
       go : (b c d : Bool) → (m.seq == S.limit) ≡ d → Facts S m n LoadOwnTicket (after_own_ticket S m n b c d) []
       go true c d e = on LoadOwnTicket (after_own_ticket S m n true c d) refl refl refl refl (omega arith) (λ q. absurd q) (refl, refl)
       go false true d e = on LoadOwnTicket (after_own_ticket S m n false true d) refl refl refl refl (omega arith) (λ q. absurd q) (refl, refl)
-      go false false true e = on LoadOwnTicket (after_own_ticket S m n false false true) refl refl refl refl (omega arith) (λ q. absurd q) (refl, (let z : m.seq ≡ S.limit = grind (arith, nat_tests) in z))
+      go false false true e = on LoadOwnTicket (after_own_ticket S m n false false true) refl refl refl refl (omega arith) (λ q. absurd q) ((refl, (let z : m.seq ≡ S.limit = grind (arith, nat_tests) in z)), omega arith)
       go false false false e = on LoadOwnTicket (after_own_ticket S m n false false false) refl refl refl refl (omega arith) (λ q. absurd q) (refl, refl)
   step_facts LoadShape o a = go (nat_lt m.seq (seq n))
     where
@@ -182,10 +183,10 @@ module _ (S : Setup) (Lawful : List ℕ → Type 0) (B : Start) (w : World) (g :
       go false = on (RaiseLog x) (after_raise_log m x false) refl refl refl refl (omega arith) (λ q. absurd q) (refl, refl)
   step_facts StoreRequest o a = on StoreRequest (took_at S m n StoreRequest) refl refl refl refl (omega arith) (λ q. absurd q) (refl, refl)
   step_facts RaiseRequest o a = on RaiseRequest (took_at S m n RaiseRequest) refl refl refl refl (omega arith) (λ q. absurd q) (refl, refl)
-  step_facts ExchangeCurrent o a = go (n == word m.seq m.owner)
+  step_facts ExchangeCurrent o a = go (n == word m.seq m.owner) refl
     where
-      go : (b : Bool) → Facts S m n ExchangeCurrent (after_exchange m b) (one_batch S w.words m b)
-      go true = record {
+      go : (b : Bool) → (n == word m.seq m.owner) ≡ b → Facts S m n ExchangeCurrent (after_exchange m b) (one_batch S w.words m b)
+      go true e = record {
         caller = refl;
         made = refl;
         op = refl;
@@ -193,6 +194,7 @@ module _ (S : Setup) (Lawful : List ℕ → Type 0) (B : Start) (w : World) (g :
         rests = λ q. omega arith;
         owner = λ j x l. one j x l;
         few = omega arith;
+        commits = λ q. (refl, (let z : n ≡ word m.seq m.owner = grind (arith, nat_tests) in z));
         tries = λ q. absurd q;
         trying = λ q. let z : false ≡ true = q.0 in cc;
         counts = (refl, refl);
@@ -201,7 +203,7 @@ module _ (S : Setup) (Lawful : List ℕ → Type 0) (B : Start) (w : World) (g :
           one : (j : ℕ) (x : Batch) → j < 1 → (get_or (one_batch S w.words m true) j x).owner ≡ m.caller
           one zero x l = refl
           one (suc j) x l = absurd (omega arith)
-      go false = on ExchangeCurrent (after_exchange m false) refl refl refl refl (omega arith) (λ q. absurd q) (refl, refl)
+      go false e = on ExchangeCurrent (after_exchange m false) refl refl refl refl (omega arith) (λ q. absurd q) (refl, refl)
   step_facts RaiseCurrent o a = go (nat_lt 0 (length m.log))
     where
       go : (b : Bool) → Facts S m n RaiseCurrent (after_raise_current m b) []
@@ -224,4 +226,4 @@ module _ (S : Setup) (Lawful : List ℕ → Type 0) (B : Start) (w : World) (g :
     where
       go : (b c : Bool) → m.helps ≡ b → (m.rounds == 0) ≡ c → Facts S m n RaiseClosed (after_raise_closed S m b c) []
       go true c u e = resumed_facts RaiseClosed refl (omega arith) c (λ q. (u, zero_tested m.rounds c e q))
-      go false c u e = on RaiseClosed (after_raise_closed S m false c) refl refl refl refl (omega arith) (λ q. absurd q) (omega arith, refl)
+      go false c u e = on RaiseClosed (after_raise_closed S m false c) refl refl refl refl (omega arith) (λ q. absurd q) ((omega arith, refl), omega arith)

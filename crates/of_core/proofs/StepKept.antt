@@ -1,18 +1,24 @@
 -- Each step of each machine keeps the invariant.
-use Rattle.std.proofs.Common.{List, ◌≡◌, ℕ, ◌<◌, ◌⊎◌, inl, inr, refl, sym, ◌∙◌, get_or, set, length, arith, subst}
+use Rattle.std.proofs.Common.{List, Bool, true, false, ap, ◌≡◌, ℕ, ◌<◌, ◌⊎◌, inl, inr, refl, sym, ◌∙◌, get_or, set, length, arith, subst}
 use Rattle.std.proofs.lemmas.Bool.{cases_eq}
 use Rattle.std.proofs.lemmas.List.{get_or-set_same, get_or-set_other}
-use Rattle.of_mem.specs.Meaning.{Meaning, Sound}
+use Rattle.of_mem.specs.Meaning.{Sound}
 use Rattle.of_core.specs.declared.place.Place.{Place}
 use Rattle.of_core.specs.declared.place.Place.TheVariants.{Idle, TryCurrent, TryRequest, TryCell, StoreScript, StoreAnnouncement, LoadCurrent, LoadRequest, CopyLog, LookAgain, LoadOwnTicket, LoadShape, LoadReply, LoadAnnouncement, LoadTicket, LoadScript, LoadCell, RaiseOld, StoreLog, RaiseLog, StoreRequest, RaiseRequest, ExchangeCurrent, RaiseCurrent, LoadTarget, ExchangeTarget, ReloadTarget, RaiseTarget, CloseRequest, RaiseClosed}
 use Rattle.of_core.specs.Table.{Setup, base}
 use Rattle.of_core.specs.Machine.{Data}
-use Rattle.of_core.specs.Steps.{want_at, word_of, took_at}
-use Rattle.of_core.specs.World.{World, Start, stepped_at}
-use Rattle.of_core.specs.Invariant.{Good, Core, At}
+use Rattle.of_core.specs.Steps.{want, want_at, word_of, took_at, FoundBy}
+use Rattle.of_core.specs.World.{World, Start, stepped, stepped_at, answers_at, commits_at}
+use Rattle.of_core.specs.Invariant.{Good, Core, At, IsLoaded}
 use Rattle.of_core.specs.Moves.{Goes, Moves}
 use Rattle.of_core.specs.Bound.{Within}
+use Rattle.of_core.specs.Machine.{is_idle}
 use Rattle.of_core.proofs.StepBound.{within}
+use Rattle.of_core.proofs.StepFacts.{step_facts}
+use Rattle.of_core.proofs.Ordering.{Orderly, idle_is, orderly, orderly_idle, order_after}
+use Rattle.of_core.proofs.Stability.{loaded_stable}
+use Rattle.of_core.proofs.Found.{stepped_is}
+use Rattle.of_cell.specs.Words.{seq}
 use Rattle.of_core.proofs.Tries.{try_current_kept, try_request_kept, try_cell_kept}
 use Rattle.of_core.proofs.Rounds.{idle_kept, load_current_kept, load_request_kept}
 use Rattle.of_core.proofs.Helping.{copy_log_kept, look_again_kept}
@@ -59,19 +65,45 @@ core_kept S Lawful sound B w g i m h e = go m.place refl (g.each i m h e)
     go CloseRequest q a = close_request_kept S Lawful B w g i m h a
     go RaiseClosed q a = raise_closed_kept S Lawful B w g i m h e sound q a
 
-pub step_kept : (S : Setup) (Lawful : List ℕ → Type 0) → Sound S.meaning Lawful (base S) S.cells → (B : Start) (w : World) → Good S Lawful B w → (i : ℕ) (m : Data) → i < S.callers → get_or w.machines i m ≡ m
-    → Good S Lawful B (stepped_at S i m m.place w) × Moves S B i w.words w.batches (stepped_at S i m m.place w).words (stepped_at S i m m.place w).batches
-step_kept S Lawful sound B w g i m h e = let k = core_kept S Lawful sound B w g.core i m h e in (record { core = k.core; within = λ j n l q. go j n l q (cases_eq j i) }, k.moves)
-  where
-    new : Data
-    new = took_at S m (get_or w.words (word_of (want_at S m m.place)) 0) m.place
+module _ (S : Setup) (Lawful : List ℕ → Type 0) (sound : Sound S.meaning Lawful (base S) S.cells) (B : Start) (w : World) (g : Good S Lawful B w) (i : ℕ) (m : Data) (h : i < S.callers) (own : get_or w.machines i m ≡ m) where
+  abbrev new : Data
+  new = took_at S m (get_or w.words (word_of (want_at S m m.place)) 0) m.place
 
-    this : Within S (took_at S m (get_or w.words (word_of (want_at S m m.place)) 0) m.place) (took_at S m (get_or w.words (word_of (want_at S m m.place)) 0) m.place).place
-    this = within S Lawful B w g.core i m h m.place (g.core.each i m h e) (g.within i m h e) refl
+  goes : Goes S Lawful B i w (stepped_at S i m m.place w)
+  goes = core_kept S Lawful sound B w g.core i m h own
 
-    go : (j : ℕ) (n : Data) → j < S.callers → get_or (set w.machines i new) j n ≡ n → (j ≡ i) ⊎ (j ≡ i → ⊥) → Within S n n.place
-    go j n l q (inl r) =
-        let i_in : i < length w.machines = omega (arith, g.core.members) in
-        let same : new ≡ n = sym (get_or-set_same w.machines i new n i_in) ∙ (rw r at q) in
-        subst (λ (x : Data). Within S x x.place) same this
-    go j n l q (inr r) = g.within j n l (sym (get_or-set_other w.machines i j new n r) ∙ q)
+  own_within : Within S (took_at S m (get_or w.words (word_of (want_at S m m.place)) 0) m.place) (took_at S m (get_or w.words (word_of (want_at S m m.place)) 0) m.place).place
+  own_within = within S Lawful B w g.core i m h m.place (g.core.each i m h own) (g.within i m h own) refl
+
+  within_after : (j : ℕ) (n : Data) → j < S.callers → get_or (set w.machines i new) j n ≡ n → (j ≡ i) ⊎ (j ≡ i → ⊥) → Within S n n.place
+  within_after j n l q (inl r) =
+      let i_in : i < length w.machines = omega (arith, g.core.members) in
+      let same : new ≡ n = sym (get_or-set_same w.machines i new n i_in) ∙ (rw r at q) in
+      subst (λ (x : Data). Within S x x.place) same own_within
+  within_after j n l q (inr r) = g.within j n l (sym (get_or-set_other w.machines i j new n r) ∙ q)
+
+  new_at : At S B (stepped_at S i m m.place w).words (stepped_at S i m m.place w).batches i (took_at S m (get_or w.words (word_of (want_at S m m.place)) 0) m.place) (took_at S m (get_or w.words (word_of (want_at S m m.place)) 0) m.place).place
+  new_at = goes.core.each i new h (get_or-set_same w.machines i new new (omega (arith, g.core.members)))
+
+  orderly_step : (b : Bool) → is_idle m.place ≡ b → Orderly S B i w.words m new (stepped_at S i m m.place w).words (stepped_at S i m m.place w).batches (answers_at new m.place)
+  orderly_step true e = orderly_idle S B i w.words m new _ _ (ap (took_at S m (get_or w.words (word_of (want_at S m m.place)) 0)) (idle_is m.place e)) e
+  orderly_step false e = orderly S Lawful B w g.core i m h (get_or w.words (word_of (want_at S m m.place)) 0) new (commits_at S w.words m (get_or w.words (word_of (want_at S m m.place)) 0) m.place)
+      (step_facts S Lawful B w g.core i m h (get_or w.words (word_of (want_at S m m.place)) 0) m.place e (g.core.each i m h own)) e (λ q. ap (λ (p : Place). seq (get_or w.words (word_of (want_at S m p)) 0)) q) (stepped_at S i m m.place w).words goes.core.shared new_at
+
+  good_after : Good S Lawful B (stepped_at S i m m.place w)
+  good_after = record {
+    core = goes.core;
+    within = λ j n l q. within_after j n l q (cases_eq j i);
+    order = order_after S Lawful B w g.core g.order i m new h own (stepped_at S i m m.place w).words (stepped_at S i m m.place w).batches (answers_at new m.place) goes.moves goes.core.shared (orderly_step (is_idle m.place) refl);
+  }
+
+  pub step_kept : (n : ℕ) → FoundBy (want S m) w.words n → Good S Lawful B (stepped S i m n w)
+  step_kept n f = subst (λ (v : World). Good S Lawful B v) (sym (stepped_is S i m n w f)) good_after
+
+  pub step_moves : (n : ℕ) → FoundBy (want S m) w.words n → Moves S B i w.words w.batches (stepped S i m n w).words (stepped S i m n w).batches
+  step_moves n f = subst (λ (v : World). Moves S B i w.words w.batches v.words v.batches) (sym (stepped_is S i m n w f)) goes.moves
+
+  -- a word that was loaded stays one that its cell has held
+  pub loaded_stays : (n : ℕ) → FoundBy (want S m) w.words n → (e : ℕ × ℕ) → IsLoaded S B w.words w.batches e → IsLoaded S B (stepped S i m n w).words (stepped S i m n w).batches e
+  loaded_stays n f e l = subst (λ (v : World). IsLoaded S B v.words v.batches e) (sym (stepped_is S i m n w f))
+      (loaded_stable S Lawful B i w.words w.batches (stepped_at S i m m.place w).words (stepped_at S i m m.place w).batches goes.moves g.core.shared goes.core.shared.kinds e l)

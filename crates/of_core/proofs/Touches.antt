@@ -1,32 +1,20 @@
 -- A step that changes a cell, and neither the current-transaction word nor a durable word: what it guarantees the others, and which facts of words and history stay.
-use Rattle.std.proofs.Common.{◌≡◌, ℕ, zero, suc, ◌+◌, ◌*◌, ◌-◌, ◌<◌, ◌≤◌, ◌⊎◌, ◌==◌, inl, inr, List, [], ◌∷◌, ◌++◌, length, get_or, set, refl, sym, ◌∙◌, ap, subst, arith, length-set, length-append, Bool, true, false, if◌then◌else◌, nat_lt}
+use Rattle.std.proofs.Common.{◌≡◌, ℕ, zero, suc, ◌+◌, ◌*◌, ◌-◌, ◌<◌, ◌≤◌, ◌⊎◌, ◌==◌, inl, inr, List, [], ◌∷◌, length, get_or, refl, sym, ◌∙◌, ap, subst, arith, true, false}
 use Rattle.std.specs.List.{All}
-use Rattle.std.proofs.lemmas.Bool.{cases_eq, cases_lt}
 use Rattle.std.proofs.lemmas.Bool.Decides.{nat_tests}
-use Rattle.std.proofs.lemmas.List.{append-nil, set-get_or, get_or-set_same, get_or-set_other}
 use Rattle.of_cell.specs.Words.{word, seq, pay}
-use Rattle.of_cell.proofs.Order.{seq_mono, seq_less, seq_word, pay_word, word_eta, seq_from, word_above, word_more}
-use Rattle.of_mem.specs.Meaning.{Meaning, Sound}
 use Rattle.of_mem.specs.declared.work.RawReply.{RawReply}
-use Rattle.of_core.specs.declared.place.Place.TheVariants.{StoreLog, StoreRequest, ExchangeCurrent, LoadTarget, ExchangeTarget, ReloadTarget, CloseRequest}
-use Rattle.of_core.specs.Table.{Setup, script_at, size, durable_at, request_at, data_at, base, log_at, announcement_of, script_word, current_word, request_of, cell, log_word, durable_word, durable_request, durable_cell, durable_log, last, holder, risen}
-use Rattle.of_core.specs.Machine.{Data, Call, entry, log_words, no_call}
-use Rattle.of_core.specs.Steps.{after_load_target, after_exchange, took_at, next_round}
-use Rattle.of_core.specs.World.{World, Batch, Start, stepped_at, one_batch}
-use Rattle.of_core.specs.History.{state, batch, at, HasCall, ticket_in, ticket_among}
-use Rattle.of_core.specs.Shared.{Heard, Kinds, IsRequest, IsLogWord, Shared, Opened, Counted, Datas, Requests, Stands, IsLog, IsEntry, Durable, Held}
-use Rattle.of_core.specs.Rounds.{Helper, Begun, Between, Round, Past, Quieted, Calm}
-use Rattle.of_core.specs.Scan.{Over, Announced}
-use Rattle.of_core.specs.Transaction.{Applies, Mode, Stored}
-use Rattle.of_core.specs.Invariant.{At, Core}
-use Rattle.of_core.specs.Moves.{Goes, Moves}
-use Rattle.of_core.proofs.States.{state_same, batch_same, batch_new, old, named_at, named_later, unnamed, cases_named}
-use Rattle.of_core.proofs.Logs.{turned_same, words_at, length-log_words}
-use Rattle.of_core.proofs.Assembling.{assemble, assemble_read, logs_of, small_words}
-use Rattle.of_core.proofs.Alike.{begun_as}
-use Rattle.of_core.proofs.Rounds.{two_rounds}
-use Rattle.of_core.proofs.Stability.{at_stable, floor_of, log_in, heard_as, said_as, same_row}
-use Rattle.of_core.proofs.LongerHistory.{grown, ticket_new}
+use Rattle.of_core.specs.Table.{Setup, size, request_at, data_at, log_at, announcement_of, script_word, current_word, request_of, cell, log_word, durable_word, durable_request, durable_cell, durable_log, last, holder, risen}
+use Rattle.of_core.specs.Machine.{Data, Call, log_words}
+use Rattle.of_core.specs.World.{World, Batch, Start}
+use Rattle.of_core.specs.History.{batch, at}
+use Rattle.of_core.specs.Shared.{Heard, Kinds, IsRequest, IsLogWord, Shared, Opened, Counted, Datas, Requests, Durable, Held}
+use Rattle.of_core.specs.Rounds.{Begun, Round, Past, Quieted}
+use Rattle.of_core.specs.Scan.{Over}
+use Rattle.of_core.specs.Invariant.{Core}
+use Rattle.of_core.specs.Moves.{Moves}
+use Rattle.of_core.proofs.Logs.{length-log_words}
+use Rattle.of_core.proofs.Stability.{log_in, heard_as, said_as}
 
 all_one : {X : Type 0} (P : X → Type 0) (x : X) → P x → All P (x ∷ [])
 all_one P x h zero d l = h

@@ -1,6 +1,6 @@
 -- What every moment claims: its history is legal, each round uses one state, and what recovery reads off the durable words.
-use Rattle.std.specs.Prelude.{ℕ, ◌+◌, ◌*◌, ◌==◌, nat_lt, ◌-◌, List, [], ◌∷◌, length, Option, Some, None, Bool, true, false, if◌then◌else◌, ◌&&◌, ◌≡◌, ◌≤◌, ◌<◌, map, nat_le}
-use Rattle.std.proofs.Common.{zero, suc}
+use Rattle.std.specs.Prelude.{ℕ, ◌+◌, ◌*◌, ◌==◌, nat_lt, ◌-◌, List, length, Option, Some, None, Bool, true, false, if◌then◌else◌, ◌&&◌, ◌≡◌, ◌≤◌, ◌<◌, map, nat_le}
+use Rattle.std.proofs.Common.{zero, suc, take}
 use Rattle.of_cell.specs.Words.{word, seq, pay}
 use Rattle.of_mem.specs.Meaning.{Agrees, SameFrom}
 use Rattle.of_core.specs.declared.place.Place.{Place}
@@ -10,8 +10,9 @@ use Rattle.of_core.specs.declared.place.Outcome.TheVariants.{Answered, Spent}
 use Rattle.std.specs.List.{All}
 use Rattle.of_core.specs.Table.{Setup, base, durable_word, durable_request, durable_cell, durable_log, risen}
 use Rattle.of_core.specs.Machine.{Call, Data}
-use Rattle.of_core.specs.World.{World, Start}
-use Rattle.of_core.specs.History.{state, batch, at, numbers, replay, Legal, Last, Rising, HasCall}
+use Rattle.of_core.specs.World.{World, Start, Batch, Read}
+use Rattle.of_core.specs.Order.{Ordered}
+use Rattle.of_core.specs.History.{batch, at, numbers, replay, Legal, Last, Rising, HasCall}
 use Rattle.of_core.specs.Bound.{bound}
 use Rattle.of_core.specs.Events.{machine}
 
@@ -74,6 +75,10 @@ UsesOne B w m (RaiseTarget j f) = Unit {0}
 UsesOne B w m CloseRequest = Unit {0}
 UsesOne B w m RaiseClosed = Unit {0}
 
+-- the read's reply is its meaning on the replay of the batches up to its sequence
+abbrev pub ReadMeets : Setup → Start → List Batch → Read → Type 0
+ReadMeets S B bs r = S.meaning.reply (replay S.meaning (map pay B.cells) (take (r.seq - B.seq) bs)) r.op ≡ r.raw
+
 -- what an answer says of the history
 abbrev pub IsTold : Setup → Start → World → ℕ → Data → Option Outcome → Type 0
 IsTold S B w i m None = Unit {0}
@@ -81,19 +86,27 @@ IsTold S B w i m (Some (Answered s false raw steps)) = (steps ≤ bound S) × (B
 IsTold S B w i m (Some (Answered s true raw steps)) = (steps ≤ bound S) × (B.seq < s) × (s ≤ risen S w.words) × HasCall S (batch B w.batches s).calls i m.made m.op raw
 IsTold S B w i m (Some (Spent s)) = (s ≡ S.limit) × (B.seq + length w.batches ≡ s) × ((k : ℕ) → B.seq < k → k ≤ s → All (λ (c : Call). c.caller ≡ i → c.ticket < m.made) (batch B w.batches k).calls)
 
+-- what is claimed of a moment
 pub record IsSound (S : Setup) (B : Start) (w : World) : Type 0 where
+  -- the history is legal: the calls of the batches, in order, have the replies that they meet, and the reads theirs
   pub legal : Legal S.meaning (map pay B.cells) w.batches
+  pub reads : All (ReadMeets S B w.batches) w.reads
+  -- apart from the callers' own cells the state behind the batches is what the calls lead to
   pub state : SameFrom (base S) (numbers B w.batches (B.seq + length w.batches)) (replay S.meaning (map pay B.cells) w.batches)
   -- no batch is empty, a batch's calls stand by caller, and each caller's tickets rise
   pub some : (k : ℕ) → B.seq < k → k ≤ B.seq + length w.batches → 0 < length (batch B w.batches k).calls
-  pub ordered : (k : ℕ) → B.seq < k → k ≤ B.seq + length w.batches → Rising (batch B w.batches k).calls
+  pub rising : (k : ℕ) → B.seq < k → k ≤ B.seq + length w.batches → Rising (batch B w.batches k).calls
   pub tickets : (j k : ℕ) → B.seq < j → j < k → k ≤ B.seq + length w.batches
       → All (λ (c : Call). All (λ (d : Call). d.caller ≡ c.caller → c.ticket < d.ticket) (batch B w.batches k).calls) (batch B w.batches j).calls
+  -- each caller's calls, in batches and read, stand in the order in which it made them, and no read is newer than the durable sequence
+  pub order : Ordered S B w.words w.batches w.reads
   -- recovery of the durable words gives the state after the batches up to the durable sequence, and each caller's own cells in it hold its last call
   pub recovers : (a : ℕ) → a < S.cells → recovered S w.words a ≡ at B w.batches (risen S w.words) a
   pub reaches : risen S w.words ≤ B.seq + length w.batches
   pub own : (i : ℕ) → i < S.callers → Last S B w.batches (risen S w.words) i
+  -- each round and each try has used the cells of one state alone
   pub one : (i : ℕ) → i < S.callers → UsesOne B w (machine w i) (machine w i).place
   -- no call makes more steps than the bound
   pub within : (i : ℕ) → i < S.callers → (machine w i).steps ≤ bound S
+  -- each idle machine's last outcome is in the history, at the durable sequence at most
   pub answered : (i : ℕ) → i < S.callers → (machine w i).place ≡ Idle → IsTold S B w i (machine w i) (machine w i).answer

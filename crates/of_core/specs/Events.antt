@@ -1,11 +1,11 @@
 -- Events, schedules and the moments that they leave.
-use Rattle.std.specs.Prelude.{ℕ, ◌+◌, max, ◌-◌, List, [], ◌∷◌, ◌++◌, length, ◌≡◌, ◌≤◌, ◌<◌}
+use Rattle.std.specs.Prelude.{◌==◌, Bool, true, false, ℕ, ◌+◌, max, List, [], ◌∷◌, ◌++◌, length, ◌≡◌, ◌≤◌, ◌<◌}
 use Rattle.std.proofs.Common.{get_or, set, replicate, zero, suc}
-use Rattle.of_cell.specs.Words.{seq}
 use Rattle.of_core.specs.declared.place.Place.TheVariants.{Idle}
 use Rattle.of_core.specs.Table.{Setup, size, durable_at}
-use Rattle.of_core.specs.Machine.{Data, idle, opened}
-use Rattle.of_core.specs.World.{World, Start, stepped_at}
+use Rattle.of_core.specs.Machine.{Data, IsOpen, no_machine, idle, opened}
+use Rattle.of_core.specs.Steps.{finds}
+use Rattle.of_core.specs.World.{World, Start, stepped}
 
 pub data Event : Type 0 where
   Begins : ℕ → List ℕ → Event
@@ -13,23 +13,31 @@ pub data Event : Type 0 where
   -- a cell is loaded for an eviction, and a loaded word is raised
   Loads : ℕ → Event
   Evicts : ℕ → Event
+  -- both at once: the durable word of a cell is raised to the word that it holds
+  Raises : ℕ → Event
 
 abbrev pub machine : World → ℕ → Data
-machine w i = get_or w.machines i (idle i)
+machine w i = get_or w.machines i no_machine
 
 abbrev pub evicted : Setup → World → ℕ × ℕ → World
 evicted S w e = record w { words = set w.words (durable_at S e.0) (max (get_or w.words (durable_at S e.0) 0) e.1) }
 
+-- the machine m of caller i begins a call
+abbrev pub begun : Setup → ℕ → Data → List ℕ → World → World
+begun S i m op w = record w { machines = set w.machines i (opened S m op) }
+
 abbrev pub happens : Setup → World → Event → World
-happens S w (Begins i op) = record w { machines = set w.machines i (opened S (machine w i) op) }
+happens S w (Begins i op) = begun S i (machine w i) op w
 happens S w (Loads c) = record w { loaded = w.loaded ++ (c, get_or w.words c 0) ∷ [] }
 happens S w (Evicts k) = evicted S w (get_or w.loaded k (0, 0))
-happens S w (Turns i) = stepped_at S i (machine w i) (machine w i).place w
+happens S w (Raises c) = evicted S w (c, get_or w.words c 0)
+happens S w (Turns i) = stepped S i (machine w i) (finds S w.words (machine w i)) w
 
 abbrev pub MayHappen : Setup → World → Event → Type 0
 MayHappen S w (Begins i op) = (i < S.callers) × ((machine w i).place ≡ Idle) × (1 ≤ length op) × (length op ≤ S.instrs) × ((machine w i).made + 1 < 4294967296)
 MayHappen S w (Loads c) = c < size S
 MayHappen S w (Evicts k) = k < length w.loaded
+MayHappen S w (Raises c) = c < size S
 MayHappen S w (Turns i) = i < S.callers
 
 abbrev pub run : Setup → World → List Event → World
@@ -40,12 +48,33 @@ abbrev pub IsSchedule : Setup → World → List Event → Type 0
 IsSchedule S w [] = Unit {0}
 IsSchedule S w (e ∷ es) = MayHappen S w e × IsSchedule S (happens S w e) es
 
-abbrev pub idles : ℕ → ℕ → List Data
-idles i zero = []
-idles i (suc n) = idle i ∷ idles (suc i) n
+abbrev pub idles : Setup → ℕ → ℕ → List Data
+idles S i zero = []
+idles S i (suc n) = idle S i 0 ∷ idles S (suc i) n
 
 abbrev pub zeros : Setup → Start
 zeros S = record { seq = 0; owner = 0; cells = replicate S.cells 0 }
 
 abbrev pub opening : Setup → ℕ → World
-opening S n = record { words = replicate n 0; machines = idles 0 S.callers; batches = []; reads = []; loaded = [] }
+opening S n = record { words = replicate n 0; machines = idles S 0 S.callers; batches = []; reads = []; loaded = [] }
+
+abbrev pub counted : Bool → ℕ
+counted true = 1
+counted false = 0
+
+-- how many of the events are turns of caller i
+abbrev pub one_turn : ℕ → Event → ℕ
+one_turn i (Begins j op) = 0
+one_turn i (Turns j) = counted (i == j)
+one_turn i (Loads c) = 0
+one_turn i (Evicts k) = 0
+one_turn i (Raises c) = 0
+
+abbrev pub turns : ℕ → List Event → ℕ
+turns i [] = 0
+turns i (e ∷ es) = one_turn i e + turns i es
+
+-- caller i has an open call, and has it after each of the events
+abbrev pub StaysOpen : Setup → World → List Event → ℕ → Type 0
+StaysOpen S w [] i = IsOpen (machine w i).place
+StaysOpen S w (e ∷ es) i = IsOpen (machine w i).place × StaysOpen S (happens S w e) es i

@@ -1,5 +1,5 @@
 -- The protocol invariant.
-use Rattle.std.specs.Prelude.{ℕ, ◌+◌, ◌*◌, ◌-◌, List, [], ◌∷◌, length, Option, Some, None, true, false, ◌≡◌, ◌≤◌, ◌<◌, ◌⊎◌}
+use Rattle.std.specs.Prelude.{ℕ, ◌+◌, ◌*◌, List, [], length, Option, Some, None, true, false, ◌≡◌, ◌≤◌, ◌<◌, ◌⊎◌}
 use Rattle.std.proofs.Common.{get_or, take}
 use Rattle.of_cell.specs.Words.{word, seq, pay}
 use Rattle.of_core.specs.declared.place.Place.{Place}
@@ -9,13 +9,13 @@ use Rattle.of_core.specs.declared.place.Outcome.TheVariants.{Answered, Spent}
 use Rattle.std.specs.List.{All}
 use Rattle.of_core.specs.Table.{Setup, log_at, size, ticket_cell, request_of, cell, log_word, durable_request, announcement_of, script_of, last, risen}
 use Rattle.of_core.specs.Machine.{Data, entry, log_words, unknown}
-use Rattle.of_core.specs.Steps.{told}
 use Rattle.of_core.specs.World.{Batch, World, Start}
 use Rattle.of_core.specs.History.{state, batch, numbers, ticket_in, HasCall}
 use Rattle.of_core.specs.Shared.{Held, IsRequest, IsLogWord, Shared}
 use Rattle.of_core.specs.Rounds.{Keeps, Quieted, Fresh, Begun, Round, Cur, Trying, Watches, Between, Looks, Past, Calm, Finds, ReadUpto}
 use Rattle.of_core.specs.Scan.{Over, Hears, Reads, Scans}
 use Rattle.of_core.specs.Transaction.{Applies, Copies, Stored, Logs}
+use Rattle.of_core.specs.Order.{Order}
 use Rattle.of_core.specs.Bound.{Within}
 
 -- what the last answer says
@@ -45,7 +45,7 @@ At S B ws bs i m StoreAnnouncement = Fresh S B ws bs i m × Calm S B ws bs i (la
 At S B ws bs i m LoadCurrent = Begun S B ws bs i m × Calm S B ws bs i (last ws) × Between ws m
 At S B ws bs i m LoadRequest = Round S B ws bs i m × Calm S B ws bs i m.seq
 At S B ws bs i m (CopyLog x) = Copies S B ws bs i m x × (request_of ws m.owner ≡ word m.seq 0 → x < length (log_words (batch B bs m.seq).log)) × (x < 2 * S.cells + 1)
-At S B ws bs i m LookAgain = Copies S B ws bs i m (length m.got) × (request_of ws m.owner ≡ word m.seq 0 → length m.got ≡ length (log_words (batch B bs m.seq).log))
+At S B ws bs i m LookAgain = Copies S B ws bs i m (length m.copy) × (request_of ws m.owner ≡ word m.seq 0 → length m.copy ≡ length (log_words (batch B bs m.seq).log))
 At S B ws bs i m LoadOwnTicket = Looks S B ws bs i m × Calm S B ws bs i m.seq × (m.known ≡ unknown S) × (m.log ≡ []) × (m.calls ≡ []) × (m.scan ≡ 0)
 At S B ws bs i m LoadShape = Looks S B ws bs i m × Calm S B ws bs i m.seq × Finds S (state B bs m.seq) i m
 At S B ws bs i m (LoadReply j) = Looks S B ws bs i m × Calm S B ws bs i m.seq × Finds S (state B bs m.seq) i m × ReadUpto S (state B bs m.seq) i m j × (j < S.instrs)
@@ -87,7 +87,8 @@ pub record Core (S : Setup) (Lawful : List ℕ → Type 0) (B : Start) (w : Worl
   pub loaded : All (IsLoaded S B w.words w.batches) w.loaded
   pub each : (i : ℕ) (m : Data) → i < S.callers → get_or w.machines i m ≡ m → At S B w.words w.batches i m m.place
 
--- the invariant: the core, and that no call makes more steps than the bound
+-- the invariant: the core, that no call makes more steps than the bound, and that each caller's calls stand in the order in which it made them
 pub record Good (S : Setup) (Lawful : List ℕ → Type 0) (B : Start) (w : World) : Type 0 where
   pub core : Core S Lawful B w
+  pub order : Order S B w
   pub within : (i : ℕ) (m : Data) → i < S.callers → get_or w.machines i m ≡ m → Within S m m.place

@@ -1,20 +1,79 @@
--- The laws of all schedules.
-use Rattle.std.specs.Prelude.{ℕ, ◌+◌, ◌*◌, ◌-◌, List, [], ◌∷◌, ◌≡◌, ◌≤◌, ◌<◌}
-use Rattle.std.proofs.Common.{get_or}
-use Rattle.of_core.specs.Table.{Setup, size}
-use Rattle.of_core.specs.Machine.{Data}
-use Rattle.of_core.specs.World.{World, Start, stepped_at}
-use Rattle.of_core.specs.Invariant.{Good}
+-- The laws of all steps and all schedules.
+use Rattle.std.specs.Prelude.{ℕ, ◌+◌, List, length, ◌≡◌, ◌≤◌, ◌<◌}
+use Rattle.std.proofs.Common.{get_or, set}
+use Rattle.of_core.specs.declared.place.Place.TheVariants.{Idle, LoadCurrent}
+use Rattle.of_core.specs.Table.{Setup, size, table_size}
+use Rattle.of_core.specs.Machine.{Data, IsOpen, idle, opened}
+use Rattle.of_core.specs.Steps.{want, took, FoundBy}
+use Rattle.of_core.specs.World.{World, Start, added, stepped}
+use Rattle.of_core.specs.Facts.{Step, rests}
+use Rattle.of_core.specs.Invariant.{Good, IsLoaded}
 use Rattle.of_core.specs.Moves.{Moves}
-use Rattle.of_core.specs.Events.{Event, run, IsSchedule, zeros, opening}
+use Rattle.of_core.specs.Events.{Event, begun, evicted, run, turns, IsSchedule, StaysOpen, machine, zeros, opening}
+use Rattle.of_core.specs.Bound.{bound}
 use Rattle.of_core.specs.Claim.{IsSound}
 
--- each step of each machine keeps the invariant, and moves as a step may
+-- each step of each machine keeps the invariant
 abbrev pub StepKept : Setup → (List ℕ → Type 0) → Type 0
 StepKept S Lawful =
-    (B : Start) (w : World) → Good S Lawful B w → (i : ℕ) (m : Data) → i < S.callers → get_or w.machines i m ≡ m
-    → Good S Lawful B (stepped_at S i m m.place w) × Moves S B i w.words w.batches (stepped_at S i m m.place w).words (stepped_at S i m m.place w).batches
+    (B : Start) (w : World) → Good S Lawful B w → (i : ℕ) (m : Data) → i < S.callers → get_or w.machines i m ≡ m → (n : ℕ) → FoundBy (want S m) w.words n
+    → Good S Lawful B (stepped S i m n w)
 
+-- it does to words and history what a step may do to what other machines rely on
+abbrev pub StepMoves : Setup → (List ℕ → Type 0) → Type 0
+StepMoves S Lawful =
+    (B : Start) (w : World) → Good S Lawful B w → (i : ℕ) (m : Data) → i < S.callers → get_or w.machines i m ≡ m → (n : ℕ) → FoundBy (want S m) w.words n
+    → Moves S B i w.words w.batches (stepped S i m n w).words (stepped S i m n w).batches
+
+-- a step of an open call is a step, whatever its kind
+abbrev pub StepTaken : Setup → (List ℕ → Type 0) → Type 0
+StepTaken S Lawful =
+    (B : Start) (w : World) → Good S Lawful B w → (i : ℕ) (m : Data) → i < S.callers → get_or w.machines i m ≡ m → IsOpen m.place → (n : ℕ) → FoundBy (want S m) w.words n
+    → Step S B w m n (took S m n) (added S w.words m n)
+
+-- to begin a call keeps the invariant, and the call rests on nothing yet
+abbrev pub BeginKept : Setup → (List ℕ → Type 0) → Type 0
+BeginKept S Lawful =
+    (B : Start) (w : World) → Good S Lawful B w → (i : ℕ) (m : Data) → i < S.callers → get_or w.machines i m ≡ m → m.place ≡ Idle
+    → (op : List ℕ) → 1 ≤ length op → length op ≤ S.instrs → m.made + 1 < 4294967296
+    → Good S Lawful B (begun S i m op w) × (rests (opened S m op) ≡ 0)
+
+-- a word that was loaded from its cell may be raised at any later time: it is such a word when it is loaded
+abbrev pub LoadKept : Setup → (List ℕ → Type 0) → Type 0
+LoadKept S Lawful = (B : Start) (w : World) → Good S Lawful B w → (c : ℕ) → c < size S → IsLoaded S B w.words w.batches (c, get_or w.words c 0)
+
+-- each step leaves it such a word
+abbrev pub LoadedStays : Setup → (List ℕ → Type 0) → Type 0
+LoadedStays S Lawful =
+    (B : Start) (w : World) → Good S Lawful B w → (i : ℕ) (m : Data) → i < S.callers → get_or w.machines i m ≡ m → (n : ℕ) → FoundBy (want S m) w.words n
+    → (e : ℕ × ℕ) → IsLoaded S B w.words w.batches e → IsLoaded S B (stepped S i m n w).words (stepped S i m n w).batches e
+
+-- and to raise the durable word of its cell to it keeps the invariant, and all other such words
+abbrev pub RaiseKept : Setup → (List ℕ → Type 0) → Type 0
+RaiseKept S Lawful =
+    (B : Start) (w : World) → Good S Lawful B w → (e : ℕ × ℕ) → IsLoaded S B w.words w.batches e
+    → Good S Lawful B (evicted S w e) × ((d : ℕ × ℕ) → IsLoaded S B w.words w.batches d → IsLoaded S B (evicted S w e).words w.batches d)
+
+-- words behind the table's own may be anything
+abbrev pub BesideKept : Setup → (List ℕ → Type 0) → Type 0
+BesideKept S Lawful =
+    (B : Start) (w : World) → Good S Lawful B w → (c v : ℕ) → table_size S ≤ c
+    → Good S Lawful B (record w { words = set w.words c v }) × ((e : ℕ × ℕ) → IsLoaded S B w.words w.batches e → IsLoaded S B (set w.words c v) w.batches e)
+
+-- a table of zeros with idle machines meets the invariant, and an idle machine rests on nothing
+abbrev pub StartKept : Setup → (List ℕ → Type 0) → Type 0
+StartKept S Lawful = (n : ℕ) → table_size S ≤ n → Good S Lawful (zeros S) (opening S n) × ((i made : ℕ) → rests (idle S i made) ≡ 0)
+
+-- whatever meets the invariant has a legal history, and recovery gives the state that its durable words name
+abbrev pub GoodIsSound : Setup → (List ℕ → Type 0) → Type 0
+GoodIsSound S Lawful = (B : Start) (w : World) → Good S Lawful B w → IsSound S B w
+
+-- so does every moment of every schedule
 abbrev pub EveryMoment : Setup → Type 0
-EveryMoment S =
-    (n : ℕ) → size S + size S + S.callers * (S.instrs + 1) ≤ n → (es : List Event) → IsSchedule S (opening S n) es → IsSound S (zeros S) (run S (opening S n) es)
+EveryMoment S = (n : ℕ) → table_size S ≤ n → (es : List Event) → IsSchedule S (opening S n) es → IsSound S (zeros S) (run S (opening S n) es)
+
+-- a call that stays open has made fewer steps than the bound, so its last one comes in time; and it never begins a fourth round
+abbrev pub EndsInTime : Setup → (List ℕ → Type 0) → Type 0
+EndsInTime S Lawful =
+    (B : Start) (w : World) → Good S Lawful B w → (es : List Event) → IsSchedule S w es → (i : ℕ) → i < S.callers → StaysOpen S w es i
+    → ((machine w i).steps + turns i es < bound S) × ((machine (run S w es) i).place ≡ LoadCurrent → (machine (run S w es) i).rounds ≤ 2)

@@ -1,17 +1,19 @@
 -- One call as a machine: what it holds.
-use Rattle.std.specs.Prelude.{◌≡◌, ℕ, ◌+◌, ◌*◌, ◌==◌, nat_lt, ◌-◌, List, [], ◌∷◌, ◌++◌, length, Option, Some, None, Bool, true, false, if◌then◌else◌}
+use Rattle.std.specs.Prelude.{◌≡◌, ℕ, ◌+◌, ◌*◌, ◌==◌, nat_lt, List, [], ◌∷◌, ◌++◌, length, Option, Some, None, Bool, true, false, if◌then◌else◌}
 use Rattle.std.proofs.Common.{get_or, set, take, drop, replicate}
-use Rattle.of_cell.specs.Words.{seq, pay}
+use Rattle.of_cell.specs.Words.{pay}
 use Rattle.of_mem.specs.declared.work.RawReply.{RawReply}
 use Rattle.of_core.specs.declared.place.Place.{Place}
 use Rattle.of_core.specs.declared.place.Place.TheVariants.{Idle, TryCurrent, StoreScript}
 use Rattle.of_core.specs.declared.place.Outcome.{Outcome}
 use Rattle.of_core.specs.Table.{Setup}
 
--- a call as it was run
+-- a call as it was run, with its reply
 pub record Call : Type 0 where
   pub caller : ℕ
+  -- the number of the call among its caller's
   pub ticket : ℕ
+  -- the operation, as words
   pub op : List ℕ
   pub raw : RawReply
 
@@ -20,28 +22,33 @@ no_call = record { caller = 0; ticket = 0; op = []; raw = record { shape = 0; va
 
 pub record Data : Type 0 where
   pub caller : ℕ
+  -- how many calls were begun, and the last one's operation
   pub made : ℕ
   pub op : List ℕ
   pub place : Place
-  -- the transaction that the round began at, or that is applied
+  -- the last committed transaction that the round or the try began at, or the one that is applied
   pub seq : ℕ
   pub owner : ℕ
+  -- what is known of each data cell of that transaction's state
   pub known : List (Option ℕ)
+  -- the write-set of the calls run so far, or of the transaction that is applied
   pub log : List (ℕ × ℕ)
   -- the log words that a helper has loaded, and whether it helps
-  pub got : List ℕ
+  pub copy : List ℕ
   pub helps : Bool
+  -- the reply of one's own call, and how the last call ended
   pub raw : RawReply
   pub answer : Option Outcome
-  -- the last value that one knows one's request's durable word to have
+  -- the last word that one knows the durable word of one's own request to have
   pub kept : ℕ
+  -- the steps that the open call has made
   pub steps : ℕ
   -- the rounds begun, and the sequence of the first
   pub rounds : ℕ
   pub first : ℕ
   -- the tries begun
   pub tries : ℕ
-  -- the caller that the scan has come to, the announcement that was loaded, the script words that were loaded, and the calls run so far
+  -- the caller that the scan has come to, its announcement and its script words as loaded, and the calls run so far
   pub scan : ℕ
   pub heard : ℕ
   pub script : List ℕ
@@ -55,15 +62,13 @@ is_idle p = false
 abbrev pub IsOpen : Place → Type 0
 IsOpen p = is_idle p ≡ false
 
+-- the entry j of the write-set: a data cell, and its number
 abbrev pub entry : Data → ℕ → ℕ × ℕ
 entry m j = get_or m.log j (0, 0)
 
-abbrev pub call_of : Data → Call
-call_of m = record { caller = m.caller; ticket = m.made; op = m.op; raw = m.raw }
-
-abbrev pub idle : ℕ → Data
-idle i = record {
-  caller = i;
+abbrev pub no_machine : Data
+no_machine = record {
+  caller = 0;
   made = 0;
   op = [];
   place = Idle;
@@ -71,7 +76,7 @@ idle i = record {
   owner = 0;
   known = [];
   log = [];
-  got = [];
+  copy = [];
   helps = false;
   raw = record { shape = 0; values = [] };
   answer = None;
@@ -86,15 +91,23 @@ idle i = record {
   calls = [];
 }
 
--- a call opens
-abbrev pub first_place : Bool → Place
+-- nothing is known of any cell
+abbrev pub unknown : Setup → List (Option ℕ)
+unknown S = replicate S.cells None
+
+-- the machine of caller i that was just made, where so many calls were begun before
+abbrev pub idle : Setup → ℕ → (made : ℕ) → Data
+idle S i made = record no_machine { caller = i; made = made; known = unknown S; raw = record { shape = 0; values = replicate S.instrs 0 } }
+
+-- a call is begun: a read is tried first, any other is announced
+abbrev pub first_place : (reads : Bool) → Place
 first_place true = TryCurrent
 first_place false = StoreScript 0
 
 abbrev pub opened : Setup → Data → List ℕ → Data
 opened S m op = record m { made = m.made + 1; op = op; place = first_place (S.meaning.reads_only op); answer = None; steps = 0; rounds = 0; tries = 0 }
 
--- the words of a log: the number of its entries, and then address and value of each
+-- The words of a log: the number of its entries, and then cell and number of each.
 abbrev pub flat : List (ℕ × ℕ) → List ℕ
 flat [] = []
 flat (e ∷ es) = e.0 ∷ e.1 ∷ flat es
@@ -102,6 +115,7 @@ flat (e ∷ es) = e.0 ∷ e.1 ∷ flat es
 abbrev pub log_words : List (ℕ × ℕ) → List ℕ
 log_words es = length es ∷ flat es
 
+-- the log that such words are
 abbrev pub pairs : List ℕ → List (ℕ × ℕ)
 pairs [] = []
 pairs (a ∷ []) = []
@@ -115,20 +129,8 @@ log_of (n ∷ ws) = pairs ws
 abbrev pub turned : ℕ → List (ℕ × ℕ) → List (ℕ × ℕ)
 turned f es = drop f es ++ take f es
 
--- nothing is known
-abbrev pub unknown : Setup → List (Option ℕ)
-unknown S = replicate S.cells None
-
-abbrev pub learned : Setup → Data → ℕ → ℕ → List (Option ℕ)
-learned S m a found = set m.known a (Some (pay found))
-
--- what is known, under what was written
-abbrev pub merged : List (Option ℕ) → List (ℕ × ℕ) → List (Option ℕ)
-merged known [] = known
-merged known (e ∷ es) = merged (set known e.0 (Some e.1)) es
-
--- writes one entry into a write-set, in the order of first writing
-abbrev pub put_by : ℕ × ℕ → ℕ × ℕ → List (ℕ × ℕ) → List (ℕ × ℕ) → Bool → List (ℕ × ℕ)
+-- A write-set: each cell once, in the order of first writing, with the number written last.
+abbrev pub put_by : ℕ × ℕ → ℕ × ℕ → List (ℕ × ℕ) → List (ℕ × ℕ) → (same : Bool) → List (ℕ × ℕ)
 put_by e d ds rest true = e ∷ ds
 put_by e d ds rest false = d ∷ rest
 
@@ -140,12 +142,22 @@ abbrev pub put_all : List (ℕ × ℕ) → List (ℕ × ℕ) → List (ℕ × �
 put_all ds [] = ds
 put_all ds (e ∷ es) = put_all (put e ds) es
 
--- the reply cells, the shape and the ticket that a call writes
+-- what is known of the cells under a write-set
+abbrev pub merged : List (Option ℕ) → List (ℕ × ℕ) → List (Option ℕ)
+merged known [] = known
+merged known (e ∷ es) = merged (set known e.0 (Some e.1)) es
+
+-- what is known when a word of the data cell a was found
+abbrev pub learned : Setup → Data → (a found : ℕ) → List (Option ℕ)
+learned S m a found = set m.known a (Some (pay found))
+
+-- the numbers of cells from a on
 abbrev pub listed : ℕ → List ℕ → List (ℕ × ℕ)
 listed a [] = []
 listed a (v ∷ vs) = (a, v) ∷ listed (a + 1) vs
 
-abbrev pub own_cells : Setup → ℕ → ℕ → ℕ → RawReply → List (ℕ × ℕ)
+-- what a call of caller i with so many words writes into its own cells: the reply, where the shape isn't that of an abort, then the shape and the ticket
+abbrev pub own_cells : Setup → (i ticket count : ℕ) → RawReply → List (ℕ × ℕ)
 own_cells S i ticket count r =
     (if nat_lt r.shape 67108864 then listed (i * (S.instrs + 2) + 2) (take count r.values) else [])
     ++ (i * (S.instrs + 2) + 1, r.shape) ∷ (i * (S.instrs + 2), ticket) ∷ []

@@ -1,9 +1,9 @@
 -- What a step guarantees the other machines.
-use Rattle.std.specs.Prelude.{ℕ, ◌+◌, ◌*◌, ◌-◌, List, [], ◌∷◌, length, ◌≡◌, ◌≤◌, ◌<◌, ◌⊎◌}
+use Rattle.std.specs.Prelude.{ℕ, ◌+◌, ◌*◌, List, length, ◌≡◌, ◌≤◌, ◌<◌, ◌⊎◌}
 use Rattle.std.proofs.Common.{get_or}
 use Rattle.of_cell.specs.Words.{word, seq}
 use Rattle.std.specs.List.{All}
-use Rattle.of_core.specs.Table.{Setup, size, request_of, cell, log_word, durable_word, script_word, announcement_of, script_of, last, holder}
+use Rattle.of_core.specs.Table.{Setup, size, request_of, cell, log_word, durable_word, script_word, announcement_of, last, holder}
 use Rattle.of_core.specs.Machine.{Call}
 use Rattle.of_core.specs.World.{Batch, World, Start}
 use Rattle.of_core.specs.History.{state, batch, ticket_in}

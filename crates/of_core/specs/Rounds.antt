@@ -1,12 +1,11 @@
 -- What the invariant says of a call that is announced, tried or in a round.
-use Rattle.std.specs.Prelude.{ℕ, ◌+◌, ◌*◌, ◌-◌, List, [], ◌∷◌, length, Option, true, ◌≡◌, ◌≤◌, ◌<◌, ◌⊎◌}
+use Rattle.std.specs.Prelude.{ℕ, ◌+◌, ◌*◌, List, length, Option, true, ◌≡◌, ◌≤◌, ◌<◌, ◌⊎◌}
 use Rattle.std.proofs.Common.{get_or}
 use Rattle.of_cell.specs.Words.{word, seq, pay}
 use Rattle.of_mem.specs.Meaning.{marked, Agrees}
 use Rattle.std.specs.List.{All}
 use Rattle.of_core.specs.Table.{Setup, ticket_cell, shape_cell, reply_cell, request_of, log_word, durable_request, announcement_of, script_of, last, holder}
 use Rattle.of_core.specs.Machine.{Call, Data}
-use Rattle.of_core.specs.Steps.{left, read_on}
 use Rattle.of_core.specs.World.{Batch, Start}
 use Rattle.of_core.specs.History.{batch, numbers, ticket_in}
 use Rattle.of_core.specs.Shared.{IsRequest}

@@ -1,5 +1,5 @@
 -- What the invariant says of a scan: the calls that were run are an overlay on the state of the round.
-use Rattle.std.specs.Prelude.{ℕ, ◌-◌, List, [], ◌∷◌, length, true, ◌≡◌, ◌≤◌, ◌<◌, ◌⊎◌}
+use Rattle.std.specs.Prelude.{ℕ, List, length, true, ◌≡◌, ◌≤◌, ◌<◌, ◌⊎◌}
 use Rattle.std.proofs.Common.{get_or}
 use Rattle.of_cell.specs.Words.{word, seq, pay}
 use Rattle.of_mem.specs.declared.work.RawReply.{RawReply}

@@ -1,5 +1,5 @@
 -- What the invariant says of words and history alone, in groups.
-use Rattle.std.specs.Prelude.{ℕ, ◌+◌, ◌*◌, ◌-◌, List, [], ◌∷◌, length, ◌≡◌, ◌≤◌, ◌<◌, ◌⊎◌}
+use Rattle.std.specs.Prelude.{ℕ, ◌+◌, ◌*◌, ◌-◌, List, length, ◌≡◌, ◌≤◌, ◌<◌, ◌⊎◌}
 use Rattle.std.proofs.Common.{get_or}
 use Rattle.of_cell.specs.Words.{word, seq, pay}
 use Rattle.of_mem.specs.Meaning.{Once, SameFrom}
@@ -8,7 +8,6 @@ use Rattle.of_core.specs.Table.{Setup, base, size, request_of, cell, log_word, d
 use Rattle.of_core.specs.Machine.{Call, log_words}
 use Rattle.of_core.specs.World.{Batch, Start}
 use Rattle.of_core.specs.History.{batch, at, numbers, after_calls, Replies, ticket_in, Last, Rising}
-use Rattle.of_core.specs.Claim.{entries}
 
 -- an entry of a log that may be: a data cell, and a number that a word holds
 abbrev pub IsEntry : Setup → ℕ × ℕ → Type 0

@@ -1,47 +1,53 @@
 -- The words of the shared table: which stand where, and what they are called.
-use Rattle.std.specs.Prelude.{ℕ, ◌+◌, ◌*◌, ◌-◌, List, [], ◌∷◌, ◌++◌, ◌%◌}
+use Rattle.std.specs.Prelude.{ℕ, ◌+◌, ◌*◌, List, [], ◌∷◌, ◌++◌, ◌%◌}
 use Rattle.std.proofs.Common.{get_or, zero, suc}
 use Rattle.of_cell.specs.Words.{seq, pay}
 use Rattle.of_mem.specs.Meaning.{Meaning}
 use Rattle.of_mem.specs.declared.work.TheConstants.{MOST_INSTRS}
 
+-- what all machines of a table have in common
 pub record Setup : Type 0 where
   pub callers : ℕ
+  -- the most words of an operation
   pub instrs : ℕ
   pub cells : ℕ
+  -- the last sequence that may be committed
   pub limit : ℕ
-  -- the entry with which a helper's apply begins, from its number and the number of entries
-  pub first : ℕ → ℕ → ℕ
+  -- the entry with which a helper of this number begins to apply so many entries
+  pub begins : ℕ → ℕ → ℕ
   -- what operations do
   pub meaning : Meaning
 
--- the cells that belong to the callers
-abbrev pub base : Setup → ℕ
-base S = S.callers * (S.instrs + 2)
+-- helper i begins at entry i mod n and goes round
+abbrev pub setup_of : (callers cells limit : ℕ) → Meaning → Setup
+setup_of n m l meaning = record { callers = n; instrs = MOST_INSTRS; cells = m; limit = l; begins = λ i n. i % n; meaning = meaning }
 
--- the cell word numbers
+-- Cells. Cell 0 names the last committed transaction; a request for each caller, the data cells and each caller's log words follow.
 abbrev pub request_at : ℕ → ℕ
 request_at i = i + 1
 
 abbrev pub data_at : Setup → ℕ → ℕ
 data_at S a = S.callers + 1 + a
 
--- the place of log word x of caller i
 abbrev pub log_at : Setup → ℕ → ℕ → ℕ
 log_at S i x = S.callers + 1 + S.cells + i * (2 * S.cells + 1) + x
 
--- the number of cells, and the place of a cell's durable word
+-- how many cells there are
 abbrev pub size : Setup → ℕ
 size S = S.callers + 1 + S.cells + S.callers * (2 * S.cells + 1)
 
+-- each has a durable word behind them all
 abbrev pub durable_at : Setup → ℕ → ℕ
 durable_at S c = size S + c
 
--- script word x of caller i; the last of its row is the announcement
+-- then each caller's row of script words, the last of which is its announcement
 abbrev pub script_at : Setup → ℕ → ℕ → ℕ
 script_at S i x = size S + size S + i * (S.instrs + 1) + x
 
--- a caller's own cells
+abbrev pub table_size : Setup → ℕ
+table_size S = size S + size S + S.callers * (S.instrs + 1)
+
+-- Data cells. Each caller's own come first: the ticket, the shape and the reply of its last announced call that was run.
 abbrev pub ticket_cell : Setup → ℕ → ℕ
 ticket_cell S i = i * (S.instrs + 2)
 
@@ -51,6 +57,11 @@ shape_cell S i = i * (S.instrs + 2) + 1
 abbrev pub reply_cell : Setup → ℕ → ℕ → ℕ
 reply_cell S i j = i * (S.instrs + 2) + 2 + j
 
+-- where the operations' own cells begin
+abbrev pub base : Setup → ℕ
+base S = S.callers * (S.instrs + 2)
+
+-- The words themselves.
 abbrev pub current_word : List ℕ → ℕ
 current_word ws = get_or ws 0 0
 
@@ -63,7 +74,6 @@ cell S ws a = get_or ws (S.callers + 1 + a) 0
 abbrev pub log_word : Setup → List ℕ → ℕ → ℕ → ℕ
 log_word S ws i x = get_or ws (log_at S i x) 0
 
--- the durable words
 abbrev pub durable_word : Setup → List ℕ → ℕ → ℕ
 durable_word S ws c = get_or ws (durable_at S c) 0
 
@@ -76,27 +86,24 @@ durable_cell S ws a = get_or ws (durable_at S (data_at S a)) 0
 abbrev pub durable_log : Setup → List ℕ → ℕ → ℕ → ℕ
 durable_log S ws i x = get_or ws (durable_at S (log_at S i x)) 0
 
--- the announcement of caller i, and its first n script words
 abbrev pub script_word : Setup → List ℕ → ℕ → ℕ → ℕ
 script_word S ws i x = get_or ws (script_at S i x) 0
 
 abbrev pub announcement_of : Setup → List ℕ → ℕ → ℕ
 announcement_of S ws i = get_or ws (script_at S i S.instrs) 0
 
+-- the first n script words of caller i
 abbrev pub script_of : Setup → List ℕ → ℕ → ℕ → List ℕ
 script_of S ws i zero = []
 script_of S ws i (suc n) = script_of S ws i n ++ script_word S ws i n ∷ []
 
--- the last committed sequence, and its owner
+-- the last committed sequence, and who committed it
 abbrev pub last : List ℕ → ℕ
 last ws = seq (current_word ws)
 
 abbrev pub holder : List ℕ → ℕ
 holder ws = pay (current_word ws)
 
--- the last sequence that the durable word of CUR names
+-- the durable sequence: the last one that a crash keeps
 abbrev pub risen : Setup → List ℕ → ℕ
 risen S ws = seq (durable_word S ws 0)
-
-abbrev pub setup_of : ℕ → ℕ → ℕ → Meaning → Setup
-setup_of n m l meaning = record { callers = n; instrs = MOST_INSTRS; cells = m; limit = l; first = λ i n. i % n; meaning = meaning }

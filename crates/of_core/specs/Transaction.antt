@@ -1,8 +1,8 @@
 -- What the invariant says of one's own log and request, and of a transaction that is copied or applied.
-use Rattle.std.specs.Prelude.{ℕ, ◌+◌, ◌*◌, ◌-◌, List, [], ◌∷◌, length, Bool, true, false, ◌≡◌, ◌≤◌, ◌<◌, ◌⊎◌}
+use Rattle.std.specs.Prelude.{ℕ, ◌+◌, ◌*◌, List, length, Bool, true, false, ◌≡◌, ◌≤◌, ◌<◌, ◌⊎◌}
 use Rattle.std.proofs.Common.{get_or, take}
 use Rattle.of_cell.specs.Words.{word, seq}
-use Rattle.of_core.specs.Table.{Setup, current_word, request_of, cell, log_word, durable_request, durable_cell, durable_log, announcement_of, last}
+use Rattle.of_core.specs.Table.{Setup, request_of, cell, log_word, durable_request, durable_cell, durable_log, announcement_of, last}
 use Rattle.of_core.specs.Machine.{Data, entry, log_words}
 use Rattle.of_core.specs.World.{Batch, Start}
 use Rattle.of_core.specs.History.{batch, ticket_in, HasCall}
@@ -48,9 +48,9 @@ pub record Copies (S : Setup) (B : Start) (ws : List ℕ) (bs : List Batch) (i :
   pub calm : Calm S B ws bs i m.seq
   pub helps : m.helps ≡ true
   pub after : B.seq < m.seq
-  pub many : length m.got ≡ x
-  pub count : 1 ≤ x → get_or m.got 0 0 ≤ S.cells
-  pub copied : request_of ws m.owner ≡ word m.seq 0 → (x ≤ length (log_words (batch B bs m.seq).log)) × (m.got ≡ take x (log_words (batch B bs m.seq).log))
+  pub many : length m.copy ≡ x
+  pub count : 1 ≤ x → get_or m.copy 0 0 ≤ S.cells
+  pub copied : request_of ws m.owner ≡ word m.seq 0 → (x ≤ length (log_words (batch B bs m.seq).log)) × (m.copy ≡ take x (log_words (batch B bs m.seq).log))
 
 -- the first x log words are stored, and the first z are durable
 pub record Stored (S : Setup) (B : Start) (ws : List ℕ) (bs : List Batch) (i : ℕ) (m : Data) (x z : ℕ) : Type 0 where

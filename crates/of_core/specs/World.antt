@@ -1,7 +1,7 @@
 -- Words, machines and history, and what a step does to them.
-use Rattle.std.specs.Prelude.{ℕ, ◌+◌, ◌==◌, ◌-◌, List, [], ◌∷◌, ◌++◌, Bool, true, false, Option, Some, None}
+use Rattle.std.specs.Prelude.{ℕ, ◌==◌, List, [], ◌∷◌, ◌++◌, Bool, true, false, Option, Some, None}
 use Rattle.std.proofs.Common.{get_or, set}
-use Rattle.of_cell.specs.Words.{word, seq}
+use Rattle.of_cell.specs.Words.{word}
 use Rattle.of_core.specs.declared.place.Place.{Place}
 use Rattle.of_core.specs.declared.place.Place.TheVariants.{Idle, TryCurrent, TryRequest, TryCell, StoreScript, StoreAnnouncement, LoadCurrent, LoadRequest, CopyLog, LookAgain, LoadOwnTicket, LoadShape, LoadReply, LoadAnnouncement, LoadTicket, LoadScript, LoadCell, RaiseOld, StoreLog, RaiseLog, StoreRequest, RaiseRequest, ExchangeCurrent, RaiseCurrent, LoadTarget, ExchangeTarget, ReloadTarget, RaiseTarget, CloseRequest, RaiseClosed}
 use Rattle.of_mem.specs.declared.work.RawReply.{RawReply}
@@ -9,7 +9,7 @@ use Rattle.of_core.specs.declared.place.Outcome.{Outcome}
 use Rattle.of_core.specs.declared.place.Outcome.TheVariants.{Answered, Spent}
 use Rattle.of_core.specs.Table.{Setup, announcement_of}
 use Rattle.of_core.specs.Machine.{Call, Data, is_idle}
-use Rattle.of_core.specs.Steps.{want_at, word_of, left, took_at}
+use Rattle.of_core.specs.Steps.{want, took, words_after, want_at, word_of, left, took_at}
 
 pub record Batch : Type 0 where
   pub owner : ℕ
@@ -94,7 +94,24 @@ answers_by d false false = []
 abbrev pub answers_at : Data → Place → List Read
 answers_at d p = answers_by d (is_idle p) (is_idle d.place)
 
--- the wanted step of the machine m of caller i, at the place p
+-- what the machine's next step commits, and what it answers where the machine is d after it
+unfoldable pub added : Setup → List ℕ → Data → ℕ → List Batch
+added S ws m found = commits_at S ws m found m.place
+
+unfoldable pub answered : Data → Data → List Read
+answered m d = answers_at d m.place
+
+-- the next step of the machine m of caller i, which finds n
+abbrev pub stepped : Setup → ℕ → Data → ℕ → World → World
+stepped S i m n w = record {
+  words = words_after (want S m) w.words;
+  machines = set w.machines i (took S m n);
+  batches = w.batches ++ added S w.words m n;
+  reads = w.reads ++ answered m (took S m n);
+  loaded = w.loaded;
+}
+
+-- the same at the place p, as far as it computes
 abbrev pub stepped_at : Setup → ℕ → Data → Place → World → World
 stepped_at S i m p w =
     let c = word_of (want_at S m p) in

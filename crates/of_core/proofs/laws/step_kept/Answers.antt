@@ -1,6 +1,24 @@
 use Rattle.of_core.proofs.laws.step_kept.Goals as goal
 use Rattle.of_core.specs.Table.{setup_of}
-use Rattle.of_core.proofs.StepKept.{step_kept}
+use Rattle.of_core.proofs.StepKept.{step_kept, step_moves, loaded_stays}
+use Rattle.of_core.proofs.StepTaken.{step_taken}
+use Rattle.of_core.proofs.Happenings.{begin_kept, rests_not, load_kept, evict_kept, evict_stays}
+use Rattle.of_core.proofs.Beside.{beside_kept, beside_stays}
+use Rattle.of_core.proofs.Claims.{is_sound}
 
 pub returns : goal.returns
-returns g c = record { kept = step_kept (setup_of (g.W.Work.many c.args.work) (g.W.Work.size c.args.work) c.args.limit (g.W.Work.meaning c.args.work)) (g.W.Work.lawful c.args.work) (g.met.W.Work.sound c.args.work) }
+returns g c =
+    let S = setup_of (g.W.Work.many c.args.work) (g.W.Work.size c.args.work) c.args.limit (g.W.Work.meaning c.args.work) in
+    let L = g.W.Work.lawful c.args.work in
+    let sound = g.met.W.Work.sound c.args.work in
+    record {
+      kept = step_kept S L sound;
+      moves = step_moves S L sound;
+      taken = λ B w h i m l e o n f. step_taken S L B w h i m l e o n f;
+      begins = λ B w h i m l e r op s f t. (begin_kept S L B w h i m l e r op s f t, rests_not S L B w h i m l e r op s f t);
+      loads = load_kept S L;
+      stays = loaded_stays S L sound;
+      raises = λ B w h e l. (evict_kept S L B w h e l, evict_stays S L B w h e l);
+      beside = λ B w h c v f. (beside_kept S L B w h c v f, beside_stays S L B w h c v f);
+      sound = λ B w h. is_sound S L sound B w h.core h.within h.order;
+    }

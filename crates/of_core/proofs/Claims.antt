@@ -1,0 +1,129 @@
+-- Whatever meets the invariant meets what every moment claims.
+use Rattle.std.proofs.Common.{◌≡◌, ℕ, ◌+◌, ◌-◌, ◌<◌, ◌≤◌, ◌⊎◌, inl, inr, List, length, get_or, take, sym, ◌∙◌, ap, subst, arith, Option, Some, None, map, true, false}
+use Rattle.std.proofs.lemmas.List.{take_all, length-map, get_or_default}
+use Rattle.of_cell.specs.Words.{pay}
+use Rattle.of_mem.specs.Meaning.{Sound, SameFrom}
+use Rattle.of_core.specs.declared.place.Place.{Place}
+use Rattle.of_core.specs.declared.place.Place.TheVariants.{Idle, TryCurrent, TryRequest, TryCell, StoreScript, StoreAnnouncement, LoadCurrent, LoadRequest, CopyLog, LookAgain, LoadOwnTicket, LoadShape, LoadReply, LoadAnnouncement, LoadTicket, LoadScript, LoadCell, RaiseOld, StoreLog, RaiseLog, StoreRequest, RaiseRequest, ExchangeCurrent, RaiseCurrent, LoadTarget, ExchangeTarget, ReloadTarget, RaiseTarget, CloseRequest, RaiseClosed}
+use Rattle.of_core.specs.declared.place.Outcome.{Outcome}
+use Rattle.of_core.specs.declared.place.Outcome.TheVariants.{Answered, Spent}
+use Rattle.of_core.specs.Table.{Setup, base, last, risen}
+use Rattle.of_core.specs.Machine.{Data, Call, no_machine}
+use Rattle.of_core.specs.World.{World, Start}
+use Rattle.of_core.specs.History.{state, batch, numbers, ticket_in, replay}
+use Rattle.of_core.specs.Shared.{Opened}
+use Rattle.of_core.specs.Invariant.{Core, At, Told, Rests}
+use Rattle.of_core.specs.Bound.{bound, Within, Told_within}
+use Rattle.of_core.specs.Events.{machine}
+use Rattle.of_core.specs.World.{Read}
+use Rattle.of_core.specs.Order.{IsRead, Order}
+use Rattle.of_core.specs.Claim.{ReadMeets, UsesOne, IsTold, IsSound}
+use Rattle.of_core.proofs.States.{state_length}
+use Rattle.of_core.proofs.Assembling.{logs_of}
+use Rattle.of_core.proofs.Recovery.{claim}
+use Rattle.of_core.proofs.Tickets.{ticket_upto}
+use Rattle.of_core.proofs.Replays.{upto, replay_length}
+
+module _ (S : Setup) (Lawful : List ℕ → Type 0) (sound : Sound S.meaning Lawful (base S) S.cells) (B : Start) where
+  module _ (w : World) (g : Core S Lawful B w) where
+    -- a read that the state at its sequence meets, meets the replay up to it
+    read_meets : (r : Read) → IsRead S B w.batches (risen S w.words) r → risen S w.words ≤ B.seq + length w.batches → ReadMeets S B w.batches r
+    read_meets r p u = sym (sound.reply_from (numbers B w.batches r.seq) (replay S.meaning (map pay B.cells) (take (r.seq - B.seq) w.batches)) r.op here there same) ∙ p.reply
+      where
+        back : B.seq + (r.seq - B.seq) ≡ r.seq
+        back = omega (arith, p.from)
+
+        here : length (numbers B w.batches r.seq) ≡ S.cells
+        here = length-map (state B w.batches r.seq) pay ∙ state_length S B w.batches g.shared.start (logs_of S Lawful B w g) r.seq p.from (omega (arith, p.upto))
+
+        there : length (replay S.meaning (map pay B.cells) (take (r.seq - B.seq) w.batches)) ≡ S.cells
+        there = replay_length S Lawful sound B (map pay B.cells) (take (r.seq - B.seq) w.batches) (length-map B.cells pay ∙ g.shared.start.size)
+
+        same : SameFrom (base S) (numbers B w.batches r.seq) (replay S.meaning (map pay B.cells) (take (r.seq - B.seq) w.batches))
+        same = rw back at (upto S Lawful sound B w g (r.seq - B.seq) (omega (arith, p.upto))).0
+
+    pub is_sound : ((i : ℕ) (m : Data) → i < S.callers → get_or w.machines i m ≡ m → Within S m m.place) → Order S B w → IsSound S B w
+    is_sound within order =
+        let p = upto S Lawful sound B w g (length w.batches) (omega arith) in
+        let t : take (length w.batches) w.batches ≡ w.batches = take_all (length w.batches) w.batches (omega arith) in
+        record {
+          legal = rw t at p.1;
+          state = rw t at p.0;
+          recovers = claim S Lawful B w g;
+          reaches = reach g.shared.durable.step;
+          some = g.shared.stands.some;
+          rising = g.shared.stands.ordered;
+          order = order.ordered;
+          reads = λ k d l. read_meets (get_or w.reads k d) (order.ordered.reads k d l) (reach g.shared.durable.step);
+          tickets = λ j k l u m y c v z d x q. rise j k l u m y c v z d x q;
+          own = λ i h. g.shared.stands.last (risen S w.words) i g.shared.durable.from (reach g.shared.durable.step) h;
+          one = λ i h. uses i (machine w i) (machine w i).place (g.each i (machine w i) h (own i h));
+          within = λ i h. let t = within i (machine w i) h (own i h) in less (machine w i).steps _ (bound S) t.steps;
+          answered = λ i h q. told_is i (machine w i) h (machine w i).answer ((within i (machine w i) h (own i h)).told q) (at_idle i h q).told;
+        }
+      where
+        reach : (last w.words ≡ risen S w.words) ⊎ ((last w.words ≡ risen S w.words + 1) × Opened B w.words) → risen S w.words ≤ B.seq + length w.batches
+        reach (inl q) = omega (arith, g.shared.counted.count)
+        reach (inr q) = omega (arith, g.shared.counted.count, q.0)
+
+        own : (i : ℕ) → i < S.callers → get_or w.machines i (machine w i) ≡ machine w i
+        own i h = get_or_default w.machines i (machine w i) no_machine (omega (arith, g.members))
+
+        -- each caller's tickets rise from batch to batch
+        rise : (j k : ℕ) → B.seq < j → j < k → k ≤ B.seq + length w.batches → (y : ℕ) (c : Call) → y < length (batch B w.batches j).calls → (z : ℕ) (d : Call) → z < length (batch B w.batches k).calls
+            → (get_or (batch B w.batches k).calls z d).caller ≡ (get_or (batch B w.batches j).calls y c).caller → (get_or (batch B w.batches j).calls y c).ticket < (get_or (batch B w.batches k).calls z d).ticket
+        rise j k l u m y c v z d x q =
+            let e : k - 1 + 1 ≡ k = omega arith in
+            let a : (get_or (batch B w.batches j).calls y c).ticket ≤ ticket_in S B w.batches (k - 1) (get_or (batch B w.batches j).calls y c).caller = ticket_upto S Lawful B w.batches g.shared.stands j (k - 1) l (omega arith) (omega arith) y c v in
+            let b : ticket_in S B w.batches (k - 1) (get_or (batch B w.batches k).calls z d).caller < (get_or (batch B w.batches k).calls z d).ticket = (rw e at (g.shared.stands.rises (k - 1) (omega arith) (omega arith))) z d x in
+            omega (arith, a, b, ap (ticket_in S B w.batches (k - 1)) q)
+
+        at_idle : (i : ℕ) (h : i < S.callers) → (machine w i).place ≡ Idle → Rests S B w.words w.batches i (machine w i)
+        at_idle i h q = subst (λ (p : Place). At S B w.words w.batches i (machine w i) p) q (g.each i (machine w i) h (own i h))
+
+        less : (s x l : ℕ) → s + x ≤ l → s ≤ l
+        less s x l h = omega arith
+
+        told_is : (i : ℕ) (m : Data) → i < S.callers → (o : Option Outcome) → Told_within S o → Told S B w.words w.batches i m o → IsTold S B w i m o
+        told_is i m h None v t = tt
+        told_is i m h (Some (Answered s true raw n)) v t = (v, t.0, t.1, t.3)
+        told_is i m h (Some (Answered s false raw n)) v t = (v, t.0, t.1, t.3, t.4)
+        told_is i m h (Some (Spent s)) v0 t = (
+          t.1,
+          sym g.shared.counted.count ∙ t.2,
+          λ k l u y d v q. let p : (get_or (batch B w.batches k).calls y d).ticket ≤ ticket_in S B w.batches (last w.words) (get_or (batch B w.batches k).calls y d).caller =
+              ticket_upto S Lawful B w.batches g.shared.stands k (last w.words) l (omega (arith, t.2)) (omega (arith, g.shared.counted.count)) y d v in
+              omega (arith, p, t.0, ap (ticket_in S B w.batches (last w.words)) q),
+        )
+
+        uses : (i : ℕ) (m : Data) (p : Place) → At S B w.words w.batches i m p → UsesOne B w m p
+        uses i m Idle a = tt
+        uses i m TryCurrent a = tt
+        uses i m TryRequest a = tt
+        uses i m (TryCell x) a = a.3.agrees
+        uses i m (StoreScript j) a = tt
+        uses i m StoreAnnouncement a = tt
+        uses i m LoadCurrent a = tt
+        uses i m LoadRequest a = tt
+        uses i m (CopyLog x) a = tt
+        uses i m LookAgain a = tt
+        uses i m LoadOwnTicket a = a.0.agrees
+        uses i m LoadShape a = a.0.agrees
+        uses i m (LoadReply j) a = a.0.agrees
+        uses i m LoadAnnouncement a = a.0.looks.agrees
+        uses i m LoadTicket a = a.0.looks.agrees
+        uses i m (LoadScript j) a = a.0.looks.agrees
+        uses i m (LoadCell x) a = a.0.looks.agrees
+        uses i m RaiseOld a = a.0.looks.agrees
+        uses i m (StoreLog x) a = a.0.stored.past.looks.agrees
+        uses i m (RaiseLog x) a = a.0.stored.past.looks.agrees
+        uses i m StoreRequest a = a.stored.past.looks.agrees
+        uses i m RaiseRequest a = a.0.past.looks.agrees
+        uses i m ExchangeCurrent a = a.0.past.looks.agrees
+        uses i m RaiseCurrent a = tt
+        uses i m (LoadTarget j) a = tt
+        uses i m (ExchangeTarget j f) a = tt
+        uses i m (ReloadTarget j) a = tt
+        uses i m (RaiseTarget j f) a = tt
+        uses i m CloseRequest a = tt
+        uses i m RaiseClosed a = tt

@@ -1,0 +1,95 @@
+-- A step is the same whatever number a store is said to have found.
+use Rattle.std.proofs.Common.{◌≡◌, ℕ, List, ◌++◌, get_or, set, refl, ◌∙◌, ap}
+use Rattle.of_core.specs.declared.place.Place.{Place}
+use Rattle.of_core.specs.declared.place.Place.TheVariants.{Idle, TryCurrent, TryRequest, TryCell, StoreScript, StoreAnnouncement, LoadCurrent, LoadRequest, CopyLog, LookAgain, LoadOwnTicket, LoadShape, LoadReply, LoadAnnouncement, LoadTicket, LoadScript, LoadCell, RaiseOld, StoreLog, RaiseLog, StoreRequest, RaiseRequest, ExchangeCurrent, RaiseCurrent, LoadTarget, ExchangeTarget, ReloadTarget, RaiseTarget, CloseRequest, RaiseClosed}
+use Rattle.of_core.specs.Table.{Setup}
+use Rattle.of_core.specs.Machine.{Data}
+use Rattle.of_core.specs.Steps.{want, want_at, word_of, took, took_at, words_after, FoundBy, finds}
+use Rattle.of_core.specs.World.{World, Batch, added, answered, answers_at, commits_at, stepped, stepped_at}
+
+module _ (S : Setup) (ws : List ℕ) (m : Data) (n : ℕ) where
+  -- what the step from the place p makes of the number n
+  abbrev Same : Place → ℕ → Type 0
+  Same p k = (took_at S m n p ≡ took_at S m k p) × (commits_at S ws m n p ≡ commits_at S ws m k p)
+
+  same : (p : Place) (k : ℕ) → n ≡ k → Same p k
+  same p k e = (ap (λ (x : ℕ). took_at S m x p) e, ap (λ (x : ℕ). commits_at S ws m x p) e)
+
+  pub same_step : (p : Place) → FoundBy (want_at S m p) ws n → Same p (get_or ws (word_of (want_at S m p)) 0)
+  same_step (StoreScript j) e = (refl, refl)
+  same_step StoreAnnouncement e = (refl, refl)
+  same_step (StoreLog x) e = (refl, refl)
+  same_step StoreRequest e = (refl, refl)
+  same_step Idle e = same Idle _ e
+  same_step TryCurrent e = same TryCurrent _ e
+  same_step TryRequest e = same TryRequest _ e
+  same_step (TryCell a) e = same (TryCell a) _ e
+  same_step LoadCurrent e = same LoadCurrent _ e
+  same_step LoadRequest e = same LoadRequest _ e
+  same_step (CopyLog x) e = same (CopyLog x) _ e
+  same_step LookAgain e = same LookAgain _ e
+  same_step LoadOwnTicket e = same LoadOwnTicket _ e
+  same_step LoadShape e = same LoadShape _ e
+  same_step (LoadReply j) e = same (LoadReply j) _ e
+  same_step LoadAnnouncement e = same LoadAnnouncement _ e
+  same_step LoadTicket e = same LoadTicket _ e
+  same_step (LoadScript j) e = same (LoadScript j) _ e
+  same_step (LoadCell a) e = same (LoadCell a) _ e
+  same_step RaiseOld e = same RaiseOld _ e
+  same_step (RaiseLog x) e = same (RaiseLog x) _ e
+  same_step RaiseRequest e = same RaiseRequest _ e
+  same_step ExchangeCurrent e = same ExchangeCurrent _ e
+  same_step RaiseCurrent e = same RaiseCurrent _ e
+  same_step (LoadTarget j) e = same (LoadTarget j) _ e
+  same_step (ExchangeTarget j f) e = same (ExchangeTarget j f) _ e
+  same_step (ReloadTarget j) e = same (ReloadTarget j) _ e
+  same_step (RaiseTarget j f) e = same (RaiseTarget j f) _ e
+  same_step CloseRequest e = same CloseRequest _ e
+  same_step RaiseClosed e = same RaiseClosed _ e
+
+  -- the word that stands there is what the step finds
+  pub finds_now : (p : Place) → n ≡ get_or ws (word_of (want_at S m p)) 0 → FoundBy (want_at S m p) ws n
+  finds_now (StoreScript j) e = tt
+  finds_now StoreAnnouncement e = tt
+  finds_now (StoreLog x) e = tt
+  finds_now StoreRequest e = tt
+  finds_now Idle e = e
+  finds_now TryCurrent e = e
+  finds_now TryRequest e = e
+  finds_now (TryCell a) e = e
+  finds_now LoadCurrent e = e
+  finds_now LoadRequest e = e
+  finds_now (CopyLog x) e = e
+  finds_now LookAgain e = e
+  finds_now LoadOwnTicket e = e
+  finds_now LoadShape e = e
+  finds_now (LoadReply j) e = e
+  finds_now LoadAnnouncement e = e
+  finds_now LoadTicket e = e
+  finds_now (LoadScript j) e = e
+  finds_now (LoadCell a) e = e
+  finds_now RaiseOld e = e
+  finds_now (RaiseLog x) e = e
+  finds_now RaiseRequest e = e
+  finds_now ExchangeCurrent e = e
+  finds_now RaiseCurrent e = e
+  finds_now (LoadTarget j) e = e
+  finds_now (ExchangeTarget j f) e = e
+  finds_now (ReloadTarget j) e = e
+  finds_now (RaiseTarget j f) e = e
+  finds_now CloseRequest e = e
+  finds_now RaiseClosed e = e
+
+pub found_now : (S : Setup) (ws : List ℕ) (m : Data) → FoundBy (want S m) ws (finds S ws m)
+unfolding want
+found_now S ws m = finds_now S ws m (finds S ws m) m.place refl
+
+-- the world after the step, where the machine is d and these batches are committed
+abbrev world_after : Setup → ℕ → Data → World → Data → List Batch → World
+world_after S i m w d bs = record { words = words_after (want_at S m m.place) w.words; machines = set w.machines i d; batches = w.batches ++ bs; reads = w.reads ++ answers_at d m.place; loaded = w.loaded }
+
+pub stepped_is : (S : Setup) (i : ℕ) (m : Data) (n : ℕ) (w : World) → FoundBy (want S m) w.words n → stepped S i m n w ≡ stepped_at S i m m.place w
+unfolding want took added answered
+stepped_is S i m n w e =
+    let r = same_step S w.words m n m.place e in
+    ap (λ (d : Data). world_after S i m w d (commits_at S w.words m n m.place)) r.0 ∙ ap (λ (bs : List Batch). world_after S i m w (took_at S m (get_or w.words (word_of (want_at S m m.place)) 0) m.place) bs) r.1

@@ -1,0 +1,130 @@
+-- A call that stays open has made fewer steps than the bound.
+use Rattle.std.proofs.Common.{◌≡◌, ℕ, ◌+◌, ◌<◌, ◌≤◌, ◌⊎◌, ◌==◌, inl, inr, List, [], ◌∷◌, get_or, refl, sym, ◌∙◌, ap, subst, arith, Bool, true, false}
+use Rattle.std.proofs.lemmas.Bool.{cases_eq}
+use Rattle.std.proofs.lemmas.Bool.Decides.{nat_tests}
+use Rattle.std.proofs.lemmas.List.{get_or-set_same, get_or-set_other, get_or_default}
+use Rattle.of_mem.specs.Meaning.{Sound}
+use Rattle.of_core.specs.declared.place.Place.{Place}
+use Rattle.of_core.specs.declared.place.Place.TheVariants.{Idle, TryCurrent, TryRequest, TryCell, StoreScript, StoreAnnouncement, LoadCurrent, LoadRequest, CopyLog, LookAgain, LoadOwnTicket, LoadShape, LoadReply, LoadAnnouncement, LoadTicket, LoadScript, LoadCell, RaiseOld, StoreLog, RaiseLog, StoreRequest, RaiseRequest, ExchangeCurrent, RaiseCurrent, LoadTarget, ExchangeTarget, ReloadTarget, RaiseTarget, CloseRequest, RaiseClosed}
+use Rattle.of_core.specs.Table.{Setup, base}
+use Rattle.of_core.specs.Machine.{Data, IsOpen, is_idle, no_machine}
+use Rattle.of_core.specs.Steps.{finds, took}
+use Rattle.of_core.specs.World.{World, Start}
+use Rattle.of_core.specs.Invariant.{At, Good}
+use Rattle.of_core.specs.Bound.{bound, rest_at}
+use Rattle.of_core.specs.Events.{counted, Event, Begins, Turns, Loads, Evicts, Raises, happens, MayHappen, machine, run, turns, one_turn, IsSchedule, StaysOpen}
+use Rattle.of_core.proofs.Happenings.{event_good}
+use Rattle.of_core.proofs.StepTaken.{step_taken}
+use Rattle.of_core.proofs.Found.{found_now}
+use Rattle.of_core.proofs.StepBound.{n_cells}
+
+module _ (S : Setup) (Lawful : List ℕ → Type 0) (sound : Sound S.meaning Lawful (base S) S.cells) (B : Start) where
+  turned_not : (i j : ℕ) → (j ≡ i → ⊥) → counted (i == j) ≡ 0
+  turned_not i j n = go (i == j) refl
+    where
+      go : (b : Bool) → (i == j) ≡ b → counted b ≡ 0
+      go true e = let z : j ≡ i = grind (arith, nat_tests) in absurd (n z)
+      go false e = refl
+
+  turned_once : (i : ℕ) → counted (i == i) ≡ 1
+  turned_once i = go (i == i) refl
+    where
+      go : (b : Bool) → (i == i) ≡ b → counted b ≡ 1
+      go true e = refl
+      go false e = let z : i ≡ i → ⊥ = grind (arith, nat_tests) in absurd (z refl)
+
+  module _ (i : ℕ) (h : i < S.callers) where
+    of_machine : (w : World) → Good S Lawful B w → get_or w.machines i (machine w i) ≡ machine w i
+    of_machine w g = get_or_default w.machines i (machine w i) no_machine (omega (arith, g.core.members))
+
+    own_turn : (w : World) → Good S Lawful B w → IsOpen (machine w i).place → IsOpen (machine (happens S w (Turns i)) i).place → (machine (happens S w (Turns i)) i).steps ≡ (machine w i).steps + counted (i == i)
+    own_turn w g o q =
+        let x : machine (happens S w (Turns i)) i ≡ took S (machine w i) (finds S w.words (machine w i)) = get_or-set_same w.machines i _ no_machine (omega (arith, g.core.members)) in
+        let now : IsOpen (took S (machine w i) (finds S w.words (machine w i))).place = subst (λ (d : Data). IsOpen d.place) x q in
+        let t = step_taken S Lawful B w g i (machine w i) h (of_machine w g) o (finds S w.words (machine w i)) (found_now S w.words (machine w i)) in
+        ap (λ (d : Data). d.steps) x ∙ (t.goes_on now).0 ∙ ap (λ (k : ℕ). (machine w i).steps + k) (sym (turned_once i))
+
+    -- each turn of the caller is a step of its open call, and no other event changes its machine
+    steps_rise : (w : World) (g : Good S Lawful B w) (e : Event) → MayHappen S w e → IsOpen (machine w i).place → IsOpen (machine (happens S w e) i).place → (machine (happens S w e) i).steps ≡ (machine w i).steps + one_turn i e
+    steps_rise w g (Loads c) m o q = omega arith
+    steps_rise w g (Evicts k) m o q = omega arith
+    steps_rise w g (Raises c) m o q = omega arith
+    steps_rise w g (Begins j op) m o q = go (cases_eq j i)
+      where
+        go : (j ≡ i) ⊎ (j ≡ i → ⊥) → (machine (happens S w (Begins j op)) i).steps ≡ (machine w i).steps + 0
+        go (inl e) = let z : true ≡ false = sym (ap is_idle m.1) ∙ ap (λ (k : ℕ). is_idle (machine w k).place) e ∙ o in cc
+        go (inr n) = ap (λ (d : Data). d.steps) (get_or-set_other w.machines j i _ no_machine (λ e. n (sym e))) ∙ plus_zero (machine w i).steps
+          where
+            plus_zero : (x : ℕ) → x ≡ x + 0
+            plus_zero x = omega arith
+    steps_rise w g (Turns j) m o q = go (cases_eq j i)
+      where
+        go : (j ≡ i) ⊎ (j ≡ i → ⊥) → (machine (happens S w (Turns j)) i).steps ≡ (machine w i).steps + counted (i == j)
+        go (inr n) = ap (λ (d : Data). d.steps) (get_or-set_other w.machines j i _ no_machine (λ e. n (sym e))) ∙ plus_none (machine w i).steps (counted (i == j)) (turned_not i j n)
+          where
+            plus_none : (x y : ℕ) → y ≡ 0 → x ≡ x + y
+            plus_none x y e = omega arith
+        go (inl e) = subst (λ (k : ℕ). (machine (happens S w (Turns k)) i).steps ≡ (machine w i).steps + counted (i == k)) (sym e) (own_turn w g o (subst (λ (k : ℕ). IsOpen (machine (happens S w (Turns k)) i).place) e q))
+
+    -- an open call has a step left
+    module _ (w : World) (g : Good S Lawful B w) (m : Data) where
+      some_left : (p : Place) → IsOpen p → At S B w.words w.batches i m p → (x : ℕ) → rest_at S m p ≡ x → 1 ≤ x
+      some_left Idle o a x e = cc
+      some_left TryCurrent o a x e = omega arith
+      some_left TryRequest o a x e = omega arith
+      some_left (TryCell c) o a x e = omega arith
+      some_left (StoreScript j) o a x e = omega arith
+      some_left StoreAnnouncement o a x e = omega arith
+      some_left LoadCurrent o a x e = omega arith
+      some_left LoadRequest o a x e = omega arith
+      some_left (CopyLog k) o a x e = omega arith
+      some_left LookAgain o a x e = omega arith
+      some_left LoadOwnTicket o a x e = omega arith
+      some_left LoadShape o a x e = omega arith
+      some_left (LoadReply j) o a x e = omega (arith, a.4)
+      some_left LoadAnnouncement o a x e = omega arith
+      some_left LoadTicket o a x e = omega arith
+      some_left (LoadScript j) o a x e = omega arith
+      some_left (LoadCell c) o a x e = omega arith
+      some_left RaiseOld o a x e = omega arith
+      some_left (StoreLog k) o a x e = omega arith
+      some_left (RaiseLog k) o a x e = omega arith
+      some_left StoreRequest o a x e = omega arith
+      some_left RaiseRequest o a x e = omega arith
+      some_left ExchangeCurrent o a x e = omega arith
+      some_left RaiseCurrent o a x e = omega arith
+      some_left (LoadTarget j) o a x e = omega arith
+      some_left (ExchangeTarget j f) o a x e = omega arith
+      some_left (ReloadTarget j) o a x e = omega (arith, a.1, n_cells S Lawful B w g.core i m h j a.0)
+      some_left (RaiseTarget j f) o a x e = omega (arith, a.1, n_cells S Lawful B w g.core i m h j a.0)
+      some_left CloseRequest o a x e = omega arith
+      some_left RaiseClosed o a x e = omega arith
+
+    fewer : (s x y : ℕ) → s + x ≤ y → 1 ≤ x → s < y
+    fewer s x y l u = omega arith
+
+    under : (w : World) → Good S Lawful B w → IsOpen (machine w i).place → (machine w i).steps < bound S
+    under w g o =
+        let l = some_left w g (machine w i) (machine w i).place o (g.core.each i (machine w i) h (of_machine w g)) (rest_at S (machine w i) (machine w i).place) refl in
+        fewer (machine w i).steps (rest_at S (machine w i) (machine w i).place) (bound S) (g.within i (machine w i) h (of_machine w g)).steps l
+
+    now_open : (w : World) (es : List Event) → StaysOpen S w es i → IsOpen (machine w i).place
+    now_open w [] q = q
+    now_open w (e ∷ es) q = q.0
+
+    pub fewer_steps : (es : List Event) (w : World) → Good S Lawful B w → IsSchedule S w es → StaysOpen S w es i → (machine w i).steps + turns i es < bound S
+    fewer_steps [] w g s q = omega (arith, under w g q)
+    fewer_steps (e ∷ es) w g s q =
+        let g1 : Good S Lawful B (happens S w e) = event_good S Lawful B w g sound e s.0 in
+        omega (arith, fewer_steps es (happens S w e) g1 s.1 q.1, steps_rise w g e s.0 q.0 (now_open (happens S w e) es q.1))
+
+    pub run_good : (es : List Event) (w : World) → Good S Lawful B w → IsSchedule S w es → Good S Lawful B (run S w es)
+    run_good [] w g s = g
+    run_good (e ∷ es) w g s = run_good es (happens S w e) (event_good S Lawful B w g sound e s.0) s.1
+
+    pub no_fourth : (w : World) → Good S Lawful B w → (machine w i).place ≡ LoadCurrent → (machine w i).rounds ≤ 2
+    no_fourth w g e = (subst (λ (p : Place). At S B w.words w.batches i (machine w i) p) e (g.core.each i (machine w i) h (of_machine w g))).2.few
+
+  pub ends_in_time : (w : World) → Good S Lawful B w → (es : List Event) → IsSchedule S w es → (i : ℕ) → i < S.callers → StaysOpen S w es i
+      → ((machine w i).steps + turns i es < bound S) × ((machine (run S w es) i).place ≡ LoadCurrent → (machine (run S w es) i).rounds ≤ 2)
+  ends_in_time w g es s i h q = (fewer_steps i h es w g s q, λ e. no_fourth i h (run S w es) (run_good i h es w g s) e)

@@ -1,0 +1,52 @@
+-- Worked schedules, computed by the definitions.
+use Rattle.std.proofs.Common.{◌≡◌, [], ◌∷◌, length, Some, true, false, refl}
+use Rattle.of_cell.specs.Words.{word, seq, pay}
+use Rattle.of_mem.specs.Meaning.{marked}
+use Rattle.of_core.specs.declared.place.Place.TheVariants.{LoadCurrent, RaiseClosed, StoreAnnouncement}
+use Rattle.of_core.specs.declared.place.Outcome.TheVariants.{Answered}
+use Rattle.of_core.specs.Table.{current_word}
+use Rattle.of_core.specs.Steps.{want, took}
+use Rattle.of_core.specs.World.{added, answered}
+use Rattle.of_core.specs.Events.{machine}
+use Rattle.of_core.specs.Worked.{registers, first_key, alone, overtaken, reply_with}
+
+-- one caller that stores to one register exchanges the current-transaction word at step 29, and is answered at step 48
+store_exchanges : (current_word (alone 1 registers (7 ∷ []) 28).words ≡ 0) × (current_word (alone 1 registers (7 ∷ []) 29).words ≡ word 1 0)
+unfolding want took added answered word seq pay marked
+store_exchanges = (refl, refl)
+
+store_ends : ((machine (alone 1 registers (7 ∷ []) 47) 0).place ≡ RaiseClosed) × ((machine (alone 1 registers (7 ∷ []) 48) 0).answer ≡ Some (Answered 1 true (reply_with (0 ∷ [])) 48))
+unfolding want took added answered word seq pay marked
+store_ends = (refl, refl)
+
+-- with two callers it is 31 and 50, where the other has announced nothing
+other_scanned : (current_word (alone 2 registers (7 ∷ []) 30).words ≡ 0) × (current_word (alone 2 registers (7 ∷ []) 31).words ≡ word 1 0)
+unfolding want took added answered word seq pay marked
+other_scanned = (refl, refl)
+
+other_ends : ((machine (alone 2 registers (7 ∷ []) 49) 0).place ≡ RaiseClosed) × ((machine (alone 2 registers (7 ∷ []) 50) 0).answer ≡ Some (Answered 1 true (reply_with (0 ∷ [])) 50))
+unfolding want took added answered word seq pay marked
+other_ends = (refl, refl)
+
+-- four cells to be loaded and six to be written make it 53 and 92
+key_exchanges : (current_word (alone 1 first_key (7 ∷ []) 52).words ≡ 0) × (current_word (alone 1 first_key (7 ∷ []) 53).words ≡ word 1 0)
+unfolding want took added answered word seq pay marked
+key_exchanges = (refl, refl)
+
+key_ends : ((machine (alone 1 first_key (7 ∷ []) 91) 0).place ≡ RaiseClosed) × ((machine (alone 1 first_key (7 ∷ []) 92) 0).answer ≡ Some (Answered 1 true (reply_with (0 ∷ [])) 92))
+unfolding want took added answered word seq pay marked
+key_ends = (refl, refl)
+
+-- a read of one register alone is answered in 3 steps, and stands among the reads
+read_ends : ((machine (alone 1 registers (0 ∷ []) 3) 0).answer ≡ Some (Answered 0 false (reply_with (0 ∷ [])) 3)) × (length (alone 1 registers (0 ∷ []) 3).reads ≡ 1)
+unfolding want took added answered word seq pay marked
+read_ends = (refl, refl)
+
+-- a read whose four tries all met a newer cell is announced at its 19th step, and is answered by the fifth batch
+fourth_try : ((machine (overtaken 3) 0).place ≡ StoreAnnouncement) × ((machine (overtaken 3) 0).steps ≡ 18) × ((machine (overtaken 4) 0).place ≡ LoadCurrent)
+unfolding want took added answered word seq pay marked
+fourth_try = (refl, refl, refl)
+
+overtaken_ends : (machine (overtaken 55) 0).answer ≡ Some (Answered 5 true (reply_with (0 ∷ 4 ∷ [])) 70)
+unfolding want took added answered word seq pay marked
+overtaken_ends = refl

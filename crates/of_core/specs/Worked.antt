@@ -1,0 +1,79 @@
+-- Small works for worked schedules.
+use Rattle.std.specs.Prelude.{ℕ, ◌+◌, ◌*◌, ◌^◌, ◌-◌, ◌==◌, List, [], ◌∷◌, ◌++◌, length, Option, Some, None, Bool, true, false}
+use Rattle.std.proofs.Common.{get_or, replicate, zero, suc}
+use Rattle.of_mem.specs.declared.work.RawReply.{RawReply}
+use Rattle.of_mem.specs.Meaning.{Meaning, Walked, Needs, Gives, written}
+use Rattle.of_core.specs.Table.{Setup, setup_of, table_size}
+use Rattle.of_core.specs.World.{World}
+use Rattle.of_core.specs.Events.{Event, Begins, Turns, run, opening}
+
+-- a reply whose numbers are these, each marked at its place
+abbrev pub reply_with : List ℕ → RawReply
+reply_with vs = record { shape = 2 ^ length vs - 1; values = vs ++ replicate (8 - length vs) 0 }
+
+-- the walk asks for the cell a where it isn't known, and goes on with its number
+abbrev pub known_or : ℕ → (ℕ → Walked) → Option ℕ → Walked
+known_or a next None = Needs a
+known_or a next (Some v) = next v
+
+-- the walk loads n cells from a on, and ends with their numbers
+abbrev pub loaded_more : List (Option ℕ) → (a n : ℕ) → List ℕ → (List ℕ → Walked) → Walked
+loaded_more known a zero vs end = end vs
+loaded_more known a (suc n) vs end = known_or a (λ v. loaded_more known (a + 1) n (vs ++ v ∷ []) end) (get_or known a None)
+
+abbrev pub numbers_from : List ℕ → (a n : ℕ) → List ℕ
+numbers_from xs a zero = []
+numbers_from xs a (suc n) = get_or xs a 0 ∷ numbers_from xs (a + 1) n
+
+-- Two registers from the cell a on. The operation v ∷ [] stores v in the second, and n zeros read the first n.
+abbrev pub is_read : List ℕ → Bool
+is_read op = get_or op 0 0 == 0
+
+abbrev pub register_writes : ℕ → List ℕ → (reads : Bool) → List (ℕ × ℕ)
+register_writes a op true = []
+register_writes a op false = (a + 1, get_or op 0 0) ∷ []
+
+abbrev pub register_reply : ℕ → List ℕ → List ℕ → (reads : Bool) → RawReply
+register_reply a xs op true = reply_with (numbers_from xs a (length op))
+register_reply a xs op false = reply_with (0 ∷ [])
+
+abbrev pub register_walk : ℕ → List (Option ℕ) → List ℕ → (reads : Bool) → Walked
+register_walk a known op true = loaded_more known a (length op) [] (λ vs. Gives [] (reply_with vs))
+register_walk a known op false = Gives (register_writes a op false) (reply_with (0 ∷ []))
+
+abbrev pub registers : ℕ → Meaning
+registers a = record {
+  cells = λ xs op. written xs (register_writes a op (is_read op));
+  reply = λ xs op. register_reply a xs op (is_read op);
+  walk = λ known op. register_walk a known op (is_read op);
+  reads_only = is_read;
+}
+
+-- An operation that loads four cells from a on, and then writes six behind them, as the first key of an empty map does.
+abbrev pub six_writes : ℕ → ℕ → List (ℕ × ℕ)
+six_writes a v = (a + 4, v) ∷ (a + 5, v) ∷ (a + 6, v) ∷ (a + 7, v) ∷ (a + 8, v) ∷ (a + 9, v) ∷ []
+
+abbrev pub first_key : ℕ → Meaning
+first_key a = record {
+  cells = λ xs op. written xs (six_writes a (get_or op 0 0));
+  reply = λ xs op. reply_with (0 ∷ []);
+  walk = λ known op. loaded_more known a 4 [] (λ vs. Gives (six_writes a (get_or op 0 0)) (reply_with (0 ∷ [])));
+  reads_only = λ op. false;
+}
+
+-- a table for n callers, with ten cells behind their own
+abbrev pub table_with : ℕ → (ℕ → Meaning) → Setup
+table_with n meaning = setup_of n (n * 10 + 10) 100 (meaning (n * 10))
+
+-- from zeros, caller 0 begins the operation and makes so many turns
+abbrev pub alone : ℕ → (ℕ → Meaning) → List ℕ → (turns : ℕ) → World
+alone n meaning op k = run (table_with n meaning) (opening (table_with n meaning) (table_size (table_with n meaning))) (Begins 0 op ∷ replicate k (Turns 0))
+
+-- caller 1 begins to store v, and ends it
+abbrev pub stores : ℕ → List Event
+stores v = Begins 1 (v ∷ []) ∷ replicate 50 (Turns 1)
+
+-- caller 0 reads two registers, and before each load of the second, in each try, caller 1 stores there
+abbrev pub overtaken : (turns : ℕ) → World
+overtaken k = run (table_with 2 registers) (opening (table_with 2 registers) (table_size (table_with 2 registers)))
+    (Begins 0 (0 ∷ 0 ∷ []) ∷ replicate 3 (Turns 0) ++ stores 1 ++ replicate 4 (Turns 0) ++ stores 2 ++ replicate 4 (Turns 0) ++ stores 3 ++ replicate 4 (Turns 0) ++ stores 4 ++ replicate k (Turns 0))
