@@ -1,6 +1,6 @@
 -- The entries of calls that run one after the other: what they hold, and in which order they stand.
-use Rattle.std.proofs.Common.{◌≡◌, ℕ, zero, suc, ◌+◌, ◌<◌, ◌≤◌, ◌⊎◌, inl, inr, Bool, true, false, cond, eqb, List, [], ◌∷◌, length, map, refl, sym, ap, ◌∙◌, arith}
-use Rattle.std.specs.Prelude.{filter, IsTrue, All, Any, AllPairs}
+use Rattle.std.proofs.Common.{◌≡◌, ℕ, suc, ◌+◌, ◌<◌, ◌≤◌, inl, inr, Bool, true, false, cond, eqb, List, [], ◌∷◌, length, map, refl, sym, ap, ◌∙◌, arith}
+use Rattle.std.specs.Prelude.{filter, IsTrue, Any, AllPairs}
 use Rattle.std.specs.List.{enumerate_from, zip, AllByRecursion}
 use Rattle.std.proofs.lemmas.List.{length-map}
 use Rattle.std.proofs.lemmas.List.Elements.{All-from_recursion}
@@ -9,8 +9,8 @@ use Rattle.std.proofs.lemmas.Bool.Decides.{eqb_tells}
 use Rattle.of_script.specs.declared.instr.Instr.{Instr}
 use Rattle.of_store.specs.State.{State, Response, replies, run}
 use Rattle.of_plan.specs.Plan.{Plan}
-use Rattle.of_plan.specs.Report.{CallEntry, Start}
-use Rattle.of_plan.specs.Legal.{script_of, StandsBefore, HasSequence}
+use Rattle.of_plan.specs.Report.{CallEntry}
+use Rattle.of_plan.specs.Legal.{script_of, StandsBefore}
 use Rattle.of_plan.specs.Serial.{Call, called_script, serial_entry}
 
 pub length-replies : (s : State) (scripts : List (List Instr)) → length (replies s scripts) ≡ length scripts

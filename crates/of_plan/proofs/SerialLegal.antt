@@ -1,21 +1,19 @@
 -- The report of calls that run one after the other is legal.
-use Rattle.std.proofs.Common.{◌≡◌, ◌≢◌, ℕ, ◌+◌, ◌-◌, ◌<◌, ◌≤◌, ◌⊎◌, inl, inr, Bool, true, false, eqb, List, [], ◌∷◌, length, map, refl, sym, ap, subst, ◌∙◌, arith}
-use Rattle.std.specs.Prelude.{count_by, IsTrue, if◌then◌else◌}
-use Rattle.std.specs.Bool.{MatchBool}
+use Rattle.std.proofs.Common.{◌≡◌, ◌≢◌, ℕ, ◌<◌, ◌≤◌, ◌⊎◌, inl, inr, Bool, true, false, eqb, List, [], ◌∷◌, length, map, refl, sym, ap, subst, ◌∙◌, arith}
+use Rattle.std.specs.Prelude.{count_by, if◌then◌else◌}
 use Rattle.std.specs.List.{range_with_len, AllByRecursion}
 use Rattle.std.proofs.lemmas.List.{length-map, get_or-replicate}
 use Rattle.std.proofs.lemmas.List.Elements.{All-from_recursion, recursion_from_All}
 use Rattle.std.proofs.lemmas.List.FromFn.{length-map-range_with_len, get_or-map-range_with_len}
 use Rattle.std.proofs.lemmas.List.Sums.{length-filter}
 use Rattle.std.proofs.lemmas.Bool.Decides.{eqb_tells}
-use Rattle.of_script.specs.declared.instr.Instr.{Instr}
 use Rattle.of_store.specs.State.{Response, empty_store, replies, last_store}
-use Rattle.of_plan.specs.Plan.{Plan, IsPlan, scripts_of, bound_of}
-use Rattle.of_plan.specs.Report.{CallEntry, EndState, done, stopped, spent, CallerLine, Report, empty_start, line_of, entries_of, finished_of}
-use Rattle.of_plan.specs.Legal.{script_of, to_do, StandInOrder, HasOpenCall, CountOpenCalls, HasSequence, StandBySequence, HasEnded, IsWithinBound, IsLegal}
+use Rattle.of_plan.specs.Plan.{Plan, scripts_of}
+use Rattle.of_plan.specs.Report.{CallEntry, done, spent, CallerLine, empty_start, line_of, entries_of, finished_of}
+use Rattle.of_plan.specs.Legal.{to_do, StandInOrder, HasOpenCall, CountOpenCalls, HasSequence, StandBySequence, HasEnded, IsWithinBound, IsLegal}
 use Rattle.of_plan.specs.Serial.{Call, called_script, serial_calls, serial_scripts, serial_line, serial_report}
 use Rattle.of_plan.proofs.SerialCalls.{of_caller, few_calls, indices_of_caller, limit_reached, callers_known}
-use Rattle.of_plan.proofs.SerialEntries.{length-replies, entries_from, replies_in, scripts_in, indices_in, count_in, callers_in, sequences_in, order_in, each_in}
+use Rattle.of_plan.proofs.SerialEntries.{length-replies, replies_in, scripts_in, indices_in, count_in, callers_in, sequences_in, order_in, each_in}
 
 -- the replies of the serial calls
 abbrev serial_replies : Plan → List Response

@@ -37,7 +37,7 @@ pub record IsHeading (h : Heading) : Type 0 where
   pub few_blocks : h.blocks ≤ 512
   pub limit_range : IfSome h.limit (λ x. (1 ≤ x) × (x ≤ 4294967294))
 
--- scripts, stops and turns are of a caller of the heading, and evictions of a cell that has a durable word
+-- scripts, stops and turns are of a caller of the heading, and evictions of a cell that has a durable word; the bound on all turns bounds each
 abbrev pub InRange : Heading → Entry → Type 0
 InRange h (Script c script) = (c < h.callers) × IsScript script
 InRange h (Stop c x) = (c < h.callers) × (x ≤ 4294967295)

@@ -1,10 +1,10 @@
 -- The report of a plan whose scripts run one after the other: those of caller 0 first, then those of caller 1, and so on, up to the limit.
-use Rattle.std.specs.Prelude.{◌≡◌, ℕ, true, List, [], length, map, flat_map, take, count_by, slice_index_or, if◌then◌else◌, ◌==◌}
+use Rattle.std.specs.Prelude.{ℕ, true, List, [], length, map, flat_map, take, count_by, slice_index_or, if◌then◌else◌, ◌==◌}
 use Rattle.std.specs.List.{enumerate_from, range_with_len, zip}
 use Rattle.of_script.specs.declared.instr.Instr.{Instr}
 use Rattle.of_store.specs.State.{Response, empty_store, replies, last_store}
 use Rattle.of_plan.specs.Plan.{Plan, scripts_of}
-use Rattle.of_plan.specs.Report.{CallEntry, CallerLine, EndState, done, spent, Report}
+use Rattle.of_plan.specs.Report.{CallEntry, CallerLine, done, spent, Report}
 
 -- a caller, and the index of a script of its
 abbrev pub Call : Type 0
