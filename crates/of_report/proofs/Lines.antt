@@ -34,7 +34,3 @@ pub one_more_line : {X : Type 0} (f : ℕ × X → List ℕ) (xs : List X) (i : 
     → out ≡ start ++ flat_map f (enumerate_from 0 (take i xs)) → new ≡ out ++ f (i, get_or xs i d) → new ≡ start ++ flat_map f (enumerate_from 0 (take (i + 1) xs))
 one_more_line f xs i d start out new lt e h =
     one_more f (enumerate_from 0 (take i xs)) (i, get_or xs i d) start out new e h ∙ ap (λ ps. start ++ flat_map f ps) (sym (enumerated_more xs i d lt))
-
--- an element without a line
-pub no_line : (out line : List ℕ) → line ≡ [] → out ≡ out ++ line
-no_line out line e = sym (append-nil out) ∙ ap (λ (t : List ℕ). out ++ t) (sym e)

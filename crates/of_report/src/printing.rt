@@ -99,14 +99,14 @@ fn put_caller(out: &mut String, caller: usize, line: &Line) -> Result<(), AllocE
     let ending = ending_name(line.ending);
     write!(out, "caller {caller} {ending}")?;
     write!(out, " {} {}", line.answered, line.entries)?;
-    write!(out, " {}\n", line.longest)
+    writeln!(out, " {}", line.longest)
 }
 
 // Writes the line of the sequence.
 fn put_seq(out: &mut String, seq: u32) -> Result<(), AllocError>
     ensures { OnOk result (string_bytes out.new ≡ string_bytes out.old ++ seq_line seq) }
 {
-    write!(out, "seq {seq}\n")
+    writeln!(out, "seq {seq}")
 }
 
 // Writes the lines of the entries.
