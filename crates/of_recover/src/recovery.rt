@@ -2,7 +2,7 @@ ghost use Rattle.std.specs.Prelude.{◌≡◌, ◌<◌, slice_index};
 ghost use Rattle.of_recover.specs.Row.{IsDurableRow, current_seq, current_owner, is_open};
 ghost use Rattle.of_recover.specs.Log.{entry_count};
 ghost use Rattle.of_recover.specs.Recovered.{recovered};
-ghost use Rattle.of_recover.specs.Walk.{after_entry};
+ghost use Rattle.of_recover.specs.Walk.{after_entry, Replays};
 
 use of_cell::{Shape, pack, payload_of, seq_of};
 
@@ -64,6 +64,7 @@ fn entry_count(shape: &Shape, durable: &[u64]) -> u32
 fn replay_log(shape: &Shape, durable: &mut [u64])
     requires row { IsDurableRow shape.now.callers shape.now.cells durable.old }
     requires owner { current_owner (slice_index durable.old) < shape.now.callers }
+    ensures { let row = slice_index durable.old in Replays shape.now.callers shape.now.cells row (entry_count shape.now.callers shape.now.cells row) durable.new }
 {
     for entry in 0..entry_count(shape, durable) {
         replay_entry(shape, durable, entry);
