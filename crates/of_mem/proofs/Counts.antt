@@ -1,11 +1,11 @@
 -- How many blocks, keys and items cells have that stand for a store.
-use Rattle.std.proofs.Common.{◌≡◌, ℕ, zero, suc, ◌+◌, ◌<◌, ◌≤◌, ◌⊎◌, inl, inr, refl, sym, ◌∙◌, ap, arith, List, length, map}
+use Rattle.std.proofs.Common.{◌≡◌, ℕ, zero, suc, ◌+◌, ◌<◌, ◌≤◌, ◌⊎◌, inl, inr, refl, sym, ◌∙◌, ap, arith, List, [], ◌∷◌, length, map}
 use Rattle.std.proofs.lemmas.Bool.{cases_lt}
 use Rattle.std.proofs.lemmas.List.{length-map}
 use Rattle.std.specs.List.{AllByRecursion as Each}
 use Rattle.std.specs.FinMap as fin
-use Rattle.of_mem.specs.Places.{fresh_at, keys_at, length_at}
-use Rattle.of_mem.specs.Stores.{Store, Stands, first_at, total, things}
+use Rattle.of_mem.specs.Places.{fresh_at, keys_at, tail_at, length_at}
+use Rattle.of_mem.specs.Stores.{Store, Stands, first_at, total, things, last_pointer}
 use Rattle.of_mem.proofs.Heaps.{each_weaker}
 
 length_total : (chains : ℕ → List ℕ) (n c : ℕ) → c < n → length (chains c) ≤ total chains n
@@ -46,3 +46,10 @@ module _ (o blocks : ℕ) (m : ℕ → ℕ) (s : Store) (h : Stands o blocks m s
 
   pub length_small : (q : ℕ) → q < 4 → m (length_at o q) ≤ blocks
   length_small q l = omega (arith, (h.holds.queues q l).counted, lengths q l, few_blocks (33 + q) (omega arith))
+
+last_below : (blocks p : ℕ) (l : List ℕ) → p ≤ blocks → Each (λ b. b < blocks) l → last_pointer p l ≤ blocks
+last_below blocks p [] h k = h
+last_below blocks p (b ∷ l) h k = last_below blocks (b + 1) l (omega (arith, k.0)) k.1
+
+pub tail_small : (o blocks : ℕ) (m : ℕ → ℕ) (s : Store) (h : Stands o blocks m s) (q : ℕ) → q < 4 → m (tail_at o q) ≤ blocks
+tail_small o blocks m s h q l = rw ((h.holds.queues q l).ends) (last_below blocks 0 (h.chains (33 + q)) (omega arith) (blocks_below o blocks m s h (33 + q) (omega arith)))

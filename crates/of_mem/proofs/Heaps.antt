@@ -126,3 +126,8 @@ chain_rest o m cell b (x ∷ xs) ys h = chain_rest o m (link_at o x) b xs ys h.1
 pub pointer_small : (o blocks : ℕ) → blocks ≤ 512 → (m : ℕ → ℕ) (cell : ℕ) (l : List ℕ) → IsChain o m cell l → Each (λ b. b < blocks) l → m cell < 4294967296
 pointer_small o blocks few m cell [] h k = omega arith
 pointer_small o blocks few m cell (b ∷ l) h k = omega (arith, h.0, k.0)
+
+-- a cell that is no link is the link of none of these
+pub all_links : (o a : ℕ) → ((x : ℕ) → a ≢ link_at o x) → (l : List ℕ) → Each (λ x. a ≢ link_at o x) l
+all_links o a n [] = tt
+all_links o a n (x ∷ l) = (n x, all_links o a n l)

@@ -178,3 +178,17 @@ part_learned p m a v l is h x w q = elim (cases_eq x a) [
 -- what is read of a cell after writes to other cells
 pub read_before : (p : Pad) (a v x w : ℕ) → x ≢ a → newest (wrote p a v) x ≡ Some w → newest p x ≡ Some w
 read_before p a v x w n e = sym (newest_other p a v x n) ∙ e
+
+pub two_before : (p p1 p2 : Pad) (a1 v1 a2 v2 x y w : ℕ) → p1 ≡ wrote p a1 v1 → p2 ≡ wrote p1 a2 v2 → x ≢ a1 → x ≢ a2 → y ≡ x → newest p2 y ≡ Some w → newest p x ≡ Some w
+two_before p p1 p2 a1 v1 a2 v2 x y w e1 e2 n1 n2 is h =
+    let h2 : newest (wrote p1 a2 v2) x ≡ Some w = rw (is, e2) at h in
+    let h1 : newest (wrote p a1 v1) x ≡ Some w = rw e1 at (read_before p1 a2 v2 x w n2 h2) in
+    read_before p a1 v1 x w n1 h1
+
+pub four_before : (p p1 p2 p3 p4 : Pad) (a1 v1 a2 v2 a3 v3 a4 v4 x y w : ℕ) → p1 ≡ wrote p a1 v1 → p2 ≡ wrote p1 a2 v2 → p3 ≡ wrote p2 a3 v3 → p4 ≡ wrote p3 a4 v4 → x ≢ a1 → x ≢ a2 → x ≢ a3 → x ≢ a4 → y ≡ x → newest p4 y ≡ Some w → newest p x ≡ Some w
+four_before p p1 p2 p3 p4 a1 v1 a2 v2 a3 v3 a4 v4 x y w e1 e2 e3 e4 n1 n2 n3 n4 is h =
+    let h4 : newest (wrote p3 a4 v4) x ≡ Some w = rw (is, e4) at h in
+    let h3 : newest (wrote p2 a3 v3) x ≡ Some w = rw e3 at (read_before p3 a4 v4 x w n4 h4) in
+    let h2 : newest (wrote p1 a2 v2) x ≡ Some w = rw e2 at (read_before p2 a3 v3 x w n3 h3) in
+    let h1 : newest (wrote p a1 v1) x ≡ Some w = rw e1 at (read_before p1 a2 v2 x w n2 h2) in
+    read_before p a1 v1 x w n1 h1

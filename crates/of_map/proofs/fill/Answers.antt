@@ -1,7 +1,7 @@
 use Rattle.std.proofs.Common.{◌≡◌, ℕ, ◌+◌, ◌%◌, ◌<◌, ◌≤◌, ◌≢◌, arith}
 use Rattle.of_mem.specs.Places.{keys_at}
 use Rattle.of_mem.specs.Plots.{base}
-use Rattle.of_map.proofs.Takings.{four_before}
+use Rattle.of_mem.proofs.Runs.{four_before}
 use Rattle.of_map.proofs.fill.Goals as goal
 
 pub overflow_add-keys : goal.overflow_add-keys
