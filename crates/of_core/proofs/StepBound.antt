@@ -1,5 +1,6 @@
 -- No call makes more steps than the bound.
 use Rattle.std.proofs.Common.{◌≡◌, ℕ, zero, suc, ◌+◌, ◌*◌, ◌-◌, ◌<◌, ◌≤◌, ◌==◌, List, [], ◌∷◌, length, get_or, set, replicate, refl, sym, ◌∙◌, ap, subst, arith, Option, Some, None, Bool, true, false, nat_lt}
+use Rattle.std.proofs.Math.Nat.{mul_comm}
 use Rattle.std.proofs.lemmas.Bool.Decides.{nat_tests}
 use Rattle.of_cell.specs.Words.{word, seq, pay}
 use Rattle.of_mem.specs.Meaning.{Walked, Needs, Gives}
@@ -88,8 +89,8 @@ opened_within S m op = go (S.meaning.reads_only op)
     first i m p = omega arith
 
     go : (b : Bool) → Within S (record (opened S m op) { place = first_place b }) (first_place b)
-    go true = record { told = λ q. cc; steps = first S.instrs S.cells (S.callers * (S.instrs + 1)) }
-    go false = record { told = λ q. cc; steps = sum S.instrs S.cells (S.callers * (S.instrs + 1)) }
+    go true = record { told = λ q. cc; steps = rw (mul_comm (S.instrs + 1) S.callers) (first S.instrs S.cells (S.callers * (S.instrs + 1))) }
+    go false = record { told = λ q. cc; steps = rw (mul_comm (S.instrs + 1) S.callers) (sum S.instrs S.cells (S.callers * (S.instrs + 1))) }
 
 module _ (S : Setup) where
   -- the scan goes on behind the caller that it has come to

@@ -22,23 +22,26 @@ first_named S ws p d a j zero = None
 first_named S ws p d a j (suc n) =
     if (durable_log S ws p (2 * j + 1) == word d a) && (seq (durable_log S ws p (2 * j + 2)) == d) then Some (durable_log S ws p (2 * j + 2)) else first_named S ws p d a (j + 1) n
 
--- how many entries it has
+-- how many entries that log has
 abbrev pub entries : Setup → List ℕ → ℕ → ℕ → ℕ
 entries S ws p d = if (seq (durable_log S ws p 0) == d) && nat_le (pay (durable_log S ws p 0)) S.cells then pay (durable_log S ws p 0) else 0
 
+-- the transaction that the durable words name is open
 abbrev pub is_replayed : Setup → List ℕ → Bool
 is_replayed S ws = nat_lt 0 (risen S ws) && (nat_lt (pay (durable_word S ws 0)) S.callers && (durable_request S ws (pay (durable_word S ws 0)) == word (risen S ws) 0))
 
+-- the word, or else this one
 abbrev pub or_else : Option ℕ → ℕ → ℕ
 or_else None w = w
 or_else (Some v) w = v
 
+-- an older cell takes the entry of the open transaction's log
 abbrev pub replayed : Setup → List ℕ → ℕ → (open_ older : Bool) → ℕ
 replayed S ws a true true = or_else (first_named S ws (pay (durable_word S ws 0)) (risen S ws) a 0 (entries S ws (pay (durable_word S ws 0)) (risen S ws))) (durable_cell S ws a)
 replayed S ws a true false = durable_cell S ws a
 replayed S ws a false older = durable_cell S ws a
 
--- the recovered word of data cell a
+-- the word of data cell a that recovery gives
 abbrev pub recovered : Setup → List ℕ → ℕ → ℕ
 recovered S ws a = replayed S ws a (is_replayed S ws) (nat_lt (seq (durable_cell S ws a)) (risen S ws))
 

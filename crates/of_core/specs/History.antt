@@ -14,6 +14,7 @@ abbrev pub changed : ℕ → List ℕ → List (ℕ × ℕ) → List ℕ
 changed k ws [] = ws
 changed k ws (e ∷ es) = changed k (set ws e.0 (word k e.1)) es
 
+-- the data words after these batches, from sequence s on
 abbrev pub built : ℕ → List ℕ → List Batch → List ℕ
 built s ws [] = ws
 built s ws (b ∷ bs) = built (s + 1) (changed (s + 1) ws b.log) bs
@@ -22,6 +23,7 @@ built s ws (b ∷ bs) = built (s + 1) (changed (s + 1) ws b.log) bs
 unfoldable pub state : Start → List Batch → ℕ → List ℕ
 state B bs k = built B.seq B.cells (take (k - B.seq) bs)
 
+-- no batch is so
 abbrev pub no_batch : Batch
 no_batch = record { owner = 0; log = []; calls = []; announcements = λ c. 0 }
 
@@ -33,9 +35,11 @@ batch B bs k = get_or bs (k - B.seq - 1) no_batch
 abbrev pub at : Start → List Batch → ℕ → ℕ → ℕ
 at B bs k a = get_or (state B bs k) a 0
 
+-- the numbers of the data cells after batch k
 abbrev pub numbers : Start → List Batch → ℕ → List ℕ
 numbers B bs k = map pay (state B bs k)
 
+-- the numbers after the calls, in order
 abbrev pub after_calls : Meaning → List ℕ → List Call → List ℕ
 after_calls W xs [] = xs
 after_calls W xs (c ∷ cs) = after_calls W (W.cells xs c.op) cs
@@ -45,11 +49,12 @@ abbrev pub Replies : Meaning → List ℕ → List Call → Type 0
 Replies W xs [] = Unit {0}
 Replies W xs (c ∷ cs) = (W.reply xs c.op ≡ c.raw) × Replies W (W.cells xs c.op) cs
 
--- the cells after the batches, and that each call has the reply that it met
+-- the numbers after the batches, from those of the start
 abbrev pub replay : Meaning → List ℕ → List Batch → List ℕ
 replay W xs [] = xs
 replay W xs (b ∷ bs) = replay W (after_calls W xs b.calls) bs
 
+-- in that replay each call has the reply that it meets
 abbrev pub Legal : Meaning → List ℕ → List Batch → Type 0
 Legal W xs [] = Unit {0}
 Legal W xs (b ∷ bs) = Replies W xs b.calls × Legal W (after_calls W xs b.calls) bs
@@ -58,7 +63,7 @@ Legal W xs (b ∷ bs) = Replies W xs b.calls × Legal W (after_calls W xs b.call
 abbrev pub ticket_among : Setup → List ℕ → ℕ → ℕ
 ticket_among S st i = pay (get_or st (ticket_cell S i) 0)
 
--- and in state k
+-- the same in state k
 abbrev pub ticket_in : Setup → Start → List Batch → ℕ → ℕ → ℕ
 ticket_in S B bs k i = pay (at B bs k (ticket_cell S i))
 
@@ -88,7 +93,7 @@ pub record LastCall (S : Setup) (B : Start) (bs : List Batch) (k i : ℕ) : Type
   pub absent : Absent B bs i number k
   pub old : (a : ℕ) → InRow S i a → seq (at B bs k a) ≤ number
 
--- the own cells of caller i in state k
+-- the own cells of caller i in state k hold its last call in the batches up to k, or are the start's where it has none
 abbrev pub Last : Setup → Start → List Batch → ℕ → ℕ → Type 0
 Last S B bs k i = (Absent B bs i B.seq k × ((a : ℕ) → InRow S i a → at B bs k a ≡ at B bs B.seq a)) ⊎ LastCall S B bs k i
 

@@ -25,6 +25,7 @@ Told S B ws bs i m (Some (Answered s false raw steps)) = (B.seq ≤ s) × (s ≤
 Told S B ws bs i m (Some (Answered s true raw steps)) = (B.seq < s) × (s ≤ risen S ws) × (s ≤ last ws) × HasCall S (batch B bs s).calls i m.made m.op raw
 Told S B ws bs i m (Some (Spent s)) = (ticket_in S B bs (last ws) i < m.made) × (s ≡ S.limit) × (last ws ≡ s)
 
+-- an idle machine: nothing of it is under way, and its last answer is in the history
 pub record Rests (S : Setup) (B : Start) (ws : List ℕ) (bs : List Batch) (i : ℕ) (m : Data) : Type 0 where
   pub caller : m.caller ≡ i
   pub calm : Calm S B ws bs i (last ws)
@@ -67,11 +68,11 @@ At S B ws bs i m (RaiseTarget j f) = Applies S B ws bs i m j × (j < length m.lo
 At S B ws bs i m CloseRequest = Applies S B ws bs i m (length m.log) × (m.seq ≤ risen S ws)
 At S B ws bs i m RaiseClosed = Applies S B ws bs i m (length m.log) × (m.seq ≤ risen S ws) × (word m.seq 0 < request_of ws m.owner)
 
--- a word that CUR has held
+-- a word that the current-transaction cell has held
 abbrev pub WasCur : Start → List ℕ → List Batch → ℕ → Type 0
 WasCur B ws bs w = (B.seq ≤ seq w) × (B.seq < seq w → pay w ≡ (batch B bs (seq w)).owner) × (seq w ≡ B.seq → pay w ≡ B.owner)
 
--- a word that was loaded for an eviction
+-- a word that its cell has held, and that isn't above it: such a one is loaded for an eviction
 pub record IsLoaded (S : Setup) (B : Start) (ws : List ℕ) (bs : List Batch) (e : ℕ × ℕ) : Type 0 where
   pub place : e.0 < size S
   pub low : e.1 ≤ get_or ws e.0 0
@@ -81,6 +82,7 @@ pub record IsLoaded (S : Setup) (B : Start) (ws : List ℕ) (bs : List Batch) (e
   -- one that has the sequence of its log cell is its word
   pub log : (j x : ℕ) → j < S.callers → x < 2 * S.cells + 1 → e.0 ≡ log_at S j x → IsLogWord B ws bs j x e.1 × (seq e.1 ≡ seq (log_word S ws j x) → e.1 ≡ log_word S ws j x)
 
+-- words and history, the words loaded for evictions, and each machine at its place
 pub record Core (S : Setup) (Lawful : List ℕ → Type 0) (B : Start) (w : World) : Type 0 where
   pub shared : Shared S Lawful B w.words w.batches
   pub members : length w.machines ≡ S.callers

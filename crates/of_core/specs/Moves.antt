@@ -11,7 +11,7 @@ use Rattle.of_core.specs.Rounds.{Quieted}
 use Rattle.of_core.specs.Scan.{Announced}
 use Rattle.of_core.specs.Invariant.{Core}
 
--- a step of machine i led from these words and batches to those
+-- What others may rely on where a step of machine i led from these words and batches to those: what stood stays, a new batch is i's and of calls that are announced, and a word of another machine changes only by closing the last batch's request.
 pub record Moves (S : Setup) (B : Start) (i : ℕ) (ws : List ℕ) (bs : List Batch) (vs : List ℕ) (cs : List Batch) : Type 0 where
   pub same : last vs ≡ last ws → holder vs ≡ holder ws
   pub states : (k : ℕ) → B.seq ≤ k → k ≤ last ws → state B cs k ≡ state B bs k

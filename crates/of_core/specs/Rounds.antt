@@ -10,7 +10,7 @@ use Rattle.of_core.specs.World.{Batch, Start}
 use Rattle.of_core.specs.History.{batch, numbers, ticket_in}
 use Rattle.of_core.specs.Shared.{IsRequest}
 
--- what a machine knows its own durable request to have
+-- the word that a machine knows its own durable request to have is one that its request has held
 abbrev pub Keeps : Start → List ℕ → List Batch → ℕ → ℕ → Type 0
 Keeps B ws bs i v = (v ≤ request_of ws i) × IsRequest B ws bs i v
 
@@ -49,7 +49,7 @@ pub record Begun (S : Setup) (B : Start) (ws : List ℕ) (bs : List Batch) (i : 
   -- it was announced before its first round
   pub known : 1 ≤ m.rounds → (B.seq ≤ m.first) × ((k : ℕ) → m.first < k → k ≤ last ws → (batch B bs k).announcements i ≡ announcement_of S ws i)
 
--- a round at m.seq; own is the highest sequence of one's own request
+-- a round at m.seq
 pub record Round (S : Setup) (B : Start) (ws : List ℕ) (bs : List Batch) (i : ℕ) (m : Data) : Type 0 where
   pub begun : Begun S B ws bs i m
   pub from : B.seq ≤ m.seq
@@ -65,7 +65,7 @@ pub record Round (S : Setup) (B : Start) (ws : List ℕ) (bs : List Batch) (i : 
   pub begun_one : 1 ≤ m.rounds
   pub few : m.rounds ≤ 3
 
--- CUR was (s, o) at a moment
+-- the current-transaction word was (s, o) at some moment
 pub record Cur (S : Setup) (B : Start) (ws : List ℕ) (bs : List Batch) (s o : ℕ) : Type 0 where
   pub from : B.seq ≤ s
   pub upto : s ≤ last ws

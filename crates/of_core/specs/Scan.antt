@@ -72,5 +72,6 @@ pub record Reads (S : Setup) (st ws : List ℕ) (s c heard : ℕ) (script : List
   pub many : length script ≡ j
   pub within : j ≤ pay heard
 
+-- the machine's scan, up to the caller that it has come to
 abbrev pub Scans : Setup → Start → List ℕ → List Batch → ℕ → Data → Type 0
 Scans S B ws bs i m = Over S B ws bs i m.seq m.made m.op m.raw m.calls m.log m.scan

@@ -13,11 +13,13 @@ use Rattle.of_core.specs.History.{batch, at, numbers, after_calls, Replies, tick
 abbrev pub IsEntry : Setup → ℕ × ℕ → Type 0
 IsEntry S e = (e.0 < S.cells) × (e.1 < 4294967296)
 
+-- a batch's log: entries that may be, each cell once
 pub record IsLog (S : Setup) (es : List (ℕ × ℕ)) : Type 0 where
   pub entries : All (IsEntry S) es
   pub once : Once es
   pub few : length es ≤ S.cells
 
+-- a start that may be: no data word is newer than its sequence
 pub record IsStart (S : Setup) (B : Start) : Type 0 where
   pub owner_in : B.owner < S.callers
   pub size : length B.cells ≡ S.cells
@@ -42,6 +44,7 @@ pub record Opened (B : Start) (ws : List ℕ) : Type 0 where
 pub record Datas (S : Setup) (B : Start) (ws : List ℕ) (bs : List Batch) : Type 0 where
   pub each : (a : ℕ) → a < S.cells → (cell S ws a ≡ at B bs (last ws) a) ⊎ (Opened B ws × (cell S ws a ≡ at B bs (last ws - 1) a))
 
+-- the requests of the batches: that of each batch below the last one is closed, and that of the last one is stored
 pub record Requests (S : Setup) (B : Start) (ws : List ℕ) (bs : List Batch) : Type 0 where
   pub closed : (k : ℕ) → B.seq < k → k < last ws → word k 0 < request_of ws (batch B bs k).owner
   pub latest : B.seq < last ws → word (last ws) 0 ≤ request_of ws (holder ws)
@@ -52,6 +55,7 @@ pub record Requests (S : Setup) (B : Start) (ws : List ℕ) (bs : List Batch) : 
 abbrev pub Held : Start → List ℕ → List Batch → ℕ → ℕ → Type 0
 Held B ws bs a w = (k : ℕ) × (B.seq ≤ k) × (k ≤ last ws) × (w ≡ at B bs k a)
 
+-- the durable words: each is at most its cell's, and names no newer transaction; where the last transaction is open its log is durable, and where it isn't its cells are
 pub record Durable (S : Setup) (B : Start) (ws : List ℕ) (bs : List Batch) : Type 0 where
   pub low : (c : ℕ) → c < size S → durable_word S ws c ≤ get_or ws c 0
   pub from : B.seq ≤ risen S ws
@@ -108,6 +112,7 @@ pub record Kinds (S : Setup) (B : Start) (ws : List ℕ) (bs : List Batch) : Typ
   -- the address of an entry is a data cell, also where its round was lost
   pub sized : (j y : ℕ) → j < S.callers → y < S.cells → pay (log_word S ws j (2 * y + 1)) < S.cells
 
+-- all that is said of words and history, and of no machine
 pub record Shared (S : Setup) (Lawful : List ℕ → Type 0) (B : Start) (ws : List ℕ) (bs : List Batch) : Type 0 where
   pub start : IsStart S B
   pub few : S.callers < 4294967296

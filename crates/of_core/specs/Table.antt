@@ -2,6 +2,7 @@
 use Rattle.std.specs.Prelude.{ℕ, ◌+◌, ◌*◌, List, [], ◌∷◌, ◌++◌, ◌%◌}
 use Rattle.std.proofs.Common.{get_or, zero, suc}
 use Rattle.of_cell.specs.Words.{seq, pay}
+use Rattle.of_cell.specs.Cells.{durable_cells}
 use Rattle.of_mem.specs.Meaning.{Meaning}
 use Rattle.of_mem.specs.declared.work.TheConstants.{MOST_INSTRS}
 
@@ -34,7 +35,7 @@ log_at S i x = S.callers + 1 + S.cells + i * (2 * S.cells + 1) + x
 
 -- how many cells there are
 abbrev pub size : Setup → ℕ
-size S = S.callers + 1 + S.cells + S.callers * (2 * S.cells + 1)
+size S = durable_cells S.callers S.cells
 
 -- each has a durable word behind them all
 abbrev pub durable_at : Setup → ℕ → ℕ

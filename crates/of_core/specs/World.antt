@@ -11,9 +11,12 @@ use Rattle.of_core.specs.Table.{Setup, announcement_of}
 use Rattle.of_core.specs.Machine.{Call, Data, is_idle}
 use Rattle.of_core.specs.Steps.{want, took, words_after, want_at, word_of, left, took_at}
 
+-- what one exchange of the current-transaction word commits
 pub record Batch : Type 0 where
   pub owner : ℕ
+  -- the write-set, in order of first writing
   pub log : List (ℕ × ℕ)
+  -- the calls that it runs, by caller
   pub calls : List Call
   -- the announcements that stood when it was committed
   pub announcements : ℕ → ℕ
@@ -35,17 +38,18 @@ pub record World : Type 0 where
   -- the cells that were loaded for evictions, with the words found
   pub loaded : List (ℕ × ℕ)
 
--- where a table starts: the sequence, and the data words
+-- where a table starts: the last sequence, its owner, and the data words
 pub record Start : Type 0 where
   pub seq : ℕ
   pub owner : ℕ
   pub cells : List ℕ
 
--- what the step commits
+-- what an exchange commits, where it wins
 abbrev pub one_batch : Setup → List ℕ → Data → Bool → List Batch
 one_batch S ws m true = record { owner = m.caller; log = m.log; calls = m.calls; announcements = λ c. announcement_of S ws c } ∷ []
 one_batch S ws m false = []
 
+-- what a step from a place commits
 abbrev pub commits_at : Setup → List ℕ → Data → ℕ → Place → List Batch
 commits_at S ws m found Idle = []
 commits_at S ws m found TryCurrent = []
@@ -85,19 +89,21 @@ read_of d (Some (Answered s false raw n)) = record { caller = d.caller; ticket =
 read_of d (Some (Answered s true raw n)) = []
 read_of d (Some (Spent s)) = []
 
--- the read that the step from the place p has answered, where the machine is d after it
+-- an open call's last step may answer a read
 abbrev pub answers_by : Data → (was_idle now_idle : Bool) → List Read
 answers_by d true now_idle = []
 answers_by d false true = read_of d d.answer
 answers_by d false false = []
 
+-- the reads that the step from the place p has answered, where the machine is d after it
 abbrev pub answers_at : Data → Place → List Read
 answers_at d p = answers_by d (is_idle p) (is_idle d.place)
 
--- what the machine's next step commits, and what it answers where the machine is d after it
+-- what the machine's next step commits
 unfoldable pub added : Setup → List ℕ → Data → ℕ → List Batch
 added S ws m found = commits_at S ws m found m.place
 
+-- and what it has answered, where it led from m to d
 unfoldable pub answered : Data → Data → List Read
 answered m d = answers_at d m.place
 
