@@ -115,9 +115,9 @@ module _ (N M : ℕ) (row : ℕ → ℕ) where
             on_data a l (inr d) = h.on_data a l ∙ sym (other a d)
             on_data a l (inl e) =
                 subst (λ (b : ℕ). get_or ws (data_cell N b) 0 ≡ replayed_data N M row (suc n) b) (sym e) (h.on_data (entry_addr N M row n) within
-                  ∙ picked_then (nat_lt (seq (row (data_cell N (entry_addr N M row n)))) (current_seq row)) (first_naming N M row n (entry_addr N M row n)) (λ j. word (current_seq row) (entry_value N M row j)) (row (data_cell N (entry_addr N M row n))) (current_seq row) n refl
-                      (ap (λ (w : ℕ). nat_lt (seq w) (current_seq row)) (sym (h.on_data (entry_addr N M row n) within)) ∙ en)
-                  ∙ sym (take_in (entry_addr N M row n) named))
+                ∙ picked_then (nat_lt (seq (row (data_cell N (entry_addr N M row n)))) (current_seq row)) (first_naming N M row n (entry_addr N M row n)) (λ j. word (current_seq row) (entry_value N M row j)) (row (data_cell N (entry_addr N M row n))) (current_seq row) n refl
+                (ap (λ (w : ℕ). nat_lt (seq w) (current_seq row)) (sym (h.on_data (entry_addr N M row n) within)) ∙ en)
+                ∙ sym (take_in (entry_addr N M row n) named))
         go true en = record { size = rw length-set h.size; on_data = λ a l. on_data a l (cases_eq a (entry_addr N M row n)); others = λ c o. get_or-set_other ws (data_cell N (entry_addr N M row n)) c (word (current_seq row) (entry_value N M row n)) 0 (apart c o) ∙ h.others c o }
           where
             apart : (c : ℕ) → (c ≤ N) ⊎ (data_cell N M ≤ c) → c ≡ data_cell N (entry_addr N M row n) → ⊥
@@ -129,9 +129,9 @@ module _ (N M : ℕ) (row : ℕ → ℕ) where
             on_data a l (inr d) = get_or-set_other ws (data_cell N (entry_addr N M row n)) (data_cell N a) (word (current_seq row) (entry_value N M row n)) 0 (λ e. d (omega arith)) ∙ h.on_data a l ∙ sym (other a d)
             on_data a l (inl e) =
                 subst (λ (b : ℕ). get_or (set ws (data_cell N (entry_addr N M row n)) (word (current_seq row) (entry_value N M row n))) (data_cell N b) 0 ≡ replayed_data N M row (suc n) b) (sym e) (get_or-set_same ws (data_cell N (entry_addr N M row n)) (word (current_seq row) (entry_value N M row n)) 0 (omega (arith, h.size, within))
-                  ∙ picked_now (nat_lt (seq (row (data_cell N (entry_addr N M row n)))) (current_seq row)) (first_naming N M row n (entry_addr N M row n)) (λ j. word (current_seq row) (entry_value N M row j)) (row (data_cell N (entry_addr N M row n))) (current_seq row) n refl value_seq
-                      (ap (λ (w : ℕ). nat_lt (seq w) (current_seq row)) (sym (h.on_data (entry_addr N M row n) within)) ∙ en)
-                  ∙ sym (take_in (entry_addr N M row n) named))
+                ∙ picked_now (nat_lt (seq (row (data_cell N (entry_addr N M row n)))) (current_seq row)) (first_naming N M row n (entry_addr N M row n)) (λ j. word (current_seq row) (entry_value N M row j)) (row (data_cell N (entry_addr N M row n))) (current_seq row) n refl value_seq
+                (ap (λ (w : ℕ). nat_lt (seq w) (current_seq row)) (sym (h.on_data (entry_addr N M row n) within)) ∙ en)
+                ∙ sym (take_in (entry_addr N M row n) named))
 
     same_zero : get_or ws 0 0 ≡ row 0
     same_zero = h.others 0 (inl (omega arith))
@@ -140,7 +140,7 @@ module _ (N M : ℕ) (row : ℕ → ℕ) where
     same_log x = h.others (log_cell N M (pay (get_or ws 0 0)) x) (inr (omega arith)) ∙ ap (λ (w : ℕ). row (log_cell N M (pay w) x)) same_zero
 
     pub replays_more : Replays N M row (n + 1) (after_entry N M ws n)
-    replays_more = rw add-one (subst (Replays N M row (suc n)) (sym done) (step (counts N M row n) (nat_lt (seq (get_or ws (data_cell N (entry_addr N M row n)) 0)) (current_seq row)) refl refl))
+    replays_more = rw (add-one n) (subst (Replays N M row (suc n)) (sym done) (step (counts N M row n) (nat_lt (seq (get_or ws (data_cell N (entry_addr N M row n)) 0)) (current_seq row)) refl refl))
       where
         done : after_entry N M ws n ≡ entry_done N M ws (row 0) (log_word N M row (2 * n + 1)) (log_word N M row (2 * n + 2))
         done =

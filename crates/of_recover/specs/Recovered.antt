@@ -1,5 +1,5 @@
 -- The recovered list of a durable row, cell by cell.
-use Rattle.std.specs.Prelude.{ℕ, ◌+◌, ◌-◌, ◌==◌, ◌&&◌, nat_lt, Bool, if◌then◌else◌, Option, List, length, map, unwrap_or, slice_index}
+use Rattle.std.specs.Prelude.{◌≡◌, ◌≢◌, ℕ, ◌+◌, ◌-◌, ◌<◌, ◌≤◌, ◌⊎◌, ◌==◌, ◌&&◌, nat_lt, Bool, if◌then◌else◌, Option, List, length, map, unwrap_or, slice_index}
 use Rattle.std.specs.Option.{option_map}
 use Rattle.std.specs.List.{range_with_len}
 use Rattle.of_cell.specs.Words.{word, seq}
@@ -31,3 +31,8 @@ recovered_word callers cells row c =
 -- the recovered list
 unfoldable pub recovered : (callers cells : ℕ) → List ℕ → List ℕ
 recovered callers cells words = map (recovered_word callers cells (slice_index words)) (range_with_len 0 (length words))
+
+-- each cell that is neither a data cell nor the owner's request has the word that it had
+abbrev pub KeepsOthers : (callers cells : ℕ) → (old new : List ℕ) → Type 0
+KeepsOthers callers cells old new =
+    (c : ℕ) → c < length old → (c ≤ callers) ⊎ (data_cell callers cells ≤ c) → c ≢ request_cell (current_owner (slice_index old)) → slice_index new c ≡ slice_index old c
