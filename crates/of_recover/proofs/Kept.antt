@@ -1,15 +1,12 @@
 -- What a recovered row keeps and what it changes; a second recovery changes nothing.
-use Rattle.std.proofs.Common.{◌≡◌, ℕ, ◌+◌, ◌-◌, ◌<◌, ◌≤◌, ◌⊎◌, inl, inr, ◌==◌, ◌&&◌, nat_lt, nat_le, Bool, true, false, if◌then◌else◌, List, length, Option, Some, None, get_or, unwrap_or, refl, sym, ◌∙◌, ap, subst, arith}
-use Rattle.std.specs.Option.{option_map}
-use Rattle.std.specs.List.{find, range_with_len}
+use Rattle.std.proofs.Common.{◌≡◌, ℕ, ◌+◌, ◌-◌, ◌<◌, ◌≤◌, ◌⊎◌, inl, inr, ◌==◌, ◌&&◌, nat_lt, nat_le, Bool, true, false, if◌then◌else◌, List, length, None, get_or, refl, sym, ◌∙◌, ap, arith}
 use Rattle.std.proofs.lemmas.Bool.Decides.{nat_tests}
-use Rattle.std.proofs.lemmas.Bool.{cases_eq}
 use Rattle.of_cell.specs.Words.{word, seq, pay}
-use Rattle.of_cell.specs.Cells.{durable_cells, data_cell, request_cell}
+use Rattle.of_cell.specs.Cells.{data_cell, request_cell}
 use Rattle.of_cell.proofs.Order.{word_next}
 use Rattle.of_recover.specs.Row.{IsDurableRow, current_seq, current_owner, is_open}
-use Rattle.of_recover.specs.Log.{entry_count, names, first_naming}
-use Rattle.of_recover.specs.Recovered.{replayed_data, recovered_data, is_data, recovered_word, recovered}
+use Rattle.of_recover.specs.Log.{entry_count, first_naming}
+use Rattle.of_recover.specs.Recovered.{recovered_data, is_data, recovered}
 use Rattle.of_recover.proofs.Rows.{length-recovered, recovered_at, left_alone, owner_in}
 
 on_data : (N M a : ℕ) → a < M → is_data N M (data_cell N a) ≡ true
