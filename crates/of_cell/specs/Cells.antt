@@ -1,9 +1,64 @@
--- How many cells have a durable word, and how many steps a call takes at most.
-use Rattle.std.specs.Prelude.{ℕ, ◌+◌, ◌*◌}
+-- The cells of a shape and the words of its shared table, by their numbers, and the step bound of a call.
+-- A shape is three numbers: of callers, of script words a caller has room for, and of data cells.
+use Rattle.std.specs.Prelude.{ℕ, ◌+◌, ◌*◌, ◌≤◌}
+use Rattle.of_cell.specs.declared.shape.TheConstants.{MOST_CALLERS, MOST_SCRIPT_WORDS, MOST_DATA_CELLS}
 
--- the current-transaction cell, a request for each caller, the data cells, and for each caller a log with room for each data cell
+-- the ranges of a shape
+pub record IsShape (callers instrs cells : ℕ) : Type 0 where
+  pub some_callers : 1 ≤ callers
+  pub few_callers : callers ≤ MOST_CALLERS
+  pub some_instrs : 1 ≤ instrs
+  pub few_instrs : instrs ≤ MOST_SCRIPT_WORDS
+  pub some_cells : 1 ≤ cells
+  pub few_cells : cells ≤ MOST_DATA_CELLS
+
+-- the request of a caller; the current transaction is cell 0
+abbrev pub request_cell : (caller : ℕ) → ℕ
+request_cell caller = caller + 1
+
+-- the data cell with an address
+abbrev pub data_cell : (callers addr : ℕ) → ℕ
+data_cell callers addr = callers + 1 + addr
+
+-- word x of a caller's log: the number of its entries, and then address and value of each
+abbrev pub log_cell : (callers cells caller x : ℕ) → ℕ
+log_cell callers cells caller x = callers + 1 + cells + caller * (2 * cells + 1) + x
+
+-- the number of entries of a caller's log
+abbrev pub log_count_cell : (callers cells caller : ℕ) → ℕ
+log_count_cell callers cells caller = log_cell callers cells caller 0
+
+-- the address of an entry of a caller's log
+abbrev pub log_addr_cell : (callers cells caller entry : ℕ) → ℕ
+log_addr_cell callers cells caller entry = log_cell callers cells caller (2 * entry + 1)
+
+-- the value of an entry of a caller's log
+abbrev pub log_value_cell : (callers cells caller entry : ℕ) → ℕ
+log_value_cell callers cells caller entry = log_cell callers cells caller (2 * entry + 2)
+
+-- the number of cells: the current transaction, a request for each caller, the data cells, and for each caller a log with room for each data cell
 abbrev pub durable_cells : (callers cells : ℕ) → ℕ
 durable_cells callers cells = 1 + callers + cells + callers * (2 * cells + 1)
+
+-- the place of a cell's durable word; its word is at the place of the cell's number
+abbrev pub durable_place : (callers cells cell : ℕ) → ℕ
+durable_place callers cells cell = durable_cells callers cells + cell
+
+-- the place of a caller's script word x; behind the last of them is the announcement
+abbrev pub script_place : (callers instrs cells caller x : ℕ) → ℕ
+script_place callers instrs cells caller x = durable_cells callers cells + durable_cells callers cells + caller * (instrs + 1) + x
+
+-- the place of a caller's announcement
+abbrev pub announce_place : (callers instrs cells caller : ℕ) → ℕ
+announce_place callers instrs cells caller = script_place callers instrs cells caller instrs
+
+-- the place of the members word, behind all the others
+abbrev pub members_place : (callers instrs cells : ℕ) → ℕ
+members_place callers instrs cells = durable_cells callers cells + durable_cells callers cells + callers * (instrs + 1)
+
+-- the number of words of the shared table
+abbrev pub table_words : (callers instrs cells : ℕ) → ℕ
+table_words callers instrs cells = members_place callers instrs cells + 1
 
 -- the steps of the announcement, of three rounds, and of four tries
 abbrev pub step_bound : (callers instrs cells : ℕ) → ℕ

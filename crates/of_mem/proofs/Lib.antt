@@ -1,0 +1,14 @@
+pub mod Indexed
+pub mod Cells
+pub mod PlotPlaces
+pub mod Changes
+pub mod Heaps
+pub mod Standing
+pub mod Frames
+pub mod Moves
+pub mod Runs
+pub mod Writes
+pub mod Overlaid
+pub mod Sounds
+pub mod Counts
+pub mod Calls

@@ -1,6 +1,7 @@
 -- What a work means: what an operation does to a lawful list of cells, and how a run that knows only some cells goes.
-use Rattle.std.specs.Prelude.{◌≡◌, ℕ, ◌^◌, ◌/◌, ◌%◌, ◌==◌, ◌<◌, ◌≤◌, List, [], ◌∷◌, length, Option, Some, None, Bool, true}
+use Rattle.std.specs.Prelude.{◌≡◌, ℕ, ◌+◌, ◌*◌, ◌^◌, ◌/◌, ◌%◌, ◌==◌, ◌<◌, ◌≤◌, List, [], ◌∷◌, length, Option, Some, None, Bool, true}
 use Rattle.std.specs.List.{All}
+use Rattle.of_mem.specs.declared.work.TheConstants.{MOST_INSTRS}
 use Rattle.std.proofs.Common.{get_or, set, drop}
 use Rattle.of_mem.specs.declared.work.RawReply.{RawReply}
 
@@ -57,6 +58,13 @@ pub record Finishes (M : Meaning) (base size : ℕ) (xs op : List ℕ) (es : Lis
 abbrev pub Fits : Meaning → ℕ → ℕ → List (Option ℕ) → List ℕ → List ℕ → Walked → Type 0
 Fits M base size known xs op (Needs a) = (base ≤ a) × (a < size) × (get_or known a None ≡ None)
 Fits M base size known xs op (Gives es r) = Finishes M base size xs op es r
+
+-- there are 1 to 16 callers, and the cells have room for what belongs to them
+pub record HasRoom (many size : ℕ) : Type 0 where
+  pub some : 1 ≤ many
+  pub few : many ≤ 16
+  pub own : many * (MOST_INSTRS + 2) ≤ size
+  pub small : size ≤ 4096
 
 -- the rules of a meaning
 pub record Sound (M : Meaning) (lawful : List ℕ → Type 0) (base size : ℕ) : Type 0 where

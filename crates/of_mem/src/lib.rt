@@ -1,6 +1,12 @@
-//! Partial memory, and what runs operations on it.
+//! Partial memory, the places of data cells, and what runs operations on cells.
 #![tactic(auto)]
 
+mod cell_map;
+pub mod laws;
+mod part;
+mod plot;
 mod work;
 
-pub use work::{MOST_INSTRS, Need, RawReply, Work};
+pub use part::{Need, Part};
+pub use plot::Plot;
+pub use work::{MOST_INSTRS, RawReply, Work};

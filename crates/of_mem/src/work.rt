@@ -1,8 +1,11 @@
 //! What runs operations on cells.
 
-ghost use Rattle.std.specs.Prelude.{◌≡◌, ◌+◌, ◌*◌, ℕ, List};
+ghost use Rattle.std.specs.Prelude.{◌≡◌, ◌+◌, ◌*◌, ◌≤◌, ℕ, List, [], length, MatchResult};
 ghost use Rattle.of_mem.specs.declared.work.TheConstants.{MOST_INSTRS};
-ghost use Rattle.of_mem.specs.Meaning.{Meaning, Sound};
+ghost use Rattle.of_mem.specs.Meaning.{Meaning, Sound, HasRoom, Agrees, Needs, Gives};
+ghost use Rattle.of_mem.specs.Pad.{over};
+
+use crate::part::{Need, Part};
 
 /// The most words of an operation, and the most numbers of a reply.
 pub const MOST_INSTRS: usize = 8;
@@ -14,15 +17,9 @@ pub struct RawReply {
     pub values: [u32; MOST_INSTRS],
 }
 
-/// The cell that a run needs next, and that isn't known.
-#[derive(Clone, Copy, Debug, PartialEq, Eq)]
-pub struct Need {
-    pub addr: u32,
-}
-
 /// What runs operations on cells: the first `callers * (MOST_INSTRS + 2)` cells are the callers' own, and no operation reads or
 /// writes them.
-pub trait Work: Copy {
+pub trait Work: Copy + Send + Sync {
     /// How many callers there are.
     ghost many: { Self → ℕ };
 
@@ -42,6 +39,24 @@ pub trait Work: Copy {
     /// The number of data cells.
     fn cells(&self) -> u32
         ensures { result ≡ size self.now };
+
+    /// Runs an operation of 1 to `MOST_INSTRS` words on what is known, the batch's writes over the known cells. Ok leaves the writes
+    /// with the script and the reply in `out`. The error names the cell that the run needs next; then the script has no writes and
+    /// `out` is as before.
+    fn run(&self, part: &mut Part, op: &[u64], out: &mut RawReply) -> Result<(), Need>
+        requires agrees { (xs : List ℕ) × (length xs ≡ size self.now) × lawful self.now xs × Agrees (over part.old.known part.old.batch) xs }
+        requires cells { length part.old.known ≡ size self.now }
+        requires empty { part.old.script ≡ [] }
+        requires some { 1 ≤ length op.now }
+        requires few { length op.now ≤ MOST_INSTRS }
+        ensures part { part.new ≡ record part.old { script = part.new.script } }
+        ensures walk { MatchResult result (λ _. (meaning self.now).walk (over part.old.known part.old.batch) op.now ≡ Gives part.new.script out.new) (λ need. ((meaning self.now).walk (over part.old.known part.old.batch) op.now ≡ Needs need.addr) × (part.new.script ≡ []) × (out.new ≡ out.old)) };
+
+    /// Whether an operation is known to write nothing.
+    fn reads_only(&self, op: &[u64]) -> bool
+        ensures { result ≡ (meaning self.now).reads_only op.now };
+
+    ghost fits: { (w : Self) → HasRoom (many w) (size w) };
 
     ghost sound: { (w : Self) → Sound (meaning w) (lawful w) (many w * (MOST_INSTRS + 2)) (size w) };
 }

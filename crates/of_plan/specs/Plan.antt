@@ -1,5 +1,5 @@
 -- Plans: for each caller its scripts and its stop, and the schedule.
-use Rattle.std.specs.Prelude.{◌≡◌, ℕ, ◌+◌, ◌*◌, ◌≤◌, ◌<◌, List, [], length, sum_by, slice_index_or, IfSome, Option}
+use Rattle.std.specs.Prelude.{◌≡◌, ℕ, ◌+◌, ◌*◌, ◌≤◌, ◌<◌, List, [], length, sum_by, slice_index_or, IfSome, Option, None}
 use Rattle.std.specs.List.{AllByRecursion}
 use Rattle.of_cell.specs.Cells.{durable_cells, step_bound}
 use Rattle.of_script.specs.declared.instr.Instr.{Instr}
@@ -19,6 +19,10 @@ pub record Plan : Type 0 where
 -- the scripts of a caller
 abbrev pub scripts_of : Plan → ℕ → List (List Instr)
 scripts_of p c = slice_index_or p.scripts c []
+
+-- after how many steps a caller stops, where it does
+abbrev pub stop_of : Plan → ℕ → Option ℕ
+stop_of p c = slice_index_or p.stops c None
 
 -- a data cell for each ticket, shape and reply number, each register, the allocator's three, the list heads, and three for each block
 abbrev pub data_cells : (callers blocks : ℕ) → ℕ

@@ -1,0 +1,5 @@
+//! Worked cases of the program, through the top call.
+#![tactic(auto)]
+
+#[cfg(test)]
+mod tests;

@@ -1,0 +1,54 @@
+-- Giving a block back to a free list.
+use Rattle.std.proofs.Common.{◌≡◌, ℕ, zero, suc, ◌+◌, ◌-◌, ◌<◌, ◌≤◌, ◌≢◌, refl, sym, ◌∙◌, ap, subst, arith, List, [], ◌∷◌}
+use Rattle.std.specs.Prelude.{◌↔◌}
+use Rattle.std.specs.List.{AllByRecursion as Each}
+use Rattle.of_mem.specs.Places.{fresh_at, free_at, cells_at}
+use Rattle.of_mem.specs.Pad.{Pad}
+use Rattle.of_mem.specs.Programs.{Program, answer, after, changed, Inside, IsPartOf, RunsAs}
+use Rattle.of_mem.specs.Stores.{IsChain, link_at}
+use Rattle.of_mem.proofs.Changes.{changed_same, changed_other}
+use Rattle.of_mem.proofs.Heaps.{chain_copy}
+use Rattle.of_mem.proofs.Runs.{run_ended}
+use Rattle.of_alloc.specs.Blocks.{IsFreeList, IsOut, IsGiven, GivesTo}
+use Rattle.of_alloc.specs.BlockPrograms.{give_program}
+use Rattle.of_alloc.proofs.Takings.{free_small}
+
+module _ (o blocks : ℕ) (m : ℕ → ℕ) (free : List ℕ) (b : ℕ) (h : IsFreeList o blocks m free) (out : IsOut o m free b) where
+  abbrev linked : ℕ → ℕ
+  linked = changed m (link_at o b) (m (free_at o))
+
+  abbrev given : ℕ → ℕ
+  given = changed linked (free_at o) (b + 1)
+
+  other : (a : ℕ) → a ≢ link_at o b → a ≢ free_at o → given a ≡ m a
+  other a n k = changed_other linked (free_at o) (b + 1) a k ∙ changed_other m (link_at o b) (m (free_at o)) a n
+
+  fresh : given (fresh_at o) ≡ m (fresh_at o)
+  fresh = other (fresh_at o) (λ e. omega arith) (λ e. omega arith)
+
+  links : (l : List ℕ) → Each (λ x. x ≢ b) l → Each (λ x. given (link_at o x) ≡ m (link_at o x)) l
+  links [] n = tt
+  links (x ∷ l) n = (other (link_at o x) (λ e. n.0 (omega arith)) (λ e. omega arith), links l n.1)
+
+  link : given (link_at o b) ≡ m (free_at o)
+  link = changed_other linked (free_at o) (b + 1) (link_at o b) (λ e. omega arith) ∙ changed_same m (link_at o b) (m (free_at o))
+
+  is_given : IsGiven o blocks m free b given
+  is_given = record {
+    list = record {
+      linked = (changed_same linked (free_at o) (b + 1), chain_copy o m given (free_at o) (link_at o b) free link (links free out.1) h.linked);
+      below = (rw fresh out.0, subst (λ (f : ℕ). Each (λ x. x < f) free) (sym fresh) h.below);
+      few = rw fresh h.few;
+    };
+    others = λ x n. (λ was. (rw fresh was.0, ((λ (e : b ≡ x). n (sym e)), was.1)), λ is. (rw fresh at is.0, is.1.1));
+    cells = other;
+  }
+
+  inside : blocks ≤ 512 → Inside o (cells_at o blocks) (give_program o b) m
+  inside few = (omega arith, omega arith, (omega arith, omega (arith, out.0, h.few), free_small o blocks m free h few, (omega arith, omega arith, omega (arith, out.0, h.few), tt)))
+
+  given_to : blocks ≤ 512 → (p q : Pad) → IsPartOf p m → RunsAs (give_program o b) p tt q → (n : ℕ → ℕ) × IsPartOf q n × IsGiven o blocks m free b n
+  given_to few p q is e = (given, (run_ended o (cells_at o blocks) (give_program o b) p q m tt is (inside few) e).part, is_given)
+
+pub gives_to : (o blocks : ℕ) → blocks ≤ 512 → (b : ℕ) (p q : Pad) → RunsAs (give_program o b) p tt q → GivesTo o blocks p b q
+gives_to o blocks few b p q e m free is h out = given_to o blocks m free b h out few p q is e

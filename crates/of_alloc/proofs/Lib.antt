@@ -1,0 +1,4 @@
+pub mod Takings
+pub mod Givings
+pub mod Heaped
+pub mod Stored

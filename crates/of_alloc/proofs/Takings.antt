@@ -1,0 +1,111 @@
+-- Taking a block from a free list.
+use Rattle.std.proofs.Common.{◌≡◌, ℕ, zero, suc, ◌+◌, ◌-◌, ◌<◌, ◌≤◌, ◌≢◌, refl, sym, ◌∙◌, ap, subst, arith, ltb, Bool, true, false, Option, Some, None, List, [], ◌∷◌}
+use Rattle.std.specs.Prelude.{◌↔◌}
+use Rattle.std.proofs.lemmas.Bool.{ltb-true, ltb-false}
+use Rattle.std.specs.List.{AllByRecursion as Each}
+use Rattle.of_mem.specs.Places.{fresh_at, free_at, cells_at}
+use Rattle.of_mem.specs.Pad.{Pad, newest}
+use Rattle.of_mem.specs.Programs.{Program, answer, after, writes, changed, Inside, IsPartOf, RunsAs}
+use Rattle.of_mem.specs.Stores.{IsChain, link_at}
+use Rattle.of_mem.proofs.Changes.{changed_same, changed_other}
+use Rattle.of_mem.proofs.Heaps.{chain_copy, chain_once, each_weaker}
+use Rattle.of_mem.proofs.Runs.{Ended, run_ended, unchanged}
+use Rattle.of_alloc.specs.Blocks.{IsFreeList, IsOut, IsTaken, Takes, TakesFrom}
+use Rattle.of_alloc.specs.BlockPrograms.{take_program, with_free, take_fresh}
+
+-- the front of the free list is a block
+pub front_below : (o blocks : ℕ) (m : ℕ → ℕ) (free : List ℕ) (f : ℕ) → IsFreeList o blocks m free → m (free_at o) ≡ f → f ≢ 0 → f - 1 < blocks
+front_below o blocks m [] f h e n = absurd (n (sym e ∙ h.linked))
+front_below o blocks m (x ∷ l) f h e n = omega (arith, h.linked.0, h.below.0, h.few)
+
+-- so is what its link leads to
+next_small : (o blocks : ℕ) (m : ℕ → ℕ) (b : ℕ) (l : List ℕ) → IsFreeList o blocks m (b ∷ l) → blocks ≤ 512 → m (link_at o b) < 4294967296
+next_small o blocks m b [] h few = omega (arith, h.linked.1)
+next_small o blocks m b (x ∷ l) h few = omega (arith, h.linked.1.0, h.below.1.0, h.few)
+
+pub free_small : (o blocks : ℕ) (m : ℕ → ℕ) (free : List ℕ) → IsFreeList o blocks m free → blocks ≤ 512 → m (free_at o) < 4294967296
+free_small o blocks m [] h few = omega (arith, h.linked)
+free_small o blocks m (x ∷ l) h few = omega (arith, h.linked.0, h.below.0, h.few)
+
+module _ (o blocks : ℕ) (m : ℕ → ℕ) where
+  abbrev from_front : ℕ → ℕ → ℕ
+  from_front b = changed m (free_at o) (m (link_at o b))
+
+  front_taken : (b : ℕ) (l : List ℕ) → IsFreeList o blocks m (b ∷ l) → IsTaken o blocks m (b ∷ l) b (from_front b)
+  front_taken b l h = record {
+    left = l;
+    list = record {
+      linked = chain_copy o m (from_front b) (link_at o b) (free_at o) l (changed_same m (free_at o) (m (link_at o b))) (links l) h.linked.1;
+      below = rw fresh h.below.1;
+      few = rw fresh h.few;
+    };
+    was_in = λ out. out.1.0 refl;
+    goes_out = (rw fresh h.below.0, chain_once o m (free_at o) b l h.linked);
+    others = λ x n. (λ out. (rw fresh out.0, out.1.1), λ out. (rw fresh at out.0, ((λ (e : b ≡ x). n (sym e)), out.1)));
+    cells = λ a n k. changed_other m (free_at o) (m (link_at o b)) a n;
+  }
+    where
+      fresh : changed m (free_at o) (m (link_at o b)) (fresh_at o) ≡ m (fresh_at o)
+      fresh = changed_other m (free_at o) (m (link_at o b)) (fresh_at o) (λ e. omega arith)
+
+      links : (l : List ℕ) → Each (λ x. changed m (free_at o) (m (link_at o b)) (link_at o x) ≡ m (link_at o x)) l
+      links [] = tt
+      links (x ∷ l) = (changed_other m (free_at o) (m (link_at o b)) (link_at o x) (λ e. omega arith), links l)
+
+  abbrev from_fresh : ℕ → ℕ
+  from_fresh = changed m (fresh_at o) (m (fresh_at o) + 1)
+
+  fresh_taken : IsFreeList o blocks m [] → m (fresh_at o) < blocks → IsTaken o blocks m [] (m (fresh_at o)) from_fresh
+  fresh_taken h less = record {
+    left = [];
+    list = record {
+      linked = changed_other m (fresh_at o) (m (fresh_at o) + 1) (free_at o) (λ e. omega arith) ∙ h.linked;
+      below = tt;
+      few = rw fresh (omega arith);
+    };
+    was_in = λ out. omega (arith, out.0);
+    goes_out = (rw fresh (omega arith), tt);
+    others = λ x n. (λ out. (rw fresh (omega (arith, out.0)), tt), λ out. ((let l : x < m (fresh_at o) + 1 = rw fresh at out.0 in omega arith), tt));
+    cells = λ a n k. changed_other m (fresh_at o) (m (fresh_at o) + 1) a k;
+  }
+    where
+      fresh : changed m (fresh_at o) (m (fresh_at o) + 1) (fresh_at o) ≡ m (fresh_at o) + 1
+      fresh = changed_same m (fresh_at o) (m (fresh_at o) + 1)
+
+  module _ (few : blocks ≤ 512) where
+    -- what a taking reads, writes and does, by the pointer that free holds
+    pub record Run (free : List ℕ) (f : Program (Option ℕ)) : Type 0 where
+      pub inside : Inside o (cells_at o blocks) f m
+      pub takes : Takes o blocks m free (answer f m) (after f m)
+      pub quiet : answer f m ≡ None → writes f m ≡ []
+
+    by_fresh : IsFreeList o blocks m [] → (t : Bool) → ltb (m (fresh_at o)) blocks ≡ t → Run [] (take_fresh o (m (fresh_at o)) t)
+    by_fresh h true e = let less : m (fresh_at o) < blocks = ltb-true (m (fresh_at o)) blocks e in
+      record { inside = (omega arith, omega arith, omega arith, tt); takes = fresh_taken h less; quiet = λ (q : Some (m (fresh_at o)) ≡ None). cc }
+    by_fresh h false e = let more : blocks ≤ m (fresh_at o) = ltb-false (m (fresh_at o)) blocks e in
+      record { inside = tt; takes = (refl, omega (arith, h.few), refl); quiet = λ _. refl }
+
+    by_front : (free : List ℕ) → IsFreeList o blocks m free → (f : ℕ) → m (free_at o) ≡ f → Run free (with_free o blocks f)
+    by_front [] h zero e = let k = by_fresh h (ltb (m (fresh_at o)) blocks) refl in record { inside = (omega arith, omega arith, k.inside); takes = k.takes; quiet = k.quiet }
+    by_front [] h (suc b) e = absurd (omega (arith, h.linked))
+    by_front (x ∷ l) h zero e = absurd (omega (arith, h.linked.0))
+    by_front (x ∷ l) h (suc b) e = let q : x ≡ b = omega (arith, h.linked.0) in
+      subst (λ (y : ℕ). Run (y ∷ l) (with_free o blocks (suc b))) (sym q) (here (subst (λ (y : ℕ). IsFreeList o blocks m (y ∷ l)) q h))
+      where
+        here : IsFreeList o blocks m (b ∷ l) → Run (b ∷ l) (with_free o blocks (suc b))
+        here h = record { inside = (omega arith, omega (arith, h.below.0, h.few), (omega arith, omega arith, next_small o blocks m b l h few, tt)); takes = front_taken b l h; quiet = λ (q : Some b ≡ None). cc }
+
+    pub taking : (free : List ℕ) → IsFreeList o blocks m free → Run free (take_program o blocks)
+    taking free h = let k = by_front free h (m (free_at o)) refl in record { inside = (omega arith, omega arith, k.inside); takes = k.takes; quiet = k.quiet }
+
+    taken_from : (free : List ℕ) (p q : Pad) (r : Option ℕ) → IsPartOf p m → IsFreeList o blocks m free → RunsAs (take_program o blocks) p r q → (n : ℕ → ℕ) × IsPartOf q n × Takes o blocks m free r n
+    taken_from free p q r is h e =
+        let k = taking free h in
+        let d = run_ended o (cells_at o blocks) (take_program o blocks) p q m r is k.inside e in
+        (after (take_program o blocks) m, d.part, subst (λ (x : Option ℕ). Takes o blocks m free x (after (take_program o blocks) m)) (sym d.answers) k.takes)
+
+pub takes_from : (o blocks : ℕ) → blocks ≤ 512 → (p q : Pad) (r : Option ℕ) → RunsAs (take_program o blocks) p r q → TakesFrom o blocks p r q
+takes_from o blocks few p q r e m free is h = taken_from o blocks m few free p q r is h e
+
+pub front_read : (o blocks : ℕ) (p : Pad) (m : ℕ → ℕ) (free : List ℕ) (f a : ℕ) → IsPartOf p m → IsFreeList o blocks m free → a ≡ free_at o → newest p a ≡ Some f → f ≢ 0 → f - 1 < blocks
+front_read o blocks p m free f a is h at e n = front_below o blocks m free f h (is (free_at o) f (rw at at e)) n

@@ -1,0 +1,27 @@
+-- What taking and giving a block reads and writes, and in which order.
+use Rattle.std.specs.Prelude.{ℕ, zero, suc, ◌+◌, Bool, true, false, ltb, Option, Some, None}
+use Rattle.of_mem.specs.Places.{fresh_at, free_at}
+use Rattle.of_mem.specs.Programs.{Program, Done, Read, Write}
+use Rattle.of_mem.specs.Stores.{link_at}
+
+-- the next block that was never taken, where there is one
+abbrev pub take_fresh : ℕ → ℕ → Bool → Program (Option ℕ)
+take_fresh o n true = Write (fresh_at o) (n + 1) (Done (Some n))
+take_fresh o n false = Done None
+
+abbrev pub with_fresh : ℕ → ℕ → ℕ → Program (Option ℕ)
+with_fresh o blocks n = take_fresh o n (ltb n blocks)
+
+abbrev pub with_link : ℕ → ℕ → ℕ → Program (Option ℕ)
+with_link o b link = Write (free_at o) link (Done (Some b))
+
+-- by the pointer that free holds
+abbrev pub with_free : ℕ → ℕ → ℕ → Program (Option ℕ)
+with_free o blocks zero = Read (fresh_at o) (with_fresh o blocks)
+with_free o blocks (suc b) = Read (link_at o b) (with_link o b)
+
+abbrev pub take_program : ℕ → ℕ → Program (Option ℕ)
+take_program o blocks = Read (free_at o) (with_free o blocks)
+
+abbrev pub give_program : ℕ → ℕ → Program (Unit {0})
+give_program o b = Read (free_at o) (λ front. Write (link_at o b) front (Write (free_at o) (b + 1) (Done tt)))

@@ -1,0 +1,40 @@
+//! What follows from the numbers of cells and places. Nothing here has a body to run: a proof cites the clauses.
+
+ghost use Rattle.std.specs.Prelude.{◌≡◌, ℕ, ◌^◌, ◌<◌, ◌↔◌};
+ghost use Rattle.of_cell.specs.Words.{word, seq, pay, IsEarlier};
+ghost use Rattle.of_cell.specs.Cells.{durable_cells, table_words, step_bound};
+ghost use Rattle.of_cell.specs.Named.{CellsDiffer, CellsBelow, PlacesDiffer, PlacesBelow};
+
+use crate::Shape;
+
+/// A word is its sequence and its payload, and words are ordered as these pairs are.
+pub fn words_are_pairs()
+    ensures parts { (s p : ℕ) → p < 2 ^ 32 → (seq (word s p) ≡ s) × (pay (word s p) ≡ p) }
+    ensures whole { (w : ℕ) → word (seq w) (pay w) ≡ w }
+    ensures order { (v w : ℕ) → (v < w) ↔ IsEarlier v w }
+{}
+
+/// The cells of a shape have different numbers, below its number of cells.
+pub fn cells_differ(shape: &Shape)
+    ensures differ { CellsDiffer shape.now.callers shape.now.cells }
+    ensures below { CellsBelow shape.now.callers shape.now.cells }
+{}
+
+/// The words of a shape's table have different places, below its number of words.
+pub fn places_differ(shape: &Shape)
+    ensures differ { PlacesDiffer shape.now.callers shape.now.instrs shape.now.cells }
+    ensures below { PlacesBelow shape.now.callers shape.now.instrs shape.now.cells }
+{}
+
+/// The numbers for sixteen callers with scripts of eight and 512 blocks, which make 1759 data cells.
+pub fn largest()
+    ensures cells { durable_cells 16 1759 ≡ 58080 }
+    ensures words { table_words 16 8 1759 ≡ 116305 }
+    ensures steps { step_bound 16 8 1759 ≡ 128921 }
+{}
+
+/// The numbers for one caller with scripts of eight and no blocks, which makes 73 data cells.
+pub fn smallest()
+    ensures cells { durable_cells 1 73 ≡ 222 }
+    ensures steps { step_bound 1 8 73 ≡ 5438 }
+{}

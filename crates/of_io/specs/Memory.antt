@@ -1,0 +1,45 @@
+-- A source and a sink in memory, and what a call does to each.
+use Rattle.std.specs.Prelude.{◌≡◌, ℕ, ◌-◌, ◌<◌, ◌⊎◌, min, Bool, false, List, ◌++◌, length, take, drop, Contains, Result, Ok, Err}
+use Rattle.of_io.specs.Faults.{counted}
+use Rattle.of_io.specs.declared.source.Failed.{Failed}
+
+-- the bytes left, the most that one read gives, the numbers of the reads that fail, and how many were made and have failed
+pub record Memory : Type 0 where
+  pub left : List ℕ
+  pub piece : ℕ
+  pub fails : List ℕ
+  pub reads : ℕ
+  pub faults : ℕ
+
+-- how many bytes a read into a buffer of that length gives
+abbrev pub read_count : Memory → ℕ → ℕ
+read_count s len = min (min (length s.left) s.piece) len
+
+-- what a read leaves
+abbrev pub after_read : Memory → Result ℕ Failed → Memory
+after_read s (Ok n) = record s { left = drop n s.left; reads = counted s.reads }
+after_read s (Err e) = record s { reads = counted s.reads; faults = counted s.faults }
+
+-- the bytes written, the room for them, the most that one write takes, the numbers of the writes that fail, how many were
+-- made and have failed, and whether what was written is finished
+pub record Page : Type 0 where
+  pub bytes : List ℕ
+  pub room : ℕ
+  pub piece : ℕ
+  pub fails : List ℕ
+  pub writes : ℕ
+  pub faults : ℕ
+  pub finished : Bool
+
+-- a write fails at the numbers that are listed, and where something is to be written and no room is left
+abbrev pub FailsToWrite : Page → List ℕ → Type 0
+FailsToWrite s text = Contains s.fails s.writes ⊎ ((s.room ≡ length s.bytes) × (0 < length text))
+
+-- how many bytes a write of so many takes
+abbrev pub write_count : Page → ℕ → ℕ
+write_count s len = min (min (s.room - length s.bytes) s.piece) len
+
+-- what a write leaves
+abbrev pub after_write : Page → List ℕ → Result ℕ Failed → Page
+after_write s text (Ok n) = record s { bytes = s.bytes ++ take n text; writes = counted s.writes; finished = false }
+after_write s text (Err e) = record s { writes = counted s.writes; faults = counted s.faults; finished = false }

@@ -1,0 +1,9 @@
+pub mod Walking
+pub mod Seeks
+pub mod Knows
+pub mod Takings
+pub mod Gets
+pub mod News
+pub mod Changes
+pub mod Dels
+pub mod Wholes

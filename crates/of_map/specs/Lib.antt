@@ -1,0 +1,3 @@
+pub mod MapPrograms
+pub mod Found
+pub mod Means

@@ -1,0 +1,215 @@
+-- What a write does to a heap, and how a block goes from one chain to another.
+use Rattle.std.proofs.Common.{◌≡◌, ℕ, ◌+◌, ◌<◌, ◌≢◌, List, [], ◌∷◌, ◌++◌, length, refl, sym, ◌∙◌, ap, subst, arith, length-append}
+use Rattle.std.specs.List.{AllByRecursion as Each}
+use Rattle.of_mem.specs.Places.{fresh_at}
+use Rattle.of_mem.specs.Programs.{changed}
+use Rattle.of_mem.specs.Stores.{IsChain, IsHeap, front_at, link_at, cell_after, total}
+use Rattle.of_mem.proofs.Changes.{changed_same, changed_other, changed_cases, total_changed}
+use Rattle.of_mem.proofs.Heaps.{front_apart, front_below, each_weaker, each_append, each_left, each_right, chain_copy, chain_changed, chain_unlink, chain_append, chain_apart, cell_in}
+
+module _ (o blocks : ℕ) (m : ℕ → ℕ) (chains : ℕ → List ℕ) (owner : ℕ → ℕ) (h : IsHeap o blocks m chains owner) where
+  -- a write beside pointers and fresh
+  pub heap_changed : (a v : ℕ) → fresh_at o ≢ a → ((c : ℕ) → c < 37 → front_at o c ≢ a) → ((b : ℕ) → link_at o b ≢ a) → IsHeap o blocks (changed m a v) chains owner
+  heap_changed a v fresh front link = record {
+    linked = λ c l. chain_changed o m a v (front_at o c) (chains c) (front c l) (all_links (chains c)) (h.linked c l);
+    owned = λ c l. rw (changed_other m a v (fresh_at o) fresh) (h.owned c l);
+    counted = h.counted ∙ sym (changed_other m a v (fresh_at o) fresh);
+    few = rw (changed_other m a v (fresh_at o) fresh) h.few;
+  }
+    where
+      all_links : (l : List ℕ) → Each (λ b. link_at o b ≢ a) l
+      all_links [] = tt
+      all_links (x ∷ xs) = (link x, all_links xs)
+
+  pub links_apart : (c b : ℕ) → c < 38 → owner b ≢ c → Each (λ x. link_at o x ≢ link_at o b) (chains c)
+  links_apart c b l n = each_weaker (λ x. (x < m (fresh_at o)) × (owner x ≡ c)) (λ x. link_at o x ≢ link_at o b) (λ x k e. let same : x ≡ b = omega arith in n (subst (λ (y : ℕ). owner y ≡ c) same k.1)) (chains c) (h.owned c l)
+
+  pub blocks_apart : (c b : ℕ) → c < 38 → owner b ≢ c → Each (λ x. x ≢ b) (chains c)
+  blocks_apart c b l n = each_weaker (λ x. (x < m (fresh_at o)) × (owner x ≡ c)) (λ x. x ≢ b) (λ x k e. n (subst (λ (y : ℕ). owner y ≡ c) e k.1)) (chains c) (h.owned c l)
+
+  -- the link of a block that is out
+  pub heap_changed_out : (b v : ℕ) → owner b ≡ 37 → IsHeap o blocks (changed m (link_at o b) v) chains owner
+  heap_changed_out b v out = record {
+    linked = λ c l. chain_changed o m (link_at o b) v (front_at o c) (chains c) (λ (e : front_at o c ≡ link_at o b). omega (arith, front_below o c l)) (links_apart c b (omega arith) (λ (e : owner b ≡ c). omega arith)) (h.linked c l);
+    owned = λ c l. rw (changed_other m (link_at o b) v (fresh_at o) fresh) (h.owned c l);
+    counted = h.counted ∙ sym (changed_other m (link_at o b) v (fresh_at o) fresh);
+    few = rw (changed_other m (link_at o b) v (fresh_at o) fresh) h.few;
+  }
+    where
+      fresh : fresh_at o ≢ link_at o b
+      fresh e = omega arith
+
+  -- how owners change with a block, apart from the chains that change
+  still_owned : (b d c : ℕ) → c < 38 → owner b ≢ c → Each (λ x. (x < m (fresh_at o)) × (changed owner b d x ≡ c)) (chains c)
+  still_owned b d c l n = each_weaker (λ x. (x < m (fresh_at o)) × (owner x ≡ c)) (λ x. (x < m (fresh_at o)) × (changed owner b d x ≡ c))
+      (λ x k. (k.0, changed_other owner b d x (λ (e : x ≡ b). n (subst (λ (y : ℕ). owner y ≡ c) e k.1)) ∙ k.1)) (chains c) (h.owned c l)
+
+  -- a block that was never taken goes out
+  pub heap_fresh : m (fresh_at o) < blocks → chains 37 ≡ [] → owner (m (fresh_at o)) ≡ owner (m (fresh_at o))
+      → IsHeap o blocks (changed m (fresh_at o) (m (fresh_at o) + 1)) (changed chains 37 (m (fresh_at o) ∷ [])) (changed owner (m (fresh_at o)) 37)
+  heap_fresh less none _ = record {
+    linked = λ c l. rw (changed_other chains 37 (m (fresh_at o) ∷ []) c (λ (e : c ≡ 37). omega arith))
+        (chain_changed o m (fresh_at o) (m (fresh_at o) + 1) (front_at o c) (chains c) (λ (e : front_at o c ≡ fresh_at o). omega (arith, front_below o c l)) (no_links (chains c)) (h.linked c l));
+    owned = λ c l. rw (changed_same m (fresh_at o) (m (fresh_at o) + 1)) (changed_cases (λ (d : ℕ) (bs : List ℕ). Each (λ x. (x < m (fresh_at o) + 1) × (changed owner (m (fresh_at o)) 37 x ≡ d)) bs) chains 37 (m (fresh_at o) ∷ []) c
+        (λ _. ((omega arith, changed_same owner (m (fresh_at o)) 37), tt))
+        (λ n. each_weaker (λ x. (x < m (fresh_at o)) × (owner x ≡ c)) (λ x. (x < m (fresh_at o) + 1) × (changed owner (m (fresh_at o)) 37 x ≡ c))
+        (λ x k. (omega (arith, k.0), changed_other owner (m (fresh_at o)) 37 x (λ (e : x ≡ m (fresh_at o)). omega (arith, k.0)) ∙ k.1)) (chains c) (h.owned c l)));
+    counted = let t : total (changed chains 37 (m (fresh_at o) ∷ [])) 38 + length (chains 37) ≡ total chains 38 + 1 = total_changed chains 37 (m (fresh_at o) ∷ []) 38 (omega arith) in
+        rw (changed_same m (fresh_at o) (m (fresh_at o) + 1)) (omega (arith, ap length none, h.counted));
+    few = rw (changed_same m (fresh_at o) (m (fresh_at o) + 1)) (omega arith);
+  }
+    where
+      no_links : (l : List ℕ) → Each (λ b. link_at o b ≢ fresh_at o) l
+      no_links [] = tt
+      no_links (x ∷ xs) = (λ (e : link_at o x ≡ fresh_at o). omega arith, no_links xs)
+
+  fronts_link : (c : ℕ) → c < 37 → (l : List ℕ) → Each (λ x. link_at o x ≢ front_at o c) l
+  fronts_link c l [] = tt
+  fronts_link c l (x ∷ xs) = ((λ (e : link_at o x ≡ front_at o c). omega (arith, front_below o c l)), fronts_link c l xs)
+
+  -- the pointer cell behind blocks of one chain is no cell of another
+  cell_apart : (c d : ℕ) → c < 37 → d < 37 → d ≢ c → (xs : List ℕ) → Each (λ x. owner x ≡ c) xs
+      → (front_at o d ≢ cell_after o (front_at o c) xs) × Each (λ y. link_at o y ≢ cell_after o (front_at o c) xs) (chains d)
+  cell_apart c d l k n xs own = (
+    cell_in o (λ a. front_at o d ≢ a) (front_at o c) xs (λ (e : front_at o d ≡ front_at o c). n (front_apart o d c k l e))
+        (each_weaker (λ x. owner x ≡ c) (λ x. front_at o d ≢ link_at o x) (λ x _ e. omega (arith, front_below o d k)) xs own),
+    cell_in o (λ a. Each (λ y. link_at o y ≢ a) (chains d)) (front_at o c) xs (fronts_link c l (chains d))
+        (each_weaker (λ x. owner x ≡ c) (λ x. Each (λ y. link_at o y ≢ link_at o x) (chains d)) (λ x e. links_apart d x (omega arith) (λ (q : owner x ≡ d). n (sym q ∙ e))) xs own),
+  )
+
+  cell_no_fresh : (c : ℕ) → c < 37 → (xs : List ℕ) → Each (λ x. owner x ≡ c) xs → fresh_at o ≢ cell_after o (front_at o c) xs
+  cell_no_fresh c l xs own = cell_in o (λ a. fresh_at o ≢ a) (front_at o c) xs (λ (e : fresh_at o ≡ front_at o c). omega (arith, front_below o c l))
+      (each_weaker (λ x. owner x ≡ c) (λ x. fresh_at o ≢ link_at o x) (λ x _ e. omega arith) xs own)
+
+  owners : (c : ℕ) → c < 38 → Each (λ x. owner x ≡ c) (chains c)
+  owners c l = each_weaker (λ x. (x < m (fresh_at o)) × (owner x ≡ c)) (λ x. owner x ≡ c) (λ x k. k.1) (chains c) (h.owned c l)
+
+  -- a block goes from a chain out
+  pub heap_unlink : (c b : ℕ) (xs ys : List ℕ) → c < 37 → chains c ≡ xs ++ b ∷ ys → chains 37 ≡ []
+      → IsHeap o blocks (changed m (cell_after o (front_at o c) xs) (m (link_at o b))) (changed (changed chains c (xs ++ ys)) 37 (b ∷ [])) (changed owner b 37)
+  heap_unlink c b xs ys l is none = record {
+    linked = λ d k. rw (changed_other (changed chains c (xs ++ ys)) 37 (b ∷ []) d (λ (e : d ≡ 37). omega arith)) (changed_cases (λ (d : ℕ) (bs : List ℕ). d < 37 → IsChain o after (front_at o d) bs) chains c (xs ++ ys) d
+        (λ e _. chain_unlink o m (front_at o c) b xs ys whole (fronts_link c l (xs ++ b ∷ ys)))
+        (λ n k. chain_changed o m cell (m (link_at o b)) (front_at o d) (chains d) (cell_apart c d l k n xs own).0 (cell_apart c d l k n xs own).1 (h.linked d k)) k);
+    owned = λ d k. rw same_fresh (changed_cases (λ (d : ℕ) (bs : List ℕ). d < 38 → Each (λ x. (x < m (fresh_at o)) × (changed owner b 37 x ≡ d)) bs) (changed chains c (xs ++ ys)) 37 (b ∷ []) d
+        (λ e _. ((here.0, changed_same owner b 37), tt))
+        (λ n. changed_cases (λ (d : ℕ) (bs : List ℕ). d < 38 → Each (λ x. (x < m (fresh_at o)) × (changed owner b 37 x ≡ d)) bs) chains c (xs ++ ys) d
+        (λ e _. kept (xs ++ ys) rest (chain_apart o m (front_at o c) b xs ys whole))
+        (λ n k. still_owned b 37 d k (λ (e : owner b ≡ d). n (sym e ∙ here.1)))) k);
+    counted = same_fresh_count;
+    few = rw same_fresh h.few;
+  }
+    where
+      cell : ℕ
+      cell = cell_after o (front_at o c) xs
+
+      after : ℕ → ℕ
+      after = changed m (cell_after o (front_at o c) xs) (m (link_at o b))
+
+      whole : IsChain o m (front_at o c) (xs ++ b ∷ ys)
+      whole = subst (λ (q : List ℕ). IsChain o m (front_at o c) q) is (h.linked c l)
+
+      all : Each (λ x. (x < m (fresh_at o)) × (owner x ≡ c)) (xs ++ b ∷ ys)
+      all = subst (λ (q : List ℕ). Each (λ x. (x < m (fresh_at o)) × (owner x ≡ c)) q) is (h.owned c (omega arith))
+
+      here : (b < m (fresh_at o)) × (owner b ≡ c)
+      here = (each_right (λ x. (x < m (fresh_at o)) × (owner x ≡ c)) xs (b ∷ ys) all).0
+
+      rest : Each (λ x. (x < m (fresh_at o)) × (owner x ≡ c)) (xs ++ ys)
+      rest = each_append (λ x. (x < m (fresh_at o)) × (owner x ≡ c)) xs ys (each_left (λ x. (x < m (fresh_at o)) × (owner x ≡ c)) xs (b ∷ ys) all) (each_right (λ x. (x < m (fresh_at o)) × (owner x ≡ c)) xs (b ∷ ys) all).1
+
+      own : Each (λ x. owner x ≡ c) xs
+      own = each_weaker (λ x. (x < m (fresh_at o)) × (owner x ≡ c)) (λ x. owner x ≡ c) (λ x k. k.1) xs (each_left (λ x. (x < m (fresh_at o)) × (owner x ≡ c)) xs (b ∷ ys) all)
+
+      same_fresh : changed m (cell_after o (front_at o c) xs) (m (link_at o b)) (fresh_at o) ≡ m (fresh_at o)
+      same_fresh = changed_other m (cell_after o (front_at o c) xs) (m (link_at o b)) (fresh_at o) (cell_no_fresh c l xs own)
+
+      kept : (q : List ℕ) → Each (λ x. (x < m (fresh_at o)) × (owner x ≡ c)) q → Each (λ x. x ≢ b) q → Each (λ x. (x < m (fresh_at o)) × (changed owner b 37 x ≡ c)) q
+      kept [] u v = tt
+      kept (x ∷ q) u v = ((u.0.0, changed_other owner b 37 x v.0 ∙ u.0.1), kept q u.1 v.1)
+
+      same_fresh_count : total (changed (changed chains c (xs ++ ys)) 37 (b ∷ [])) 38 ≡ changed m (cell_after o (front_at o c) xs) (m (link_at o b)) (fresh_at o)
+      same_fresh_count =
+          let t : total (changed (changed chains c (xs ++ ys)) 37 (b ∷ [])) 38 + length (changed chains c (xs ++ ys) 37) ≡ total (changed chains c (xs ++ ys)) 38 + 1 = total_changed (changed chains c (xs ++ ys)) 37 (b ∷ []) 38 (omega arith) in
+          let u : total (changed chains c (xs ++ ys)) 38 + length (chains c) ≡ total chains 38 + length (xs ++ ys) = total_changed chains c (xs ++ ys) 38 (omega arith) in
+          let v : length (changed chains c (xs ++ ys) 37) ≡ 0 = rw (changed_other chains c (xs ++ ys) 37 (λ (e : 37 ≡ c). omega arith)) (ap length none) in
+          let w : length (chains c) ≡ length xs + (1 + length ys) = ap length is ∙ length-append xs (b ∷ ys) ∙ (omega arith) in
+          rw same_fresh (omega (arith, length-append xs ys, h.counted))
+
+  -- what an insertion of the block that is out owes
+  inserted : (c b : ℕ) (l : List ℕ) → c < 37 → chains 37 ≡ b ∷ [] → length l ≡ length (chains c) + 1 → Each (λ x. (x < m (fresh_at o)) × (changed owner b c x ≡ c)) l
+      → ((d : ℕ) → d < 38 → Each (λ x. (x < m (fresh_at o)) × (changed owner b c x ≡ d)) (changed (changed chains 37 []) c l d)) × (total (changed (changed chains 37 []) c l) 38 ≡ m (fresh_at o))
+  inserted c b l k out more own = (
+    λ d e. changed_cases (λ (d : ℕ) (bs : List ℕ). d < 38 → Each (λ x. (x < m (fresh_at o)) × (changed owner b c x ≡ d)) bs) (changed chains 37 []) c l d
+        (λ _ _. own)
+        (λ n. changed_cases (λ (d : ℕ) (bs : List ℕ). d < 38 → Each (λ x. (x < m (fresh_at o)) × (changed owner b c x ≡ d)) bs) chains 37 [] d
+        (λ _ _. tt)
+        (λ n k. still_owned b c d k (λ (e : owner b ≡ d). n (sym e ∙ here)))) e,
+    count,
+  )
+    where
+      here : owner b ≡ 37
+      here = (subst (λ (q : List ℕ). Each (λ x. owner x ≡ 37) q) out (owners 37 (omega arith))).0
+
+      count : total (changed (changed chains 37 []) c l) 38 ≡ m (fresh_at o)
+      count =
+          let t : total (changed (changed chains 37 []) c l) 38 + length (changed chains 37 [] c) ≡ total (changed chains 37 []) 38 + length l = total_changed (changed chains 37 []) c l 38 (omega arith) in
+          let u : total (changed chains 37 []) 38 + length (chains 37) ≡ total chains 38 + 0 = total_changed chains 37 [] 38 (omega arith) in
+          let v : length (changed chains 37 [] c) ≡ length (chains c) = rw (changed_other chains 37 [] c (λ (e : c ≡ 37). omega arith)) refl in
+          omega (arith, ap length out, h.counted)
+
+  pub out_owner : (b : ℕ) → chains 37 ≡ b ∷ [] → (b < m (fresh_at o)) × (owner b ≡ 37)
+  out_owner b out = (subst (λ (q : List ℕ). Each (λ x. (x < m (fresh_at o)) × (owner x ≡ 37)) q) out (h.owned 37 (omega arith))).0
+
+  -- how the block that is out is owned by the chain that it goes to
+  own_new : (c b : ℕ) → c < 37 → owner b ≡ 37 → Each (λ x. (x < m (fresh_at o)) × (changed owner b c x ≡ c)) (chains c)
+  own_new c b k out = still_owned b c c (omega arith) (λ (e : owner b ≡ c). omega arith)
+
+  -- the block that is out goes in front of a chain
+  pub heap_front : (c b : ℕ) → c < 37 → chains 37 ≡ b ∷ [] → m (link_at o b) ≡ m (front_at o c)
+      → IsHeap o blocks (changed m (front_at o c) (b + 1)) (changed (changed chains 37 []) c (b ∷ chains c)) (changed owner b c)
+  heap_front c b k out leads = record {
+    linked = λ d e. changed_cases (λ (d : ℕ) (bs : List ℕ). d < 37 → IsChain o (changed m (front_at o c) (b + 1)) (front_at o d) bs) (changed chains 37 []) c (b ∷ chains c) d
+        (λ _ _. (
+          changed_same m (front_at o c) (b + 1),
+          chain_copy o m (changed m (front_at o c) (b + 1)) (front_at o c) (link_at o b) (chains c) (changed_other m (front_at o c) (b + 1) (link_at o b) (fronts_link c k (b ∷ [])).0 ∙ leads)
+              (each_weaker (λ x. link_at o x ≢ front_at o c) (λ x. changed m (front_at o c) (b + 1) (link_at o x) ≡ m (link_at o x)) (λ x n. changed_other m (front_at o c) (b + 1) (link_at o x) n) (chains c) (fronts_link c k (chains c))) (h.linked c k),
+        ))
+        (λ n e. rw (changed_other chains 37 [] d (λ (q : d ≡ 37). omega arith))
+        (chain_changed o m (front_at o c) (b + 1) (front_at o d) (chains d) (λ (q : front_at o d ≡ front_at o c). n (front_apart o d c e k q)) (fronts_link c k (chains d)) (h.linked d e))) e;
+    owned = λ d e. rw same_fresh (it.0 d e);
+    counted = it.1 ∙ sym same_fresh;
+    few = rw same_fresh h.few;
+  }
+    where
+      here : (b < m (fresh_at o)) × (owner b ≡ 37)
+      here = out_owner b out
+
+      same_fresh : changed m (front_at o c) (b + 1) (fresh_at o) ≡ m (fresh_at o)
+      same_fresh = changed_other m (front_at o c) (b + 1) (fresh_at o) (λ (e : fresh_at o ≡ front_at o c). omega (arith, front_below o c k))
+
+      it : ((d : ℕ) → d < 38 → Each (λ x. (x < m (fresh_at o)) × (changed owner b c x ≡ d)) (changed (changed chains 37 []) c (b ∷ chains c) d)) × (total (changed (changed chains 37 []) c (b ∷ chains c)) 38 ≡ m (fresh_at o))
+      it = inserted c b (b ∷ chains c) k out (omega arith) ((here.0, changed_same owner b c), own_new c b k here.1)
+
+  -- the block that is out goes behind a chain
+  pub heap_append : (c b : ℕ) → c < 37 → chains 37 ≡ b ∷ [] → m (link_at o b) ≡ 0
+      → IsHeap o blocks (changed m (cell_after o (front_at o c) (chains c)) (b + 1)) (changed (changed chains 37 []) c (chains c ++ b ∷ [])) (changed owner b c)
+  heap_append c b k out last = record {
+    linked = λ d e. changed_cases (λ (d : ℕ) (bs : List ℕ). d < 37 → IsChain o (changed m (cell_after o (front_at o c) (chains c)) (b + 1)) (front_at o d) bs) (changed chains 37 []) c (chains c ++ b ∷ []) d
+        (λ _ _. chain_append o m (front_at o c) b (chains c) (h.linked c k) (fronts_link c k (chains c)) (fronts_link c k (b ∷ [])).0 (blocks_apart c b (omega arith) (λ (e : owner b ≡ c). omega (arith, here.1))) last)
+        (λ n e. rw (changed_other chains 37 [] d (λ (q : d ≡ 37). omega arith))
+        (chain_changed o m (cell_after o (front_at o c) (chains c)) (b + 1) (front_at o d) (chains d) (cell_apart c d k e n (chains c) (owners c (omega arith))).0 (cell_apart c d k e n (chains c) (owners c (omega arith))).1 (h.linked d e))) e;
+    owned = λ d e. rw same_fresh (it.0 d e);
+    counted = it.1 ∙ sym same_fresh;
+    few = rw same_fresh h.few;
+  }
+    where
+      here : (b < m (fresh_at o)) × (owner b ≡ 37)
+      here = out_owner b out
+
+      same_fresh : changed m (cell_after o (front_at o c) (chains c)) (b + 1) (fresh_at o) ≡ m (fresh_at o)
+      same_fresh = changed_other m (cell_after o (front_at o c) (chains c)) (b + 1) (fresh_at o) (cell_no_fresh c k (chains c) (owners c (omega arith)))
+
+      it : ((d : ℕ) → d < 38 → Each (λ x. (x < m (fresh_at o)) × (changed owner b c x ≡ d)) (changed (changed chains 37 []) c (chains c ++ b ∷ []) d)) × (total (changed (changed chains 37 []) c (chains c ++ b ∷ [])) 38 ≡ m (fresh_at o))
+      it = inserted c b (chains c ++ b ∷ []) k out (length-append (chains c) (b ∷ []) ∙ (omega arith))
+          (each_append (λ x. (x < m (fresh_at o)) × (changed owner b c x ≡ c)) (chains c) (b ∷ []) (own_new c b k here.1) ((here.0, changed_same owner b c), tt))

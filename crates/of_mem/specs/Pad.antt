@@ -1,0 +1,37 @@
+-- Partial memory: what is known of each cell, what a batch wrote over it, and what a script wrote over both.
+use Rattle.std.specs.Prelude.{ℕ, zero, suc, List, [], ◌∷◌, Option, Some, None}
+use Rattle.std.proofs.Common.{get_or, set}
+use Rattle.of_mem.specs.Pairs.{Pairs, value_at, put}
+
+-- the writes of batch and script stand in order of first writing
+pub record Pad : Type 0 where
+  pub known : List (Option ℕ)
+  pub batch : List (ℕ × ℕ)
+  pub script : List (ℕ × ℕ)
+
+-- the newer of two numbers, where there is one
+abbrev pub newer : Option ℕ → Option ℕ → Option ℕ
+newer None old = old
+newer (Some v) old = Some v
+
+-- what a cell holds, as far as it is known
+unfoldable pub newest : Pad → ℕ → Option ℕ
+newest p a = newer (value_at p.script a) (newer (value_at p.batch a) (get_or p.known a None))
+
+-- the script writes a number
+unfoldable pub wrote : Pad → ℕ → ℕ → Pad
+wrote p a v = record p { script = put p.script a v }
+
+-- the known cells with these pairs over them; the first pair for a cell counts
+abbrev pub over : List (Option ℕ) → List (ℕ × ℕ) → List (Option ℕ)
+over known [] = known
+over known (e ∷ es) = set (over known es) e.0 (Some e.1)
+
+-- what pairs say of the n cells from cell i on
+abbrev pub cells_from : ℕ → List (ℕ × ℕ) → ℕ → List (Option ℕ)
+cells_from zero es i = []
+cells_from (suc n) es i = value_at es i ∷ cells_from n es (suc i)
+
+-- what pairs say of each cell below their room
+unfoldable pub cells_of : Pairs → List (Option ℕ)
+cells_of p = cells_from p.room p.entries 0

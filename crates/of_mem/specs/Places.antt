@@ -1,0 +1,45 @@
+-- Where each data cell stands: o is the first cell behind those of the callers.
+use Rattle.std.specs.Prelude.{ℕ, ◌+◌, ◌*◌}
+
+-- the first cell behind the cells of the callers
+abbrev pub base_of : ℕ → ℕ → ℕ
+base_of callers instrs = callers * (instrs + 2)
+
+abbrev pub ticket_at : ℕ → ℕ → ℕ
+ticket_at instrs caller = caller * (instrs + 2)
+
+abbrev pub shape_at : ℕ → ℕ → ℕ
+shape_at instrs caller = ticket_at instrs caller + 1
+
+abbrev pub reply_at : ℕ → ℕ → ℕ → ℕ
+reply_at instrs caller place = ticket_at instrs caller + 2 + place
+
+abbrev pub register_at : ℕ → ℕ → ℕ
+register_at o r = o + r
+
+abbrev pub fresh_at : ℕ → ℕ
+fresh_at o = o + 16
+
+abbrev pub free_at : ℕ → ℕ
+free_at o = o + 17
+
+abbrev pub keys_at : ℕ → ℕ
+keys_at o = o + 18
+
+abbrev pub bucket_at : ℕ → ℕ → ℕ
+bucket_at o b = o + 19 + b
+
+abbrev pub head_at : ℕ → ℕ → ℕ
+head_at o q = o + 51 + 3 * q
+
+abbrev pub tail_at : ℕ → ℕ → ℕ
+tail_at o q = o + 52 + 3 * q
+
+abbrev pub length_at : ℕ → ℕ → ℕ
+length_at o q = o + 53 + 3 * q
+
+abbrev pub block_at : ℕ → ℕ → ℕ → ℕ
+block_at o b field = o + 63 + 3 * b + field
+
+abbrev pub cells_at : ℕ → ℕ → ℕ
+cells_at o blocks = o + 63 + 3 * blocks

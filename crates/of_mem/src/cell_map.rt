@@ -1,0 +1,104 @@
+//! A map from cells to numbers, in order of first writing.
+
+ghost use Rattle.std.specs.Prelude.{◌≡◌, ◌<◌, [], length, IfOk, MatchOption, slice_index_or};
+ghost use Rattle.of_mem.specs.Pairs.{value_at, put, IsMap};
+ghost use Rattle.of_mem.specs.Indexed.{Finds, Misses};
+
+use std::alloc::{AllocError, Global};
+use std::marker::Model;
+
+/// A map from cells to numbers, in order of first writing. Each call but `new` takes the same time, however many cells there are.
+#[derive(Drop)]
+pub struct CellMap {
+    entries: Vec<(u32, u32)>,
+    /// At each address that is there, the place of its entry. What stands at another address is left over from earlier.
+    places: Vec<u32>,
+}
+
+impl Model for CellMap {
+    ghost use Rattle.of_mem.specs.Pairs.{Pairs};
+
+    ghost Value = { Pairs };
+
+    ghost use Rattle.std.specs.Prelude.{length};
+    ghost use Rattle.std.specs.Vec.{vec_capacity};
+    ghost use Rattle.of_mem.specs.Indexed.{IsIndexed};
+
+    ghost view = { λ w. record { room = length w.places.items; entries = w.entries.items } };
+
+    ghost invariant = { λ w. IsIndexed w.entries.items w.places.items (vec_capacity w.entries) };
+}
+
+impl CellMap {
+    /// An empty one for the addresses below `room`. The error is that there is no memory.
+    pub fn new(alloc: Global, room: u32) -> Result<Self, AllocError>
+        ensures entries { IfOk result (λ w. w.entries ≡ []) }
+        ensures room { IfOk result (λ w. w.room ≡ room) }
+    {
+        let entries = Vec::with_capacity(alloc, room as usize)?;
+        let places = vec![in alloc; 0; room as usize]?;
+        Ok(CellMap { entries, places })
+    }
+
+    /// The number of entries.
+    pub fn len(&self) -> u32
+        ensures value { result ≡ length self.now.entries }
+        ensures map { IsMap self.now }
+    {
+        self.entries.len() as u32
+    }
+
+    /// The place of an address among the entries.
+    fn find(&self, addr: u32) -> Option<usize>
+        ensures place { MatchOption result (Misses self.now addr) (Finds self.now addr) }
+        ensures map { IsMap self.now }
+    {
+        let place = *self.places.get(addr as usize)? as usize;
+        let (at, _) = *self.entries.get(place)?;
+        if at == addr { Some(place) } else { None }
+    }
+
+    /// The number at an address.
+    pub fn get(&self, addr: u32) -> Option<u32>
+        ensures { result ≡ value_at self.now.entries addr }
+    {
+        let place = self.find(addr)?;
+        Some(self.entries[place].1)
+    }
+
+    /// Writes a number: in its place where the address is there, and else as the last entry.
+    pub fn put(&mut self, addr: u32, value: u32)
+        requires { addr < self.old.room }
+        ensures entries { self.new.entries ≡ put self.old.entries addr value }
+        ensures room { self.new.room ≡ self.old.room }
+    {
+        match self.find(addr) {
+            Some(place) => self.entries[place].1 = value,
+            None => {
+                self.places[addr as usize] = self.entries.len() as u32;
+                match self.entries.push((addr, value)) {
+                    Ok(()) => {}
+                    // there is room for each address once
+                    Err(_) => unreachable!(),
+                }
+            }
+        }
+    }
+
+    /// An entry: an address and its number.
+    pub fn entry(&self, i: u32) -> (u32, u32)
+        requires { i < length self.now.entries }
+        ensures value { result ≡ slice_index_or self.now.entries i (0, 0) }
+        ensures below { result.0 < self.now.room }
+    {
+        self.entries[i as usize]
+    }
+
+    /// Empties it.
+    pub fn clear(&mut self)
+        ensures entries { self.new.entries ≡ [] }
+        ensures room { self.new.room ≡ self.old.room }
+    {
+        self.entries.clear();
+    }
+}

@@ -1,0 +1,172 @@
+//! Where the data cells stand.
+
+ghost use Rattle.std.specs.Prelude.{◌≡◌, ◌<◌, ◌≤◌};
+
+/// Where the data cells stand: first those of each caller (its ticket, its reply's shape and its reply's numbers), then the store
+/// (registers, what the allocator counts, buckets, queues) and last the blocks.
+#[derive(Clone, Copy, Debug, PartialEq, Eq)]
+pub struct Plot {
+    /// How many callers there are, 1 to 16.
+    pub callers: u32,
+    /// The most instructions of a script, 1 to 16.
+    pub instrs: u32,
+    /// How many blocks there are, at most 512.
+    pub blocks: u32,
+    pub ghost some_callers: { 1 ≤ callers },
+    pub ghost few_callers: { callers ≤ 16 },
+    pub ghost some_instrs: { 1 ≤ instrs },
+    pub ghost few_instrs: { instrs ≤ 16 },
+    pub ghost few_blocks: { blocks ≤ 512 },
+}
+
+impl Plot {
+    ghost use Rattle.of_mem.specs.Plots.{base, size};
+    ghost use Rattle.of_mem.specs.Places.{ticket_at, shape_at, reply_at, register_at, fresh_at, free_at, keys_at, bucket_at, head_at, tail_at, length_at, block_at};
+
+    /// The first cell of a caller.
+    fn row(&self, caller: u32) -> u32
+        requires { caller ≤ self.now.callers }
+        ensures value { result ≡ ticket_at self.now.instrs caller }
+        ensures small { result ≤ 288 }
+    {
+        caller * (self.instrs + 2)
+    }
+
+    /// The first cell behind those of the callers.
+    pub fn base(&self) -> u32
+        ensures value { result ≡ base self.now }
+        ensures small { result ≤ 288 }
+    {
+        self.row(self.callers)
+    }
+
+    /// The number of data cells.
+    pub fn cells(&self) -> u32
+        ensures { result ≡ size self.now }
+    {
+        self.base() + 63 + 3 * self.blocks
+    }
+
+    /// The cell of a caller's ticket.
+    pub fn ticket(&self, caller: u32) -> u32
+        requires { caller < self.now.callers }
+        ensures { result ≡ ticket_at self.now.instrs caller }
+    {
+        self.row(caller)
+    }
+
+    /// The cell of the shape of a caller's reply.
+    pub fn shape(&self, caller: u32) -> u32
+        requires { caller < self.now.callers }
+        ensures { result ≡ shape_at self.now.instrs caller }
+    {
+        self.row(caller) + 1
+    }
+
+    /// The cell of a number of a caller's reply.
+    pub fn reply(&self, caller: u32, place: u32) -> u32
+        requires caller { caller < self.now.callers }
+        requires place { place < self.now.instrs }
+        ensures { result ≡ reply_at self.now.instrs caller place }
+    {
+        self.row(caller) + 2 + place
+    }
+
+    /// The cell of a register.
+    pub fn register(&self, r: u32) -> u32
+        requires { r < 16 }
+        ensures { result ≡ register_at (base self.now) r }
+    {
+        self.base() + r
+    }
+
+    /// The cell that counts the blocks that were taken at least once.
+    pub fn fresh(&self) -> u32
+        ensures { result ≡ fresh_at (base self.now) }
+    {
+        self.base() + 16
+    }
+
+    /// The front of the free list.
+    pub fn free(&self) -> u32
+        ensures { result ≡ free_at (base self.now) }
+    {
+        self.base() + 17
+    }
+
+    /// The cell that counts the keys.
+    pub fn keys(&self) -> u32
+        ensures { result ≡ keys_at (base self.now) }
+    {
+        self.base() + 18
+    }
+
+    /// The front of a bucket.
+    pub fn bucket(&self, b: u32) -> u32
+        requires { b < 32 }
+        ensures { result ≡ bucket_at (base self.now) b }
+    {
+        self.base() + 19 + b
+    }
+
+    /// The front of a queue.
+    pub fn head(&self, q: u32) -> u32
+        requires { q < 4 }
+        ensures { result ≡ head_at (base self.now) q }
+    {
+        self.base() + 51 + 3 * q
+    }
+
+    /// The cell that points to a queue's last block.
+    pub fn tail(&self, q: u32) -> u32
+        requires { q < 4 }
+        ensures { result ≡ tail_at (base self.now) q }
+    {
+        self.base() + 52 + 3 * q
+    }
+
+    /// The cell that counts a queue's items.
+    pub fn length(&self, q: u32) -> u32
+        requires { q < 4 }
+        ensures { result ≡ length_at (base self.now) q }
+    {
+        self.base() + 53 + 3 * q
+    }
+
+    /// A cell of a block: its first, its second or its link, fields 0, 1 and 2.
+    pub fn block(&self, b: u32, field: u32) -> u32
+        requires block { b < self.now.blocks }
+        requires field { field < 3 }
+        ensures { result ≡ block_at (base self.now) b field }
+    {
+        self.base() + 63 + 3 * b + field
+    }
+}
+
+#[cfg(test)]
+mod tests {
+    use crate::plot::Plot;
+
+    #[test]
+    fn lies_as_laid_out(rt: HostRuntime) {
+        let plot = Plot {
+            callers: 2,
+            instrs: 8,
+            blocks: 4,
+        };
+        assert_eq!(rt; plot.cells(), 95);
+        assert_eq!(rt;
+            (plot.ticket(1), plot.shape(1), plot.reply(1, 7)),
+            (10, 11, 19)
+        );
+        assert_eq!(rt;
+            (plot.register(3), plot.fresh(), plot.free(), plot.keys()),
+            (23, 36, 37, 38)
+        );
+        assert_eq!(rt;
+            (plot.bucket(31), plot.head(3), plot.tail(3), plot.length(3)),
+            (70, 80, 81, 82)
+        );
+        assert_eq!(rt; (plot.block(0, 0), plot.block(3, 2)), (83, 94));
+    }
+}

@@ -1,0 +1,118 @@
+-- The grammar of plans: which texts are in it, the plan of each, and the bad line of every other text.
+use Rattle.std.specs.Prelude.{◌≡◌, ℕ, ◌≤◌, ◌<◌, ◌⊎◌, List, [], ◌∷◌, ◌++◌, length, take, map, sum_by, filter_map, if◌then◌else◌, ◌==◌, Option, Some, None, IfSome}
+use Rattle.std.specs.Option.{unwrap_or}
+use Rattle.std.specs.List.{AllByRecursion, range_with_len}
+use Rattle.of_cell.specs.Cells.{durable_cells}
+use Rattle.of_script.specs.declared.instr.Instr.{Instr}
+use Rattle.of_script.specs.Language.{IsScript}
+use Rattle.of_plan.specs.declared.plan.Item.{Item}
+use Rattle.of_plan.specs.declared.plan.Item.TheVariants.{Turns as TurnsItem, Evict as EvictItem}
+use Rattle.of_plan.specs.declared.line.Entry.{Entry}
+use Rattle.of_plan.specs.declared.line.Entry.TheVariants.{Script, Stop, Turns, Evict}
+use Rattle.of_plan.specs.declared.line.Line.{Line}
+use Rattle.of_plan.specs.declared.line.Line.TheVariants.{Title, Callers, Blocks, Limit, Body, End}
+use Rattle.of_plan.specs.Lines.{lines, kept, line_words}
+use Rattle.of_plan.specs.Plan.{Plan, data_cells, turns_of}
+
+-- what the first lines say; the line of the limit may be absent
+pub record Heading : Type 0 where
+  pub callers : ℕ
+  pub blocks : ℕ
+  pub limit : Option ℕ
+
+abbrev pub limit_lines : Option ℕ → List Line
+limit_lines None = []
+limit_lines (Some x) = Limit x ∷ []
+
+abbrev pub heading_lines : Heading → List Line
+heading_lines h = Title ∷ Callers h.callers ∷ Blocks h.blocks ∷ limit_lines h.limit
+
+-- the lines that aren't skipped: a heading, the entries, and the end
+abbrev pub plan_lines : Heading → List Entry → List Line
+plan_lines h entries = heading_lines h ++ (map Body entries ++ End ∷ [])
+
+pub record IsHeading (h : Heading) : Type 0 where
+  pub some_callers : 1 ≤ h.callers
+  pub few_callers : h.callers ≤ 16
+  pub few_blocks : h.blocks ≤ 512
+  pub limit_range : IfSome h.limit (λ x. (1 ≤ x) × (x ≤ 4294967294))
+
+-- scripts, stops and turns are of a caller of the heading, and evictions of a cell that has a durable word; the bound on all turns bounds each
+abbrev pub InRange : Heading → Entry → Type 0
+InRange h (Script c script) = (c < h.callers) × IsScript script
+InRange h (Stop c x) = (c < h.callers) × (x ≤ 4294967295)
+InRange h (Turns c x) = (c < h.callers) × (1 ≤ x)
+InRange h (Evict a) = a < durable_cells h.callers (data_cells h.callers h.blocks)
+
+-- the script of that caller, where the entry is one
+abbrev pub script_at : ℕ → Entry → Option (List Instr)
+script_at c (Script d script) = if d == c then Some script else None
+script_at c _ = None
+
+-- the stop of that caller, where the entry is one
+abbrev pub stop_at : ℕ → Entry → Option ℕ
+stop_at c (Stop d x) = if d == c then Some x else None
+stop_at c _ = None
+
+-- the item of the schedule, where the entry is one
+abbrev pub item_of : Entry → Option Item
+item_of (Turns c x) = Some (TurnsItem c x)
+item_of (Evict a) = Some (EvictItem a)
+item_of _ = None
+
+-- 1 for a script, so that a sum counts them
+abbrev pub is_script : Entry → ℕ
+is_script (Script c script) = 1
+is_script _ = 0
+
+-- at most 20,000 scripts, 10,000,000 turns in all, and one stop a caller
+pub record AreEntries (h : Heading) (entries : List Entry) : Type 0 where
+  pub in_range : AllByRecursion (InRange h) entries
+  pub few_scripts : sum_by is_script entries ≤ 20000
+  pub few_turns : sum_by turns_of (filter_map item_of entries) ≤ 10000000
+  pub one_stop : (c : ℕ) → length (filter_map (stop_at c) entries) ≤ 1
+
+abbrev pub first_of : List ℕ → Option ℕ
+first_of [] = None
+first_of (x ∷ xs) = Some x
+
+-- the scripts of a caller, in the order of the entries
+abbrev pub scripts_in : List Entry → ℕ → List (List Instr)
+scripts_in entries c = filter_map (script_at c) entries
+
+abbrev pub stop_in : List Entry → ℕ → Option ℕ
+stop_in entries c = first_of (filter_map (stop_at c) entries)
+
+-- the plan of a heading and entries: each caller's scripts and stop, and the items, in the order of the entries
+abbrev pub plan_of : Heading → List Entry → Plan
+plan_of h entries = record {
+  callers = h.callers;
+  blocks = h.blocks;
+  limit = unwrap_or h.limit 4294967294;
+  scripts = map (scripts_in entries) (range_with_len 0 h.callers);
+  stops = map (stop_in entries) (range_with_len 0 h.callers);
+  schedule = filter_map item_of entries;
+}
+
+-- the text is in the grammar, and has this plan
+pub record SpellsPlan (text : List ℕ) (plan : Plan) : Type 0 where
+  pub heading : Heading
+  pub entries : List Entry
+  pub heading_fits : IsHeading heading
+  pub entries_fit : AreEntries heading entries
+  pub each : kept (lines text) ≡ map line_words (plan_lines heading entries)
+  pub is : plan ≡ plan_of heading entries
+
+-- the first j lines are those of some text of the grammar
+pub record BeginsWell (text : List ℕ) (j : ℕ) : Type 0 where
+  pub other : List ℕ
+  pub plan : Plan
+  pub spells : SpellsPlan other plan
+  pub same : take j (lines text) ≡ take j (lines other)
+
+-- the first line with which no text of the grammar begins, or the last where the text only stops too early
+pub record IsBadLine (text : List ℕ) (j : ℕ) : Type 0 where
+  pub first : 1 ≤ j
+  pub last : j ≤ length (lines text)
+  pub before : (k : ℕ) → k < j → BeginsWell text k
+  pub there : (BeginsWell text j → ⊥) ⊎ (j ≡ length (lines text))

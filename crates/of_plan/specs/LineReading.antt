@@ -1,0 +1,48 @@
+-- How the code reads a line: the ranges of its numbers, and what its words say.
+use Rattle.std.specs.Prelude.{◌≡◌, ℕ, ◌≤◌, false, ◌&&◌, List, [], ◌∷◌, if◌then◌else◌, codes, decimal, Option, None}
+use Rattle.std.specs.Str.{bytes_eq}
+use Rattle.of_script.specs.declared.instr.Instr.{Instr}
+use Rattle.of_script.specs.Language.{IsScript}
+use Rattle.of_script.specs.Text.{script_words}
+use Rattle.of_script.specs.Reading.{ended}
+use Rattle.of_plan.specs.declared.line.Entry.TheVariants.{Script, Stop, Turns, Evict}
+use Rattle.of_plan.specs.declared.line.Line.{Line}
+use Rattle.of_plan.specs.declared.line.Line.TheVariants.{Title, Callers, Blocks, Limit, Body, End}
+use Rattle.of_plan.specs.Lines.{is_skipped, line_words}
+
+-- the ranges of a line's numbers, whatever lines stand before it
+abbrev pub LineInRange : Line → Type 0
+LineInRange Title = Unit {0}
+LineInRange (Callers n) = n ≤ 16
+LineInRange (Blocks n) = n ≤ 512
+LineInRange (Limit x) = x ≤ 4294967294
+LineInRange (Body (Script c script)) = (c ≤ 15) × IsScript script
+LineInRange (Body (Stop c x)) = (c ≤ 15) × (x ≤ 4294967295)
+LineInRange (Body (Turns c x)) = (c ≤ 15) × (x ≤ 10000000)
+LineInRange (Body (Evict a)) = a ≤ 4294967295
+LineInRange End = Unit {0}
+
+-- the words are those of this line
+pub record Spells (ws : List (List ℕ)) (l : Line) : Type 0 where
+  pub kept : is_skipped ws ≡ false
+  pub words : ws ≡ line_words l
+  pub range : LineInRange l
+
+-- the words are no line's
+pub record SpellsNone (ws : List (List ℕ)) : Type 0 where
+  pub kept : is_skipped ws ≡ false
+  pub none : (l : Line) → LineInRange l → ws ≡ line_words l → ⊥
+
+-- how the title is read
+abbrev pub title_of : List (List ℕ) → Option Line
+title_of [] = None
+title_of (w ∷ []) = None
+title_of (w ∷ v ∷ ws) = if bytes_eq w (codes "plan") && bytes_eq v (codes "1") then ended Title ws else None
+
+-- the words after `script` are a caller's number and a script
+abbrev pub ScriptLine : List (List ℕ) → Line → Type 0
+ScriptLine ws (Body (Script c script)) = (ws ≡ decimal c ∷ script_words script) × (c ≤ 15) × IsScript script
+ScriptLine ws _ = ⊥
+
+abbrev pub NoScriptLine : List (List ℕ) → Type 0
+NoScriptLine ws = (c : ℕ) (script : List Instr) → c ≤ 15 → IsScript script → ws ≡ decimal c ∷ script_words script → ⊥

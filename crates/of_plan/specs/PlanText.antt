@@ -1,0 +1,60 @@
+-- The one printed text of a plan.
+use Rattle.std.specs.Prelude.{ℕ, ◌+◌, List, [], ◌∷◌, ◌++◌, map, flat_map, codes, decimal, Option, Some, None}
+use Rattle.of_script.specs.declared.instr.Instr.{Instr}
+use Rattle.of_script.specs.Text.{script_text}
+use Rattle.of_plan.specs.declared.plan.Item.{Item}
+use Rattle.of_plan.specs.declared.plan.Item.TheVariants.{Turns as TurnsItem, Evict as EvictItem}
+use Rattle.of_plan.specs.declared.line.Entry.{Entry}
+use Rattle.of_plan.specs.declared.line.Entry.TheVariants.{Script, Stop, Turns, Evict}
+use Rattle.of_plan.specs.declared.line.Line.{Line}
+use Rattle.of_plan.specs.declared.line.Line.TheVariants.{Title, Callers, Blocks, Limit, Body, End}
+use Rattle.of_plan.specs.Plan.{Plan}
+use Rattle.of_plan.specs.Grammar.{Heading, plan_lines}
+
+-- one space between words
+abbrev pub line_body : Line → List ℕ
+line_body Title = codes "onefile plan 1"
+line_body (Callers n) = codes "callers " ++ decimal n
+line_body (Blocks n) = codes "blocks " ++ decimal n
+line_body (Limit x) = codes "limit " ++ decimal x
+line_body (Body (Script c script)) = (codes "script " ++ decimal c ++ codes " ") ++ script_text script
+line_body (Body (Stop c x)) = codes "stop " ++ decimal c ++ codes " " ++ decimal x
+line_body (Body (Turns c x)) = codes "turns " ++ decimal c ++ codes " " ++ decimal x
+line_body (Body (Evict a)) = codes "evict " ++ decimal a
+line_body End = codes "end"
+
+abbrev pub line_text : Line → List ℕ
+line_text l = line_body l ++ codes "\n"
+
+abbrev pub entries_text : List Entry → List ℕ
+entries_text entries = flat_map line_text (map Body entries)
+
+-- the scripts of one caller
+abbrev pub caller_entries : ℕ → List (List Instr) → List Entry
+caller_entries c scripts = map (Script c) scripts
+
+-- the scripts of the first caller and of all after it
+abbrev pub script_entries : ℕ → List (List (List Instr)) → List Entry
+script_entries c [] = []
+script_entries c (scripts ∷ others) = caller_entries c scripts ++ script_entries (c + 1) others
+
+-- the stop of the first caller and of all after it
+abbrev pub stop_entries : ℕ → List (Option ℕ) → List Entry
+stop_entries c [] = []
+stop_entries c (None ∷ others) = stop_entries (c + 1) others
+stop_entries c (Some x ∷ others) = Stop c x ∷ stop_entries (c + 1) others
+
+abbrev pub item_entry : Item → Entry
+item_entry (TurnsItem c x) = Turns c x
+item_entry (EvictItem a) = Evict a
+
+-- the limit is always printed
+abbrev pub printed_heading : Plan → Heading
+printed_heading p = record { callers = p.callers; blocks = p.blocks; limit = Some p.limit }
+
+-- all scripts, caller by caller, then the stops, and then the schedule
+abbrev pub printed_entries : Plan → List Entry
+printed_entries p = script_entries 0 p.scripts ++ (stop_entries 0 p.stops ++ map item_entry p.schedule)
+
+abbrev pub plan_text : Plan → List ℕ
+plan_text p = flat_map line_text (plan_lines (printed_heading p) (printed_entries p))

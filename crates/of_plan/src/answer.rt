@@ -1,0 +1,33 @@
+//! What a call answered, and how a caller ended.
+
+use of_script::Reply;
+
+/// The answer of a call.
+#[derive(Clone, Copy, Debug, PartialEq, Eq)]
+pub struct Answer {
+    /// The sequence at which the call took effect.
+    pub seq: u32,
+    /// Whether the call was announced; only a script that writes nothing may be tried first.
+    pub announced: bool,
+    /// What its script answered.
+    pub reply: Reply,
+    /// How many atomic steps the call made.
+    pub steps: u64,
+}
+
+/// How the calls of a caller ended.
+#[derive(Clone, Copy, Debug, PartialEq, Eq)]
+pub enum Ending {
+    /// All its scripts are answered.
+    Done,
+    /// Its brake denied a step, the last of `asked` that its open call asked for.
+    Stopped {
+        /// How often the open call asked.
+        asked: u64,
+    },
+    /// No sequence was left for its next call.
+    Spent {
+        /// The sequence that the call found.
+        seq: u32,
+    },
+}

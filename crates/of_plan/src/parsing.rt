@@ -1,0 +1,80 @@
+//! Plans from their texts.
+
+ghost use Rattle.std.specs.Prelude.{◌≡◌, IfOk, IfErr, MatchResult};
+ghost use Rattle.of_plan.specs.Grammar.{SpellsPlan};
+ghost use Rattle.of_plan.specs.Progress.{progress_of, start};
+ghost use Rattle.of_plan.specs.Parsed.{IsRefused};
+ghost use Rattle.of_plan.specs.Plan.{Plan};
+ghost use Rattle.of_plan.specs.declared.parsing.PlanErr.TheVariants.{Memory};
+
+use crate::plan::{GREATEST_LIMIT, Plan};
+use crate::reading::{Reading, Stage};
+use of_script::text::cut;
+use std::alloc::{AllocError, Global};
+
+/// Why a text is no plan.
+#[derive(Clone, Copy, Debug, PartialEq, Eq)]
+pub enum PlanErr {
+    /// Memory ran out.
+    Memory,
+    /// The text isn't in the grammar, and this is its first line with which no plan's text begins.
+    Bad { line: u64 },
+}
+
+impl From<AllocError> for PlanErr {
+    ghost use Rattle.std.specs.Prelude.{◌≡◌};
+    ghost use Rattle.of_plan.specs.declared.parsing.PlanErr.TheVariants.{Memory};
+
+    ghost from_gives = { λ _ e. e ≡ Memory };
+
+    fn from(_e: AllocError) -> PlanErr {
+        PlanErr::Memory
+    }
+}
+
+// A reading of nothing yet.
+fn begun(alloc: Global) -> Reading
+    ensures { progress_of result ≡ start }
+{
+    Reading {
+        stage: Stage::Start,
+        callers: 0,
+        blocks: 0,
+        limit: GREATEST_LIMIT,
+        scripts: Vec::new(alloc),
+        stops: Vec::new(alloc),
+        schedule: Vec::new(alloc),
+        count: 0,
+        turns: 0,
+    }
+}
+
+/// The plan that a text spells.
+pub fn parse(alloc: Global, text: &[u8]) -> Result<Plan, PlanErr>
+    // What is read is spelled so.
+    ensures ok { IfOk result (SpellsPlan text.now) }
+    // A line that is named is the bad one, and then no plan is spelled.
+    ensures bad { IfErr result (IsRefused text.now) }
+    // A text of the grammar is answered by its plan, unless memory runs out.
+    ensures only { (plan : Plan) → SpellsPlan text.now plan → MatchResult result (λ p. p ≡ plan) (λ e. e ≡ Memory) }
+{
+    let mut reading = begun(alloc);
+    let mut number: u64 = 0;
+    let mut rest = text;
+    loop {
+        let (first, after) = cut(rest, b'\n');
+        number += 1;
+        if !reading.feed(alloc, first)? {
+            return Err(PlanErr::Bad { line: number });
+        }
+        match after {
+            Some(more) => rest = more,
+            None => {
+                return match reading.stage {
+                    Stage::Ended => Ok(Plan::made(reading)),
+                    _ => Err(PlanErr::Bad { line: number }),
+                };
+            }
+        }
+    }
+}

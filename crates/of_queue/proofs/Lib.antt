@@ -1,0 +1,4 @@
+pub mod Pushes
+pub mod Pops
+pub mod Knows
+pub mod Wholes

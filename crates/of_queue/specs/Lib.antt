@@ -1,0 +1,3 @@
+pub mod QueuePrograms
+pub mod Fronts
+pub mod Means

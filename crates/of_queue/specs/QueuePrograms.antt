@@ -1,0 +1,68 @@
+-- What the calls of a queue read and write, and in which order.
+use Rattle.std.specs.Prelude.{ℕ, zero, suc, ◌+◌, ◌-◌, Bool, true, false, Option, Some, None}
+use Rattle.of_mem.specs.Places.{head_at, tail_at, length_at}
+use Rattle.of_mem.specs.Stores.{first_at, link_at}
+use Rattle.of_mem.specs.Programs.{Program, Done, Read, Write, then_do}
+use Rattle.of_alloc.specs.BlockPrograms.{take_program, give_program}
+
+-- Pushing an item behind a queue: whether there was a block for it.
+
+abbrev pub longer : ℕ → ℕ → ℕ → Program Bool
+longer o q n = Write (length_at o q) (n + 1) (Done true)
+
+abbrev pub new_tail : ℕ → ℕ → ℕ → Program Bool
+new_tail o q b = Write (tail_at o q) (b + 1) (Read (length_at o q) (longer o q))
+
+-- the pointer cell behind the last block, by the pointer that tail holds
+abbrev pub last_cell : ℕ → ℕ → ℕ → ℕ
+last_cell o q zero = head_at o q
+last_cell o q (suc t) = link_at o t
+
+abbrev pub with_tail : ℕ → ℕ → ℕ → ℕ → Program Bool
+with_tail o q b tail = Write (last_cell o q tail) (b + 1) (new_tail o q b)
+
+abbrev pub push_new : ℕ → ℕ → ℕ → Option ℕ → Program Bool
+push_new o q v None = Done false
+push_new o q v (Some b) = Write (first_at o b) v (Write (link_at o b) 0 (Read (tail_at o q) (with_tail o q b)))
+
+abbrev pub push_program : ℕ → ℕ → ℕ → ℕ → Program Bool
+push_program o blocks q v = then_do (take_program o blocks) (push_new o q v)
+
+-- Popping the front item.
+
+abbrev pub shorter : ℕ → ℕ → ℕ → ℕ → Program (Option ℕ)
+shorter o q v n = Write (length_at o q) (n - 1) (Done (Some v))
+
+abbrev pub given : ℕ → ℕ → ℕ → Unit {0} → Program (Option ℕ)
+given o q v u = Read (length_at o q) (shorter o q v)
+
+-- the block goes back, and one item less is counted
+abbrev pub drop_block : ℕ → ℕ → ℕ → ℕ → Program (Option ℕ)
+drop_block o q b v = then_do (give_program o b) (given o q v)
+
+-- by the link of the block that leaves: where it is 0 nothing is left
+abbrev pub new_end : ℕ → ℕ → ℕ → ℕ → ℕ → Program (Option ℕ)
+new_end o q b v zero = Write (tail_at o q) 0 (drop_block o q b v)
+new_end o q b v (suc t) = drop_block o q b v
+
+abbrev pub with_link : ℕ → ℕ → ℕ → ℕ → ℕ → Program (Option ℕ)
+with_link o q b v link = Write (head_at o q) link (new_end o q b v link)
+
+abbrev pub with_first : ℕ → ℕ → ℕ → ℕ → Program (Option ℕ)
+with_first o q b v = Read (link_at o b) (with_link o q b v)
+
+abbrev pub front_program : ℕ → ℕ → ℕ → Program (Option ℕ)
+front_program o q b = Read (first_at o b) (with_first o q b)
+
+-- by the pointer that head holds
+abbrev pub with_head : ℕ → ℕ → ℕ → Program (Option ℕ)
+with_head o q zero = Done None
+with_head o q (suc b) = front_program o q b
+
+abbrev pub pop_program : ℕ → ℕ → Program (Option ℕ)
+pop_program o q = Read (head_at o q) (with_head o q)
+
+-- Counting the items.
+
+abbrev pub len_program : ℕ → ℕ → Program ℕ
+len_program o q = Read (length_at o q) Done

@@ -1,0 +1,4 @@
+pub mod Row
+pub mod Log
+pub mod Recovered
+pub mod Walk

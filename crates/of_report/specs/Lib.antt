@@ -1,0 +1,4 @@
+pub mod Report
+pub mod StoreText
+pub mod ReportText
+pub mod Examples

@@ -1,0 +1,145 @@
+//! Texts of reports.
+
+ghost use Rattle.std.specs.Prelude.{◌≡◌, ◌++◌, IfOk, OnOk, flat_map, map, take, string_bytes};
+ghost use Rattle.std.specs.List.{enumerate_from};
+ghost use Rattle.of_store.specs.Replies.{response_of};
+ghost use Rattle.of_report.specs.Report.{entry_of, line_of, state_of, report_of};
+ghost use Rattle.of_report.specs.ReportText.{value_text, cause_text, reply_text, kind_text, entry_line, state_text, caller_line, seq_line, report_text};
+
+use crate::report::{Entry, Line, Report};
+use crate::store::put_store;
+use of_plan::Ending;
+use of_script::{Cause, Reply};
+use std::alloc::{AllocError, Global};
+use std::fmt::Write;
+
+// The word of a cause.
+fn cause_name(cause: Cause) -> &'static str
+    ensures { result.now ≡ cause_text cause }
+{
+    match cause {
+        Cause::Overflow => "overflow",
+        Cause::Short => "short",
+        Cause::NoRoom => "noroom",
+        Cause::Differs => "differs",
+        Cause::BadOp => "badop",
+    }
+}
+
+// Writes the value of an instruction behind a space.
+fn put_value(out: &mut String, value: Option<u32>) -> Result<(), AllocError>
+    ensures { OnOk result (string_bytes out.new ≡ string_bytes out.old ++ value_text value) }
+{
+    match value {
+        Some(number) => write!(out, " {number}"),
+        None => out.push_str(" none"),
+    }
+}
+
+// The values of the instructions that were run.
+fn answered(reply: &Reply) -> &[Option<u32>]
+    ensures { result.now ≡ take reply.now.len reply.now.values }
+{
+    let values = reply.values.as_slice();
+    &values[..usize::from(reply.len).min(values.len())]
+}
+
+// Writes the words of a reply, each behind a space.
+fn put_reply(out: &mut String, reply: &Reply) -> Result<(), AllocError>
+    ensures { OnOk result (string_bytes out.new ≡ string_bytes out.old ++ reply_text (response_of reply.now)) }
+{
+    match reply.abort {
+        Some(abort) => {
+            let place = abort.place;
+            let cause = cause_name(abort.cause);
+            write!(out, " abort {place} {cause}")
+        }
+        None => {
+            for value in answered(reply) {
+                put_value(out, *value)?;
+            }
+            Ok(())
+        }
+    }
+}
+
+// The word of an entry's kind.
+fn kind_name(announced: bool) -> &'static str
+    ensures { result.now ≡ kind_text announced }
+{
+    if announced { "run" } else { "read" }
+}
+
+// Writes the line of an entry.
+fn put_entry(out: &mut String, entry: &Entry) -> Result<(), AllocError>
+    ensures { OnOk result (string_bytes out.new ≡ string_bytes out.old ++ entry_line (entry_of entry.now)) }
+{
+    let kind = kind_name(entry.announced);
+    write!(out, "entry {} {}", entry.seq, entry.caller)?;
+    write!(out, " {} {kind}", entry.index)?;
+    put_reply(out, &entry.reply)?;
+    out.push_str("\n")
+}
+
+// The word of an ending.
+fn ending_name(ending: Ending) -> &'static str
+    ensures { result.now ≡ state_text (state_of ending) }
+{
+    match ending {
+        Ending::Done => "done",
+        Ending::Stopped { .. } => "stopped",
+        Ending::Spent { .. } => "spent",
+    }
+}
+
+// Writes the line of a caller.
+fn put_caller(out: &mut String, caller: usize, line: &Line) -> Result<(), AllocError>
+    ensures { OnOk result (string_bytes out.new ≡ string_bytes out.old ++ caller_line (caller, line_of line.now)) }
+{
+    let ending = ending_name(line.ending);
+    write!(out, "caller {caller} {ending}")?;
+    write!(out, " {} {}", line.answered, line.entries)?;
+    writeln!(out, " {}", line.longest)
+}
+
+// Writes the line of the sequence.
+fn put_seq(out: &mut String, seq: u32) -> Result<(), AllocError>
+    ensures { OnOk result (string_bytes out.new ≡ string_bytes out.old ++ seq_line seq) }
+{
+    writeln!(out, "seq {seq}")
+}
+
+// Writes the lines of the entries.
+fn put_entries(out: &mut String, entries: &[Entry]) -> Result<(), AllocError>
+    ensures { OnOk result (string_bytes out.new ≡ string_bytes out.old ++ flat_map entry_line (map entry_of entries.now)) }
+{
+    for entry in entries {
+        put_entry(out, entry)?;
+    }
+    Ok(())
+}
+
+// Writes the lines of the callers.
+fn put_callers(out: &mut String, callers: &[Line]) -> Result<(), AllocError>
+    ensures { OnOk result (string_bytes out.new ≡ string_bytes out.old ++ flat_map caller_line (enumerate_from 0 (map line_of callers.now))) }
+{
+    for (caller, line) in callers.iter().enumerate() {
+        put_caller(out, caller, line)?;
+    }
+    Ok(())
+}
+
+impl Report {
+    /// The text of the report.
+    pub fn print(&self, alloc: Global) -> Result<Vec<u8>, AllocError>
+        ensures { IfOk result (λ text. text.items ≡ report_text (report_of self.now)) }
+    {
+        let mut out = String::from_str(alloc, "onefile report 1\n")?;
+        put_entries(&mut out, &self.entries)?;
+        put_callers(&mut out, &self.callers)?;
+        put_seq(&mut out, self.seq)?;
+        put_store(&mut out, &self.store)?;
+        out.push_str("end\n")?;
+        Ok(out.into_bytes())
+    }
+}

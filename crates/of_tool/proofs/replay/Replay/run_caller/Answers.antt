@@ -1,0 +1,37 @@
+use Rattle.std.proofs.Common.{◌≡◌, ◌-◌, ◌++◌, List, [], length, take, get_or, map, ap, ◌∙◌, arith}
+use Rattle.std.specs.List.{range_with_len}
+use Rattle.std.proofs.lemmas.List.{length-take}
+use Rattle.of_plan.specs.Plan.{scripts_of}
+use Rattle.of_script.specs.declared.instr.Instr.{Instr}
+use Rattle.of_plan.specs.Serial.{Call, called_script, calls_of}
+use Rattle.of_tool.specs.Replay.{History, history_after, after_call}
+use Rattle.of_tool.proofs.Histories.{one_more_call, next_call, first_calls, read_in_front, take_at_most, length-calls_of}
+use Rattle.of_tool.proofs.replay.Replay.run_caller.Goals as goal
+
+pub loop-index-preserved : goal.loop-index-preserved
+loop-index-preserved c =
+    let p = c.args.plan.now in
+    let call : Call = (c.args.caller, c.loop-index.index) in
+    let script : c.index-scripts-index.result ≡ called_script p call =
+    read_in_front c.scripts-scripts.result.now c.min.result c.loop-index.index c.index-scripts-index.result [] c.index-scripts-index.is
+    (omega (arith, length-take c.min.result c.scripts-scripts.result.now)) (omega (arith, length-take c.min.result c.scripts-scripts.result.now))
+    ∙ ap (λ (xs : List (List Instr)). get_or xs c.loop-index.index []) c.scripts-scripts.ensures.value in
+    record {
+      seq = omega (arith, ap (λ (h : History). h.seq) c.in_ok-run_call.ensures, c.loop-index.invariant.seq);
+      runs = λ calls same.
+          c.in_ok-run_call.ensures ∙ ap (λ (h : History). after_call h call c.index-scripts-index.result) (c.loop-index.invariant.runs calls same)
+          ∙ ap (λ (s : List Instr). after_call (history_after p (calls ++ map (λ j. (c.args.caller, j)) (range_with_len 0 c.loop-index.index))) call s) script
+          ∙ one_more_call p (calls ++ map (λ j. (c.args.caller, j)) (range_with_len 0 c.loop-index.index)) call
+          ∙ next_call p calls c.args.caller c.loop-index.index;
+    }
+
+front : (c : goal.After-loop-index) → map (λ i. (c.args.caller, i)) (range_with_len 0 c.loop-index.index) ≡ take (c.args.plan.now.limit - c.args.self.now.seq) (calls_of c.args.plan.now c.args.caller)
+front c =
+    let xs = c.scripts-scripts.result.now in
+    let many : length xs ≡ length (scripts_of c.args.plan.now c.args.caller) = ap length c.scripts-scripts.ensures.value in
+    let size : length (take c.min.result xs) ≡ c.min.result = omega (arith, length-take c.min.result xs) in
+    first_calls c.args.plan.now c.args.caller c.loop-index.index (omega arith)
+    ∙ take_at_most (calls_of c.args.plan.now c.args.caller) (c.args.plan.now.limit - c.args.self.now.seq) c.loop-index.index (omega (arith, length-calls_of c.args.plan.now c.args.caller))
+
+pub returns-clause-runs : goal.returns-clause-runs
+returns-clause-runs c = λ calls same. c.loop-index.invariant.runs calls same ∙ ap (λ (t : List Call). history_after c.args.plan.now (calls ++ t)) (front c)

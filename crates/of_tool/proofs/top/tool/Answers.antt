@@ -1,0 +1,33 @@
+use Rattle.std.proofs.Common.{inl, inr, subst, ◌∙◌, refl}
+use Rattle.std.specs.Io.KnownBytes.{Appends}
+use Rattle.of_io.specs.Faults.{AppendsFront}
+use Rattle.of_tool.proofs.CommandLemmas.{help_answer, version_answer, serial_answer, done_where_valid}
+use Rattle.of_tool.proofs.top.tool.Goals as goal
+
+pub returns-in-Ok-write_all-clause-serial : goal.returns-in-Ok-write_all-clause-serial
+returns-in-Ok-write_all-clause-serial g c = λ is done.
+    serial_answer _ _ _ _ _ _ _ is done c.in-Ok.ensures.answered
+    (record { bytes = subst (Appends _ _) c.deref.ensures.value c.in-Ok-write_all.ensures.ok; finished = c.in-Ok-write_all.ensures.finished })
+
+pub returns-in-Ok-write_all-clause-help : goal.returns-in-Ok-write_all-clause-help
+returns-in-Ok-write_all-clause-help g c = λ is.
+    let a = help_answer _ _ _ _ _ is c.in-Ok.ensures.answered in
+    inl (a.0, record { bytes = subst (Appends _ _) (c.deref.ensures.value ∙ a.1) c.in-Ok-write_all.ensures.ok; finished = c.in-Ok-write_all.ensures.finished })
+
+pub returns-in-Ok-write_all-clause-version : goal.returns-in-Ok-write_all-clause-version
+returns-in-Ok-write_all-clause-version g c = λ is.
+    let a = version_answer _ _ _ _ _ is c.in-Ok.ensures.answered in
+    inl (a.0, record { bytes = subst (Appends _ _) (c.deref.ensures.value ∙ a.1) c.in-Ok-write_all.ensures.ok; finished = c.in-Ok-write_all.ensures.finished })
+
+pub returns-clause-help : goal.returns-clause-help
+returns-clause-help g c = λ is.
+    let a = help_answer _ _ _ _ _ is c.in-Ok.ensures.answered in
+    inr (inl (refl, c.in-Err-write_all.ensures.cause.failed, subst (AppendsFront _ _) (c.deref.ensures.value ∙ a.1) c.in-Err-write_all.ensures.err))
+
+pub returns-clause-version : goal.returns-clause-version
+returns-clause-version g c = λ is.
+    let a = version_answer _ _ _ _ _ is c.in-Ok.ensures.answered in
+    inr (inl (refl, c.in-Err-write_all.ensures.cause.failed, subst (AppendsFront _ _) (c.deref.ensures.value ∙ a.1) c.in-Err-write_all.ensures.err))
+
+pub returns-in-Ok-write_all-clause-complete : goal.returns-in-Ok-write_all-clause-complete
+returns-in-Ok-write_all-clause-complete g c = λ command is valid calm written. inl (done_where_valid _ _ _ command _ _ is valid calm c.in-Ok.ensures.answered)

@@ -1,0 +1,4 @@
+pub mod Commands
+pub mod Verdicts
+pub mod Answer
+pub mod Replay

@@ -1,0 +1,35 @@
+-- How the code runs a plan: call by call.
+use Rattle.std.specs.Prelude.{ℕ, ◌+◌, List, [], ◌∷◌, ◌++◌, length, map}
+use Rattle.std.specs.List.{enumerate_from, zip}
+use Rattle.of_script.specs.declared.instr.Instr.{Instr}
+use Rattle.of_store.specs.State.{State, run, empty_store, replies, last_store}
+use Rattle.of_plan.specs.Plan.{Plan}
+use Rattle.of_plan.specs.Report.{CallEntry}
+use Rattle.of_plan.specs.Serial.{Call, called_script, serial_entry}
+use Rattle.of_report.specs.Report.{entry_of}
+use Rattle.of_tool.specs.declared.replay.Replay.{Replay}
+
+-- the entries so far, the sequence of the last, and the store that it left
+pub record History : Type 0 where
+  pub entries : List CallEntry
+  pub seq : ℕ
+  pub store : State
+
+abbrev pub history_of : Replay → History
+history_of r = record { entries = map entry_of r.entries.items; seq = r.seq; store = r.store }
+
+-- one more call, with this script
+abbrev pub after_call : History → Call → List Instr → History
+after_call h call script = record {
+  entries = h.entries ++ serial_entry (h.seq + 1, (call, (run h.store script).1)) ∷ [];
+  seq = h.seq + 1;
+  store = (run h.store script).0;
+}
+
+-- these calls of a plan, from the empty store on
+abbrev pub history_after : Plan → List Call → History
+history_after p calls = record {
+  entries = map serial_entry (enumerate_from 1 (zip calls (replies (empty_store p.blocks) (map (called_script p) calls))));
+  seq = length calls;
+  store = last_store (empty_store p.blocks) (map (called_script p) calls);
+}

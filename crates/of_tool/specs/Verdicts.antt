@@ -1,0 +1,150 @@
+-- What the top call answers: a verdict has a status, a text and a cause, and the causes exclude each other.
+use Rattle.std.specs.Prelude.{◌≡◌, ℕ, ◌≤◌, ◌⊎◌, Bool, IsTrue, List, ◌++◌, length, codes, decimal, Option, Some}
+use Rattle.std.specs.Io.KnownBytes.{Appends, Consumes, IsAtEnd}
+use Rattle.of_io.specs.Faults.{Rose, AppendsFront, TakesMoreThan}
+use Rattle.of_plan.specs.Plan.{Plan}
+use Rattle.of_plan.specs.Grammar.{SpellsPlan, IsBadLine}
+use Rattle.of_plan.specs.Report.{empty_start}
+use Rattle.of_plan.specs.Legal.{IsLegal}
+use Rattle.of_plan.specs.Serial.{serial_report}
+use Rattle.of_report.specs.ReportText.{report_text}
+use Rattle.of_tool.specs.declared.command.Command.{Command}
+use Rattle.of_tool.specs.declared.command.Command.TheVariants.{Serial, Help, Version}
+use Rattle.of_tool.specs.declared.command.TheConstants.{HELP, VERSION}
+use Rattle.of_tool.specs.declared.status.TheConstants.{DONE, OUT_OF_MEMORY, USAGE, READ_FAULT, WRITE_FAULT, BAD_PLAN, TOO_LONG}
+use Rattle.of_tool.specs.declared.top.TheConstants.{MOST_INPUT}
+use Rattle.of_tool.specs.Commands.{words_of, IsNoCommand}
+
+pub data Verdict : Type 0 where
+  Helped : Verdict
+  Named : Verdict
+  Replayed : Plan → Verdict
+  NoCommand : Verdict
+  ReadFault : Verdict
+  TooLong : Verdict
+  BadPlan : ℕ → Verdict
+
+abbrev pub status_of : Verdict → ℕ
+status_of Helped = DONE
+status_of Named = DONE
+status_of (Replayed plan) = DONE
+status_of NoCommand = USAGE
+status_of ReadFault = READ_FAULT
+status_of TooLong = TOO_LONG
+status_of (BadPlan line) = BAD_PLAN
+
+-- what is to be written
+abbrev pub text_of : Verdict → List ℕ
+text_of Helped = HELP.now
+text_of Named = VERSION.now
+text_of (Replayed plan) = report_text (serial_report plan)
+text_of NoCommand = codes "error: usage\n"
+text_of ReadFault = codes "error: read fault\n"
+text_of TooLong = codes "error: input too long\n"
+text_of (BadPlan line) = codes "error: bad plan, line " ++ decimal line ++ codes "\n"
+
+-- a source: what is left, where it tells that, and how often it has failed
+pub record SourceState : Type 0 where
+  pub left : Option (List ℕ)
+  pub faults : ℕ
+
+abbrev pub source_state : Option (List ℕ) → ℕ → SourceState
+source_state left faults = record { left = left; faults = faults }
+
+-- a sink: what is written, where it tells that, whether that is finished, and how often it has failed
+pub record SinkState : Type 0 where
+  pub bytes : Option (List ℕ)
+  pub finished : Bool
+  pub faults : ℕ
+
+abbrev pub sink_state : Option (List ℕ) → Bool → ℕ → SinkState
+sink_state bytes finished faults = record { bytes = bytes; finished = finished; faults = faults }
+
+-- the source was read to its end, and these were the bytes
+pub record ReadsAll (before after : SourceState) (bytes : List ℕ) : Type 0 where
+  pub taken : Consumes before.left after.left bytes
+  pub ended : IsAtEnd after.left
+  pub few : length bytes ≤ MOST_INPUT
+
+-- the whole input is the text of this plan
+pub record ReadsPlan (before after : SourceState) (plan : Plan) : Type 0 where
+  pub bytes : List ℕ
+  pub read : ReadsAll before after bytes
+  pub spelled : SpellsPlan bytes plan
+
+-- the whole input is no plan's text, and this is its bad line
+pub record ReadsNoPlan (before after : SourceState) (line : ℕ) : Type 0 where
+  pub bytes : List ℕ
+  pub read : ReadsAll before after bytes
+  pub bad : IsBadLine bytes line
+  pub none : (plan : Plan) → SpellsPlan bytes plan → ⊥
+
+-- the words are those of a command that reads a plan
+abbrev pub AskForPlan : List (List ℕ) → Type 0
+AskForPlan words = words ≡ words_of Serial
+
+-- why a verdict comes
+abbrev pub HasCause : List (List ℕ) → SourceState → SourceState → Verdict → Type 0
+HasCause words before after Helped = words ≡ words_of Help
+HasCause words before after Named = words ≡ words_of Version
+HasCause words before after (Replayed plan) = (words ≡ words_of Serial) × ReadsPlan before after plan
+HasCause words before after NoCommand = IsNoCommand words
+HasCause words before after ReadFault = AskForPlan words × Rose before.faults after.faults
+HasCause words before after TooLong = AskForPlan words × TakesMoreThan MOST_INPUT before.left after.left
+HasCause words before after (BadPlan line) = AskForPlan words × ReadsNoPlan before after line
+
+-- the status and the text are those of a verdict with its cause
+pub record IsAnswer (words : List (List ℕ)) (before after : SourceState) (status : ℕ) (text : List ℕ) : Type 0 where
+  pub verdict : Verdict
+  pub cause : HasCause words before after verdict
+  pub status_is : status ≡ status_of verdict
+  pub text_is : text ≡ text_of verdict
+
+-- the whole text was written and finished
+pub record IsWritten (old new : SinkState) (text : List ℕ) : Type 0 where
+  pub bytes : Appends old.bytes new.bytes text
+  pub finished : IsTrue new.finished
+
+-- the status is the verdict's, and its text was written
+pub record IsTold (words : List (List ℕ)) (before after : SourceState) (old new : SinkState) (status : ℕ) : Type 0 where
+  pub text : List ℕ
+  pub answer : IsAnswer words before after status text
+  pub written : IsWritten old new text
+
+-- writing failed: a front of the verdict's text was written
+pub record IsWriteFault (words : List (List ℕ)) (before after : SourceState) (old new : SinkState) (status : ℕ) : Type 0 where
+  pub is : status ≡ WRITE_FAULT
+  pub fault : Rose old.faults new.faults
+  pub text : List ℕ
+  pub meant : ℕ
+  pub answer : IsAnswer words before after meant text
+  pub written : AppendsFront old.bytes new.bytes text
+
+-- memory ran out: nothing was written
+pub record IsOutOfMemory (old new : SinkState) (status : ℕ) : Type 0 where
+  pub is : status ≡ OUT_OF_MEMORY
+  pub written : new ≡ old
+
+-- each status comes with its cause, and there is no other
+abbrev pub Answers : List (List ℕ) → SourceState → SourceState → SinkState → SinkState → ℕ → Type 0
+Answers words before after old new status =
+    IsTold words before after old new status ⊎ (IsWriteFault words before after old new status ⊎ IsOutOfMemory old new status)
+
+-- the whole input is a plan's text, and the report of its serial replay was written, which is a legal one
+pub record IsReplayed (before after : SourceState) (old new : SinkState) : Type 0 where
+  pub plan : Plan
+  pub read : ReadsPlan before after plan
+  pub legal : IsLegal plan (empty_start plan) (serial_report plan)
+  pub written : IsWritten old new (report_text (serial_report plan))
+
+-- a call that is to write this text wrote it, or a front of it where writing failed, or nothing where memory ran out
+abbrev pub Prints : List ℕ → SinkState → SinkState → ℕ → Type 0
+Prints text old new status =
+    ((status ≡ DONE) × IsWritten old new text)
+    ⊎ (((status ≡ WRITE_FAULT) × Rose old.faults new.faults × AppendsFront old.bytes new.bytes text) ⊎ IsOutOfMemory old new status)
+
+-- the input of a command is within the limit, and is what the command reads
+abbrev pub IsValidInput : Command → Option (List ℕ) → Type 0
+IsValidInput Serial left = (bytes : List ℕ) × (plan : Plan) × (left ≡ Some bytes) × (length bytes ≤ MOST_INPUT) × SpellsPlan bytes plan
+IsValidInput Help left = Unit {0}
+IsValidInput Version left = Unit {0}

@@ -1,0 +1,48 @@
+//! The commands and their words.
+
+ghost use Rattle.std.specs.Prelude.{◌≡◌, MatchOption};
+ghost use Rattle.of_tool.specs.Commands.{texts, words_of, IsNoCommand};
+
+/// What `--help` prints.
+pub const HELP: &str = "usage: onefile COMMAND
+
+Runs scripts of transactions on a store of registers, keys and queues.
+
+serial      reads a plan, runs its scripts one after another, prints the report
+--help      reads nothing, prints this text
+--version   reads nothing, prints the name and the version
+
+Input is read from standard input. An example:
+    onefile serial < examples/first.plan
+";
+
+/// What `--version` prints.
+pub const VERSION: &str = "onefile 0.1.0\n";
+
+/// What the program can be told to do.
+#[derive(Clone, Copy, Debug, PartialEq, Eq)]
+pub enum Command {
+    /// Reads a plan, runs its scripts one after another, and prints the report.
+    Serial,
+    /// Prints how the program is used.
+    Help,
+    /// Prints the name and the version.
+    Version,
+}
+
+impl Command {
+    /// The command that the words are, where they are one.
+    pub fn from_words(words: &[String]) -> Option<Command>
+        ensures { MatchOption result (IsNoCommand (texts words.now)) (λ command. texts words.now ≡ words_of command) }
+    {
+        match words {
+            [word] => match word.as_str() {
+                "serial" => Some(Command::Serial),
+                "--help" => Some(Command::Help),
+                "--version" => Some(Command::Version),
+                _ => None,
+            },
+            _ => None,
+        }
+    }
+}

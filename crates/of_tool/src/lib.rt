@@ -1,0 +1,11 @@
+//! The top call: what the words of a command line do with a source and a sink.
+#![tactic(auto)]
+
+mod command;
+mod replay;
+pub mod status;
+mod top;
+
+pub use command::{Command, HELP, VERSION};
+pub use replay::serial;
+pub use top::{MOST_INPUT, tool};

@@ -1,0 +1,22 @@
+//! The exit statuses.
+
+/// The work is done, and the whole text was written.
+pub const DONE: u8 = 0;
+
+/// Memory ran out, and nothing was written.
+pub const OUT_OF_MEMORY: u8 = 1;
+
+/// The words are no command.
+pub const USAGE: u8 = 2;
+
+/// A read failed.
+pub const READ_FAULT: u8 = 3;
+
+/// A write failed, and a front of the text was written.
+pub const WRITE_FAULT: u8 = 4;
+
+/// The input is no plan.
+pub const BAD_PLAN: u8 = 5;
+
+/// The input is longer than a command reads.
+pub const TOO_LONG: u8 = 6;

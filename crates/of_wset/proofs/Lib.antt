@@ -1,0 +1,4 @@
+pub mod Walks
+pub mod Lookups
+pub mod Maps
+pub mod Writes

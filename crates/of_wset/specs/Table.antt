@@ -1,0 +1,72 @@
+-- What holds of a table and the entries that it finds, and what a look-up ends with. No contract of `WriteSet` speaks of it.
+use Rattle.std.specs.Prelude.{◌≡◌, ◌≢◌, ℕ, ◌*◌, ◌<◌, ◌≤◌, List, length, map, Option, Some, None, slice_index_or}
+use Rattle.std.specs.Int.{IsNextPowerOfTwo}
+use Rattle.of_wset.specs.declared.table.Entry.{Entry}
+use Rattle.of_wset.specs.declared.table.Found.{Found}
+use Rattle.of_wset.specs.declared.table.Found.TheVariants.{Entry as AtEntry, Free}
+use Rattle.of_wset.specs.Walk.{hash_place, steps}
+
+-- the pair of an entry
+abbrev pub pair : Entry → ℕ × ℕ
+pair e = (e.addr, e.value)
+
+-- the pairs of address and value
+abbrev pub pairs : List Entry → List (ℕ × ℕ)
+pairs es = map pair es
+
+-- an entry that none is
+abbrev pub nowhere : Entry
+nowhere = record { addr = 0; value = 0; place = 0 }
+
+-- entry k
+abbrev pub entry : List Entry → ℕ → Entry
+entry es k = slice_index_or es k nowhere
+
+-- what a place holds
+abbrev pub held : List (Option ℕ) → ℕ → Option ℕ
+held t p = slice_index_or t p None
+
+-- some entry has the place
+abbrev pub IsTaken : List (Option ℕ) → ℕ → Type 0
+IsTaken t p = (k : ℕ) × (held t p ≡ Some k)
+
+-- every place on the walk for an address, up to the place p, is taken
+abbrev pub Reaches : List (Option ℕ) → (addr p : ℕ) → Type 0
+Reaches t a p = (q : ℕ) → q < length t → steps (length t) (hash_place (length t) a) q < steps (length t) (hash_place (length t) a) p → IsTaken t q
+
+-- a taken place is that of an entry, and each entry stands at its place, which the walk for its address reaches
+pub record IsTable (es : List Entry) (t : List (Option ℕ)) : Type 0 where
+  pub some_free : length es < length t
+  pub named : (p k : ℕ) → held t p ≡ Some k → (k < length es) × ((entry es k).place ≡ p)
+  pub kept : (k : ℕ) → k < length es → held t (entry es k).place ≡ Some k
+  pub reached : (k : ℕ) → k < length es → Reaches t (entry es k).addr (entry es k).place
+
+-- the address is in no entry
+abbrev pub IsAbsent : List Entry → ℕ → Type 0
+IsAbsent es a = (k : ℕ) → k < length es → (entry es k).addr ≡ a → ⊥
+
+-- the walk for an address has left only other addresses behind when it comes to the place p
+abbrev pub Passes : List Entry → List (Option ℕ) → (addr p : ℕ) → Type 0
+Passes es t a p = (q : ℕ) → q < length t → steps (length t) (hash_place (length t) a) q < steps (length t) (hash_place (length t) a) p → (k : ℕ) × (held t q ≡ Some k) × ((entry es k).addr ≢ a)
+
+-- a free place at which the walk for an absent address ends
+pub record IsFree (es : List Entry) (t : List (Option ℕ)) (a p : ℕ) : Type 0 where
+  pub absent : IsAbsent es a
+  pub below : p < length t
+  pub free : held t p ≡ None
+  pub reached : Reaches t a p
+
+-- what a look-up ends with
+abbrev pub EndsAt : List Entry → List (Option ℕ) → ℕ → Found → Type 0
+EndsAt es t a (AtEntry k) = (k < length es) × ((entry es k).addr ≡ a)
+EndsAt es t a (Free p) = IsFree es t a p
+
+-- the invariant of a write-set: a map whose entries the table finds, with room for more of them
+pub record IsWriteSet (room : ℕ) (es : List Entry) (t : List (Option ℕ)) (capacity : ℕ) : Type 0 where
+  pub fits : room < 4294967296
+  pub spare : room ≤ capacity
+  -- the places are the least power of two that is at least twice the room
+  pub size : IsNextPowerOfTwo (2 * room) (length t)
+  pub below : (k : ℕ) → k < length es → (entry es k).addr < room
+  pub once : (j k : ℕ) → j < length es → k < length es → (entry es j).addr ≡ (entry es k).addr → j ≡ k
+  pub table : IsTable es t
