@@ -11,7 +11,7 @@ use Rattle.of_core.specs.Machine.{Data, Call}
 use Rattle.of_core.specs.Steps.{after_store_script, took_at}
 use Rattle.of_core.specs.World.{Read, World, Start, stepped_at}
 use Rattle.of_core.specs.History.{batch, at, ticket_in}
-use Rattle.of_core.specs.Shared.{IsRequest, Heard, Opened, Datas, Durable}
+use Rattle.of_core.specs.Shared.{IsRequest, Heard, Opened, DataCells, Durable}
 use Rattle.of_core.specs.Rounds.{Keeps, Fresh, Calm, Quieted}
 use Rattle.of_core.specs.Invariant.{At, Core}
 use Rattle.of_core.specs.Moves.{Goes}
@@ -45,8 +45,8 @@ module _ (S : Setup) (Lawful : List ℕ → Type 0) (B : Start) (w : World) (g :
     others : (j y : ℕ) → y < S.instrs + 1 → (j ≡ i → y ≡ x → ⊥) → script_word S vs j y ≡ script_word S w.words j y
     others j y l q = elsewhere (script_at S j y) (λ e. let r : j ≡ i = same_row j i (S.instrs + 1) y x l x_in (omega arith) in q r (omega (arith, ap (λ (k : ℕ). k * (S.instrs + 1)) r)))
 
-    cur_same : current_word vs ≡ current_word w.words
-    cur_same = below 0 (omega arith)
+    current_same : current_word vs ≡ current_word w.words
+    current_same = below 0 (omega arith)
 
     cell_same : (a : ℕ) → a < S.cells → cell S vs a ≡ cell S w.words a
     cell_same a l = below (S.callers + 1 + a) (omega arith)
@@ -63,7 +63,7 @@ module _ (S : Setup) (Lawful : List ℕ → Type 0) (B : Start) (w : World) (g :
     touches : ((j : ℕ) → j < S.callers → (announcement_of S vs j ≡ announcement_of S w.words j) ⊎ ((j ≡ i) × ((k : ℕ) → B.seq < k → k ≤ last w.words → (batch B w.batches k).announcements j ≡ announcement_of S vs j → ⊥))) → Touches S Lawful B i w.words vs w.batches
     touches announcements = record {
       room = length-set w.words (script_at S m.caller x) v;
-      current_word = cur_same;
+      current_word = current_same;
       requests = λ j l q. inl (req_same j l);
       logs = λ j l q y u. log_same j y l u;
       changes = λ a l. inl (cell_same a l);
@@ -80,15 +80,15 @@ module _ (S : Setup) (Lawful : List ℕ → Type 0) (B : Start) (w : World) (g :
         says j y u q (inr r) = inl (others j y u (λ a b. r b))
 
     open_same : Opened B w.words → Opened B vs
-    open_same o = record { any = rw cur_same o.any; asks = rw cur_same (req_same (holder w.words) g.shared.counted.owner_in ∙ o.asks) }
+    open_same o = record { any = rw current_same o.any; asks = rw current_same (req_same (holder w.words) g.shared.counted.owner_in ∙ o.asks) }
 
-    datas : Datas S B vs w.batches
-    datas = record { each = λ y l. each y l (g.shared.datas.each y l) }
+    data_cells : DataCells S B vs w.batches
+    data_cells = record { each = λ y l. each y l (g.shared.data_cells.each y l) }
       where
         each : (y : ℕ) → y < S.cells → (cell S w.words y ≡ at B w.batches (last w.words) y) ⊎ (Opened B w.words × (cell S w.words y ≡ at B w.batches (last w.words - 1) y))
             → (cell S vs y ≡ at B w.batches (last vs) y) ⊎ (Opened B vs × (cell S vs y ≡ at B w.batches (last vs - 1) y))
-        each y l (inl q) = inl (rw cur_same (cell_same y l ∙ q))
-        each y l (inr (o, q)) = inr (open_same o, rw cur_same (cell_same y l ∙ q))
+        each y l (inl q) = inl (rw current_same (cell_same y l ∙ q))
+        each y l (inr (o, q)) = inr (open_same o, rw current_same (cell_same y l ∙ q))
 
     durable : Touches S Lawful B i w.words vs w.batches → Durable S B vs w.batches
     durable t = durable_of S Lawful B i w.words vs w.batches t g.shared (λ y l. rw (cell_same y l) (g.shared.durable.fresh y l)) step (λ y l. cells (g.shared.durable.cells y l))
@@ -104,21 +104,21 @@ module _ (S : Setup) (Lawful : List ℕ → Type 0) (B : Start) (w : World) (g :
 
     calm : Calm S B w.words w.batches i (last w.words) → Calm S B vs w.batches i (last vs)
     calm c = record {
-      own = rw (req_same i h, cur_same) c.own;
+      own = rw (req_same i h, current_same) c.own;
       level = dur_same (request_at i) (omega arith) ∙ c.level ∙ sym (req_same i h);
-      shut = λ k l u o. rw (req_same i h) (c.shut k l (rw cur_same at u) o);
-      logs = λ y u. rw (log_same i y h u, cur_same) (c.logs y u);
+      shut = λ k l u o. rw (req_same i h) (c.shut k l (rw current_same at u) o);
+      logs = λ y u. rw (log_same i y h u, current_same) (c.logs y u);
     }
 
     keeps : (u : ℕ) → Keeps B w.words w.batches i u → Keeps B vs w.batches i u
-    keeps u k = (rw (req_same i h) k.0, λ l. rw cur_same (k.1 l))
+    keeps u k = (rw (req_same i h) k.0, λ l. rw current_same (k.1 l))
 
     -- the rest of what has to be shown
     stored : {rs : List Read} → (t : Touches S Lawful B i w.words vs w.batches) → Heard S B vs w.batches → (n : Data) → At S B vs w.batches i n n.place
         → Goes S Lawful B i w (record { words = vs; machines = set w.machines i n; batches = w.batches ++ []; reads = rs; loaded = w.loaded })
     stored t hd n a =
         rw (append-nil w.batches)
-        (assemble S Lawful B w g i h vs w.batches n (moves_of S Lawful B i w.words vs w.batches t g.shared) (shared_of S Lawful B i w.words vs w.batches t g.shared datas (durable t) hd (kinds_same S Lawful B i w.words vs w.batches t g.shared (λ j l. subst (λ (y : ℕ). IsRequest B w.words w.batches j y) (sym (req_same j l)) (g.shared.kinds.requests j l)) log_same)) a)
+        (assemble S Lawful B w g i h vs w.batches n (moves_of S Lawful B i w.words vs w.batches t g.shared) (shared_of S Lawful B i w.words vs w.batches t g.shared data_cells (durable t) hd (kinds_same S Lawful B i w.words vs w.batches t g.shared (λ j l. subst (λ (y : ℕ). IsRequest B w.words w.batches j y) (sym (req_same j l)) (g.shared.kinds.requests j l)) log_same)) a)
 
   pub store_script_kept : (j : ℕ) → At S B w.words w.batches i m (StoreScript j) → Goes S Lawful B i w (stepped_at S i m (StoreScript j) w)
   store_script_kept j a = stored ci j v j_in f.quieted t heard (after_store_script m j (nat_lt (j + 1) (length m.op))) (go (nat_lt (j + 1) (length m.op)) refl)
@@ -145,7 +145,7 @@ module _ (S : Setup) (Lawful : List ℕ → Type 0) (B : Start) (w : World) (g :
       t = touches ci j v j_in f.quieted (λ c l. inl (ann_same c))
 
       last_same : last us ≡ last w.words
-      last_same = ap seq (cur_same ci j v j_in f.quieted)
+      last_same = ap seq (current_same ci j v j_in f.quieted)
 
       heard : Heard S B us w.batches
       heard = heard_as S B w.words us w.batches (λ c l. ann_same c) last_same (λ c l. rw (log_same ci j v j_in f.quieted c 0 l (omega arith)) (g.shared.heard.counts c l)) g.shared.heard
@@ -237,7 +237,7 @@ module _ (S : Setup) (Lawful : List ℕ → Type 0) (B : Start) (w : World) (g :
       ann_other c q = others ci S.instrs v x_in f.quieted c S.instrs x_in (λ r z. q r)
 
       last_same : last us ≡ last w.words
-      last_same = ap seq (cur_same ci S.instrs v x_in f.quieted)
+      last_same = ap seq (current_same ci S.instrs v x_in f.quieted)
 
       -- it stood before no batch
       new : (c k : ℕ) → c ≡ i → B.seq < k → k ≤ last w.words → (batch B w.batches k).announcements c ≡ announcement_of S us c → ⊥

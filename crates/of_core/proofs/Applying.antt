@@ -11,7 +11,7 @@ use Rattle.of_core.specs.Machine.{Data, entry}
 use Rattle.of_core.specs.Steps.{after_load_target, took_at}
 use Rattle.of_core.specs.World.{Read, World, Start, stepped_at}
 use Rattle.of_core.specs.History.{batch, at}
-use Rattle.of_core.specs.Shared.{Kinds, IsRequest, Opened, Datas, IsEntry, Durable}
+use Rattle.of_core.specs.Shared.{Kinds, IsRequest, Opened, DataCells, IsEntry, Durable}
 use Rattle.of_core.specs.Rounds.{Helper}
 use Rattle.of_core.specs.Transaction.{Applies, Mode}
 use Rattle.of_core.specs.Invariant.{At, Core}
@@ -127,7 +127,7 @@ module _ (S : Setup) (Lawful : List ℕ → Type 0) (B : Start) where
             newer y (inr z) = z
         go true q =
             rw (append-nil w.batches)
-            (assemble S Lawful B w g i h vs w.batches n (moves_of S Lawful B i w.words vs w.batches (touches i) g.shared) (shared_of S Lawful B i w.words vs w.batches (touches i) g.shared datas durable (heard_of S Lawful B i w.words vs w.batches (touches i) g.shared behind (λ p l. rw (log_kept_at p) (g.shared.heard.counts p l))) kinds)
+            (assemble S Lawful B w g i h vs w.batches n (moves_of S Lawful B i w.words vs w.batches (touches i) g.shared) (shared_of S Lawful B i w.words vs w.batches (touches i) g.shared data_cells durable (heard_of S Lawful B i w.words vs w.batches (touches i) g.shared behind (λ p l. rw (log_kept_at p) (g.shared.heard.counts p l))) kinds)
             (applies_as vs j j kept.0 n refl refl refl refl refl refl refl refl refl refl refl refl (omega arith), kept.1, kept.2, rw here (omega (arith, new_seq))))
           where
             vs : List ℕ
@@ -145,8 +145,8 @@ module _ (S : Setup) (Lawful : List ℕ → Type 0) (B : Start) where
             elsewhere : (c : ℕ) → (c ≡ S.callers + 1 + x → ⊥) → get_or vs c 0 ≡ get_or w.words c 0
             elsewhere c r = get_or-set_other w.words (S.callers + 1 + x) c new 0 r
 
-            cur_same : current_word vs ≡ current_word w.words
-            cur_same = elsewhere 0 (omega arith)
+            current_same : current_word vs ≡ current_word w.words
+            current_same = elsewhere 0 (omega arith)
 
             req_same : (k : ℕ) → k < S.callers → request_of vs k ≡ request_of w.words k
             req_same k l = elsewhere (k + 1) (omega arith)
@@ -164,7 +164,7 @@ module _ (S : Setup) (Lawful : List ℕ → Type 0) (B : Start) where
             dur_same c l = elsewhere (durable_at S c) (omega (arith, e.0))
 
             open_same : Opened B w.words → Opened B vs
-            open_same o = record { any = rw cur_same o.any; asks = rw cur_same (req_same (holder w.words) g.shared.counted.owner_in ∙ o.asks) }
+            open_same o = record { any = rw current_same o.any; asks = rw current_same (req_same (holder w.words) g.shared.counted.owner_in ∙ o.asks) }
 
             older : seq found < m.seq
             older = rw same a.3
@@ -174,7 +174,7 @@ module _ (S : Setup) (Lawful : List ℕ → Type 0) (B : Start) where
 
             -- a cell of an older transaction's entry can't be found older
             is_last : m.seq ≡ last w.words
-            is_last = last_or (g.shared.datas.each x e.0) (cases_lt m.seq (last w.words))
+            is_last = last_or (g.shared.data_cells.each x e.0) (cases_lt m.seq (last w.words))
               where
                 t : (k : ℕ) × (k < length (batch B w.batches m.seq).log) × (get_or (batch B w.batches m.seq).log k (0, 0) ≡ entry m j)
                 t = a.0.log.each j a.1
@@ -194,7 +194,7 @@ module _ (S : Setup) (Lawful : List ℕ → Type 0) (B : Start) where
             touches : (k : ℕ) → Touches S Lawful B k w.words vs w.batches
             touches k = record {
               room = length-set w.words (S.callers + 1 + x) new;
-              current_word = cur_same;
+              current_word = current_same;
               requests = λ k l r. inl (req_same k l);
               logs = λ k l r y u. log_same k y;
               changes = λ y l. cells_change y (cases_eq y x);
@@ -220,14 +220,14 @@ module _ (S : Setup) (Lawful : List ℕ → Type 0) (B : Start) where
                 let q : at B w.batches m.seq x ≡ new = subst (λ (e : ℕ × ℕ). at B w.batches m.seq e.0 ≡ word m.seq e.1) t.2 (named_at S B w.batches g.shared.start (logs_of S Lawful B w g) m.seq t.0 a.0.after (omega (arith, a.0.upto, n_is)) t.1) in
                 rw (← is_last) (sym q)
 
-            datas : Datas S B vs w.batches
-            datas = record { each = λ y l. each y l (cases_eq y x) (g.shared.datas.each y l) }
+            data_cells : DataCells S B vs w.batches
+            data_cells = record { each = λ y l. each y l (cases_eq y x) (g.shared.data_cells.each y l) }
               where
                 each : (y : ℕ) → y < S.cells → (y ≡ x) ⊎ (y ≡ x → ⊥) → (cell S w.words y ≡ at B w.batches (last w.words) y) ⊎ (Opened B w.words × (cell S w.words y ≡ at B w.batches (last w.words - 1) y))
                     → (cell S vs y ≡ at B w.batches (last vs) y) ⊎ (Opened B vs × (cell S vs y ≡ at B w.batches (last vs - 1) y))
-                each y l (inl r) d = inl (rw (r, cur_same) (here ∙ in_state))
-                each y l (inr r) (inl d) = inl (rw cur_same (cell_same y r ∙ d))
-                each y l (inr r) (inr d) = inr (open_same d.0, rw cur_same (cell_same y r ∙ d.1))
+                each y l (inl r) d = inl (rw (r, current_same) (here ∙ in_state))
+                each y l (inr r) (inl d) = inl (rw current_same (cell_same y r ∙ d))
+                each y l (inr r) (inr d) = inr (open_same d.0, rw current_same (cell_same y r ∙ d.1))
 
             durable : Durable S B vs w.batches
             durable = durable_of S Lawful B i w.words vs w.batches (touches i) g.shared (λ y l. fresh y l (cases_eq y x)) step (λ y l. cells (g.shared.durable.cells y l)) (λ k l u p o q y v. log_same p y)
@@ -268,7 +268,7 @@ module _ (S : Setup) (Lawful : List ℕ → Type 0) (B : Start) where
             (applies_as w.words (length m.log) (length m.log) a.0 n refl refl refl refl refl refl refl refl refl refl refl refl (omega arith), a.1, omega arith)
         go true q =
             rw (append-nil w.batches)
-            (assemble S Lawful B w g i h vs w.batches n (moves_of S Lawful B i w.words vs w.batches (touches i) g.shared) (shared_of S Lawful B i w.words vs w.batches (touches i) g.shared datas durable (heard_of S Lawful B i w.words vs w.batches (touches i) g.shared behind (λ p l. rw (log_kept_at p) (g.shared.heard.counts p l))) kinds)
+            (assemble S Lawful B w g i h vs w.batches n (moves_of S Lawful B i w.words vs w.batches (touches i) g.shared) (shared_of S Lawful B i w.words vs w.batches (touches i) g.shared data_cells durable (heard_of S Lawful B i w.words vs w.batches (touches i) g.shared behind (λ p l. rw (log_kept_at p) (g.shared.heard.counts p l))) kinds)
             (applies_as vs (length m.log) (length m.log) kept.0 n refl refl refl refl refl refl refl refl refl refl refl refl (omega arith), kept.1, rw here (word_more m.seq 0 1 (omega arith))))
           where
             was : found ≡ word m.seq 0
@@ -283,8 +283,8 @@ module _ (S : Setup) (Lawful : List ℕ → Type 0) (B : Start) where
             elsewhere : (c : ℕ) → (c ≡ m.owner + 1 → ⊥) → get_or vs c 0 ≡ get_or w.words c 0
             elsewhere c r = get_or-set_other w.words (m.owner + 1) c (word m.seq 1) 0 r
 
-            cur_same : current_word vs ≡ current_word w.words
-            cur_same = elsewhere 0 (omega arith)
+            current_same : current_word vs ≡ current_word w.words
+            current_same = elsewhere 0 (omega arith)
 
             cell_same : (x : ℕ) → x < S.cells → cell S vs x ≡ cell S w.words x
             cell_same x l = elsewhere (S.callers + 1 + x) (omega (arith, owner_in))
@@ -318,7 +318,7 @@ module _ (S : Setup) (Lawful : List ℕ → Type 0) (B : Start) where
             touches : (k : ℕ) → Touches S Lawful B k w.words vs w.batches
             touches k = record {
               room = length-set w.words (m.owner + 1) (word m.seq 1);
-              current_word = cur_same;
+              current_word = current_same;
               requests = λ j l r. request j (cases_eq j m.owner);
               logs = λ j l r x u. elsewhere (log_at S j x) (omega (arith, owner_in));
               changes = λ x l. inl (cell_same x l);
@@ -365,8 +365,8 @@ module _ (S : Setup) (Lawful : List ℕ → Type 0) (B : Start) where
                     absurd (omega (arith, before, ap seq q, is_last, a.0.after))
                 named (inr away) = q ∙ sym (rw is_last at (unnamed S B w.batches g.shared.start (logs_of S Lawful B w g) m.seq x a.0.after (omega (arith, a.0.upto, n_is)) away))
 
-            datas : Datas S B vs w.batches
-            datas = record { each = λ x l. inl (rw cur_same (cell_same x l ∙ each x l (g.shared.datas.each x l))) }
+            data_cells : DataCells S B vs w.batches
+            data_cells = record { each = λ x l. inl (rw current_same (cell_same x l ∙ each x l (g.shared.data_cells.each x l))) }
               where
                 each : (x : ℕ) → x < S.cells → (cell S w.words x ≡ at B w.batches (last w.words) x) ⊎ (Opened B w.words × (cell S w.words x ≡ at B w.batches (last w.words - 1) x)) → cell S w.words x ≡ at B w.batches (last w.words) x
                 each x l (inl d) = d

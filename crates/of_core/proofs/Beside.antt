@@ -5,7 +5,7 @@ use Rattle.of_cell.specs.Words.{seq}
 use Rattle.of_core.specs.Table.{Setup, table_size, durable_at, log_at, script_at, current_word, request_of, cell, log_word, script_word, last, holder, risen}
 use Rattle.of_core.specs.World.{World, Start}
 use Rattle.of_core.specs.History.{at}
-use Rattle.of_core.specs.Shared.{Shared, Opened, Datas, Durable, IsRequest}
+use Rattle.of_core.specs.Shared.{Shared, Opened, DataCells, Durable, IsRequest}
 use Rattle.of_core.specs.Invariant.{Good, IsLoaded}
 use Rattle.of_core.proofs.Logs.{room_for}
 use Rattle.of_core.proofs.Touches.{Touches, durable_of, kinds_same, moves_of, shared_of}
@@ -19,8 +19,8 @@ module _ (S : Setup) (Lawful : List ℕ → Type 0) (B : Start) (w : World) (g :
   below : (x : ℕ) → x < table_size S → get_or vs x 0 ≡ get_or w.words x 0
   below x l = get_or-set_other w.words c x v 0 (omega arith)
 
-  cur_same : current_word vs ≡ current_word w.words
-  cur_same = below 0 (omega arith)
+  current_same : current_word vs ≡ current_word w.words
+  current_same = below 0 (omega arith)
 
   req_same : (j : ℕ) → j < S.callers → request_of vs j ≡ request_of w.words j
   req_same j l = below (j + 1) (omega arith)
@@ -37,7 +37,7 @@ module _ (S : Setup) (Lawful : List ℕ → Type 0) (B : Start) (w : World) (g :
   touches : (i : ℕ) → Touches S Lawful B i w.words vs w.batches
   touches i = record {
     room = length-set w.words c v;
-    current_word = cur_same;
+    current_word = current_same;
     requests = λ j l q. inl (req_same j l);
     logs = λ j l q y u. log_same j y l u;
     changes = λ a l. inl (cell_same a l);
@@ -49,15 +49,15 @@ module _ (S : Setup) (Lawful : List ℕ → Type 0) (B : Start) (w : World) (g :
   }
 
   open_same : Opened B w.words → Opened B vs
-  open_same o = record { any = rw cur_same o.any; asks = rw cur_same (req_same (holder w.words) g.core.shared.counted.owner_in ∙ o.asks) }
+  open_same o = record { any = rw current_same o.any; asks = rw current_same (req_same (holder w.words) g.core.shared.counted.owner_in ∙ o.asks) }
 
-  datas : Datas S B vs w.batches
-  datas = record { each = λ y l. each y l (g.core.shared.datas.each y l) }
+  data_cells : DataCells S B vs w.batches
+  data_cells = record { each = λ y l. each y l (g.core.shared.data_cells.each y l) }
     where
       each : (y : ℕ) → y < S.cells → (cell S w.words y ≡ at B w.batches (last w.words) y) ⊎ (Opened B w.words × (cell S w.words y ≡ at B w.batches (last w.words - 1) y))
           → (cell S vs y ≡ at B w.batches (last vs) y) ⊎ (Opened B vs × (cell S vs y ≡ at B w.batches (last vs - 1) y))
-      each y l (inl q) = inl (rw cur_same (cell_same y l ∙ q))
-      each y l (inr (o, q)) = inr (open_same o, rw cur_same (cell_same y l ∙ q))
+      each y l (inl q) = inl (rw current_same (cell_same y l ∙ q))
+      each y l (inr (o, q)) = inr (open_same o, rw current_same (cell_same y l ∙ q))
 
   durable : Durable S B vs w.batches
   durable = durable_of S Lawful B 0 w.words vs w.batches (touches 0) g.core.shared (λ y l. rw (cell_same y l) (g.core.shared.durable.fresh y l)) step (λ y l. cells (g.core.shared.durable.cells y l))
@@ -72,8 +72,8 @@ module _ (S : Setup) (Lawful : List ℕ → Type 0) (B : Start) (w : World) (g :
       cells (inr d) = inr (open_same d.0, d.1, d.2)
 
   shared : Shared S Lawful B vs w.batches
-  shared = shared_of S Lawful B 0 w.words vs w.batches (touches 0) g.core.shared datas durable
-      (heard_as S B w.words vs w.batches (λ j l. script_same j S.instrs l (omega arith)) (ap seq cur_same) (λ j l. rw (log_same j 0 l (omega arith)) (g.core.shared.heard.counts j l)) g.core.shared.heard)
+  shared = shared_of S Lawful B 0 w.words vs w.batches (touches 0) g.core.shared data_cells durable
+      (heard_as S B w.words vs w.batches (λ j l. script_same j S.instrs l (omega arith)) (ap seq current_same) (λ j l. rw (log_same j 0 l (omega arith)) (g.core.shared.heard.counts j l)) g.core.shared.heard)
       (kinds_same S Lawful B 0 w.words vs w.batches (touches 0) g.core.shared (λ j l. subst (λ (y : ℕ). IsRequest B w.words w.batches j y) (sym (req_same j l)) (g.core.shared.kinds.requests j l)) log_same)
 
   pub beside_stays : (e : ℕ × ℕ) → IsLoaded S B w.words w.batches e → IsLoaded S B vs w.batches e
@@ -88,5 +88,5 @@ module _ (S : Setup) (Lawful : List ℕ → Type 0) (B : Start) (w : World) (g :
       each = λ j n l q. at_stable S Lawful B (j + 1) w.words w.batches vs w.batches (moves_of S Lawful B (j + 1) w.words vs w.batches (touches (j + 1)) g.core.shared) g.core.shared j l (λ z. omega arith) n n.place (g.core.each j n l q);
     };
     within = g.within;
-    order = order_same S B w vs g.order (ap seq cur_same) (omega (arith, ap seq (below (durable_at S 0) (omega arith))));
+    order = order_same S B w vs g.order (ap seq current_same) (omega (arith, ap seq (below (durable_at S 0) (omega arith))));
   }

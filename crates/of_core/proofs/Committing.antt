@@ -12,7 +12,7 @@ use Rattle.of_core.specs.Machine.{Data, Call, log_words, no_call}
 use Rattle.of_core.specs.Steps.{after_exchange, next_round}
 use Rattle.of_core.specs.World.{Read, World, Batch, Start, stepped_at, one_batch}
 use Rattle.of_core.specs.History.{state, batch, at, HasCall, ticket_in, ticket_among}
-use Rattle.of_core.specs.Shared.{Heard, IsRequest, IsLogWord, Shared, Opened, Counted, Datas, Requests, Stands, IsLog, Durable}
+use Rattle.of_core.specs.Shared.{Heard, IsRequest, IsLogWord, Shared, Opened, Counted, DataCells, Requests, Stands, IsLog, Durable}
 use Rattle.of_core.specs.Rounds.{Between, Round, Calm}
 use Rattle.of_core.specs.Scan.{Announced}
 use Rattle.of_core.specs.Transaction.{Stored}
@@ -339,8 +339,8 @@ module _ (S : Setup) (Lawful : List ℕ → Type 0) (B : Start) where
                     subst (λ (p : ℕ). (log_word S vs p x ≡ word k v) × (durable_log S vs p x ≡ word k v)) o'
                     (elsewhere (log_at S i x) (omega arith) ∙ st.each x lx' ∙ r, dur_same (log_at S i x) (log_in S i x h x_in) ∙ st.durable x lx' ∙ r)
 
-            datas : Datas S B vs cs
-            datas = record { each = λ x l. inr (opened, each x l (g.shared.datas.each x l)) }
+            data_cells : DataCells S B vs cs
+            data_cells = record { each = λ x l. inr (opened, each x l (g.shared.data_cells.each x l)) }
               where
                 back : last vs - 1 ≡ last w.words
                 back = omega (arith, new_last, is_last, longer)
@@ -415,7 +415,7 @@ module _ (S : Setup) (Lawful : List ℕ → Type 0) (B : Start) where
               own_in = g.shared.own_in;
               room = rw length-set g.shared.room;
               counted = counted;
-              datas = datas;
+              data_cells = data_cells;
               requests = requests;
               stands = stands;
             }

@@ -18,7 +18,7 @@ use Rattle.of_core.specs.Order.{Order, IsTrying, IsOlder}
 use Rattle.of_core.specs.Steps.{finds}
 use Rattle.of_core.specs.Facts.{rests, rests_at}
 use Rattle.of_core.proofs.Ordering.{Orderly, older_upto, order_after, order_same}
-use Rattle.of_core.proofs.Raises.{cur_same, rises}
+use Rattle.of_core.proofs.Raises.{current_same, rises}
 use Rattle.of_core.proofs.Found.{found_now}
 use Rattle.of_core.specs.Events.{Event, Begins, Turns, Loads, Evicts, Raises, begun, evicted, machine, happens, MayHappen}
 use Rattle.of_core.proofs.Assembling.{assemble, moves_not}
@@ -94,7 +94,7 @@ module _ (S : Setup) (Lawful : List ℕ → Type 0) (B : Start) (w : World) (g :
     evict_kept = record {
       core = raise_kept S Lawful B w g.core e.0 e.1 h;
       within = g.within;
-      order = order_same S B w (evicted S w e).words g.order (ap seq (cur_same S Lawful B w.words w.batches g.core.shared e.0 e.1 h)) (seq_mono (durable_word S w.words 0) (durable_word S (evicted S w e).words 0) (rises S Lawful B w.words w.batches g.core.shared e.0 e.1 h 0));
+      order = order_same S B w (evicted S w e).words g.order (ap seq (current_same S Lawful B w.words w.batches g.core.shared e.0 e.1 h)) (seq_mono (durable_word S w.words 0) (durable_word S (evicted S w e).words 0) (rises S Lawful B w.words w.batches g.core.shared e.0 e.1 h 0));
     }
 
     pub evict_stays : (d : ℕ × ℕ) → IsLoaded S B w.words w.batches d → IsLoaded S B (evicted S w e).words w.batches d

@@ -13,7 +13,7 @@ use Rattle.of_core.specs.Steps.{after_copy_log, after_look_again, copy_more, too
 use Rattle.of_core.specs.World.{World, Start, stepped_at}
 use Rattle.of_core.specs.History.{batch}
 use Rattle.of_core.specs.Shared.{Opened, IsLog}
-use Rattle.of_core.specs.Rounds.{Cur}
+use Rattle.of_core.specs.Rounds.{WasCurrent}
 use Rattle.of_core.specs.Transaction.{Turned, Applies, Mode, Copies}
 use Rattle.of_core.specs.Invariant.{At, Core}
 use Rattle.of_core.specs.Moves.{Goes}
@@ -35,7 +35,7 @@ module _ (S : Setup) (Lawful : List ℕ → Type 0) (B : Start) where
         (g.shared.durable.logs (last w.words) o.any (omega arith) (holder w.words) (sym own) (omega (arith, o.asks)) x _ l refl).0
 
     -- a log word that is copied while the request is open is that of the batch's log
-    copied_word : (n : Data) (x : ℕ) → Cur S B w.words w.batches n.seq n.owner → B.seq < n.seq → request_of w.words n.owner ≡ word n.seq 0 → x < length (log_words (batch B w.batches n.seq).log)
+    copied_word : (n : Data) (x : ℕ) → WasCurrent S B w.words w.batches n.seq n.owner → B.seq < n.seq → request_of w.words n.owner ≡ word n.seq 0 → x < length (log_words (batch B w.batches n.seq).log)
         → log_word S w.words n.owner x ≡ word n.seq (get_or (log_words (batch B w.batches n.seq).log) x 0)
     copied_word n x p l q u = at_last (cases_lt n.seq (last w.words))
       where

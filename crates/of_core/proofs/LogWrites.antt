@@ -10,7 +10,7 @@ use Rattle.of_core.specs.Machine.{Data, entry, log_words}
 use Rattle.of_core.specs.Steps.{took_at}
 use Rattle.of_core.specs.World.{World, Start, stepped_at}
 use Rattle.of_core.specs.History.{batch, at}
-use Rattle.of_core.specs.Shared.{Kinds, IsRequest, IsLogWord, Opened, Datas, Durable}
+use Rattle.of_core.specs.Shared.{Kinds, IsRequest, IsLogWord, Opened, DataCells, Durable}
 use Rattle.of_core.specs.Transaction.{Stored}
 use Rattle.of_core.specs.Invariant.{At, Core}
 use Rattle.of_core.specs.Moves.{Goes}
@@ -26,7 +26,7 @@ module _ (S : Setup) (Lawful : List ℕ → Type 0) (B : Start) where
     store_log_kept x a =
         rw (append-nil w.batches)
         (assemble S Lawful B w g i h vs w.batches (took_at S m (log_word S w.words m.caller x) (StoreLog x)) (moves_of S Lawful B i w.words vs w.batches touches g.shared)
-        (shared_of S Lawful B i w.words vs w.batches touches g.shared datas durable (heard_of S Lawful B i w.words vs w.batches touches g.shared behind counts) kinds) (
+        (shared_of S Lawful B i w.words vs w.batches touches g.shared data_cells durable (heard_of S Lawful B i w.words vs w.batches touches g.shared behind counts) kinds) (
           record {
             stored = record {
               past = past_of S Lawful B i w.words vs w.batches touches g.shared behind m h st.past _ refl refl refl refl refl refl refl refl refl;
@@ -37,7 +37,7 @@ module _ (S : Setup) (Lawful : List ℕ → Type 0) (B : Start) where
             };
             own = rw (req_same i h) a.0.own;
             level = dur_same (request_at i) (omega arith) ∙ a.0.level ∙ sym (req_same i h);
-            shut = λ k l u o. rw (req_same i h) (a.0.shut k l (rw cur_same at u) o);
+            shut = λ k l u o. rw (req_same i h) (a.0.shut k l (rw current_same at u) o);
           },
           a.1,
         ))
@@ -86,8 +86,8 @@ module _ (S : Setup) (Lawful : List ℕ → Type 0) (B : Start) where
         cell_same : (y : ℕ) → y < S.cells → cell S vs y ≡ cell S w.words y
         cell_same y l = elsewhere (S.callers + 1 + y) (omega arith)
 
-        cur_same : current_word vs ≡ current_word w.words
-        cur_same = elsewhere 0 (omega arith)
+        current_same : current_word vs ≡ current_word w.words
+        current_same = elsewhere 0 (omega arith)
 
         req_same : (j : ℕ) → j < S.callers → request_of vs j ≡ request_of w.words j
         req_same j l = elsewhere (j + 1) (omega arith)
@@ -116,7 +116,7 @@ module _ (S : Setup) (Lawful : List ℕ → Type 0) (B : Start) where
         touches : (Touches S Lawful B) i w.words vs w.batches
         touches = record {
           room = length-set w.words (log_at S m.caller x) new;
-          current_word = cur_same;
+          current_word = current_same;
           requests = λ j l q. inl (req_same j l);
           logs = λ j l q y u. log_other j y u q;
           changes = λ y l. inl (cell_same y l);
@@ -149,15 +149,15 @@ module _ (S : Setup) (Lawful : List ℕ → Type 0) (B : Start) where
                 omega (arith, ap pay e, p, n, (st.over.over.is_log.entries y (0, 0) in_log).0)
 
         open_same : Opened B w.words → Opened B vs
-        open_same o = record { any = rw cur_same o.any; asks = rw cur_same (req_same (holder w.words) g.shared.counted.owner_in ∙ o.asks) }
+        open_same o = record { any = rw current_same o.any; asks = rw current_same (req_same (holder w.words) g.shared.counted.owner_in ∙ o.asks) }
 
-        datas : Datas S B vs w.batches
-        datas = record { each = λ y l. each y l (g.shared.datas.each y l) }
+        data_cells : DataCells S B vs w.batches
+        data_cells = record { each = λ y l. each y l (g.shared.data_cells.each y l) }
           where
             each : (y : ℕ) → y < S.cells → (cell S w.words y ≡ at B w.batches (last w.words) y) ⊎ (Opened B w.words × (cell S w.words y ≡ at B w.batches (last w.words - 1) y))
                 → (cell S vs y ≡ at B w.batches (last vs) y) ⊎ (Opened B vs × (cell S vs y ≡ at B w.batches (last vs - 1) y))
-            each y l (inl q) = inl (rw cur_same (cell_same y l ∙ q))
-            each y l (inr (o, q)) = inr (open_same o, rw cur_same (cell_same y l ∙ q))
+            each y l (inl q) = inl (rw current_same (cell_same y l ∙ q))
+            each y l (inr (o, q)) = inr (open_same o, rw current_same (cell_same y l ∙ q))
 
         durable : Durable S B vs w.batches
         durable = durable_of S Lawful B i w.words vs w.batches touches g.shared (λ y l. rw (cell_same y l) (g.shared.durable.fresh y l)) step (λ y l. cells (g.shared.durable.cells y l)) logs
@@ -183,7 +183,7 @@ module _ (S : Setup) (Lawful : List ℕ → Type 0) (B : Start) where
     store_request_kept a =
         rw (append-nil w.batches)
         (assemble S Lawful B w g i h vs w.batches (took_at S m (request_of w.words m.caller) StoreRequest) (moves_of S Lawful B i w.words vs w.batches touches g.shared)
-        (shared_of S Lawful B i w.words vs w.batches touches g.shared datas durable (heard_of S Lawful B i w.words vs w.batches touches g.shared behind (λ j l. rw (log_same j 0) (g.shared.heard.counts j l))) (kinds_same S Lawful B i w.words vs w.batches touches g.shared (λ j l. request j l (cases_eq j i)) (λ j y l u. log_same j y))) (
+        (shared_of S Lawful B i w.words vs w.batches touches g.shared data_cells durable (heard_of S Lawful B i w.words vs w.batches touches g.shared behind (λ j l. rw (log_same j 0) (g.shared.heard.counts j l))) (kinds_same S Lawful B i w.words vs w.batches touches g.shared (λ j l. request j l (cases_eq j i)) (λ j y l u. log_same j y))) (
           record {
             past = past_of S Lawful B i w.words vs w.batches touches g.shared behind m h st.past _ refl refl refl refl refl refl refl refl refl;
             over = over_of S Lawful B i w.words vs w.batches touches g.shared behind m.seq m.made m.op m.raw m.calls m.log S.callers st.over;
@@ -218,8 +218,8 @@ module _ (S : Setup) (Lawful : List ℕ → Type 0) (B : Start) where
         cell_same : (x : ℕ) → x < S.cells → cell S vs x ≡ cell S w.words x
         cell_same x l = elsewhere (S.callers + 1 + x) (omega arith)
 
-        cur_same : current_word vs ≡ current_word w.words
-        cur_same = elsewhere 0 (omega arith)
+        current_same : current_word vs ≡ current_word w.words
+        current_same = elsewhere 0 (omega arith)
 
         req_same : (j : ℕ) → (j ≡ i → ⊥) → request_of vs j ≡ request_of w.words j
         req_same j q = elsewhere (j + 1) (omega arith)
@@ -240,7 +240,7 @@ module _ (S : Setup) (Lawful : List ℕ → Type 0) (B : Start) where
         touches : (Touches S Lawful B) i w.words vs w.batches
         touches = record {
           room = length-set w.words (m.caller + 1) new;
-          current_word = cur_same;
+          current_word = current_same;
           requests = λ j l q. inl (req_same j q);
           logs = λ j l q x u. log_same j x;
           changes = λ x l. inl (cell_same x l);
@@ -264,15 +264,15 @@ module _ (S : Setup) (Lawful : List ℕ → Type 0) (B : Start) where
                 let z : word (last w.words) 0 < request_of w.words i = a.shut (last w.words) o.any (omega arith) (sym (g.shared.counted.owner o.any) ∙ q) in
                 let r : request_of w.words i ≡ word (last w.words) 0 = rw q at o.asks in
                 absurd (omega arith)
-            go (inr q) = record { any = rw cur_same o.any; asks = rw cur_same (req_same (holder w.words) q ∙ o.asks) }
+            go (inr q) = record { any = rw current_same o.any; asks = rw current_same (req_same (holder w.words) q ∙ o.asks) }
 
-        datas : Datas S B vs w.batches
-        datas = record { each = λ x l. go x l (g.shared.datas.each x l) }
+        data_cells : DataCells S B vs w.batches
+        data_cells = record { each = λ x l. go x l (g.shared.data_cells.each x l) }
           where
             go : (x : ℕ) → x < S.cells → (cell S w.words x ≡ at B w.batches (last w.words) x) ⊎ (Opened B w.words × (cell S w.words x ≡ at B w.batches (last w.words - 1) x))
                 → (cell S vs x ≡ at B w.batches (last vs) x) ⊎ (Opened B vs × (cell S vs x ≡ at B w.batches (last vs - 1) x))
-            go x l (inl q) = inl (rw cur_same (cell_same x l ∙ q))
-            go x l (inr (o, q)) = inr (open_same o, rw cur_same (cell_same x l ∙ q))
+            go x l (inl q) = inl (rw current_same (cell_same x l ∙ q))
+            go x l (inr (o, q)) = inr (open_same o, rw current_same (cell_same x l ∙ q))
 
         durable : Durable S B vs w.batches
         durable = durable_of S Lawful B i w.words vs w.batches touches g.shared (λ y l. rw (cell_same y l) (g.shared.durable.fresh y l)) step (λ y l. cells (g.shared.durable.cells y l)) (λ k l u j o q x v. log_same j x)

@@ -83,7 +83,7 @@ module _ (S : Setup) (Lawful : List ℕ → Type 0) (sound : Sound S.meaning Law
         owners = λ k l u. absurd (omega (arith, last_zero));
         logs = λ k l u. absurd (omega (arith, last_zero));
       };
-      datas = record { each = λ x l. inl (word_at (S.callers + 1 + x) ∙ sym (ap (λ (k : ℕ). at (zeros S) [] k x) last_zero ∙ at_zero x)) };
+      data_cells = record { each = λ x l. inl (word_at (S.callers + 1 + x) ∙ sym (ap (λ (k : ℕ). at (zeros S) [] k x) last_zero ∙ at_zero x)) };
       requests = record { floor = λ l. absurd (omega arith); closed = λ k l u. absurd (omega (arith, last_zero)); latest = λ l. absurd (omega (arith, last_zero)) };
       stands = record {
         lawful = λ k l u. let e : k ≡ 0 = omega arith in rw (e, state_start (zeros S) []) (sound.zeros (map pay (replicate S.cells 0)) (length-map (replicate S.cells 0) pay ∙ length-replicate S.cells 0) zero_numbers);

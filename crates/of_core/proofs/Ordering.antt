@@ -15,7 +15,7 @@ use Rattle.of_core.specs.Machine.{Call, Data, IsOpen, is_idle}
 use Rattle.of_core.specs.World.{World, Batch, Start, Read, read_of, answers_by, answers_at}
 use Rattle.of_core.specs.History.{batch, ticket_in}
 use Rattle.of_core.specs.Shared.{Shared, Opened}
-use Rattle.of_core.specs.Rounds.{Begun, Cur, Helper, Trying, Quieted}
+use Rattle.of_core.specs.Rounds.{Begun, WasCurrent, Helper, Trying, Quieted}
 use Rattle.of_core.specs.Transaction.{Mode}
 use Rattle.of_core.specs.Order.{IsRead, Successive, InOrder, Ordered, IsTrying, OlderBy, IsOlder, Behind, Order, no_read}
 use Rattle.of_core.specs.Facts.{Facts, EndsWith, CountsBy}
@@ -79,11 +79,11 @@ module _ (S : Setup) (Lawful : List ℕ → Type 0) (B : Start) (ws : List ℕ) 
     helper_tries z (inl r) = absurd (omega (arith, z, r.begun_one))
     helper_tries z (inr t) = t
 
-    mode_tries : (b : Bool) → m.helps ≡ b → (m.helps ≡ true) × (m.rounds ≡ 0) → Mode S B ws bs j m b → Trying S B ws bs j m × Cur S B ws bs m.seq m.owner
+    mode_tries : (b : Bool) → m.helps ≡ b → (m.helps ≡ true) × (m.rounds ≡ 0) → Mode S B ws bs j m b → Trying S B ws bs j m × WasCurrent S B ws bs m.seq m.owner
     mode_tries true e q a = (helper_tries q.1 a.0, a.1)
     mode_tries false e q a = let z : false ≡ true = sym e ∙ q.0 in cc
 
-    tries_at : (p : Place) → At S B ws bs j m p → IsTrying m p → Trying S B ws bs j m × Cur S B ws bs m.seq m.owner
+    tries_at : (p : Place) → At S B ws bs j m p → IsTrying m p → Trying S B ws bs j m × WasCurrent S B ws bs m.seq m.owner
     tries_at TryRequest a q = (a.0, a.1)
     tries_at (TryCell x) a q = (a.0, a.1)
     tries_at (CopyLog x) a q = (helper_tries q a.0.helper, a.0.current_word)
@@ -225,7 +225,7 @@ module _ (S : Setup) (Lawful : List ℕ → Type 0) (B : Start) (w : World) (g :
       go (inr e) (inl z) = absurd (omega (arith, e.1))
       go (inr e) (inr z) = absurd (omega (arith, e.2))
 
-  still_stable : (j : ℕ) (n : Data) → j < S.callers → Trying S B w.words w.batches j n × Cur S B w.words w.batches n.seq n.owner → ticket_in S B w.batches n.seq j ≡ ticket_in S B w.batches (last w.words) j → ticket_in S B cs n.seq j ≡ ticket_in S B cs (last vs) j
+  still_stable : (j : ℕ) (n : Data) → j < S.callers → Trying S B w.words w.batches j n × WasCurrent S B w.words w.batches n.seq n.owner → ticket_in S B w.batches n.seq j ≡ ticket_in S B w.batches (last w.words) j → ticket_in S B cs n.seq j ≡ ticket_in S B cs (last vs) j
   still_stable j n l t e = tick_same S Lawful B i w.words w.batches vs cs v g.shared n.seq j t.1.from t.1.upto ∙ e ∙ sym (quiet_still j l t.0.fresh.quieted)
 
   read_stable : (r : Read) → IsRead S B w.batches (risen S w.words) r → IsRead S B cs (risen S vs) r
@@ -267,7 +267,7 @@ module _ (S : Setup) (Lawful : List ℕ → Type 0) (B : Start) (w : World) (g :
   before_answer : (r : Read) → Answer S B i w.words m d vs cs r → (k : ℕ) → B.seq < k → k ≤ last w.words → (x : ℕ) (c : Call) → x < length (batch B w.batches k).calls → InOrder k (get_or (batch B w.batches k).calls x c) r
   before_answer r n k l u x c z e = inl (omega (arith, p, t.0.fresh.above, n.ticket, ap (ticket_in S B w.batches (last w.words)) mine), go (cases_lt m.seq k))
     where
-      t : Trying S B w.words w.batches i m × Cur S B w.words w.batches m.seq m.owner
+      t : Trying S B w.words w.batches i m × WasCurrent S B w.words w.batches m.seq m.owner
       t = tries_at S Lawful B w.words w.batches g.shared i m m.place a n.trying
 
       this : Call

@@ -19,7 +19,7 @@ use Rattle.of_core.specs.Transaction.{Applies, Mode, Logs}
 use Rattle.of_core.specs.Invariant.{At, Core, IsLoaded}
 use Rattle.of_core.specs.Moves.{Goes, Moves}
 use Rattle.of_core.proofs.Logs.{length-log_words}
-use Rattle.of_core.proofs.Raises.{vs, behind, table, here, rises, low, cur_same, req_same, cell_same, log_same, raise_shared}
+use Rattle.of_core.proofs.Raises.{vs, behind, table, here, rises, low, current_same, req_same, cell_same, log_same, raise_shared}
 use Rattle.of_core.proofs.Assembling.{assemble_read}
 use Rattle.of_core.proofs.Tries.{resumed_at}
 use Rattle.of_core.proofs.Rounds.{quiet_from}
@@ -29,21 +29,21 @@ module _ (S : Setup) (Lawful : List ℕ → Type 0) (B : Start) where
   -- a raise is no machine's, so it leaves what is true of each
   moves_raise : (ws : List ℕ) (bs : List Batch) (g : Shared S Lawful B ws bs) (c v : ℕ) (e : IsLoaded S B ws bs (c, v)) (i : ℕ) → Moves S B i ws bs (vs S Lawful B ws bs g c v e) bs
   moves_raise ws bs g c v e i = record {
-    same = λ q. ap pay (cur_same S Lawful B ws bs g c v e);
+    same = λ q. ap pay (current_same S Lawful B ws bs g c v e);
     states = λ k l m. refl;
     batches = λ k l m. refl;
-    limit = rw (cur_same S Lawful B ws bs g c v e) g.counted.limit;
-    newer = λ k l m. absurd (omega (arith, ap seq (cur_same S Lawful B ws bs g c v e)));
-    tickets = λ k j l m. absurd (omega (arith, ap seq (cur_same S Lawful B ws bs g c v e)));
-    snapshot = λ k j l m. absurd (omega (arith, ap seq (cur_same S Lawful B ws bs g c v e)));
+    limit = rw (current_same S Lawful B ws bs g c v e) g.counted.limit;
+    newer = λ k l m. absurd (omega (arith, ap seq (current_same S Lawful B ws bs g c v e)));
+    tickets = λ k j l m. absurd (omega (arith, ap seq (current_same S Lawful B ws bs g c v e)));
+    snapshot = λ k j l m. absurd (omega (arith, ap seq (current_same S Lawful B ws bs g c v e)));
     script_of = λ j x l u. inl (behind S Lawful B ws bs g c v e j x);
     announcements = λ j l. inl (behind S Lawful B ws bs g c v e j S.instrs);
-    newer_owner = λ k l m. absurd (omega (arith, ap seq (cur_same S Lawful B ws bs g c v e)));
+    newer_owner = λ k l m. absurd (omega (arith, ap seq (current_same S Lawful B ws bs g c v e)));
     requests = λ j l n. inl (req_same S Lawful B ws bs g c v e j l);
     changes = λ a l. inl (cell_same S Lawful B ws bs g c v e a l);
     logs = λ j l n x u. log_same S Lawful B ws bs g c v e j x l u;
     log_how = λ j x l u. inl (log_same S Lawful B ws bs g c v e j x l u);
-    newer_logs = λ k x l m. absurd (omega (arith, ap seq (cur_same S Lawful B ws bs g c v e)));
+    newer_logs = λ k x l m. absurd (omega (arith, ap seq (current_same S Lawful B ws bs g c v e)));
     rise = λ x l. omega (arith, table S Lawful B ws bs g c v e x l);
     durs = λ x l. rises S Lawful B ws bs g c v e x;
     low = low S Lawful B ws bs g c v e;

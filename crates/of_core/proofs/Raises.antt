@@ -9,7 +9,7 @@ use Rattle.of_core.specs.Machine.{log_words}
 use Rattle.of_core.specs.World.{Batch, Start}
 use Rattle.of_core.specs.History.{batch, at}
 use Rattle.of_core.specs.Shared.{Kinds, IsRequest, IsLogWord, Shared, Opened, Durable, Held, IsLog}
-use Rattle.of_core.specs.Invariant.{WasCur, IsLoaded}
+use Rattle.of_core.specs.Invariant.{HeldAsCurrent, IsLoaded}
 use Rattle.of_core.proofs.States.{later, old}
 use Rattle.of_core.proofs.Logs.{room_for, length-log_words}
 use Rattle.of_core.proofs.Stability.{heard_as}
@@ -33,8 +33,8 @@ module _ (S : Setup) (Lawful : List ℕ → Type 0) (B : Start) (ws : List ℕ) 
   other : (x : ℕ) → (x ≡ c → ⊥) → durable_word S vs x ≡ durable_word S ws x
   other x n = get_or-set_other ws (durable_at S c) (durable_at S x) (max (durable_word S ws c) w) 0 (omega arith)
 
-  pub cur_same : current_word vs ≡ current_word ws
-  cur_same = table 0 (omega arith)
+  pub current_same : current_word vs ≡ current_word ws
+  current_same = table 0 (omega arith)
 
   pub req_same : (j : ℕ) → j < S.callers → request_of vs j ≡ request_of ws j
   req_same j l = table (j + 1) (omega arith)
@@ -64,16 +64,16 @@ module _ (S : Setup) (Lawful : List ℕ → Type 0) (B : Start) (ws : List ℕ) 
       go (inr q) = rw (table x l) (omega (arith, other x q, g.durable.low x l))
 
   opened : Opened B ws → Opened B vs
-  opened o = record { any = rw cur_same o.any; asks = rw cur_same (req_same (holder ws) g.counted.owner_in ∙ o.asks) }
+  opened o = record { any = rw current_same o.any; asks = rw current_same (req_same (holder ws) g.counted.owner_in ∙ o.asks) }
 
   was_opened : Opened B vs → Opened B ws
-  was_opened o = record { any = rw cur_same at o.any; asks = sym (req_same (holder ws) g.counted.owner_in) ∙ (rw cur_same at o.asks) }
+  was_opened o = record { any = rw current_same at o.any; asks = sym (req_same (holder ws) g.counted.owner_in) ∙ (rw current_same at o.asks) }
 
   -- the durable word of CUR stays, or rises from the batch before the last to the last
-  risen_how : (durable_word S vs 0 ≡ durable_word S ws 0) ⊎ ((c ≡ 0) × (last ws ≡ risen S ws + 1) × Opened B ws × (durable_word S vs 0 ≡ w) × (seq w ≡ last ws) × WasCur B ws bs w)
+  risen_how : (durable_word S vs 0 ≡ durable_word S ws 0) ⊎ ((c ≡ 0) × (last ws ≡ risen S ws + 1) × Opened B ws × (durable_word S vs 0 ≡ w) × (seq w ≡ last ws) × HeldAsCurrent B ws bs w)
   risen_how = go (cases_eq c 0) (cases_lt (durable_word S ws 0) w)
     where
-      go : (c ≡ 0) ⊎ (c ≡ 0 → ⊥) → (durable_word S ws 0 < w) ⊎ (w ≤ durable_word S ws 0) → (durable_word S vs 0 ≡ durable_word S ws 0) ⊎ ((c ≡ 0) × (last ws ≡ risen S ws + 1) × Opened B ws × (durable_word S vs 0 ≡ w) × (seq w ≡ last ws) × WasCur B ws bs w)
+      go : (c ≡ 0) ⊎ (c ≡ 0 → ⊥) → (durable_word S ws 0 < w) ⊎ (w ≤ durable_word S ws 0) → (durable_word S vs 0 ≡ durable_word S ws 0) ⊎ ((c ≡ 0) × (last ws ≡ risen S ws + 1) × Opened B ws × (durable_word S vs 0 ≡ w) × (seq w ≡ last ws) × HeldAsCurrent B ws bs w)
       go (inr n) l = inl (other 0 (λ q. n (sym q)))
       go (inl z) (inr l) = inl (let r : durable_word S vs 0 ≡ max (durable_word S ws 0) w = here_at 0 (sym z) in omega arith)
       go (inl z) (inl l) =
@@ -84,8 +84,8 @@ module _ (S : Setup) (Lawful : List ℕ → Type 0) (B : Start) (ws : List ℕ) 
           let more : risen S ws ≤ seq w = seq_mono (durable_word S ws 0) w (omega arith) in
           step_by was r top more (cases_eq (seq w) (risen S ws)) (cases_eq (risen S ws) B.seq) g.durable.step
         where
-          step_by : WasCur B ws bs w → durable_word S vs 0 ≡ max (durable_word S ws 0) w → seq w ≤ last ws → risen S ws ≤ seq w → (seq w ≡ risen S ws) ⊎ (seq w ≡ risen S ws → ⊥) → (risen S ws ≡ B.seq) ⊎ (risen S ws ≡ B.seq → ⊥)
-              → (last ws ≡ risen S ws) ⊎ ((last ws ≡ risen S ws + 1) × Opened B ws) → (durable_word S vs 0 ≡ durable_word S ws 0) ⊎ ((c ≡ 0) × (last ws ≡ risen S ws + 1) × Opened B ws × (durable_word S vs 0 ≡ w) × (seq w ≡ last ws) × WasCur B ws bs w)
+          step_by : HeldAsCurrent B ws bs w → durable_word S vs 0 ≡ max (durable_word S ws 0) w → seq w ≤ last ws → risen S ws ≤ seq w → (seq w ≡ risen S ws) ⊎ (seq w ≡ risen S ws → ⊥) → (risen S ws ≡ B.seq) ⊎ (risen S ws ≡ B.seq → ⊥)
+              → (last ws ≡ risen S ws) ⊎ ((last ws ≡ risen S ws + 1) × Opened B ws) → (durable_word S vs 0 ≡ durable_word S ws 0) ⊎ ((c ≡ 0) × (last ws ≡ risen S ws + 1) × Opened B ws × (durable_word S vs 0 ≡ w) × (seq w ≡ last ws) × HeldAsCurrent B ws bs w)
           step_by was r top more (inl q) (inl s) st =
               let p : pay w ≡ pay (durable_word S ws 0) = was.2 (q ∙ s) ∙ sym (g.durable.first s) in
               let same : w ≡ durable_word S ws 0 = sym (word_eta w) ∙ ap (λ (k : ℕ). word k (pay w)) q ∙ ap (word (risen S ws)) p ∙ word_eta (durable_word S ws 0) in
@@ -162,39 +162,39 @@ module _ (S : Setup) (Lawful : List ℕ → Type 0) (B : Start) (ws : List ℕ) 
     fresh = λ a l. rw (cell_same a l) (omega (arith, g.durable.fresh a l, seq_mono (durable_word S ws 0) (durable_word S vs 0) (rises 0)));
     cells = λ a l. cells_of a l risen_how (data_how a l) (g.durable.cells a l);
     begun = λ l. omega (arith, g.durable.begun l, rises (request_at B.owner));
-    floor = λ k l u. omega (arith, g.durable.floor k l (rw cur_same at u), rises (request_at (batch B bs k).owner));
-    logs = λ k l u i o q x v m z. logs_of k l (rw cur_same at u) i o q x v m z;
+    floor = λ k l u. omega (arith, g.durable.floor k l (rw current_same at u), rises (request_at (batch B bs k).owner));
+    logs = λ k l u i o q x v m z. logs_of k l (rw current_same at u) i o q x v m z;
   }
     where
-      from_of : (durable_word S vs 0 ≡ durable_word S ws 0) ⊎ ((c ≡ 0) × (last ws ≡ risen S ws + 1) × Opened B ws × (durable_word S vs 0 ≡ w) × (seq w ≡ last ws) × WasCur B ws bs w) → B.seq ≤ risen S vs
+      from_of : (durable_word S vs 0 ≡ durable_word S ws 0) ⊎ ((c ≡ 0) × (last ws ≡ risen S ws + 1) × Opened B ws × (durable_word S vs 0 ≡ w) × (seq w ≡ last ws) × HeldAsCurrent B ws bs w) → B.seq ≤ risen S vs
       from_of h = omega (arith, g.durable.from, seq_mono (durable_word S ws 0) (durable_word S vs 0) (rises 0))
 
-      owner_of : (durable_word S vs 0 ≡ durable_word S ws 0) ⊎ ((c ≡ 0) × (last ws ≡ risen S ws + 1) × Opened B ws × (durable_word S vs 0 ≡ w) × (seq w ≡ last ws) × WasCur B ws bs w) → B.seq < risen S vs → pay (durable_word S vs 0) ≡ (batch B bs (risen S vs)).owner
+      owner_of : (durable_word S vs 0 ≡ durable_word S ws 0) ⊎ ((c ≡ 0) × (last ws ≡ risen S ws + 1) × Opened B ws × (durable_word S vs 0 ≡ w) × (seq w ≡ last ws) × HeldAsCurrent B ws bs w) → B.seq < risen S vs → pay (durable_word S vs 0) ≡ (batch B bs (risen S vs)).owner
       owner_of (inl q) = subst (λ (x : ℕ). B.seq < seq x → pay x ≡ (batch B bs (seq x)).owner) (sym q) g.durable.owner
       owner_of (inr q) = subst (λ (x : ℕ). B.seq < seq x → pay x ≡ (batch B bs (seq x)).owner) (sym q.3) q.5.1
 
-      first_of_ : (durable_word S vs 0 ≡ durable_word S ws 0) ⊎ ((c ≡ 0) × (last ws ≡ risen S ws + 1) × Opened B ws × (durable_word S vs 0 ≡ w) × (seq w ≡ last ws) × WasCur B ws bs w) → risen S vs ≡ B.seq → pay (durable_word S vs 0) ≡ B.owner
+      first_of_ : (durable_word S vs 0 ≡ durable_word S ws 0) ⊎ ((c ≡ 0) × (last ws ≡ risen S ws + 1) × Opened B ws × (durable_word S vs 0 ≡ w) × (seq w ≡ last ws) × HeldAsCurrent B ws bs w) → risen S vs ≡ B.seq → pay (durable_word S vs 0) ≡ B.owner
       first_of_ (inl q) = subst (λ (x : ℕ). seq x ≡ B.seq → pay x ≡ B.owner) (sym q) g.durable.first
       first_of_ (inr q) = subst (λ (x : ℕ). seq x ≡ B.seq → pay x ≡ B.owner) (sym q.3) q.5.2
 
-      step_of : (durable_word S vs 0 ≡ durable_word S ws 0) ⊎ ((c ≡ 0) × (last ws ≡ risen S ws + 1) × Opened B ws × (durable_word S vs 0 ≡ w) × (seq w ≡ last ws) × WasCur B ws bs w) → (last ws ≡ risen S ws) ⊎ ((last ws ≡ risen S ws + 1) × Opened B ws)
+      step_of : (durable_word S vs 0 ≡ durable_word S ws 0) ⊎ ((c ≡ 0) × (last ws ≡ risen S ws + 1) × Opened B ws × (durable_word S vs 0 ≡ w) × (seq w ≡ last ws) × HeldAsCurrent B ws bs w) → (last ws ≡ risen S ws) ⊎ ((last ws ≡ risen S ws + 1) × Opened B ws)
           → (last vs ≡ risen S vs) ⊎ ((last vs ≡ risen S vs + 1) × Opened B vs)
-      step_of (inl q) (inl t) = inl (ap seq cur_same ∙ t ∙ ap seq (sym q))
-      step_of (inl q) (inr t) = inr (ap seq cur_same ∙ t.0 ∙ ap (λ (x : ℕ). seq x + 1) (sym q), opened t.1)
-      step_of (inr q) t = inl (ap seq cur_same ∙ sym q.4 ∙ ap seq (sym q.3))
+      step_of (inl q) (inl t) = inl (ap seq current_same ∙ t ∙ ap seq (sym q))
+      step_of (inl q) (inr t) = inr (ap seq current_same ∙ t.0 ∙ ap (λ (x : ℕ). seq x + 1) (sym q), opened t.1)
+      step_of (inr q) t = inl (ap seq current_same ∙ sym q.4 ∙ ap seq (sym q.3))
 
-      cells_of : (a : ℕ) → a < S.cells → (durable_word S vs 0 ≡ durable_word S ws 0) ⊎ ((c ≡ 0) × (last ws ≡ risen S ws + 1) × Opened B ws × (durable_word S vs 0 ≡ w) × (seq w ≡ last ws) × WasCur B ws bs w)
+      cells_of : (a : ℕ) → a < S.cells → (durable_word S vs 0 ≡ durable_word S ws 0) ⊎ ((c ≡ 0) × (last ws ≡ risen S ws + 1) × Opened B ws × (durable_word S vs 0 ≡ w) × (seq w ≡ last ws) × HeldAsCurrent B ws bs w)
           → (durable_cell S vs a ≡ durable_cell S ws a) ⊎ (durable_cell S vs a ≡ at B bs (risen S ws) a)
           → (durable_cell S ws a ≡ at B bs (risen S ws) a) ⊎ (Opened B ws × (last ws ≡ risen S ws) × (durable_cell S ws a ≡ at B bs (risen S ws - 1) a))
           → (durable_cell S vs a ≡ at B bs (risen S vs) a) ⊎ (Opened B vs × (last vs ≡ risen S vs) × (durable_cell S vs a ≡ at B bs (risen S vs - 1) a))
       cells_of a l (inl q) (inr d) old = inl (d ∙ ap (λ (x : ℕ). at B bs (seq x) a) (sym q))
       cells_of a l (inl q) (inl d) (inl old) = inl (d ∙ old ∙ ap (λ (x : ℕ). at B bs (seq x) a) (sym q))
-      cells_of a l (inl q) (inl d) (inr old) = inr (opened old.0, ap seq cur_same ∙ old.1 ∙ ap seq (sym q), d ∙ old.2 ∙ ap (λ (x : ℕ). at B bs (seq x - 1) a) (sym q))
+      cells_of a l (inl q) (inl d) (inr old) = inr (opened old.0, ap seq current_same ∙ old.1 ∙ ap seq (sym q), d ∙ old.2 ∙ ap (λ (x : ℕ). at B bs (seq x - 1) a) (sym q))
       cells_of a l (inr q) d (inr old) = absurd (omega (arith, old.1, q.1))
       cells_of a l (inr q) d (inl old) =
           let r : risen S vs ≡ last ws = ap seq q.3 ∙ q.4 in
           let b : risen S vs - 1 ≡ risen S ws = omega (arith, q.1) in
-          inr (opened q.2, ap seq cur_same ∙ sym r, same d ∙ ap (λ (x : ℕ). at B bs x a) (sym b))
+          inr (opened q.2, ap seq current_same ∙ sym r, same d ∙ ap (λ (x : ℕ). at B bs x a) (sym b))
         where
           same : (durable_cell S vs a ≡ durable_cell S ws a) ⊎ (durable_cell S vs a ≡ at B bs (risen S ws) a) → durable_cell S vs a ≡ at B bs (risen S ws) a
           same (inl d) = d ∙ old
@@ -230,10 +230,10 @@ module _ (S : Setup) (Lawful : List ℕ → Type 0) (B : Start) (ws : List ℕ) 
   }
     where
       request_as : (j v : ℕ) → IsRequest B ws bs j v → IsRequest B vs bs j v
-      request_as j v h l = rw cur_same (h l)
+      request_as j v h l = rw current_same (h l)
 
       log_as : (j x v : ℕ) → IsLogWord B ws bs j x v → IsLogWord B vs bs j x v
-      log_as j x v h a u o = h a (rw cur_same at u) o
+      log_as j x v h a u o = h a (rw current_same at u) o
 
   pub raise_shared : Shared S Lawful B vs bs
   raise_shared = record {
@@ -244,26 +244,26 @@ module _ (S : Setup) (Lawful : List ℕ → Type 0) (B : Start) (ws : List ℕ) 
     own_in = g.own_in;
     room = rw length-set g.room;
     counted = record {
-      count = rw cur_same g.counted.count;
-      limit = rw cur_same g.counted.limit;
-      owner = rw cur_same g.counted.owner;
-      first = rw cur_same g.counted.first;
-      owner_in = rw cur_same g.counted.owner_in;
-      owners = rw cur_same g.counted.owners;
-      logs = rw cur_same g.counted.logs;
+      count = rw current_same g.counted.count;
+      limit = rw current_same g.counted.limit;
+      owner = rw current_same g.counted.owner;
+      first = rw current_same g.counted.first;
+      owner_in = rw current_same g.counted.owner_in;
+      owners = rw current_same g.counted.owners;
+      logs = rw current_same g.counted.logs;
     };
-    datas = record { each = λ a l. data_of a l (g.datas.each a l) };
+    data_cells = record { each = λ a l. data_of a l (g.data_cells.each a l) };
     requests = record {
-      closed = λ k l u. let z : k < last ws = rw cur_same at u in rw (req_same (batch B bs k).owner (g.counted.owners k l (omega arith))) (g.requests.closed k l z);
-      latest = λ l. let z : word (last ws) 0 ≤ request_of ws (holder ws) = g.requests.latest (rw cur_same at l) in rw (cur_same, req_same (holder ws) g.counted.owner_in) z;
+      closed = λ k l u. let z : k < last ws = rw current_same at u in rw (req_same (batch B bs k).owner (g.counted.owners k l (omega arith))) (g.requests.closed k l z);
+      latest = λ l. let z : word (last ws) 0 ≤ request_of ws (holder ws) = g.requests.latest (rw current_same at l) in rw (current_same, req_same (holder ws) g.counted.owner_in) z;
       floor = λ l. rw (req_same B.owner g.start.owner_in) (g.requests.floor l);
     };
     durable = raise_durable;
     stands = g.stands;
     kinds = raise_kinds;
-    heard = heard_as S B ws vs bs (λ i l. behind i S.instrs) (ap seq cur_same) (λ i l. rw (log_same i 0 l (omega arith)) (g.heard.counts i l)) g.heard;
+    heard = heard_as S B ws vs bs (λ i l. behind i S.instrs) (ap seq current_same) (λ i l. rw (log_same i 0 l (omega arith)) (g.heard.counts i l)) g.heard;
   }
     where
       data_of : (a : ℕ) → a < S.cells → (cell S ws a ≡ at B bs (last ws) a) ⊎ (Opened B ws × (cell S ws a ≡ at B bs (last ws - 1) a)) → (cell S vs a ≡ at B bs (last vs) a) ⊎ (Opened B vs × (cell S vs a ≡ at B bs (last vs - 1) a))
-      data_of a l (inl q) = inl (rw cur_same (cell_same a l ∙ q))
-      data_of a l (inr q) = inr (opened q.0, rw cur_same (cell_same a l ∙ q.1))
+      data_of a l (inl q) = inl (rw current_same (cell_same a l ∙ q))
+      data_of a l (inr q) = inr (opened q.0, rw current_same (cell_same a l ∙ q.1))

@@ -12,7 +12,7 @@ use Rattle.of_core.specs.Steps.{after_load_request, entered, is_open, took_at, n
 use Rattle.of_core.specs.World.{World, Start, stepped_at}
 use Rattle.of_core.specs.History.{batch, at, InRow, ticket_in, numbers}
 use Rattle.of_core.specs.Shared.{Opened}
-use Rattle.of_core.specs.Rounds.{Cur, Begun, Round, Looks, Past, Calm}
+use Rattle.of_core.specs.Rounds.{WasCurrent, Begun, Round, Looks, Past, Calm}
 use Rattle.of_core.specs.Invariant.{At, Core}
 use Rattle.of_core.specs.Moves.{Goes}
 use Rattle.of_core.proofs.States.{later, old}
@@ -92,7 +92,7 @@ module _ (S : Setup) (Lawful : List ℕ → Type 0) (B : Start) where
 
     -- a data cell is no newer than the last batch
     pub cell_upto : (x : ℕ) → x < S.cells → seq (cell S w.words x) ≤ last w.words
-    cell_upto x l = go (g.shared.datas.each x l)
+    cell_upto x l = go (g.shared.data_cells.each x l)
       where
         go : (cell S w.words x ≡ at B w.batches (last w.words) x) ⊎ (Opened B w.words × (cell S w.words x ≡ at B w.batches (last w.words - 1) x)) → seq (cell S w.words x) ≤ last w.words
         go (inl q) = rw q (old S B w.batches g.shared.start (logs_of S Lawful B w g) (last w.words) x (omega (arith, n_is)) (omega (arith, n_is)) l)
@@ -103,7 +103,7 @@ module _ (S : Setup) (Lawful : List ℕ → Type 0) (B : Start) where
 
     -- where the call is in the history up to the round, its own cells are no newer than the round
     pub own_row_old : (n : Data) → Looks S B w.words w.batches i n → n.made ≤ ticket_in S B w.batches n.seq i → (a : ℕ) → InRow S i a → seq (cell S w.words a) ≤ n.seq
-    own_row_old n p t a r = go (g.shared.datas.each a (row_in a r))
+    own_row_old n p t a r = go (g.shared.data_cells.each a (row_in a r))
       where
         at_k : (k : ℕ) → n.seq ≤ k → k ≤ last w.words → seq (at B w.batches k a) ≤ n.seq
         at_k k l u = row_old S Lawful B w.batches g.shared.stands g.shared.start (logs_of S Lawful B w g) g.shared.own_in n.seq k i a p.round.from l (omega (arith, n_is)) h
@@ -144,7 +144,7 @@ module _ (S : Setup) (Lawful : List ℕ → Type 0) (B : Start) where
         elim_none v q = cc
 
     -- a request that was found not to be open is above
-    pub quiet_from : (s o : ℕ) → Cur S B w.words w.batches s o → (B.seq < s → request_of w.words o ≡ word s 0 → ⊥) → s ≡ last w.words → B.seq < s → word s 0 < request_of w.words (holder w.words)
+    pub quiet_from : (s o : ℕ) → WasCurrent S B w.words w.batches s o → (B.seq < s → request_of w.words o ≡ word s 0 → ⊥) → s ≡ last w.words → B.seq < s → word s 0 < request_of w.words (holder w.words)
     quiet_from s o p away e l =
         let low : word s 0 ≤ request_of w.words (batch B w.batches s).owner = floor_of S Lawful B w.words w.batches g.shared s l p.upto in
         let q : (batch B w.batches s).owner ≡ o = p.committed l in
@@ -154,8 +154,8 @@ module _ (S : Setup) (Lawful : List ℕ → Type 0) (B : Start) where
         above : word s 0 ≤ request_of w.words o → (request_of w.words o ≡ word s 0 → ⊥) → word s 0 < request_of w.words o
         above x y = omega arith
 
-    pub cur_of : (n : Data) → Round S B w.words w.batches i n → Cur S B w.words w.batches n.seq n.owner
-    cur_of n p = record { from = p.from; upto = p.upto; same = p.same; owner_in = p.owner_in; committed = p.committed; first = p.first }
+    pub current_of : (n : Data) → Round S B w.words w.batches i n → WasCurrent S B w.words w.batches n.seq n.owner
+    current_of n p = record { from = p.from; upto = p.upto; same = p.same; owner_in = p.owner_in; committed = p.committed; first = p.first }
 
     pub not_open : (s f : ℕ) → is_open s f ≡ false → 0 < s → f ≡ word s 0 → ⊥
     not_open s f e p q = grind (arith, nat_tests)
@@ -177,7 +177,7 @@ module _ (S : Setup) (Lawful : List ℕ → Type 0) (B : Start) where
         go true eb = (
           record {
             helper = inl (round_as S Lawful B w g i m h m _ a.0 refl refl refl refl refl refl refl refl);
-            current_word = cur_of m a.0;
+            current_word = current_of m a.0;
             calm = a.1;
             helps = refl;
             after = after (opened_is m.seq (request_of w.words m.owner) eb) (cases_eq m.seq B.seq);
@@ -188,11 +188,11 @@ module _ (S : Setup) (Lawful : List ℕ → Type 0) (B : Start) where
           λ q. omega arith,
           omega arith,
         )
-        go false eb = entered_at m a.0 a.1 (quiet_from m.seq m.owner (cur_of m a.0) (λ l. not_open m.seq (request_of w.words m.owner) eb (omega (arith, l))))
+        go false eb = entered_at m a.0 a.1 (quiet_from m.seq m.owner (current_of m a.0) (λ l. not_open m.seq (request_of w.words m.owner) eb (omega (arith, l))))
 
     -- a cell that isn't newer than the round is that of the round's state
     pub cell_of : (n : Data) → Looks S B w.words w.batches i n → (x : ℕ) → x < S.cells → seq (cell S w.words x) ≤ n.seq → cell S w.words x ≡ at B w.batches n.seq x
-    cell_of n p x l o = go (g.shared.datas.each x l)
+    cell_of n p x l o = go (g.shared.data_cells.each x l)
       where
         go : (cell S w.words x ≡ at B w.batches (last w.words) x) ⊎ (Opened B w.words × (cell S w.words x ≡ at B w.batches (last w.words - 1) x)) → cell S w.words x ≡ at B w.batches n.seq x
         go (inl q) = q ∙ later S B w.batches g.shared.start (logs_of S Lawful B w g) n.seq (last w.words) x p.round.from p.round.upto (omega arith) l (rw (← q) o)

@@ -14,10 +14,10 @@ use Rattle.of_core.specs.Machine.{Data, Call, entry, log_words}
 use Rattle.of_core.specs.World.{Batch, Start}
 use Rattle.of_core.specs.History.{state, batch, ticket_in, ticket_among}
 use Rattle.of_core.specs.Shared.{Heard, Kinds, IsRequest, IsLogWord, Shared, Held}
-use Rattle.of_core.specs.Rounds.{Cur, Trying, Helper, Watches, Begun, Fresh, Round, Looks, Past, Mine, Quieted, Calm}
+use Rattle.of_core.specs.Rounds.{WasCurrent, Trying, Helper, Watches, Begun, Fresh, Round, Looks, Past, Mine, Quieted, Calm}
 use Rattle.of_core.specs.Scan.{Over, Hears, Reads, Taken, Announced}
 use Rattle.of_core.specs.Transaction.{Applies, Mode, Owns, Logs, Copies, Stored}
-use Rattle.of_core.specs.Invariant.{Told, At, WasCur, IsLoaded}
+use Rattle.of_core.specs.Invariant.{Told, At, HeldAsCurrent, IsLoaded}
 use Rattle.of_core.specs.Moves.{Moves}
 use Rattle.of_core.proofs.Logs.{length-log_words, room_for}
 
@@ -125,7 +125,7 @@ module _ (S : Setup) (Lawful : List ℕ → Type 0) (B : Start) (i : ℕ) (ws : 
     log = λ j x l u q. let p = h.log j x l u q in loaded_log kinds j x e.1 l u (rw q at h.low) p.0 p.1;
   }
     where
-      was : WasCur B ws bs e.1 → seq e.1 ≤ last ws → WasCur B vs cs e.1
+      was : HeldAsCurrent B ws bs e.1 → seq e.1 ≤ last ws → HeldAsCurrent B vs cs e.1
       was q u = (q.0, λ l. q.1 l ∙ ap (λ (b : Batch). b.owner) (sym (v.batches (seq e.1) l u)), q.2)
 
   from_start : B.seq ≤ last ws
@@ -321,8 +321,8 @@ module _ (S : Setup) (Lawful : List ℕ → Type 0) (B : Start) (i : ℕ) (ws : 
       few = h.few;
     }
 
-    cur_stable : (s o : ℕ) → Cur S B ws bs s o → Cur S B vs cs s o
-    cur_stable s o h = let g = grows in record {
+    current_stable : (s o : ℕ) → WasCurrent S B ws bs s o → WasCurrent S B vs cs s o
+    current_stable s o h = let g = grows in record {
       from = h.from;
       owner_in = h.owner_in;
       upto = omega (arith, h.upto);
@@ -416,7 +416,7 @@ module _ (S : Setup) (Lawful : List ℕ → Type 0) (B : Start) (i : ℕ) (ws : 
         go (inr a) (inr q) = let z : ◌≡◌ {A = ℕ} 1 0 = (word_inj m.seq 1 (last ws) 0 (omega arith) (omega arith) (sym a ∙ q.2)).1 in absurd (omega arith)
 
     mode_stable : (m : Data) (b : Bool) → B.seq < m.seq → m.seq ≤ last ws → Mode S B ws bs j m b → Mode S B vs cs j m b
-    mode_stable m true l u h = (helper_stable m h.0, cur_stable m.seq m.owner h.1, calm_stable m.seq m.seq (omega arith) h.2)
+    mode_stable m true l u h = (helper_stable m h.0, current_stable m.seq m.owner h.1, calm_stable m.seq m.seq (omega arith) h.2)
     mode_stable m false l u h = owns_stable m l u h
 
     entry_in : (m : Data) (n : ℕ) → Applies S B ws bs j m n → (k : ℕ) → k < length m.log → (entry m k).0 < S.cells
@@ -436,7 +436,7 @@ module _ (S : Setup) (Lawful : List ℕ → Type 0) (B : Start) (i : ℕ) (ws : 
     }
 
     -- a request that is open at m.seq was so before
-    open_before : (m : Data) → Cur S B ws bs m.seq m.owner → B.seq < m.seq → request_of vs m.owner ≡ word m.seq 0 → request_of ws m.owner ≡ word m.seq 0
+    open_before : (m : Data) → WasCurrent S B ws bs m.seq m.owner → B.seq < m.seq → request_of vs m.owner ≡ word m.seq 0 → request_of ws m.owner ≡ word m.seq 0
     open_before m h l q =
         let o : (batch B bs m.seq).owner ≡ m.owner = h.committed l in
         let floor : word m.seq 0 ≤ request_of ws m.owner = rw o at (floor_of S Lawful B ws bs shared m.seq l h.upto) in
@@ -445,7 +445,7 @@ module _ (S : Setup) (Lawful : List ℕ → Type 0) (B : Start) (i : ℕ) (ws : 
     copies_stable : (m : Data) (x : ℕ) → Copies S B ws bs j m x → Copies S B vs cs j m x
     copies_stable m x h = record {
       helper = helper_stable m h.helper;
-      current_word = cur_stable m.seq m.owner h.current_word;
+      current_word = current_stable m.seq m.owner h.current_word;
       calm = calm_stable m.seq m.seq (omega arith) h.calm;
       helps = h.helps;
       after = h.after;
@@ -506,8 +506,8 @@ module _ (S : Setup) (Lawful : List ℕ → Type 0) (B : Start) (i : ℕ) (ws : 
       told = told_stable m m.answer h.older h.told;
     }
     at_stable m TryCurrent h = (fresh_stable m h.0, calm_stable (last ws) (last vs) grows h.1, h.2, h.3)
-    at_stable m TryRequest h = (trying_stable m h.0, cur_stable m.seq m.owner h.1, calm_stable m.seq m.seq (omega arith) h.2)
-    at_stable m (TryCell x) h = (trying_stable m h.0, cur_stable m.seq m.owner h.1, calm_stable m.seq m.seq (omega arith) h.2, watches_stable m.seq m.known h.1.from h.1.upto h.3, h.4, h.5)
+    at_stable m TryRequest h = (trying_stable m h.0, current_stable m.seq m.owner h.1, calm_stable m.seq m.seq (omega arith) h.2)
+    at_stable m (TryCell x) h = (trying_stable m h.0, current_stable m.seq m.owner h.1, calm_stable m.seq m.seq (omega arith) h.2, watches_stable m.seq m.known h.1.from h.1.upto h.3, h.4, h.5)
     at_stable m (StoreScript x) h = (fresh_stable m h.0, calm_stable (last ws) (last vs) grows h.1, h.2, said_same x (omega (arith, h.2, h.0.words)) ∙ h.3)
     at_stable m StoreAnnouncement h = (fresh_stable m h.0, calm_stable (last ws) (last vs) grows h.1, said_same (length m.op) h.0.words ∙ h.2)
     at_stable m LoadCurrent h = (begun_stable m h.0, calm_stable (last ws) (last vs) grows h.1, record { few = h.2.few; later = λ l. omega (arith, h.2.later l, grows) })

@@ -8,7 +8,7 @@ use Rattle.of_core.specs.Table.{Setup, size, request_at, data_at, log_at, announ
 use Rattle.of_core.specs.Machine.{Data, Call, log_words}
 use Rattle.of_core.specs.World.{World, Batch, Start}
 use Rattle.of_core.specs.History.{batch, at}
-use Rattle.of_core.specs.Shared.{Heard, Kinds, IsRequest, IsLogWord, Shared, Opened, Counted, Datas, Requests, Durable, Held}
+use Rattle.of_core.specs.Shared.{Heard, Kinds, IsRequest, IsLogWord, Shared, Opened, Counted, DataCells, Requests, Durable, Held}
 use Rattle.of_core.specs.Rounds.{Begun, Round, Past, Quieted}
 use Rattle.of_core.specs.Scan.{Over}
 use Rattle.of_core.specs.Invariant.{Core}
@@ -141,8 +141,8 @@ module _ (S : Setup) (Lawful : List ℕ → Type 0) (B : Start) where
     pub request_same : (j : ℕ) → j < S.callers → request_of vs j ≡ request_of ws j → IsRequest B ws bs j (request_of vs j)
     request_same j l e = subst (λ (y : ℕ). IsRequest B ws bs j y) (sym e) (s.kinds.requests j l)
 
-    pub shared_of : Datas S B vs bs → Durable S B vs bs → Heard S B vs bs → Kinds S B vs bs → Shared S Lawful B vs bs
-    shared_of d l hd kd = record { kinds = kd; start = s.start; few = s.few; narrow = s.narrow; little = s.little; own_in = s.own_in; room = rw t.room s.room; counted = counted_of; datas = d; requests = requests_of; durable = l; stands = s.stands; heard = hd }
+    pub shared_of : DataCells S B vs bs → Durable S B vs bs → Heard S B vs bs → Kinds S B vs bs → Shared S Lawful B vs bs
+    shared_of d l hd kd = record { kinds = kd; start = s.start; few = s.few; narrow = s.narrow; little = s.little; own_in = s.own_in; room = rw t.room s.room; counted = counted_of; data_cells = d; requests = requests_of; durable = l; stands = s.stands; heard = hd }
 
     -- where no script word and no announcement changed
     module _ (behind : (j x : ℕ) → script_word S vs j x ≡ script_word S ws j x) where
@@ -208,7 +208,7 @@ module _ (S : Setup) (Lawful : List ℕ → Type 0) (B : Start) where
   module _ (w : World) (g : Core S Lawful B w) where
     -- what a data cell holds it has held
     pub held_now : (a : ℕ) → a < S.cells → Held B w.words w.batches a (cell S w.words a)
-    held_now a l = go (g.shared.datas.each a l)
+    held_now a l = go (g.shared.data_cells.each a l)
       where
         n_is : last w.words ≡ B.seq + length w.batches
         n_is = g.shared.counted.count

@@ -12,7 +12,7 @@ use Rattle.of_core.specs.Steps.{read_on, read_ran, tried, resumed, after_try_req
 use Rattle.of_core.specs.World.{World, Start, stepped_at}
 use Rattle.of_core.specs.History.{state, at, numbers}
 use Rattle.of_core.specs.Shared.{Opened}
-use Rattle.of_core.specs.Rounds.{Cur, Trying, Helper, Watches, Calm}
+use Rattle.of_core.specs.Rounds.{WasCurrent, Trying, Helper, Watches, Calm}
 use Rattle.of_core.specs.Invariant.{At, Core}
 use Rattle.of_core.specs.Moves.{Goes}
 use Rattle.of_core.proofs.States.{state_length, later}
@@ -25,8 +25,8 @@ module _ (S : Setup) (Lawful : List ℕ → Type 0) (B : Start) where
   -- the machine m of caller i, at its place
   module _ (w : World) (g : Core S Lawful B w) (i : ℕ) (m : Data) (h : i < S.callers) where
     -- a cell that isn't newer than a round or a try is that of its state
-    cell_seen : (s o : ℕ) (known : List (Option ℕ)) → Cur S B w.words w.batches s o → Watches S B w.words w.batches s known → (x : ℕ) → x < S.cells → seq (cell S w.words x) ≤ s → cell S w.words x ≡ at B w.batches s x
-    cell_seen s o known c p x l fresh = go (g.shared.datas.each x l)
+    cell_seen : (s o : ℕ) (known : List (Option ℕ)) → WasCurrent S B w.words w.batches s o → Watches S B w.words w.batches s known → (x : ℕ) → x < S.cells → seq (cell S w.words x) ≤ s → cell S w.words x ≡ at B w.batches s x
+    cell_seen s o known c p x l fresh = go (g.shared.data_cells.each x l)
       where
         go : (cell S w.words x ≡ at B w.batches (last w.words) x) ⊎ (Opened B w.words × (cell S w.words x ≡ at B w.batches (last w.words - 1) x)) → cell S w.words x ≡ at B w.batches s x
         go (inl q) = q ∙ later S B w.batches g.shared.start (logs_of S Lawful B w g) s (last w.words) x c.from c.upto (omega (arith, n_is S Lawful B w g i m h)) l (rw (← q) fresh)
@@ -34,7 +34,7 @@ module _ (S : Setup) (Lawful : List ℕ → Type 0) (B : Start) where
             let ne : s ≡ last w.words → ⊥ = λ e. let z : word s 0 < request_of w.words (holder w.words) = p.quiet e (omega (arith, op.any)) in omega (arith, op.asks, ap (λ (k : ℕ). word k 0) e) in
             q ∙ later S B w.batches g.shared.start (logs_of S Lawful B w g) s (last w.words - 1) x c.from (omega (arith, c.upto)) (omega (arith, n_is S Lawful B w g i m h)) l (rw (← q) fresh)
 
-    seen_risen : (s o : ℕ) (known : List (Option ℕ)) → Cur S B w.words w.batches s o → Watches S B w.words w.batches s known → s ≤ risen S w.words
+    seen_risen : (s o : ℕ) (known : List (Option ℕ)) → WasCurrent S B w.words w.batches s o → Watches S B w.words w.batches s known → s ≤ risen S w.words
     seen_risen s o known c p = go g.shared.durable.step
       where
         go : (last w.words ≡ risen S w.words) ⊎ ((last w.words ≡ risen S w.words + 1) × Opened B w.words) → s ≤ risen S w.words
@@ -44,7 +44,7 @@ module _ (S : Setup) (Lawful : List ℕ → Type 0) (B : Start) where
             omega (arith, c.upto)
 
     -- a try goes on by its walk
-    reads_at : (n : Data) → Sound S.meaning Lawful (base S) S.cells → Trying S B w.words w.batches i n → Cur S B w.words w.batches n.seq n.owner → Calm S B w.words w.batches i n.seq → Watches S B w.words w.batches n.seq n.known
+    reads_at : (n : Data) → Sound S.meaning Lawful (base S) S.cells → Trying S B w.words w.batches i n → WasCurrent S B w.words w.batches n.seq n.owner → Calm S B w.words w.batches i n.seq → Watches S B w.words w.batches n.seq n.known
         → At S B w.words w.batches i (read_on S n) (read_on S n).place
     reads_at n sound p c o k = go (S.meaning.walk n.known n.op) refl (sound.walks n.known xs n.op size (g.shared.stands.lawful n.seq c.from upto) k.agrees)
       where
@@ -79,12 +79,12 @@ module _ (S : Setup) (Lawful : List ℕ → Type 0) (B : Start) where
         elim_none : ◌≡◌ {A = Option ℕ} None (Some v) → ⊥
         elim_none q = cc
 
-    tried_at : (n : Data) → Sound S.meaning Lawful (base S) S.cells → Trying S B w.words w.batches i n → Cur S B w.words w.batches n.seq n.owner → Calm S B w.words w.batches i n.seq
+    tried_at : (n : Data) → Sound S.meaning Lawful (base S) S.cells → Trying S B w.words w.batches i n → WasCurrent S B w.words w.batches n.seq n.owner → Calm S B w.words w.batches i n.seq
         → (n.seq ≡ last w.words → B.seq < n.seq → word n.seq 0 < request_of w.words (holder w.words)) → At S B w.words w.batches i (tried S n) (tried S n).place
     tried_at n sound p c o quiet = reads_at (record n { known = unknown S; helps = false }) sound (trying_as S Lawful B w g i m h n _ p refl refl refl refl refl refl) c o
         (record { quiet = quiet; agrees = λ x v q. absurd (none_known x v q); all = length-replicate S.cells None })
 
-    pub resumed_at : (n : Data) → Sound S.meaning Lawful (base S) S.cells → Helper S B w.words w.batches i n → Cur S B w.words w.batches n.seq n.owner → Calm S B w.words w.batches i n.seq
+    pub resumed_at : (n : Data) → Sound S.meaning Lawful (base S) S.cells → Helper S B w.words w.batches i n → WasCurrent S B w.words w.batches n.seq n.owner → Calm S B w.words w.batches i n.seq
         → (n.seq ≡ last w.words → B.seq < n.seq → word n.seq 0 < request_of w.words (holder w.words)) → (b : Bool) → (n.rounds == 0) ≡ b → At S B w.words w.batches i (resumed S n b) (resumed S n b).place
     resumed_at n sound (inl p) c o quiet true e = let z : n.rounds ≡ 0 = grind (arith, nat_tests) in absurd (omega (arith, p.begun_one))
     resumed_at n sound (inl p) c o quiet false e = entered_at S Lawful B w g i m h n p o quiet

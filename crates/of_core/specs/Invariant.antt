@@ -12,7 +12,7 @@ use Rattle.of_core.specs.Machine.{Data, entry, log_words, unknown}
 use Rattle.of_core.specs.World.{Batch, World, Start}
 use Rattle.of_core.specs.History.{state, batch, numbers, ticket_in, HasCall}
 use Rattle.of_core.specs.Shared.{Held, IsRequest, IsLogWord, Shared}
-use Rattle.of_core.specs.Rounds.{Keeps, Quieted, Fresh, Begun, Round, Cur, Trying, Watches, Between, Looks, Past, Calm, Finds, ReadUpto}
+use Rattle.of_core.specs.Rounds.{Keeps, Quieted, Fresh, Begun, Round, WasCurrent, Trying, Watches, Between, Looks, Past, Calm, Finds, ReadUpto}
 use Rattle.of_core.specs.Scan.{Over, Hears, Reads, Scans}
 use Rattle.of_core.specs.Transaction.{Applies, Copies, Stored, Logs}
 use Rattle.of_core.specs.Order.{Order}
@@ -39,8 +39,8 @@ pub record Rests (S : Setup) (B : Start) (ws : List ℕ) (bs : List Batch) (i : 
 abbrev pub At : Setup → Start → List ℕ → List Batch → ℕ → Data → Place → Type 0
 At S B ws bs i m Idle = Rests S B ws bs i m
 At S B ws bs i m TryCurrent = Fresh S B ws bs i m × Calm S B ws bs i (last ws) × (S.meaning.reads_only m.op ≡ true) × (m.tries ≤ 3)
-At S B ws bs i m TryRequest = Trying S B ws bs i m × Cur S B ws bs m.seq m.owner × Calm S B ws bs i m.seq
-At S B ws bs i m (TryCell a) = Trying S B ws bs i m × Cur S B ws bs m.seq m.owner × Calm S B ws bs i m.seq × Watches S B ws bs m.seq m.known × (a < S.cells) × (get_or m.known a None ≡ None)
+At S B ws bs i m TryRequest = Trying S B ws bs i m × WasCurrent S B ws bs m.seq m.owner × Calm S B ws bs i m.seq
+At S B ws bs i m (TryCell a) = Trying S B ws bs i m × WasCurrent S B ws bs m.seq m.owner × Calm S B ws bs i m.seq × Watches S B ws bs m.seq m.known × (a < S.cells) × (get_or m.known a None ≡ None)
 At S B ws bs i m (StoreScript j) = Fresh S B ws bs i m × Calm S B ws bs i (last ws) × (j < length m.op) × (script_of S ws i j ≡ take j m.op)
 At S B ws bs i m StoreAnnouncement = Fresh S B ws bs i m × Calm S B ws bs i (last ws) × (script_of S ws i (length m.op) ≡ m.op)
 At S B ws bs i m LoadCurrent = Begun S B ws bs i m × Calm S B ws bs i (last ws) × Between ws m
@@ -69,14 +69,14 @@ At S B ws bs i m CloseRequest = Applies S B ws bs i m (length m.log) × (m.seq �
 At S B ws bs i m RaiseClosed = Applies S B ws bs i m (length m.log) × (m.seq ≤ risen S ws) × (word m.seq 0 < request_of ws m.owner)
 
 -- a word that the current-transaction cell has held
-abbrev pub WasCur : Start → List ℕ → List Batch → ℕ → Type 0
-WasCur B ws bs w = (B.seq ≤ seq w) × (B.seq < seq w → pay w ≡ (batch B bs (seq w)).owner) × (seq w ≡ B.seq → pay w ≡ B.owner)
+abbrev pub HeldAsCurrent : Start → List ℕ → List Batch → ℕ → Type 0
+HeldAsCurrent B ws bs w = (B.seq ≤ seq w) × (B.seq < seq w → pay w ≡ (batch B bs (seq w)).owner) × (seq w ≡ B.seq → pay w ≡ B.owner)
 
 -- a word that its cell has held, and that isn't above it: such a one is loaded for an eviction
 pub record IsLoaded (S : Setup) (B : Start) (ws : List ℕ) (bs : List Batch) (e : ℕ × ℕ) : Type 0 where
   pub place : e.0 < size S
   pub low : e.1 ≤ get_or ws e.0 0
-  pub was_cur : e.0 ≡ 0 → WasCur B ws bs e.1
+  pub was_cur : e.0 ≡ 0 → HeldAsCurrent B ws bs e.1
   pub held : (a : ℕ) → a < S.cells → e.0 ≡ S.callers + 1 + a → Held B ws bs a e.1
   pub request : (j : ℕ) → j < S.callers → e.0 ≡ j + 1 → IsRequest B ws bs j e.1
   -- one that has the sequence of its log cell is its word

@@ -25,8 +25,11 @@ pub record Fresh (S : Setup) (B : Start) (ws : List ℕ) (bs : List Batch) (i : 
   pub words : length m.op ≤ S.instrs
   pub some : 1 ≤ length m.op
   pub kept : Keeps B ws bs i m.kept
+  -- no batch has run the call: its ticket is above its caller's in the history
   pub above : ticket_in S B bs (last ws) i < m.made
+  -- nothing of the caller that is announced is to be run
   pub quieted : Quieted S B ws bs i
+  -- and what is announced is older
   pub newer : seq (announcement_of S ws i) < m.made
   pub rounds : m.rounds ≡ 0
 
@@ -41,24 +44,33 @@ pub record Begun (S : Setup) (B : Start) (ws : List ℕ) (bs : List Batch) (i : 
   pub words : length m.op ≤ S.instrs
   pub some : 1 ≤ length m.op
   pub kept : Keeps B ws bs i m.kept
+  -- the announcement is of this call
   pub says : announcement_of S ws i ≡ word m.made (length m.op)
+  -- with these words
   pub script : script_of S ws i (length m.op) ≡ m.op
+  -- no later call of the caller was run
   pub upto : ticket_in S B bs (last ws) i ≤ m.made
+  -- the start hasn't run it
   pub beyond : ticket_in S B bs B.seq i < m.made
+  -- where it is in a batch, it is there with these words
   pub mine : Mine B ws bs i m.made m.op
-  -- it was announced before its first round
+  -- it was announced before its first round, so it stood when any later batch was committed
   pub known : 1 ≤ m.rounds → (B.seq ≤ m.first) × ((k : ℕ) → m.first < k → k ≤ last ws → (batch B bs k).announcements i ≡ announcement_of S ws i)
 
 -- a round at m.seq
 pub record Round (S : Setup) (B : Start) (ws : List ℕ) (bs : List Batch) (i : ℕ) (m : Data) : Type 0 where
+  -- the call is announced
   pub begun : Begun S B ws bs i m
+  -- the round is at a sequence that stands
   pub from : B.seq ≤ m.seq
   pub upto : m.seq ≤ last ws
+  -- while that is the last one, its owner is the one that was loaded
   pub same : m.seq ≡ last ws → m.owner ≡ holder ws
   pub owner_in : m.owner < S.callers
+  -- and it is that batch's owner
   pub committed : B.seq < m.seq → (batch B bs m.seq).owner ≡ m.owner
   pub first : m.seq ≡ B.seq → m.owner ≡ B.owner
-  -- none of one's own was committed since
+  -- one has committed nothing since
   pub unowned : (k : ℕ) → m.seq < k → k ≤ last ws → (batch B bs k).owner ≡ i → ⊥
   -- each round is at a later sequence
   pub later : m.first + m.rounds ≤ m.seq + 1
@@ -66,7 +78,7 @@ pub record Round (S : Setup) (B : Start) (ws : List ℕ) (bs : List Batch) (i : 
   pub few : m.rounds ≤ 3
 
 -- the current-transaction word was (s, o) at some moment
-pub record Cur (S : Setup) (B : Start) (ws : List ℕ) (bs : List Batch) (s o : ℕ) : Type 0 where
+pub record WasCurrent (S : Setup) (B : Start) (ws : List ℕ) (bs : List Batch) (s o : ℕ) : Type 0 where
   pub from : B.seq ≤ s
   pub upto : s ≤ last ws
   pub same : s ≡ last ws → o ≡ holder ws
@@ -98,21 +110,29 @@ pub record Between (ws : List ℕ) (m : Data) : Type 0 where
 -- past the look at the request: the transaction of the round's sequence isn't open
 pub record Looks (S : Setup) (B : Start) (ws : List ℕ) (bs : List Batch) (i : ℕ) (m : Data) : Type 0 where
   pub round : Round S B ws bs i m
+  -- the transaction of that sequence is closed, or a later one stands
   pub quiet : m.seq ≡ last ws → B.seq < m.seq → word m.seq 0 < request_of ws (holder ws)
+  -- what is known of cells is of its state
   pub agrees : Agrees m.known (numbers B bs m.seq)
   pub all : length m.known ≡ S.cells
 
 -- past the look at one's own ticket: the call isn't in the history up to m.seq, and it isn't the last
 pub record Past (S : Setup) (B : Start) (ws : List ℕ) (bs : List Batch) (i : ℕ) (m : Data) : Type 0 where
   pub looks : Looks S B ws bs i m
+  -- a batch may still be committed
   pub under : m.seq < S.limit
+  -- the state has not run the call
   pub left : ticket_in S B bs m.seq i < m.made
 
 -- a machine that has nothing under way: its own request and log words are no newer than n, its request is durable, and its own batches are closed
 pub record Calm (S : Setup) (B : Start) (ws : List ℕ) (bs : List Batch) (i n : ℕ) : Type 0 where
+  -- its request
   pub own : seq (request_of ws i) ≤ n
+  -- is durable
   pub level : durable_request S ws i ≡ request_of ws i
+  -- closes each of its batches
   pub shut : (k : ℕ) → B.seq < k → k ≤ last ws → (batch B bs k).owner ≡ i → word k 0 < request_of ws i
+  -- and its log words are old
   pub logs : (y : ℕ) → y < 2 * S.cells + 1 → seq (log_word S ws i y) ≤ n
 
 -- one's own ticket cell in the round's state holds the call

@@ -27,26 +27,37 @@ pub record IsStart (S : Setup) (B : Start) : Type 0 where
 
 -- the sequence counts the batches, and names the last one's owner
 pub record Counted (S : Setup) (B : Start) (ws : List ℕ) (bs : List Batch) : Type 0 where
+  -- the last sequence counts the batches from the start on
   pub count : last ws ≡ B.seq + length bs
+  -- and is at most the limit
   pub limit : last ws ≤ S.limit
+  -- the current-transaction word names who committed the last batch
   pub owner : B.seq < last ws → holder ws ≡ (batch B bs (last ws)).owner
+  -- or the start's owner where there is none
   pub first : last ws ≡ B.seq → holder ws ≡ B.owner
+  -- owners are callers
   pub owner_in : holder ws < S.callers
   pub owners : (k : ℕ) → B.seq < k → k ≤ last ws → (batch B bs k).owner < S.callers
+  -- each batch's log is one that may be
   pub logs : (k : ℕ) → B.seq < k → k ≤ last ws → IsLog S (batch B bs k).log
 
 -- the last transaction is open
 pub record Opened (B : Start) (ws : List ℕ) : Type 0 where
+  -- a batch was committed
   pub any : B.seq < last ws
+  -- and its owner's request is stored and not closed
   pub asks : request_of ws (holder ws) ≡ word (last ws) 0
 
 -- the data cells are of the state after the last batch, or, where it is open, of the one before
-pub record Datas (S : Setup) (B : Start) (ws : List ℕ) (bs : List Batch) : Type 0 where
+pub record DataCells (S : Setup) (B : Start) (ws : List ℕ) (bs : List Batch) : Type 0 where
+  -- an open transaction may have reached a cell or not
   pub each : (a : ℕ) → a < S.cells → (cell S ws a ≡ at B bs (last ws) a) ⊎ (Opened B ws × (cell S ws a ≡ at B bs (last ws - 1) a))
 
 -- the requests of the batches: that of each batch below the last one is closed, and that of the last one is stored
 pub record Requests (S : Setup) (B : Start) (ws : List ℕ) (bs : List Batch) : Type 0 where
+  -- where a later batch stands, the request is above the open one
   pub closed : (k : ℕ) → B.seq < k → k < last ws → word k 0 < request_of ws (batch B bs k).owner
+  -- the last batch's request is the open one at least
   pub latest : B.seq < last ws → word (last ws) 0 ≤ request_of ws (holder ws)
   -- the start's transaction isn't open
   pub floor : 0 < B.seq → word B.seq 0 < request_of ws B.owner
@@ -57,40 +68,62 @@ Held B ws bs a w = (k : ℕ) × (B.seq ≤ k) × (k ≤ last ws) × (w ≡ at B 
 
 -- the durable words: each is at most its cell's, and names no newer transaction; where the last transaction is open its log is durable, and where it isn't its cells are
 pub record Durable (S : Setup) (B : Start) (ws : List ℕ) (bs : List Batch) : Type 0 where
+  -- no durable word is above its cell's
   pub low : (c : ℕ) → c < size S → durable_word S ws c ≤ get_or ws c 0
+  -- the durable sequence is never below the start
   pub from : B.seq ≤ risen S ws
+  -- the durable current-transaction word names that batch's owner
   pub owner : B.seq < risen S ws → pay (durable_word S ws 0) ≡ (batch B bs (risen S ws)).owner
+  -- or the start's
   pub first : risen S ws ≡ B.seq → pay (durable_word S ws 0) ≡ B.owner
+  -- it is the last one, or one below it where the last transaction is open
   pub step : (last ws ≡ risen S ws) ⊎ ((last ws ≡ risen S ws + 1) × Opened B ws)
+  -- no cell is newer than it
   pub fresh : (a : ℕ) → a < S.cells → seq (cell S ws a) ≤ risen S ws
+  -- the durable data cells are of its state, or where that transaction is open of the one before
   pub cells : (a : ℕ) → a < S.cells → (durable_cell S ws a ≡ at B bs (risen S ws) a) ⊎ (Opened B ws × (last ws ≡ risen S ws) × (durable_cell S ws a ≡ at B bs (risen S ws - 1) a))
+  -- the start's request is closed durably too
   pub begun : 0 < B.seq → word B.seq 0 < durable_request S ws B.owner
-  -- the durable request of a batch's owner is at least that of the batch
+  -- a batch's owner has stored its request durably before it committed
   pub floor : (k : ℕ) → B.seq < k → k ≤ last ws → word k 0 ≤ durable_request S ws (batch B bs k).owner
-  -- where the durable request of a batch's owner is that of the batch, its log words are the batch's log, on the table and durably
+  -- and while that request isn't closed durably, its log words are the batch's log, on the table and durably
   pub logs : (k : ℕ) → B.seq < k → k ≤ last ws → (i : ℕ) → (batch B bs k).owner ≡ i → durable_request S ws i ≡ word k 0 → (x v : ℕ) → x < length (log_words (batch B bs k).log) → get_or (log_words (batch B bs k).log) x 0 ≡ v
       → (log_word S ws i x ≡ word k v) × (durable_log S ws i x ≡ word k v)
 
 -- each state is lawful, and its batch's calls lead from the state before to it. The own cells hold each caller's last call
 pub record Stands (S : Setup) (Lawful : List ℕ → Type 0) (B : Start) (bs : List Batch) : Type 0 where
+  -- each state is lawful
   pub lawful : (k : ℕ) → B.seq ≤ k → k ≤ B.seq + length bs → Lawful (numbers B bs k)
+  -- apart from the callers' own cells the calls of a batch lead from the state before to its own
   pub leads : (k : ℕ) → B.seq ≤ k → k < B.seq + length bs → SameFrom (base S) (numbers B bs (k + 1)) (after_calls S.meaning (numbers B bs k) (batch B bs (k + 1)).calls)
+  -- and have the replies that they meet there
   pub replies : (k : ℕ) → B.seq ≤ k → k < B.seq + length bs → Replies S.meaning (numbers B bs k) (batch B bs (k + 1)).calls
+  -- each caller's own cells show its last call
   pub last : (k i : ℕ) → B.seq ≤ k → k ≤ B.seq + length bs → i < S.callers → Last S B bs k i
-  -- tickets rise
+  -- a call of a batch has a newer ticket than its caller had before
   pub rises : (k : ℕ) → B.seq ≤ k → k < B.seq + length bs → All (λ (c : Call). ticket_in S B bs k c.caller < c.ticket) (batch B bs (k + 1)).calls
+  -- and its caller has that ticket behind it
   pub now : (k : ℕ) → B.seq < k → k ≤ B.seq + length bs → All (λ (c : Call). (c.caller < S.callers) × (ticket_in S B bs k c.caller ≡ c.ticket)) (batch B bs k).calls
+  -- no ticket falls
   pub grow : (k i : ℕ) → B.seq ≤ k → k < B.seq + length bs → i < S.callers → ticket_in S B bs k i ≤ ticket_in S B bs (k + 1) i
+  -- a batch's calls stand by caller
   pub ordered : (k : ℕ) → B.seq < k → k ≤ B.seq + length bs → Rising (batch B bs k).calls
+  -- and it has one at least
   pub some : (k : ℕ) → B.seq < k → k ≤ B.seq + length bs → 0 < length (batch B bs k).calls
 
 -- announcements are of 1 to K words, rise, and are in the history two batches behind their first at the latest
 pub record Heard (S : Setup) (B : Start) (ws : List ℕ) (bs : List Batch) : Type 0 where
+  -- an announcement is of so many words at most
   pub small : (i : ℕ) → i < S.callers → pay (announcement_of S ws i) ≤ S.instrs
+  -- its ticket is a word
   pub tickets : (i : ℕ) → i < S.callers → seq (announcement_of S ws i) < 4294967296
+  -- and a ticket above 0 is of one word at least
   pub some : (i : ℕ) → i < S.callers → 0 < seq (announcement_of S ws i) → 1 ≤ pay (announcement_of S ws i)
+  -- announcements only rise
   pub before : (k i : ℕ) → B.seq < k → k ≤ last ws → i < S.callers → seq ((batch B bs k).announcements i) ≤ seq (announcement_of S ws i)
+  -- one that stood when a batch was committed is run by the next batch at the latest
   pub met : (k i : ℕ) → B.seq < k → k < last ws → i < S.callers → (batch B bs k).announcements i ≡ announcement_of S ws i → seq (announcement_of S ws i) ≤ ticket_in S B bs (k + 1) i
+  -- nobody has run a ticket that was not announced
   pub reached : (i : ℕ) → i < S.callers → ticket_in S B bs (last ws) i ≤ seq (announcement_of S ws i)
   -- a log has no more entries than there are cells, also where its round was lost
   pub counts : (i : ℕ) → i < S.callers → pay (log_word S ws i 0) ≤ S.cells
@@ -105,11 +138,15 @@ IsLogWord B ws bs j x w = B.seq < seq w → seq w ≤ last ws → (batch B bs (s
 
 -- what requests and log words are, on the table and durably
 pub record Kinds (S : Setup) (B : Start) (ws : List ℕ) (bs : List Batch) : Type 0 where
+  -- requests are open or closed
   pub requests : (j : ℕ) → j < S.callers → IsRequest B ws bs j (request_of ws j)
+  -- also durably
   pub dur_requests : (j : ℕ) → j < S.callers → IsRequest B ws bs j (durable_request S ws j)
+  -- a log word of a batch's sequence is that batch's
   pub logs : (j x : ℕ) → j < S.callers → x < 2 * S.cells + 1 → IsLogWord B ws bs j x (log_word S ws j x)
+  -- also durably
   pub dur_logs : (j x : ℕ) → j < S.callers → x < 2 * S.cells + 1 → IsLogWord B ws bs j x (durable_log S ws j x)
-  -- the address of an entry is a data cell, also where its round was lost
+  -- and the cell of an entry is one, also where its round was lost
   pub sized : (j y : ℕ) → j < S.callers → y < S.cells → pay (log_word S ws j (2 * y + 1)) < S.cells
 
 -- all that is said of words and history, and of no machine
@@ -121,7 +158,7 @@ pub record Shared (S : Setup) (Lawful : List ℕ → Type 0) (B : Start) (ws : L
   pub own_in : base S ≤ S.cells
   pub room : size S + size S + S.callers * (S.instrs + 1) ≤ length ws
   pub counted : Counted S B ws bs
-  pub datas : Datas S B ws bs
+  pub data_cells : DataCells S B ws bs
   pub requests : Requests S B ws bs
   pub durable : Durable S B ws bs
   pub stands : Stands S Lawful B bs

@@ -2,7 +2,7 @@
 use Rattle.std.specs.Prelude.{ℕ, ◌+◌, ◌*◌, List, [], ◌∷◌, ◌++◌, ◌%◌}
 use Rattle.std.proofs.Common.{get_or, zero, suc}
 use Rattle.of_cell.specs.Words.{seq, pay}
-use Rattle.of_cell.specs.Cells.{durable_cells}
+use Rattle.of_cell.specs.Cells.{request_cell, data_cell, log_cell, durable_cells, durable_place, script_place, members_place}
 use Rattle.of_mem.specs.Meaning.{Meaning}
 use Rattle.of_mem.specs.declared.work.TheConstants.{MOST_INSTRS}
 
@@ -25,13 +25,13 @@ setup_of n m l meaning = record { callers = n; instrs = MOST_INSTRS; cells = m; 
 
 -- Cells. Cell 0 names the last committed transaction; a request for each caller, the data cells and each caller's log words follow.
 abbrev pub request_at : ℕ → ℕ
-request_at i = i + 1
+request_at i = request_cell i
 
 abbrev pub data_at : Setup → ℕ → ℕ
-data_at S a = S.callers + 1 + a
+data_at S a = data_cell S.callers a
 
 abbrev pub log_at : Setup → ℕ → ℕ → ℕ
-log_at S i x = S.callers + 1 + S.cells + i * (2 * S.cells + 1) + x
+log_at S i x = log_cell S.callers S.cells i x
 
 -- how many cells there are
 abbrev pub size : Setup → ℕ
@@ -39,14 +39,14 @@ size S = durable_cells S.callers S.cells
 
 -- each has a durable word behind them all
 abbrev pub durable_at : Setup → ℕ → ℕ
-durable_at S c = size S + c
+durable_at S c = durable_place S.callers S.cells c
 
 -- then each caller's row of script words, the last of which is its announcement
 abbrev pub script_at : Setup → ℕ → ℕ → ℕ
-script_at S i x = size S + size S + i * (S.instrs + 1) + x
+script_at S i x = script_place S.callers S.instrs S.cells i x
 
 abbrev pub table_size : Setup → ℕ
-table_size S = size S + size S + S.callers * (S.instrs + 1)
+table_size S = members_place S.callers S.instrs S.cells
 
 -- Data cells. Each caller's own come first: the ticket, the shape and the reply of its last announced call that was run.
 abbrev pub ticket_cell : Setup → ℕ → ℕ

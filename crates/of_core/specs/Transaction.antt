@@ -6,7 +6,7 @@ use Rattle.of_core.specs.Table.{Setup, request_of, cell, log_word, durable_reque
 use Rattle.of_core.specs.Machine.{Data, entry, log_words}
 use Rattle.of_core.specs.World.{Batch, Start}
 use Rattle.of_core.specs.History.{batch, ticket_in, HasCall}
-use Rattle.of_core.specs.Rounds.{Cur, Helper, Past, Calm}
+use Rattle.of_core.specs.Rounds.{WasCurrent, Helper, Past, Calm}
 use Rattle.of_core.specs.Scan.{Over}
 
 -- the owner of batch m.seq, after its exchange
@@ -23,7 +23,7 @@ pub record Owns (S : Setup) (B : Start) (ws : List ℕ) (bs : List Batch) (i : �
 
 -- who applies: a helper in its round, or the owner
 abbrev pub Mode : Setup → Start → List ℕ → List Batch → ℕ → Data → Bool → Type 0
-Mode S B ws bs i m true = Helper S B ws bs i m × Cur S B ws bs m.seq m.owner × Calm S B ws bs i m.seq
+Mode S B ws bs i m true = Helper S B ws bs i m × WasCurrent S B ws bs m.seq m.owner × Calm S B ws bs i m.seq
 Mode S B ws bs i m false = Owns S B ws bs i m
 
 -- the second list has the entries of the first, in some order
@@ -44,7 +44,7 @@ pub record Applies (S : Setup) (B : Start) (ws : List ℕ) (bs : List Batch) (i 
 -- a helper has loaded x log words of m.owner. While the request is still open, they are those of the batch's log
 pub record Copies (S : Setup) (B : Start) (ws : List ℕ) (bs : List Batch) (i : ℕ) (m : Data) (x : ℕ) : Type 0 where
   pub helper : Helper S B ws bs i m
-  pub current_word : Cur S B ws bs m.seq m.owner
+  pub current_word : WasCurrent S B ws bs m.seq m.owner
   pub calm : Calm S B ws bs i m.seq
   pub helps : m.helps ≡ true
   pub after : B.seq < m.seq

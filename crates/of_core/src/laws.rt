@@ -1,14 +1,12 @@
 //! The laws of all steps and all schedules: functions that do nothing, whose contracts are the theorems.
 
-ghost use Rattle.std.specs.Prelude.{◌+◌, ◌*◌, ◌<◌, ◌≤◌};
-ghost use Rattle.of_mem.specs.declared.work.TheConstants.{MOST_INSTRS};
 ghost use Rattle.of_core.specs.Table.{setup_of};
 ghost use Rattle.of_core.specs.Laws.{StepKept, StepMoves, StepTaken, BeginKept, LoadKept, LoadedStays, RaiseKept, BesideKept, StartKept, GoodIsSound, EveryMoment, EndsInTime};
 
 use of_mem::Work;
 
-/// From whatever meets the invariant each step, each begin of a call and each eviction leads to what meets it, and whatever
-/// meets it has what every moment claims.
+/// From whatever meets the invariant each step, each begin of a call and each eviction leads to what meets it. A table of zeros
+/// meets it, and whatever meets it has what every moment claims.
 pub fn step_kept<W: Work>(limit: u32, work: W)
     ensures kept { StepKept (setup_of (W.many work) (W.size work) limit (W.meaning work)) (W.lawful work) }
     ensures moves { StepMoves (setup_of (W.many work) (W.size work) limit (W.meaning work)) (W.lawful work) }
@@ -18,24 +16,12 @@ pub fn step_kept<W: Work>(limit: u32, work: W)
     ensures stays { LoadedStays (setup_of (W.many work) (W.size work) limit (W.meaning work)) (W.lawful work) }
     ensures raises { RaiseKept (setup_of (W.many work) (W.size work) limit (W.meaning work)) (W.lawful work) }
     ensures beside { BesideKept (setup_of (W.many work) (W.size work) limit (W.meaning work)) (W.lawful work) }
-    ensures sound { GoodIsSound (setup_of (W.many work) (W.size work) limit (W.meaning work)) (W.lawful work) }
-{}
-
-/// A table of zeros with idle machines meets the invariant.
-pub fn start_kept<W: Work>(limit: u32, work: W)
-    requires some { 1 ≤ W.many work }
-    requires few { W.many work ≤ 16 }
-    requires cells { W.size work ≤ 4096 }
-    requires fits { W.many work * (MOST_INSTRS + 2) ≤ W.size work }
     ensures start { StartKept (setup_of (W.many work) (W.size work) limit (W.meaning work)) (W.lawful work) }
+    ensures sound { GoodIsSound (setup_of (W.many work) (W.size work) limit (W.meaning work)) (W.lawful work) }
 {}
 
 /// Every schedule leaves a moment with a legal history, of which recovery gives the state that its durable words name.
 pub fn every_moment<W: Work>(limit: u32, work: W)
-    requires some { 1 ≤ W.many work }
-    requires few { W.many work ≤ 16 }
-    requires cells { W.size work ≤ 4096 }
-    requires fits { W.many work * (MOST_INSTRS + 2) ≤ W.size work }
     ensures sound { EveryMoment (setup_of (W.many work) (W.size work) limit (W.meaning work)) }
 {}
 

@@ -4,6 +4,8 @@ use Rattle.of_core.specs.Table.{setup_of}
 use Rattle.of_core.proofs.Moments.{every_moment}
 
 pub returns : goal.returns
-returns g c = record {
-  sound = λ total room. every_moment (setup_of (g.W.Work.many c.args.work) (g.W.Work.size c.args.work) c.args.limit (g.W.Work.meaning c.args.work)) (g.W.Work.lawful c.args.work) (g.met.W.Work.sound c.args.work) c.requires.some (omega (arith, c.requires.few)) c.requires.fits total room (omega arith) (omega (arith, c.requires.cells));
-}
+returns g c =
+    let laws = g.met.W.Work g.world.𝓛 g.world.𝓜 g.world.𝓡 ((λ s x. x), (λ x. x), (λ x. x), λ x. x) in
+    let S = setup_of (g.W.Work.many c.args.work) (g.W.Work.size c.args.work) c.args.limit (g.W.Work.meaning c.args.work) in
+    let fits = laws.fits c.args.work in
+    record { sound = λ total room. every_moment S (g.W.Work.lawful c.args.work) (laws.sound c.args.work) fits.some (omega (arith, fits.few)) fits.own total room (omega arith) (omega (arith, fits.small)) }

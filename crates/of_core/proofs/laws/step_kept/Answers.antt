@@ -1,16 +1,20 @@
+use Rattle.std.proofs.Common.{arith}
 use Rattle.of_core.proofs.laws.step_kept.Goals as goal
 use Rattle.of_core.specs.Table.{setup_of}
 use Rattle.of_core.proofs.StepKept.{step_kept, step_moves, loaded_stays}
 use Rattle.of_core.proofs.StepTaken.{step_taken}
 use Rattle.of_core.proofs.Happenings.{begin_kept, rests_not, load_kept, evict_kept, evict_stays}
 use Rattle.of_core.proofs.Beside.{beside_kept, beside_stays}
+use Rattle.of_core.proofs.Openings.{start_good, idle_rests}
 use Rattle.of_core.proofs.Claims.{is_sound}
 
 pub returns : goal.returns
 returns g c =
+    let laws = g.met.W.Work g.world.𝓛 g.world.𝓜 g.world.𝓡 ((λ s x. x), (λ x. x), (λ x. x), λ x. x) in
     let S = setup_of (g.W.Work.many c.args.work) (g.W.Work.size c.args.work) c.args.limit (g.W.Work.meaning c.args.work) in
     let L = g.W.Work.lawful c.args.work in
-    let sound = g.met.W.Work.sound c.args.work in
+    let sound = laws.sound c.args.work in
+    let fits = laws.fits c.args.work in
     record {
       kept = step_kept S L sound;
       moves = step_moves S L sound;
@@ -20,5 +24,6 @@ returns g c =
       stays = loaded_stays S L sound;
       raises = λ B w h e l. (evict_kept S L B w h e l, evict_stays S L B w h e l);
       beside = λ B w h c v f. (beside_kept S L B w h c v f, beside_stays S L B w h c v f);
+      start = λ n room. (start_good S L sound fits.some (omega (arith, fits.few)) fits.own n room (omega arith) (omega (arith, fits.small)), idle_rests S);
       sound = λ B w h. is_sound S L sound B w h.core h.within h.order;
     }
