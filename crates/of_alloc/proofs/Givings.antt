@@ -1,11 +1,10 @@
 -- Giving a block back to a free list.
-use Rattle.std.proofs.Common.{◌≡◌, ℕ, zero, suc, ◌+◌, ◌-◌, ◌<◌, ◌≤◌, ◌≢◌, refl, sym, ◌∙◌, ap, subst, arith, List, [], ◌∷◌}
-use Rattle.std.specs.Prelude.{◌↔◌}
+use Rattle.std.proofs.Common.{◌≡◌, ℕ, ◌+◌, ◌<◌, ◌≤◌, ◌≢◌, sym, ◌∙◌, subst, arith, List, [], ◌∷◌}
 use Rattle.std.specs.List.{AllByRecursion as Each}
 use Rattle.of_mem.specs.Places.{fresh_at, free_at, cells_at}
 use Rattle.of_mem.specs.Pad.{Pad}
-use Rattle.of_mem.specs.Programs.{Program, answer, after, changed, Inside, IsPartOf, RunsAs}
-use Rattle.of_mem.specs.Stores.{IsChain, link_at}
+use Rattle.of_mem.specs.Programs.{changed, Inside, IsPartOf, RunsAs}
+use Rattle.of_mem.specs.Stores.{link_at}
 use Rattle.of_mem.proofs.Changes.{changed_same, changed_other}
 use Rattle.of_mem.proofs.Heaps.{chain_copy}
 use Rattle.of_mem.proofs.Runs.{run_ended}

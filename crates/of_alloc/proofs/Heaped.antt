@@ -1,15 +1,14 @@
 -- What taking and giving a block does to a heap of chains.
-use Rattle.std.proofs.Common.{◌≡◌, ℕ, zero, suc, ◌+◌, ◌-◌, ◌*◌, ◌<◌, ◌≤◌, ◌≢◌, ◌⊎◌, inl, inr, refl, sym, ◌∙◌, ap, subst, arith, eqb, ltb, cond, Bool, true, false, Option, Some, None, List, [], ◌∷◌, ◌++◌, length}
-use Rattle.std.specs.List.{AllByRecursion as Each}
-use Rattle.std.proofs.lemmas.Bool.{lt-ltb, le-ltb, cases_lt, ltb-true, ltb-false}
-use Rattle.of_mem.specs.Places.{fresh_at, free_at, cells_at}
-use Rattle.of_mem.specs.Programs.{Program, Done, Read, Write, changed, answer, after, Inside}
-use Rattle.of_mem.specs.Stores.{IsChain, IsHeap, front_at, link_at, total}
+use Rattle.std.proofs.Common.{◌≡◌, ℕ, zero, suc, ◌+◌, ◌<◌, ◌≤◌, refl, sym, ◌∙◌, ap, subst, arith, ltb, Bool, true, false, Option, Some, None, List, [], ◌∷◌, length}
+use Rattle.std.proofs.lemmas.Bool.{ltb-true, ltb-false}
+use Rattle.of_mem.specs.Places.{fresh_at, free_at}
+use Rattle.of_mem.specs.Programs.{changed, answer, after}
+use Rattle.of_mem.specs.Stores.{IsChain, IsHeap, link_at, total}
 use Rattle.of_mem.proofs.Changes.{changed_same, changed_other, total_changed, total_changed_past}
 use Rattle.of_mem.proofs.Heaps.{front_free, each_weaker}
 use Rattle.of_mem.proofs.Moves.{heap_unlink, heap_fresh, heap_front, heap_changed_out, out_owner, blocks_apart}
 use Rattle.of_alloc.specs.Blocks.{IsFreeList, IsOut}
-use Rattle.of_alloc.specs.BlockPrograms.{take_program, with_free, with_fresh, with_link, take_fresh, give_program}
+use Rattle.of_alloc.specs.BlockPrograms.{take_program, with_free, take_fresh}
 use Rattle.of_alloc.specs.Took.{Took}
 
 -- the run on a whole memory: nothing is taken and the heap is full, or a block is
@@ -26,10 +25,10 @@ module _ (o blocks : ℕ) (m : ℕ → ℕ) (chains : ℕ → List ℕ) (owner :
     out = changed_same (changed chains 0 rest) 37 (b ∷ []);
     others = λ c l k. changed_other (changed chains 0 rest) 37 (b ∷ []) c (λ (e : c ≡ 37). omega arith) ∙ changed_other chains 0 rest c (λ (e : c ≡ 0). omega arith);
     sums =
-      let t : total (changed (changed chains 0 rest) 37 (b ∷ [])) 33 ≡ total (changed chains 0 rest) 33 = total_changed_past (changed chains 0 rest) 37 (b ∷ []) 33 (omega arith) in
-      let u : total (changed chains 0 rest) 33 + length (chains 0) ≡ total chains 33 + length rest = total_changed chains 0 rest 33 (omega arith) in
-      let v : length (changed (changed chains 0 rest) 37 (b ∷ []) 0) ≡ length rest = ap length (changed_other (changed chains 0 rest) 37 (b ∷ []) 0 (λ (e : 0 ≡ 37). omega arith) ∙ changed_same chains 0 rest) in
-      omega arith;
+        let t : total (changed (changed chains 0 rest) 37 (b ∷ [])) 33 ≡ total (changed chains 0 rest) 33 = total_changed_past (changed chains 0 rest) 37 (b ∷ []) 33 (omega arith) in
+        let u : total (changed chains 0 rest) 33 + length (chains 0) ≡ total chains 33 + length rest = total_changed chains 0 rest 33 (omega arith) in
+        let v : length (changed (changed chains 0 rest) 37 (b ∷ []) 0) ≡ length rest = ap length (changed_other (changed chains 0 rest) 37 (b ∷ []) 0 (λ (e : 0 ≡ 37). omega arith) ∙ changed_same chains 0 rest) in
+        omega arith;
     cells = λ a n k. changed_other m (free_at o) (m (link_at o b)) a n;
   }
 
@@ -41,9 +40,9 @@ module _ (o blocks : ℕ) (m : ℕ → ℕ) (chains : ℕ → List ℕ) (owner :
     out = changed_same chains 37 (m (fresh_at o) ∷ []);
     others = λ c l k. changed_other chains 37 (m (fresh_at o) ∷ []) c (λ (e : c ≡ 37). omega arith);
     sums =
-      let t : total (changed chains 37 (m (fresh_at o) ∷ [])) 33 ≡ total chains 33 = total_changed_past chains 37 (m (fresh_at o) ∷ []) 33 (omega arith) in
-      let v : length (changed chains 37 (m (fresh_at o) ∷ []) 0) ≡ length (chains 0) = ap length (changed_other chains 37 (m (fresh_at o) ∷ []) 0 (λ (e : 0 ≡ 37). omega arith)) in
-      omega arith;
+        let t : total (changed chains 37 (m (fresh_at o) ∷ [])) 33 ≡ total chains 33 = total_changed_past chains 37 (m (fresh_at o) ∷ []) 33 (omega arith) in
+        let v : length (changed chains 37 (m (fresh_at o) ∷ []) 0) ≡ length (chains 0) = ap length (changed_other chains 37 (m (fresh_at o) ∷ []) 0 (λ (e : 0 ≡ 37). omega arith)) in
+        omega arith;
     cells = λ a n k. changed_other m (fresh_at o) (m (fresh_at o) + 1) a k;
   }
 
@@ -65,8 +64,8 @@ pub give_heap : (o blocks : ℕ) (m : ℕ → ℕ) (chains : ℕ → List ℕ) (
     → IsHeap o blocks (changed (changed m (link_at o b) (m (free_at o))) (free_at o) (b + 1)) (changed (changed chains 37 []) 0 (b ∷ chains 0)) (changed owner b 0)
 give_heap o blocks m chains owner b h out is =
     subst (λ (a : ℕ). IsHeap o blocks (changed (changed m (link_at o b) (m (free_at o))) a (b + 1)) (changed (changed chains 37 []) 0 (b ∷ chains 0)) (changed owner b 0)) (front_free o)
-      (heap_front o blocks (changed m (link_at o b) (m (free_at o))) chains owner (heap_changed_out o blocks m chains owner h b (m (free_at o)) is) 0 b (omega arith) out
-        (changed_same m (link_at o b) (m (free_at o)) ∙ sym (ap (changed m (link_at o b) (m (free_at o))) (front_free o) ∙ changed_other m (link_at o b) (m (free_at o)) (free_at o) (λ e. omega arith))))
+    (heap_front o blocks (changed m (link_at o b) (m (free_at o))) chains owner (heap_changed_out o blocks m chains owner h b (m (free_at o)) is) 0 b (omega arith) out
+    (changed_same m (link_at o b) (m (free_at o)) ∙ sym (ap (changed m (link_at o b) (m (free_at o))) (front_free o) ∙ changed_other m (link_at o b) (m (free_at o)) (free_at o) (λ e. omega arith))))
 
 -- A heap has a free list, and the block that is out isn't in it.
 

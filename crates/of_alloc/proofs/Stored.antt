@@ -1,13 +1,13 @@
 -- Taking a block where the cells stand for a store.
-use Rattle.std.proofs.Common.{◌≡◌, ℕ, ◌+◌, ◌<◌, ◌≤◌, ◌≢◌, refl, sym, ◌∙◌, ap, subst, arith, ltb, Bool, true, false, Option, Some, None, List, [], ◌∷◌, length}
+use Rattle.std.proofs.Common.{◌≡◌, ℕ, ◌<◌, ◌≤◌, sym, ◌∙◌, ap, subst, arith, ltb, true, false, Option, Some, None, [], length}
 use Rattle.std.proofs.lemmas.Bool.{lt-ltb, le-ltb}
-use Rattle.of_mem.specs.Places.{fresh_at, free_at, cells_at}
+use Rattle.of_mem.specs.Places.{cells_at}
 use Rattle.of_mem.specs.Pad.{Pad}
 use Rattle.of_mem.specs.Programs.{answer, after, writes, Inside, IsPartOf, RunsAs}
 use Rattle.of_mem.specs.Stores.{Store, Stands, things}
 use Rattle.of_mem.proofs.Moves.{out_owner}
 use Rattle.of_mem.proofs.Counts.{all_chains, lengths, counted}
-use Rattle.of_mem.proofs.Runs.{Ended, run_ended}
+use Rattle.of_mem.proofs.Runs.{run_ended}
 use Rattle.of_alloc.specs.Blocks.{IsFreeList}
 use Rattle.of_alloc.specs.BlockPrograms.{take_program}
 use Rattle.of_alloc.specs.Took.{Took}
@@ -29,8 +29,23 @@ module _ (o blocks : ℕ) (few : blocks ≤ 512) (m : ℕ → ℕ) (s : Store) (
 
   -- there is a block to take exactly where fewer things than blocks are kept
   pub room_left : (b : ℕ) (n : ℕ → ℕ) → Took o blocks m h.chains b n → ltb (things s) blocks ≡ true
-  room_left b n t = lt-ltb (things s) blocks (omega (arith, all_chains t.chains_after, t.heap.counted, t.heap.few, t.sums, h.holds.key_blocks, ap length (t.others 33 (omega arith) (omega arith)), ap length (t.others 34 (omega arith) (omega arith)), ap length (t.others 35 (omega arith) (omega arith)), ap length (t.others 36 (omega arith) (omega arith)), ap length t.out
-      , lengths o blocks m s h 0 (omega arith), lengths o blocks m s h 1 (omega arith), lengths o blocks m s h 2 (omega arith), lengths o blocks m s h 3 (omega arith)))
+  room_left b n t = lt-ltb (things s) blocks (omega (
+    arith,
+    all_chains t.chains_after,
+    t.heap.counted,
+    t.heap.few,
+    t.sums,
+    h.holds.key_blocks,
+    ap length (t.others 33 (omega arith) (omega arith)),
+    ap length (t.others 34 (omega arith) (omega arith)),
+    ap length (t.others 35 (omega arith) (omega arith)),
+    ap length (t.others 36 (omega arith) (omega arith)),
+    ap length t.out,
+    lengths o blocks m s h 0 (omega arith),
+    lengths o blocks m s h 1 (omega arith),
+    lengths o blocks m s h 2 (omega arith),
+    lengths o blocks m s h 3 (omega arith),
+  ))
 
   pub none_left : (n : ℕ → ℕ) → TakesOff o blocks m h.chains None n → ltb (things s) blocks ≡ false
   none_left n t = le-ltb (things s) blocks (omega (arith, counted o blocks m s h, ap length t.1, t.2))

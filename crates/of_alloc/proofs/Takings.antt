@@ -1,16 +1,15 @@
 -- Taking a block from a free list.
-use Rattle.std.proofs.Common.{◌≡◌, ℕ, zero, suc, ◌+◌, ◌-◌, ◌<◌, ◌≤◌, ◌≢◌, refl, sym, ◌∙◌, ap, subst, arith, ltb, Bool, true, false, Option, Some, None, List, [], ◌∷◌}
-use Rattle.std.specs.Prelude.{◌↔◌}
+use Rattle.std.proofs.Common.{◌≡◌, ℕ, zero, suc, ◌+◌, ◌-◌, ◌<◌, ◌≤◌, ◌≢◌, refl, sym, ◌∙◌, subst, arith, ltb, Bool, true, false, Option, Some, None, List, [], ◌∷◌}
 use Rattle.std.proofs.lemmas.Bool.{ltb-true, ltb-false}
 use Rattle.std.specs.List.{AllByRecursion as Each}
 use Rattle.of_mem.specs.Places.{fresh_at, free_at, cells_at}
 use Rattle.of_mem.specs.Pad.{Pad, newest}
 use Rattle.of_mem.specs.Programs.{Program, answer, after, writes, changed, Inside, IsPartOf, RunsAs}
-use Rattle.of_mem.specs.Stores.{IsChain, link_at}
+use Rattle.of_mem.specs.Stores.{link_at}
 use Rattle.of_mem.proofs.Changes.{changed_same, changed_other}
-use Rattle.of_mem.proofs.Heaps.{chain_copy, chain_once, each_weaker}
-use Rattle.of_mem.proofs.Runs.{Ended, run_ended, unchanged}
-use Rattle.of_alloc.specs.Blocks.{IsFreeList, IsOut, IsTaken, Takes, TakesFrom}
+use Rattle.of_mem.proofs.Heaps.{chain_copy, chain_once}
+use Rattle.of_mem.proofs.Runs.{run_ended}
+use Rattle.of_alloc.specs.Blocks.{IsFreeList, IsTaken, Takes, TakesFrom}
 use Rattle.of_alloc.specs.BlockPrograms.{take_program, with_free, take_fresh}
 
 -- the front of the free list is a block
@@ -81,16 +80,16 @@ module _ (o blocks : ℕ) (m : ℕ → ℕ) where
 
     by_fresh : IsFreeList o blocks m [] → (t : Bool) → ltb (m (fresh_at o)) blocks ≡ t → Run [] (take_fresh o (m (fresh_at o)) t)
     by_fresh h true e = let less : m (fresh_at o) < blocks = ltb-true (m (fresh_at o)) blocks e in
-      record { inside = (omega arith, omega arith, omega arith, tt); takes = fresh_taken h less; quiet = λ (q : Some (m (fresh_at o)) ≡ None). cc }
+        record { inside = (omega arith, omega arith, omega arith, tt); takes = fresh_taken h less; quiet = λ (q : Some (m (fresh_at o)) ≡ None). cc }
     by_fresh h false e = let more : blocks ≤ m (fresh_at o) = ltb-false (m (fresh_at o)) blocks e in
-      record { inside = tt; takes = (refl, omega (arith, h.few), refl); quiet = λ _. refl }
+        record { inside = tt; takes = (refl, omega (arith, h.few), refl); quiet = λ _. refl }
 
     by_front : (free : List ℕ) → IsFreeList o blocks m free → (f : ℕ) → m (free_at o) ≡ f → Run free (with_free o blocks f)
     by_front [] h zero e = let k = by_fresh h (ltb (m (fresh_at o)) blocks) refl in record { inside = (omega arith, omega arith, k.inside); takes = k.takes; quiet = k.quiet }
     by_front [] h (suc b) e = absurd (omega (arith, h.linked))
     by_front (x ∷ l) h zero e = absurd (omega (arith, h.linked.0))
     by_front (x ∷ l) h (suc b) e = let q : x ≡ b = omega (arith, h.linked.0) in
-      subst (λ (y : ℕ). Run (y ∷ l) (with_free o blocks (suc b))) (sym q) (here (subst (λ (y : ℕ). IsFreeList o blocks m (y ∷ l)) q h))
+        subst (λ (y : ℕ). Run (y ∷ l) (with_free o blocks (suc b))) (sym q) (here (subst (λ (y : ℕ). IsFreeList o blocks m (y ∷ l)) q h))
       where
         here : IsFreeList o blocks m (b ∷ l) → Run (b ∷ l) (with_free o blocks (suc b))
         here h = record { inside = (omega arith, omega (arith, h.below.0, h.few), (omega arith, omega arith, next_small o blocks m b l h few, tt)); takes = front_taken b l h; quiet = λ (q : Some b ≡ None). cc }

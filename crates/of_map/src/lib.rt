@@ -81,7 +81,12 @@ pub fn put(plot: &Plot, part: &mut Part, key: u32, value: u32) -> Result<Option<
 }
 
 /// Changes the value in a block, and answers the value before.
-fn put_value(plot: &Plot, part: &mut Part, value: u32, block: u32) -> Result<Option<Option<u32>>, Need>
+fn put_value(
+    plot: &Plot,
+    part: &mut Part,
+    value: u32,
+    block: u32,
+) -> Result<Option<Option<u32>>, Need>
     requires fits { length part.old.known ≡ size plot.now }
     requires block { block < plot.now.blocks }
     ensures walk { MatchResult result (λ r. RunsAs (change_program (base plot.now) block value) part.old r part.new) (λ need. NeedsAt (change_program (base plot.now) block value) part.old need.addr) }
@@ -112,7 +117,13 @@ fn put_new(plot: &Plot, part: &mut Part, key: u32, value: u32) -> Result<Option<
 }
 
 /// Makes a block that was taken the front of its key's bucket.
-fn fill(plot: &Plot, part: &mut Part, key: u32, value: u32, block: u32) -> Result<Option<Option<u32>>, Need>
+fn fill(
+    plot: &Plot,
+    part: &mut Part,
+    key: u32,
+    value: u32,
+    block: u32,
+) -> Result<Option<Option<u32>>, Need>
     requires fits { length part.old.known ≡ size plot.now }
     requires block { block < plot.now.blocks }
     requires keys { (k : ℕ) → newest part.old (keys_at (base plot.now)) ≡ Some k → k < 4294967295 }
@@ -149,7 +160,13 @@ pub fn del(plot: &Plot, part: &mut Part, key: u32) -> Result<Option<u32>, Need>
 }
 
 /// Takes a key's block out of its bucket: `cell` points to it.
-fn unlink(plot: &Plot, part: &mut Part, key: u32, cell: u32, block: u32) -> Result<Option<u32>, Need>
+fn unlink(
+    plot: &Plot,
+    part: &mut Part,
+    key: u32,
+    cell: u32,
+    block: u32,
+) -> Result<Option<u32>, Need>
     requires fits { length part.old.known ≡ size plot.now }
     requires kept { IsKept (base plot.now) plot.now.blocks part.old key cell block }
     ensures walk { MatchResult result (λ r. RunsAs (unlink_program (base plot.now) cell block) part.old r part.new) (λ need. NeedsAt (unlink_program (base plot.now) cell block) part.old need.addr) }

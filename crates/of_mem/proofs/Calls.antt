@@ -1,10 +1,10 @@
 -- What a call made of two says, where each runs a program.
-use Rattle.std.proofs.Common.{◌≡◌, ℕ, ◌∙◌}
+use Rattle.std.proofs.Common.{◌≡◌, ◌∙◌}
 use Rattle.std.specs.Prelude.{Result, MatchResult, IfOk}
 use Rattle.std.proofs.lemmas.Result.{MatchResult-weaker}
 use Rattle.of_mem.specs.declared.part.Need.{Need}
 use Rattle.of_mem.specs.Pad.{Pad}
-use Rattle.of_mem.specs.Programs.{Program, run, then_do, RunsAs, NeedsAt, Ends}
+use Rattle.of_mem.specs.Programs.{Program, then_do, RunsAs, NeedsAt}
 use Rattle.of_mem.proofs.Runs.{run_then_at}
 
 -- the second call goes on where the first one answered r

@@ -1,9 +1,8 @@
 -- How many blocks, keys and items cells have that stand for a store.
-use Rattle.std.proofs.Common.{◌≡◌, ℕ, zero, suc, ◌+◌, ◌<◌, ◌≤◌, ◌⊎◌, inl, inr, refl, sym, ◌∙◌, ap, arith, List, [], ◌∷◌, length, map}
+use Rattle.std.proofs.Common.{◌≡◌, ℕ, zero, suc, ◌+◌, ◌<◌, ◌≤◌, inl, inr, refl, sym, ◌∙◌, ap, arith, List, [], ◌∷◌, length}
 use Rattle.std.proofs.lemmas.Bool.{cases_lt}
 use Rattle.std.proofs.lemmas.List.{length-map}
 use Rattle.std.specs.List.{AllByRecursion as Each}
-use Rattle.std.specs.FinMap as fin
 use Rattle.of_mem.specs.Places.{fresh_at, keys_at, tail_at, length_at}
 use Rattle.of_mem.specs.Stores.{Store, Stands, first_at, total, things, last_pointer}
 use Rattle.of_mem.proofs.Heaps.{each_weaker}
@@ -11,17 +10,17 @@ use Rattle.of_mem.proofs.Heaps.{each_weaker}
 length_total : (chains : ℕ → List ℕ) (n c : ℕ) → c < n → length (chains c) ≤ total chains n
 length_total chains zero c l = absurd (omega arith)
 length_total chains (suc n) c l = elim (cases_lt c n) [
-      | inl k ↦ let r : length (chains c) ≤ total chains n = length_total chains n c k in omega arith
-      | inr k ↦ let e : c ≡ n = omega arith in rw e (omega arith)
-    ]
+  | inl k ↦ let r : length (chains c) ≤ total chains n = length_total chains n c k in omega arith
+  | inr k ↦ let e : c ≡ n = omega arith in rw e (omega arith)
+]
 
 -- two chains have no more blocks than all
 pub two_total : (chains : ℕ → List ℕ) (n c : ℕ) → 1 ≤ c → c < n → length (chains 0) + length (chains c) ≤ total chains n
 two_total chains zero c k l = absurd (omega arith)
 two_total chains (suc n) c k l = elim (cases_lt c n) [
-      | inl q ↦ let r : length (chains 0) + length (chains c) ≤ total chains n = two_total chains n c k q in omega arith
-      | inr q ↦ let e : c ≡ n = omega arith in let r : length (chains 0) ≤ total chains n = length_total chains n 0 (omega arith) in rw e (omega arith)
-    ]
+  | inl q ↦ let r : length (chains 0) + length (chains c) ≤ total chains n = two_total chains n c k q in omega arith
+  | inr q ↦ let e : c ≡ n = omega arith in let r : length (chains 0) ≤ total chains n = length_total chains n 0 (omega arith) in rw e (omega arith)
+]
 
 -- the chains of the free list, of the buckets and of the queues, and the blocks that are out
 pub all_chains : (chains : ℕ → List ℕ) → total chains 38 ≡ total chains 33 + length (chains 33) + length (chains 34) + length (chains 35) + length (chains 36) + length (chains 37)

@@ -1,5 +1,5 @@
 -- Programs on partial memory and on whole memory: a run on partial memory names a cell that is not known, or it does what the run on the whole memory does.
-use Rattle.std.proofs.Common.{replicate, length, get_or, set, ◌⊎◌, List, [], ◌∷◌, ◌++◌, ◌≡◌, ℕ, ◌<◌, ◌≤◌, ◌≢◌, inl, inr, List, refl, sym, ◌∙◌, ap, subst, arith, true, false, Option, Some, None, ◌==◌}
+use Rattle.std.proofs.Common.{replicate, length, get_or, set, List, [], ◌∷◌, ◌++◌, ◌≡◌, ℕ, ◌<◌, ◌≤◌, ◌≢◌, inl, inr, List, refl, sym, ◌∙◌, ap, subst, arith, true, false, Option, Some, None, ◌==◌}
 use Rattle.std.proofs.lemmas.Bool.{cases_eq, cases_lt}
 use Rattle.std.proofs.lemmas.List.{get_or-replicate, get_or_past, length-replicate, get_or-set_same, get_or-set_other}
 use Rattle.std.proofs.lemmas.Bool.Decides.{nat_tests}
@@ -171,9 +171,9 @@ by_known None None k l m v w h e is q = let t : Some v ≡ Some w = sym e ∙ q 
 pub part_learned : (p : Pad) (m : ℕ → ℕ) (a v : ℕ) → a < length p.known → m a ≡ v → IsPartOf p m → IsPartOf (record p { known = set p.known a (Some v) }) m
 unfolding newest
 part_learned p m a v l is h x w q = elim (cases_eq x a) [
-      | inl e ↦ by_known (value_at p.batch x) (value_at p.script x) (get_or (set p.known a (Some v)) x None) (get_or p.known x None) (m x) v w (h x w) (rw e (get_or-set_same p.known a (Some v) None l)) (rw e is) q
-      | inr n ↦ h x w (rw (get_or-set_other p.known a x (Some v) None n) at q)
-    ]
+  | inl e ↦ by_known (value_at p.batch x) (value_at p.script x) (get_or (set p.known a (Some v)) x None) (get_or p.known x None) (m x) v w (h x w) (rw e (get_or-set_same p.known a (Some v) None l)) (rw e is) q
+  | inr n ↦ h x w (rw (get_or-set_other p.known a x (Some v) None n) at q)
+]
 
 -- what is read of a cell after writes to other cells
 pub read_before : (p : Pad) (a v x w : ℕ) → x ≢ a → newest (wrote p a v) x ≡ Some w → newest p x ≡ Some w

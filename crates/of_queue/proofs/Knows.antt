@@ -1,12 +1,12 @@
 -- What the queues' calls know of the cells that they read.
-use Rattle.std.proofs.Common.{◌≡◌, ℕ, zero, suc, ◌+◌, ◌-◌, ◌<◌, ◌≤◌, ◌≢◌, refl, sym, ◌∙◌, ap, subst, arith, Option, Some, None, List, [], ◌∷◌, map}
+use Rattle.std.proofs.Common.{◌≡◌, ℕ, zero, suc, ◌+◌, ◌-◌, ◌<◌, ◌≤◌, ◌≢◌, refl, sym, ◌∙◌, ap, subst, arith, Option, Some, List, [], ◌∷◌, map}
 use Rattle.std.specs.List.{AllByRecursion as Each}
 use Rattle.of_mem.specs.Places.{fresh_at, free_at, head_at, tail_at, length_at}
 use Rattle.of_mem.specs.Pad.{Pad, newest, wrote}
-use Rattle.of_mem.specs.Programs.{RunsAs, after, changed, IsPartOf}
-use Rattle.of_mem.specs.Stores.{Store, Stands, IsChain, front_at, first_at, link_at}
+use Rattle.of_mem.specs.Programs.{RunsAs, after, changed}
+use Rattle.of_mem.specs.Stores.{Stands, IsChain, front_at, first_at, link_at}
 use Rattle.of_mem.specs.StoreParts.{HasStore}
-use Rattle.of_mem.proofs.Changes.{changed_same, changed_other}
+use Rattle.of_mem.proofs.Changes.{changed_other}
 use Rattle.of_mem.proofs.Counts.{tail_small, length_small}
 use Rattle.of_mem.proofs.Heaps.{front_head, chain_changed}
 use Rattle.of_mem.proofs.Runs.{part_wrote}
@@ -23,10 +23,11 @@ after_take o blocks few q l p n x b has e is =
     let m = has.0 in
     let s = has.1 in
     let h = has.3 in
-    let t = took o blocks few m s h p n x b has.2 e is in
-    ( took_below o blocks few m s h b (after (take_program o blocks) m) t.0
-    , (λ k w. let y : m (tail_at o q) ≡ k = sym (t.0.cells (tail_at o q) (λ e. omega arith) (λ e. omega arith)) ∙ t.1 (tail_at o q) k w in omega (arith, tail_small o blocks m s h q l))
-    , (λ k w. let y : m (length_at o q) ≡ k = sym (t.0.cells (length_at o q) (λ e. omega arith) (λ e. omega arith)) ∙ t.1 (length_at o q) k w in omega (arith, length_small o blocks m s h q l)))
+    let t = took o blocks few m s h p n x b has.2 e is in (
+      took_below o blocks few m s h b (after (take_program o blocks) m) t.0,
+      (λ k w. let y : m (tail_at o q) ≡ k = sym (t.0.cells (tail_at o q) (λ e. omega arith) (λ e. omega arith)) ∙ t.1 (tail_at o q) k w in omega (arith, tail_small o blocks m s h q l)),
+      (λ k w. let y : m (length_at o q) ≡ k = sym (t.0.cells (length_at o q) (λ e. omega arith) (λ e. omega arith)) ∙ t.1 (length_at o q) k w in omega (arith, length_small o blocks m s h q l)),
+    )
 
 -- the last pointer cell of a queue is no length
 pub last_apart : (o q tail : ℕ) → q < 4 → length_at o q ≢ last_cell o q tail
@@ -46,9 +47,9 @@ front_is o blocks p q f a l has at e n = go (h.chains (33 + q)) refl
     go : (l : List ℕ) → h.chains (33 + q) ≡ l → IsFront o blocks p q (f - 1)
     go [] is = absurd (n (sym head ∙ subst (IsChain o has.0 (front_at o (33 + q))) is (h.heap.linked (33 + q) (omega arith))))
     go (b ∷ rest) is =
-      let first : has.0 (front_at o (33 + q)) ≡ b + 1 = (subst (IsChain o has.0 (front_at o (33 + q))) is (h.heap.linked (33 + q) (omega arith))).0 in
-      let same : b ≡ f - 1 = omega (arith, head) in
-      record { memory = has.0; store = has.1; part = has.2; stands = h; rest = rest; front = rw (← same) is }
+        let first : has.0 (front_at o (33 + q)) ≡ b + 1 = (subst (IsChain o has.0 (front_at o (33 + q))) is (h.heap.linked (33 + q) (omega arith))).0 in
+        let same : b ≡ f - 1 = omega (arith, head) in
+        record { memory = has.0; store = has.1; part = has.2; stands = h; rest = rest; front = rw (← same) is }
 
 -- the write that takes a queue's front block out of it
 pub pops_out : (o blocks : ℕ) (p n : Pad) (q b link c : ℕ) → q < 4 → IsFront o blocks p q b → newest p (link_at o b) ≡ Some link → c ≡ head_at o q → n ≡ wrote p c link → IsPopped o blocks n q b

@@ -1,12 +1,12 @@
 -- The front item leaves its queue, and its block goes to the free list.
-use Rattle.std.proofs.Common.{◌≡◌, ℕ, zero, suc, ◌+◌, ◌-◌, ◌*◌, ◌%◌, ◌<◌, ◌≤◌, ◌≢◌, ◌⊎◌, inl, inr, refl, sym, ◌∙◌, ap, subst, arith, Option, Some, None, List, [], ◌∷◌, ◌++◌, length, map}
+use Rattle.std.proofs.Common.{◌≡◌, ℕ, suc, ◌+◌, ◌-◌, ◌%◌, ◌<◌, ◌≤◌, ◌≢◌, refl, sym, ◌∙◌, ap, subst, arith, Some, List, [], ◌∷◌, length, map}
 use Rattle.std.specs.List.{AllByRecursion as Each}
 use Rattle.std.specs.FinMap as fin
-use Rattle.of_mem.specs.Places.{register_at, fresh_at, free_at, keys_at, bucket_at, head_at, tail_at, length_at, block_at, cells_at}
+use Rattle.of_mem.specs.Places.{register_at, free_at, keys_at, head_at, tail_at, length_at, cells_at}
 use Rattle.of_mem.specs.Programs.{changed, answer, after, Inside, IsPartOf}
-use Rattle.of_mem.specs.Stores.{Store, Stands, Holds, IsHeap, IsChain, IsBucket, IsQueue, IsNumber, front_at, link_at, first_at, second_at, value_in, total, last_pointer}
+use Rattle.of_mem.specs.Stores.{Store, Stands, IsHeap, IsChain, IsQueue, IsNumber, front_at, link_at, first_at, second_at, total, last_pointer}
 use Rattle.of_mem.proofs.Changes.{changed_same, changed_other, changed_cases, total_changed, total_changed_past}
-use Rattle.of_mem.proofs.Heaps.{fronts, front_head, front_below}
+use Rattle.of_mem.proofs.Heaps.{fronts, front_head}
 use Rattle.of_mem.proofs.Moves.{heap_changed, heap_unlink}
 use Rattle.of_mem.proofs.Frames.{SameBlocks, value_same, bucket_same, queue_same, items_same}
 use Rattle.of_mem.specs.Pad.{Pad, wrote}
@@ -36,14 +36,19 @@ pointed o m cell (b ∷ l) h = h.0 ∙ (omega arith)
 module _ (o blocks : ℕ) (m : ℕ → ℕ) (s : Store) (h : Stands o blocks m s) (q b : ℕ) (rest items : List ℕ) (q_in : q < 4) (is : h.chains (33 + q) ≡ b ∷ rest) (has : s.queues q ≡ m (first_at o b) ∷ items) where
   abbrev m1 : ℕ → ℕ
   m1 = changed m (front_at o (33 + q)) (m (link_at o b))
+
   abbrev m2 : ℕ → ℕ
   m2 = ended o q m1 rest
+
   abbrev m4 : ℕ → ℕ
   m4 = changed (changed m2 (link_at o b) (m2 (free_at o))) (free_at o) (b + 1)
+
   abbrev m5 : ℕ → ℕ
   m5 = changed m4 (length_at o q) (m4 (length_at o q) - 1)
+
   abbrev chains1 : ℕ → List ℕ
   chains1 = changed (changed h.chains (33 + q) rest) 37 (b ∷ [])
+
   abbrev chains : ℕ → List ℕ
   chains = changed (changed chains1 37 []) 0 (b ∷ chains1 0)
 
@@ -82,9 +87,10 @@ module _ (o blocks : ℕ) (m : ℕ → ℕ) (s : Store) (h : Stands o blocks m s
 
   blocks_same : (l : List ℕ) → SameBlocks o m m5 l
   blocks_same [] = tt
-  blocks_same (x ∷ l) =
-      ( (same (first_at o x) (λ e. omega arith) (λ e. omega (arith, q_in)) (λ e. omega arith) (λ e. omega (arith, q_in)) (λ e. omega (arith, q_in)), same (second_at o x) (λ e. omega arith) (λ e. omega (arith, q_in)) (λ e. omega arith) (λ e. omega (arith, q_in)) (λ e. omega (arith, q_in)))
-      , blocks_same l)
+  blocks_same (x ∷ l) = (
+    (same (first_at o x) (λ e. omega arith) (λ e. omega (arith, q_in)) (λ e. omega arith) (λ e. omega (arith, q_in)) (λ e. omega (arith, q_in)), same (second_at o x) (λ e. omega arith) (λ e. omega (arith, q_in)) (λ e. omega arith) (λ e. omega (arith, q_in)) (λ e. omega (arith, q_in))),
+    blocks_same l,
+  )
 
   chain_new : chains (33 + q) ≡ rest
   chain_new = changed_other (changed chains1 37 []) 0 (b ∷ chains1 0) (33 + q) (λ (e : 33 + q ≡ 0). omega arith) ∙ changed_other chains1 37 [] (33 + q) (λ (e : 33 + q ≡ 37). omega (arith, q_in))
@@ -103,9 +109,9 @@ module _ (o blocks : ℕ) (m : ℕ → ℕ) (s : Store) (h : Stands o blocks m s
     numbers = (subst (λ (l : List ℕ). Each IsNumber l) has (h.holds.queues q q_in).numbers).1;
     ends = after_head (tail_at o q) (λ e. omega arith) (λ e. omega arith) (λ e. omega (arith, q_in)) ∙ ended_tail rest old_tail;
     counted =
-      let e : m4 (length_at o q) ≡ m (length_at o q) = changed_other (changed m2 (link_at o b) (m2 (free_at o))) (free_at o) (b + 1) (length_at o q) (λ e. omega arith) ∙ changed_other m2 (link_at o b) (m2 (free_at o)) (length_at o q) (λ e. omega (arith, q_in))
+        let e : m4 (length_at o q) ≡ m (length_at o q) = changed_other (changed m2 (link_at o b) (m2 (free_at o))) (free_at o) (b + 1) (length_at o q) (λ e. omega arith) ∙ changed_other m2 (link_at o b) (m2 (free_at o)) (length_at o q) (λ e. omega (arith, q_in))
         ∙ ended_other rest (length_at o q) (λ e. omega arith) ∙ changed_other m (front_at o (33 + q)) (m (link_at o b)) (length_at o q) (λ e. omega (arith, head_is)) in
-      changed_same m4 (length_at o q) (m4 (length_at o q) - 1) ∙ (omega (arith, (h.holds.queues q q_in).counted, ap length has));
+        changed_same m4 (length_at o q) (m4 (length_at o q) - 1) ∙ (omega (arith, (h.holds.queues q q_in).counted, ap length has));
   }
 
   count : total chains 33 ≡ length (chains 0) + fin.len s.map
@@ -130,16 +136,16 @@ module _ (o blocks : ℕ) (m : ℕ → ℕ) (s : Store) (h : Stands o blocks m s
     holds = record {
       registers = λ r l. let e : m5 (register_at o r) ≡ m (register_at o r) = same (register_at o r) (λ e. omega arith) (λ e. omega arith) (λ e. omega arith) (λ e. omega arith) (λ e. omega arith) in rw e (h.holds.registers r l);
       values = λ k. let l : k % 32 < 32 = omega arith in rw (chain_other (1 + k % 32) (omega arith) (omega arith) (λ (e : 1 + k % 32 ≡ 33 + q). omega arith))
-        (h.holds.values k ∙ sym (value_same o m m5 k (h.chains (1 + k % 32)) (blocks_same (h.chains (1 + k % 32)))));
+          (h.holds.values k ∙ sym (value_same o m m5 k (h.chains (1 + k % 32)) (blocks_same (h.chains (1 + k % 32)))));
       buckets = λ n l. rw (chain_other (1 + n) (omega arith) (omega arith) (λ (e : 1 + n ≡ 33 + q). omega arith)) (bucket_same o m m5 n (h.chains (1 + n)) (blocks_same (h.chains (1 + n))) (h.holds.buckets n l));
       keys = same (keys_at o) (λ e. omega arith) (λ e. omega arith) (λ e. omega arith) (λ e. omega arith) (λ e. omega arith) ∙ h.holds.keys;
       key_blocks = count;
       queues = λ r l. changed_cases (λ (r : ℕ) (xs : List ℕ). r < 4 → IsQueue o m5 r (chains (33 + r)) xs) s.queues q items r
-        (λ _ _. rw chain_new queue_new)
-        (λ ne l. rw (chain_other (33 + r) (omega arith) (omega arith) (λ (e : 33 + r ≡ 33 + q). ne (omega arith)))
+          (λ _ _. rw chain_new queue_new)
+          (λ ne l. rw (chain_other (33 + r) (omega arith) (omega arith) (λ (e : 33 + r ≡ 33 + q). ne (omega arith)))
           (queue_same o m m5 r (h.chains (33 + r)) (s.queues r) (blocks_same (h.chains (33 + r)))
-            (same (tail_at o r) (λ e. omega arith) (λ e. omega arith) (λ e. omega arith) (λ e. ne (omega arith)) (λ e. omega arith))
-            (same (length_at o r) (λ e. omega arith) (λ e. ne (omega arith)) (λ e. omega arith) (λ e. omega arith) (λ e. omega arith)) (h.holds.queues r l))) l;
+          (same (tail_at o r) (λ e. omega arith) (λ e. omega arith) (λ e. omega arith) (λ e. ne (omega arith)) (λ e. omega arith))
+          (same (length_at o r) (λ e. omega arith) (λ e. ne (omega arith)) (λ e. omega arith) (λ e. omega arith) (λ e. omega arith)) (h.holds.queues r l))) l;
     };
   }
 
@@ -181,10 +187,15 @@ module _ (o blocks : ℕ) (m : ℕ → ℕ) (s : Store) (h : Stands o blocks m s
   }
 
   pub front_inside : blocks ≤ 512 → Inside o (cells_at o blocks) (front_program o q b) m
-  front_inside few =
-      ( omega arith, omega (arith, below.0)
-      , (omega arith, omega (arith, below.0)
-      , (omega arith, omega (arith, q_in), link_small, subst (λ (c : ℕ). Inside o (cells_at o blocks) (new_end o q b (m (first_at o b)) (m (link_at o b))) (changed m c (m (link_at o b)))) head_is (end_inside rest (m (link_at o b)) link_is))))
+  front_inside few = (
+    omega arith,
+    omega (arith, below.0),
+    (
+      omega arith,
+      omega (arith, below.0),
+      (omega arith, omega (arith, q_in), link_small, subst (λ (c : ℕ). Inside o (cells_at o blocks) (new_end o q b (m (first_at o b)) (m (link_at o b))) (changed m c (m (link_at o b)))) head_is (end_inside rest (m (link_at o b)) link_is)),
+    ),
+  )
     where
       below : Each (λ x. x < blocks) (b ∷ rest)
       below = subst (λ (l : List ℕ). Each (λ x. x < blocks) l) is (blocks_below o blocks m s h (33 + q) (omega (arith, q_in)))
@@ -196,17 +207,30 @@ module _ (o blocks : ℕ) (m : ℕ → ℕ) (s : Store) (h : Stands o blocks m s
       length_same n e = changed_other (changed n (link_at o b) (n (free_at o))) (free_at o) (b + 1) (length_at o q) (λ e. omega arith) ∙ changed_other n (link_at o b) (n (free_at o)) (length_at o q) (λ e. omega (arith, q_in)) ∙ e
 
       drop_inside : (n : ℕ → ℕ) → n (free_at o) < 4294967296 → n (length_at o q) ≡ m (length_at o q) → Inside o (cells_at o blocks) (drop_block o q b (m (first_at o b))) n
-      drop_inside n f e =
-        ( omega arith, omega arith
-        , (omega arith, omega (arith, below.0), f
-        , (omega arith, omega arith, omega (arith, below.0)
-        , (omega arith, omega (arith, q_in)
-        , (omega arith, omega (arith, q_in), omega (arith, length_same n e, length_small o blocks m s h q q_in), tt)))))
+      drop_inside n f e = (
+        omega arith,
+        omega arith,
+        (
+          omega arith,
+          omega (arith, below.0),
+          f,
+          (
+            omega arith,
+            omega arith,
+            omega (arith, below.0),
+            (
+              omega arith,
+              omega (arith, q_in),
+              (omega arith, omega (arith, q_in), omega (arith, length_same n e, length_small o blocks m s h q q_in), tt),
+            ),
+          ),
+        ),
+      )
 
       free1 : m1 (free_at o) < 4294967296
       free1 = free_small o blocks m1 (chains1 0) (heap_free_list o blocks m1 chains1 (changed h.owner b 37) heap1) few
 
       end_inside : (l : List ℕ) (link : ℕ) → link ≡ pointer_to l → Inside o (cells_at o blocks) (new_end o q b (m (first_at o b)) link) m1
       end_inside [] link e = subst (λ (x : ℕ). Inside o (cells_at o blocks) (new_end o q b (m (first_at o b)) x) m1) (sym e)
-        (omega arith, omega (arith, q_in), omega arith, drop_inside (changed m1 (tail_at o q) 0) (rw (changed_other m1 (tail_at o q) 0 (free_at o) (λ e. omega arith)) free1) (changed_other m1 (tail_at o q) 0 (length_at o q) (λ e. omega arith) ∙ length1))
+          (omega arith, omega (arith, q_in), omega arith, drop_inside (changed m1 (tail_at o q) 0) (rw (changed_other m1 (tail_at o q) 0 (free_at o) (λ e. omega arith)) free1) (changed_other m1 (tail_at o q) 0 (length_at o q) (λ e. omega arith) ∙ length1))
       end_inside (x ∷ l) link e = subst (λ (y : ℕ). Inside o (cells_at o blocks) (new_end o q b (m (first_at o b)) y) m1) (sym e) (drop_inside m1 free1 length1)

@@ -1,13 +1,12 @@
 -- A new item behind its queue.
-use Rattle.std.proofs.Common.{◌≡◌, ℕ, zero, suc, ◌+◌, ◌-◌, ◌*◌, ◌%◌, ◌<◌, ◌≤◌, ◌≢◌, ◌⊎◌, inl, inr, refl, sym, ◌∙◌, ap, subst, arith, eqb, cond, Bool, true, false, Option, Some, None, List, [], ◌∷◌, ◌++◌, length, eq-eqb, map, length-append}
+use Rattle.std.proofs.Common.{◌≡◌, ℕ, zero, suc, ◌+◌, ◌%◌, ◌<◌, ◌≤◌, ◌≢◌, ◌⊎◌, inl, inr, refl, sym, ◌∙◌, ap, subst, arith, true, Some, List, [], ◌∷◌, ◌++◌, length, map, length-append}
 use Rattle.std.specs.List.{AllByRecursion as Each}
 use Rattle.std.specs.FinMap as fin
-use Rattle.std.proofs.lemmas.Bool.{ne_eqb, cases_eq}
 use Rattle.std.proofs.lemmas.List.{map-append}
-use Rattle.of_mem.specs.Places.{register_at, fresh_at, free_at, keys_at, bucket_at, head_at, tail_at, length_at, block_at, cells_at}
+use Rattle.of_mem.specs.Places.{register_at, fresh_at, free_at, keys_at, head_at, tail_at, length_at, cells_at}
 use Rattle.of_mem.specs.Programs.{changed, answer, after, Inside}
-use Rattle.of_mem.specs.Stores.{Store, Stands, Holds, IsHeap, IsChain, IsBucket, IsQueue, IsNumber, front_at, link_at, first_at, second_at, cell_after, value_in, total, last_pointer}
-use Rattle.of_mem.proofs.Changes.{changed_same, changed_other, changed_cases, total_changed, total_changed_past}
+use Rattle.of_mem.specs.Stores.{Store, Stands, IsHeap, IsQueue, IsNumber, front_at, link_at, first_at, second_at, cell_after, total, last_pointer}
+use Rattle.of_mem.proofs.Changes.{changed_same, changed_other, changed_cases, total_changed_past}
 use Rattle.of_mem.proofs.Heaps.{fronts, front_head, front_below, each_weaker, each_append, cell_in, all_links}
 use Rattle.of_mem.proofs.Moves.{heap_changed, heap_changed_out, heap_append, blocks_apart, out_owner}
 use Rattle.of_mem.proofs.Frames.{SameBlocks, value_same, bucket_same, queue_same, items_same}
@@ -31,18 +30,25 @@ last_pointer-append p b (c ∷ l) = last_pointer-append (c + 1) b l
 module _ (o blocks : ℕ) (m : ℕ → ℕ) (s : Store) (h : Stands o blocks m s) (q v : ℕ) (q_in : q < 4) (v_in : IsNumber v) (b : ℕ) (m1 : ℕ → ℕ) (t : Took o blocks m h.chains b m1) where
   abbrev old : List ℕ
   old = h.chains (33 + q)
+
   abbrev last : ℕ
   last = cell_after o (front_at o (33 + q)) (t.chains_after (33 + q))
+
   abbrev m2 : ℕ → ℕ
   m2 = changed m1 (first_at o b) v
+
   abbrev m3 : ℕ → ℕ
   m3 = changed m2 (link_at o b) 0
+
   abbrev m4 : ℕ → ℕ
   m4 = changed m3 last (b + 1)
+
   abbrev m5 : ℕ → ℕ
   m5 = changed m4 (tail_at o q) (b + 1)
+
   abbrev m6 : ℕ → ℕ
   m6 = changed m5 (length_at o q) (m5 (length_at o q) + 1)
+
   abbrev chains : ℕ → List ℕ
   chains = changed (changed t.chains_after 37 []) (33 + q) (t.chains_after (33 + q) ++ b ∷ [])
 
@@ -81,27 +87,28 @@ module _ (o blocks : ℕ) (m : ℕ → ℕ) (s : Store) (h : Stands o blocks m s
   same : (a : ℕ) → a ≢ free_at o → a ≢ fresh_at o → a ≢ front_at o (33 + q) → ((x : ℕ) → a ≢ link_at o x) → a ≢ first_at o b → a ≢ tail_at o q → a ≢ length_at o q → m6 a ≡ m a
   same a p1 p2 p3 p4 p5 p6 p7 =
       changed_other m5 (length_at o q) (m5 (length_at o q) + 1) a p7 ∙ changed_other m4 (tail_at o q) (b + 1) a p6 ∙ changed_other m3 last (b + 1) a (not_last a p3 p4)
-        ∙ changed_other m2 (link_at o b) 0 a (p4 b) ∙ changed_other m1 (first_at o b) v a p5 ∙ t.cells a p1 p2
+      ∙ changed_other m2 (link_at o b) 0 a (p4 b) ∙ changed_other m1 (first_at o b) v a p5 ∙ t.cells a p1 p2
 
   head_is : front_at o (33 + q) ≡ head_at o q
   head_is = front_head o q
 
   same_block : (x : ℕ) → x ≢ b → (m6 (first_at o x) ≡ m (first_at o x)) × (m6 (second_at o x) ≡ m (second_at o x))
-  same_block x ne =
-      (same (first_at o x) (λ e. omega arith) (λ e. omega arith) (λ e. omega (arith, head_is, q_in)) (λ y e. omega arith) (λ e. ne (omega arith)) (λ e. omega (arith, q_in)) (λ e. omega (arith, q_in))
-      , same (second_at o x) (λ e. omega arith) (λ e. omega arith) (λ e. omega (arith, head_is, q_in)) (λ y e. omega arith) (λ e. omega arith) (λ e. omega (arith, q_in)) (λ e. omega (arith, q_in)))
+  same_block x ne = (
+    same (first_at o x) (λ e. omega arith) (λ e. omega arith) (λ e. omega (arith, head_is, q_in)) (λ y e. omega arith) (λ e. ne (omega arith)) (λ e. omega (arith, q_in)) (λ e. omega (arith, q_in)),
+    same (second_at o x) (λ e. omega arith) (λ e. omega arith) (λ e. omega (arith, head_is, q_in)) (λ y e. omega arith) (λ e. omega arith) (λ e. omega (arith, q_in)) (λ e. omega (arith, q_in)),
+  )
 
   new_item : m6 (first_at o b) ≡ v
   new_item = changed_other m5 (length_at o q) (m5 (length_at o q) + 1) (first_at o b) (λ e. omega (arith, q_in)) ∙ changed_other m4 (tail_at o q) (b + 1) (first_at o b) (λ e. omega (arith, q_in))
-        ∙ changed_other m3 last (b + 1) (first_at o b) (not_last (first_at o b) (λ e. omega (arith, head_is, q_in)) (λ y e. omega arith)) ∙ changed_other m2 (link_at o b) 0 (first_at o b) (λ e. omega arith) ∙ changed_same m1 (first_at o b) v
+      ∙ changed_other m3 last (b + 1) (first_at o b) (not_last (first_at o b) (λ e. omega (arith, head_is, q_in)) (λ y e. omega arith)) ∙ changed_other m2 (link_at o b) 0 (first_at o b) (λ e. omega arith) ∙ changed_same m1 (first_at o b) v
 
   new_last : m6 (tail_at o q) ≡ b + 1
   new_last = changed_other m5 (length_at o q) (m5 (length_at o q) + 1) (tail_at o q) (λ e. omega arith) ∙ changed_same m4 (tail_at o q) (b + 1)
 
   new_length : m6 (length_at o q) ≡ m (length_at o q) + 1
   new_length = changed_same m5 (length_at o q) (m5 (length_at o q) + 1) ∙ ap (λ x. x + 1) (changed_other m4 (tail_at o q) (b + 1) (length_at o q) (λ e. omega arith)
-        ∙ changed_other m3 last (b + 1) (length_at o q) (not_last (length_at o q) (λ e. omega (arith, head_is)) (λ y e. omega (arith, q_in))) ∙ changed_other m2 (link_at o b) 0 (length_at o q) (λ e. omega (arith, q_in))
-        ∙ changed_other m1 (first_at o b) v (length_at o q) (λ e. omega (arith, q_in)) ∙ t.cells (length_at o q) (λ e. omega arith) (λ e. omega arith))
+      ∙ changed_other m3 last (b + 1) (length_at o q) (not_last (length_at o q) (λ e. omega (arith, head_is)) (λ y e. omega (arith, q_in))) ∙ changed_other m2 (link_at o b) 0 (length_at o q) (λ e. omega (arith, q_in))
+      ∙ changed_other m1 (first_at o b) v (length_at o q) (λ e. omega (arith, q_in)) ∙ t.cells (length_at o q) (λ e. omega arith) (λ e. omega arith))
 
   same_blocks : (c : ℕ) → 1 ≤ c → c < 37 → SameBlocks o m m6 (h.chains c)
   same_blocks c l k = each_weaker (λ x. x ≢ b) (λ x. (m6 (first_at o x) ≡ m (first_at o x)) × (m6 (second_at o x) ≡ m (second_at o x))) same_block (h.chains c)
@@ -136,26 +143,26 @@ module _ (o blocks : ℕ) (m : ℕ → ℕ) (s : Store) (h : Stands o blocks m s
     sixteen = h.sixteen;
     holds = record {
       registers = λ r l. let e : m6 (register_at o r) ≡ m (register_at o r) = same (register_at o r) (λ e. omega arith) (λ e. omega arith) (λ e. omega (arith, head_is)) (λ y e. omega arith) (λ e. omega arith) (λ e. omega arith) (λ e. omega arith) in
-        rw e (h.holds.registers r l);
+          rw e (h.holds.registers r l);
       values = λ k. let l : k % 32 < 32 = omega arith in rw (chain_other (1 + k % 32) (omega arith) (omega arith) (λ (e : 1 + k % 32 ≡ 33 + q). omega arith))
-        (h.holds.values k ∙ sym (value_same o m m6 k (h.chains (1 + k % 32)) (same_blocks (1 + k % 32) (omega arith) (omega arith))));
+          (h.holds.values k ∙ sym (value_same o m m6 k (h.chains (1 + k % 32)) (same_blocks (1 + k % 32) (omega arith) (omega arith))));
       buckets = λ n l. rw (chain_other (1 + n) (omega arith) (omega arith) (λ (e : 1 + n ≡ 33 + q). omega arith)) (bucket_same o m m6 n (h.chains (1 + n)) (same_blocks (1 + n) (omega arith) (omega arith)) (h.holds.buckets n l));
       keys = same (keys_at o) (λ e. omega arith) (λ e. omega arith) (λ e. omega (arith, head_is)) (λ y e. omega arith) (λ e. omega arith) (λ e. omega arith) (λ e. omega arith) ∙ h.holds.keys;
       key_blocks = count;
       queues = λ r l. changed_cases (λ (r : ℕ) (items : List ℕ). r < 4 → IsQueue o m6 r (chains (33 + r)) items) s.queues q (s.queues q ++ v ∷ []) r
-        (λ _ _. queue_new)
-        (λ ne l. rw (chain_other (33 + r) (omega arith) (omega arith) (λ (e : 33 + r ≡ 33 + q). ne (omega arith)))
+          (λ _ _. queue_new)
+          (λ ne l. rw (chain_other (33 + r) (omega arith) (omega arith) (λ (e : 33 + r ≡ 33 + q). ne (omega arith)))
           (queue_same o m m6 r (h.chains (33 + r)) (s.queues r) (same_blocks (33 + r) (omega arith) (omega arith))
-            (same (tail_at o r) (λ e. omega arith) (λ e. omega arith) (λ e. omega (arith, head_is)) (λ y e. omega arith) (λ e. omega arith) (λ e. ne (omega arith)) (λ e. omega arith))
-            (same (length_at o r) (λ e. omega arith) (λ e. omega arith) (λ e. omega (arith, head_is)) (λ y e. omega arith) (λ e. omega arith) (λ e. omega arith) (λ e. ne (omega arith))) (h.holds.queues r l))) l;
+          (same (tail_at o r) (λ e. omega arith) (λ e. omega arith) (λ e. omega (arith, head_is)) (λ y e. omega arith) (λ e. omega arith) (λ e. ne (omega arith)) (λ e. omega arith))
+          (same (length_at o r) (λ e. omega arith) (λ e. omega arith) (λ e. omega (arith, head_is)) (λ y e. omega arith) (λ e. omega arith) (λ e. omega arith) (λ e. ne (omega arith))) (h.holds.queues r l))) l;
     };
   }
     where
       count : total chains 33 ≡ length (chains 0) + fin.len s.map
       count =
-        let p1 : total chains 33 ≡ total (changed t.chains_after 37 []) 33 = total_changed_past (changed t.chains_after 37 []) (33 + q) (t.chains_after (33 + q) ++ b ∷ []) 33 (omega arith) in
-        let p2 : total (changed t.chains_after 37 []) 33 ≡ total t.chains_after 33 = total_changed_past t.chains_after 37 [] 33 (omega arith) in
-        omega (arith, ap length chain_free, t.sums, h.holds.key_blocks)
+          let p1 : total chains 33 ≡ total (changed t.chains_after 37 []) 33 = total_changed_past (changed t.chains_after 37 []) (33 + q) (t.chains_after (33 + q) ++ b ∷ []) 33 (omega arith) in
+          let p2 : total (changed t.chains_after 37 []) 33 ≡ total t.chains_after 33 = total_changed_past t.chains_after 37 [] 33 (omega arith) in
+          omega (arith, ap length chain_free, t.sums, h.holds.key_blocks)
 
   last_is : last_cell o q (m3 (tail_at o q)) ≡ last
   last_is = ap (last_cell o q) tail_read ∙ go (last_cases o (front_at o (33 + q)) old) ∙ ap (λ (l : List ℕ). cell_after o (front_at o (33 + q)) l) (sym same_chain)
@@ -183,16 +190,37 @@ module _ (o blocks : ℕ) (m : ℕ → ℕ) (s : Store) (h : Stands o blocks m s
   new_inside few =
       let b_in : b < blocks = omega (arith, out.0, t.heap.few) in
       let c = cell_inside (m3 (tail_at o q)) below_tail in
-      let n : changed (changed m3 (last_cell o q (m3 (tail_at o q))) (b + 1)) (tail_at o q) (b + 1) (length_at o q) + 1 < 4294967296 = rw last_is (omega (arith, ap (λ (x : ℕ). x) length_read, length_small o blocks m s h q q_in)) in
-      ( omega arith, omega arith, omega (arith, v_in)
-      , (omega arith, omega arith, omega arith
-      , (omega arith, omega (arith, q_in)
-      , (c.0, c.1, omega arith
-      , (omega arith, omega (arith, q_in), omega arith
-      , (omega arith, omega (arith, q_in)
-      , (omega arith, omega (arith, q_in), n, tt)))))))
+      let n : changed (changed m3 (last_cell o q (m3 (tail_at o q))) (b + 1)) (tail_at o q) (b + 1) (length_at o q) + 1 < 4294967296 = rw last_is (omega (arith, ap (λ (x : ℕ). x) length_read, length_small o blocks m s h q q_in)) in (
+        omega arith,
+        omega arith,
+        omega (arith, v_in),
+        (
+          omega arith,
+          omega arith,
+          omega arith,
+          (
+            omega arith,
+            omega (arith, q_in),
+            (
+              c.0,
+              c.1,
+              omega arith,
+              (
+                omega arith,
+                omega (arith, q_in),
+                omega arith,
+                (
+                  omega arith,
+                  omega (arith, q_in),
+                  (omega arith, omega (arith, q_in), n, tt),
+                ),
+              ),
+            ),
+          ),
+        ),
+      )
     where
       length_read : changed m4 (tail_at o q) (b + 1) (length_at o q) ≡ m (length_at o q)
       length_read = changed_other m4 (tail_at o q) (b + 1) (length_at o q) (λ e. omega arith)
-        ∙ changed_other m3 last (b + 1) (length_at o q) (not_last (length_at o q) (λ e. omega (arith, head_is)) (λ y e. omega (arith, q_in))) ∙ changed_other m2 (link_at o b) 0 (length_at o q) (λ e. omega (arith, q_in))
-        ∙ changed_other m1 (first_at o b) v (length_at o q) (λ e. omega (arith, q_in)) ∙ t.cells (length_at o q) (λ e. omega arith) (λ e. omega arith)
+          ∙ changed_other m3 last (b + 1) (length_at o q) (not_last (length_at o q) (λ e. omega (arith, head_is)) (λ y e. omega (arith, q_in))) ∙ changed_other m2 (link_at o b) 0 (length_at o q) (λ e. omega (arith, q_in))
+          ∙ changed_other m1 (first_at o b) v (length_at o q) (λ e. omega (arith, q_in)) ∙ t.cells (length_at o q) (λ e. omega arith) (λ e. omega arith)

@@ -1,17 +1,17 @@
 -- What the code of the queues does is what a store does: the runs stay inside, and the store changes as it should.
-use Rattle.std.proofs.Common.{◌≡◌, ℕ, suc, ◌+◌, ◌<◌, ◌≤◌, refl, sym, ◌∙◌, ap, subst, arith, ltb, Bool, true, false, Option, Some, None, List, [], ◌∷◌, map, length}
-use Rattle.of_mem.specs.Places.{head_at, length_at, cells_at}
+use Rattle.std.proofs.Common.{◌≡◌, ℕ, suc, ◌+◌, ◌<◌, ◌≤◌, refl, sym, ◌∙◌, ap, subst, arith, Bool, Option, Some, None, List, [], ◌∷◌, map, length}
+use Rattle.of_mem.specs.Places.{head_at, cells_at}
 use Rattle.of_mem.specs.Pad.{Pad}
-use Rattle.of_mem.specs.Programs.{answer, after, Inside, IsPartOf, RunsAs}
-use Rattle.of_mem.specs.Stores.{Store, Stands, IsNumber, IsChain, front_at, first_at, things}
+use Rattle.of_mem.specs.Programs.{answer, after, Inside, RunsAs}
+use Rattle.of_mem.specs.Stores.{Store, Stands, IsNumber, IsChain, front_at, first_at}
 use Rattle.of_mem.specs.StoreParts.{Acts, Answers}
 use Rattle.of_mem.proofs.Heaps.{front_head}
-use Rattle.of_mem.proofs.Runs.{answer_then, after_then, inside_then, Ended, run_ended}
+use Rattle.of_mem.proofs.Runs.{answer_then, after_then, inside_then, run_ended}
 use Rattle.of_alloc.specs.BlockPrograms.{take_program}
 use Rattle.of_alloc.proofs.Heaped.{TakesOff}
 use Rattle.of_alloc.proofs.Stored.{take_inside, takes_off, room_left, none_left}
 use Rattle.of_queue.specs.QueuePrograms.{push_new, push_program, with_head, pop_program, len_program}
-use Rattle.of_queue.specs.Means.{has_room, push_store, after_push, front_of, pop_store, after_pop}
+use Rattle.of_queue.specs.Means.{has_room, after_push, front_of, after_pop}
 use Rattle.of_queue.proofs.Pushes.{stands, pushes, new_inside}
 use Rattle.of_queue.proofs.Pops.{front_inside, pop_acts}
 
@@ -28,9 +28,10 @@ module _ (o blocks : ℕ) (few : blocks ≤ 512) (m : ℕ → ℕ) (s : Store) (
 
     pub push_means : Inside o (cells_at o blocks) (push_program o blocks q v) m × Pushes (answer (push_program o blocks q v) m) (after (push_program o blocks q v) m)
     push_means =
-        let k = new_pushes (answer (take_program o blocks) m) (after (take_program o blocks) m) (takes_off o blocks few m s h) in
-        ( inside_then o (cells_at o blocks) (take_program o blocks) (push_new o q v) m (take_inside o blocks few m s h) k.0
-        , rw (answer_then (take_program o blocks) (push_new o q v) m, after_then (take_program o blocks) (push_new o q v) m) k.1)
+        let k = new_pushes (answer (take_program o blocks) m) (after (take_program o blocks) m) (takes_off o blocks few m s h) in (
+          inside_then o (cells_at o blocks) (take_program o blocks) (push_new o q v) m (take_inside o blocks few m s h) k.0,
+          rw (answer_then (take_program o blocks) (push_new o q v) m, after_then (take_program o blocks) (push_new o q v) m) k.1,
+        )
 
   abbrev Popped : Option ℕ → (ℕ → ℕ) → Type 0
   Popped r n = (r ≡ front_of (s.queues q)) × Stands o blocks n (after_pop q s)

@@ -102,7 +102,14 @@ fn pop_front(plot: &Plot, part: &mut Part, queue: u32, block: u32) -> Result<Opt
 }
 
 /// Clears the tail where nothing is left behind the block that leaves, and gives the block back.
-fn close(plot: &Plot, part: &mut Part, queue: u32, block: u32, item: u32, link: u32) -> Result<Option<u32>, Need>
+fn close(
+    plot: &Plot,
+    part: &mut Part,
+    queue: u32,
+    block: u32,
+    item: u32,
+    link: u32,
+) -> Result<Option<u32>, Need>
     requires fits { length part.old.known ≡ size plot.now }
     requires queue { queue < 4 }
     requires popped { IsPopped (base plot.now) plot.now.blocks part.old queue block }
@@ -119,7 +126,13 @@ fn close(plot: &Plot, part: &mut Part, queue: u32, block: u32, item: u32, link: 
 
 /// Gives back a block that is in no queue any more, and counts one item less.
 #[tactic(auto, using(of_mem::proofs::Runs::run_then_needs))]
-fn give_back(plot: &Plot, part: &mut Part, queue: u32, block: u32, item: u32) -> Result<Option<u32>, Need>
+fn give_back(
+    plot: &Plot,
+    part: &mut Part,
+    queue: u32,
+    block: u32,
+    item: u32,
+) -> Result<Option<u32>, Need>
     requires fits { length part.old.known ≡ size plot.now }
     requires queue { queue < 4 }
     requires popped { IsPopped (base plot.now) plot.now.blocks part.old queue block }

@@ -1,2 +1,4 @@
 pub mod Entries
 pub mod Rows
+pub mod Kept
+pub mod Walks

@@ -71,6 +71,7 @@ fn is_unchanged_after_an_abort(rt: HostRuntime) -> Result<(), Fail> {
         cause: Cause::Differs,
     };
     assert_eq!(rt; reply.abort, Some(differs));
+    assert_eq!(rt; store.room(), 4);
     assert_eq!(rt; store.register(0), 5);
     assert_eq!(rt; store.registers()[15], 0);
     assert_eq!(rt; store.key(7), Some(1));

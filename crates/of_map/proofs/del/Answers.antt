@@ -29,4 +29,4 @@ returns-in-Some-clause-walk c =
 pub returns-in-Some-clause-acts : goal.returns-in-Some-clause-acts
 returns-in-Some-clause-acts c =
     so_ok (del_program (base c.args.plot.now) c.args.plot.now.blocks c.args.key) c.args.part.now c.unlink.new.part (λ r. Acts (base c.args.plot.now) c.args.plot.now.blocks c.args.part.now r c.unlink.new.part (λ s. fin.get s.map c.args.key) (after_del c.args.key)) c.unlink.result (returns-in-Some-clause-walk c)
-      (λ r e. del_acts (base c.args.plot.now) c.args.plot.now.blocks c.args.plot.now.few_blocks c.args.key c.args.part.now c.unlink.new.part r e)
+    (λ r e. del_acts (base c.args.plot.now) c.args.plot.now.blocks c.args.plot.now.few_blocks c.args.key c.args.part.now c.unlink.new.part r e)

@@ -14,7 +14,7 @@ seek-requires-clause-leads c = leads_bucket (base c.args.plot.now) c.args.plot.n
 pub read_value-requires-clause-block : goal.read_value-requires-clause-block
 read_value-requires-clause-block c =
     kept_below (base c.args.plot.now) c.args.plot.now.blocks c.args.part.now c.args.key c.in-Some.place.0 c.in-Some.place.1
-      (seek_kept (base c.args.plot.now) c.args.plot.now.blocks c.args.part.now c.args.key c.in_ok-seek.field-0 c.in-Some.place c.requires.stands c.in_ok-seek.ensures c.in-Some.is)
+    (seek_kept (base c.args.plot.now) c.args.plot.now.blocks c.args.part.now c.args.key c.in_ok-seek.field-0 c.in-Some.place c.requires.stands c.in_ok-seek.ensures c.in-Some.is)
 
 pub returns-in-None-clause-walk : goal.returns-in-None-clause-walk
 returns-in-None-clause-walk c =
@@ -30,4 +30,4 @@ returns-in-Some-clause-walk c =
 pub returns-in-Some-clause-answers : goal.returns-in-Some-clause-answers
 returns-in-Some-clause-answers c =
     so_ok (get_program (base c.args.plot.now) c.args.plot.now.blocks c.args.key) c.args.part.now c.args.part.now (λ r. Answers (base c.args.plot.now) c.args.plot.now.blocks c.args.part.now r (λ s. fin.get s.map c.args.key)) c.read_value.result (returns-in-Some-clause-walk c)
-      (λ r e. get_answers (base c.args.plot.now) c.args.plot.now.blocks c.args.key c.args.part.now r e)
+    (λ r e. get_answers (base c.args.plot.now) c.args.plot.now.blocks c.args.key c.args.part.now r e)

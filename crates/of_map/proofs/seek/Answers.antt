@@ -1,11 +1,8 @@
-use Rattle.std.proofs.Common.{◌≡◌, ℕ, suc, ◌+◌, ◌-◌, ◌%◌, ◌<◌, ◌≤◌, ◌≢◌, refl, sym, ◌∙◌, ap, subst, arith, length, Option, Some, None}
-use Rattle.std.proofs.lemmas.Result.{err_from_is_err_and}
-use Rattle.of_mem.specs.Places.{bucket_at, cells_at}
+use Rattle.std.proofs.Common.{◌≡◌, ℕ, suc, ◌+◌, ◌-◌, ◌<◌, sym, ◌∙◌, ap, arith}
 use Rattle.of_mem.specs.Plots.{base}
 use Rattle.of_mem.specs.Programs.{run}
-use Rattle.of_map.specs.MapPrograms.{seek, seek_program}
-use Rattle.of_map.specs.Found.{Leads}
-use Rattle.of_map.proofs.Walking.{seek_needs_pointer, seek_none, seek_needs_key, seek_here, seek_on, pointer_below, leads_on}
+use Rattle.of_map.specs.MapPrograms.{seek}
+use Rattle.of_map.proofs.Walking.{seek_none, seek_here, seek_on, pointer_below, leads_on}
 use Rattle.of_map.proofs.seek.Goals as goal
 
 -- there is a turn left
@@ -24,7 +21,7 @@ loop-step-init c = record {
 pub returns-then-pointer-eq0 : goal.returns-then-pointer-eq0
 returns-then-pointer-eq0 c =
     c.loop-step.invariant.ran ∙ ap (λ (n : ℕ). run (seek (base c.args.plot.now) c.args.key n c.loop-step.cell) c.args.part.now) (turn (c.args.plot.now.blocks + 1) c.loop-step.step c.loop-step-test.true)
-      ∙ seek_none (base c.args.plot.now) c.args.key (c.args.plot.now.blocks + 1 - (c.loop-step.step + 1)) c.loop-step.cell c.args.part.now c.in_ok-pointer.pointer c.in_ok-pointer.ensures c.if-pointer-eq0.true
+    ∙ seek_none (base c.args.plot.now) c.args.key (c.args.plot.now.blocks + 1 - (c.loop-step.step + 1)) c.loop-step.cell c.args.part.now c.in_ok-pointer.pointer c.in_ok-pointer.ensures c.if-pointer-eq0.true
 
 pub block-requires-clause-block : goal.block-requires-clause-block
 block-requires-clause-block c = pointer_below (base c.args.plot.now) c.args.plot.now.blocks c.args.part.now c.loop-step.cell c.in_ok-pointer.pointer c.loop-step.invariant.leads c.in_ok-pointer.ensures c.if-pointer-eq0.false
@@ -37,8 +34,8 @@ read-requires-in-loop-step c =
 pub returns-then-found-key : goal.returns-then-found-key
 returns-then-found-key c =
     c.loop-step.invariant.ran ∙ ap (λ (n : ℕ). run (seek (base c.args.plot.now) c.args.key n c.loop-step.cell) c.args.part.now) (turn (c.args.plot.now.blocks + 1) c.loop-step.step c.loop-step-test.true)
-      ∙ seek_here (base c.args.plot.now) c.args.key (c.args.plot.now.blocks + 1 - (c.loop-step.step + 1)) c.loop-step.cell c.args.part.now c.in_ok-pointer.pointer c.block.result c.in_ok-found.found c.in_ok-pointer.ensures c.if-pointer-eq0.false
-        (c.block.ensures) c.in_ok-found.ensures c.if-found-key.true
+    ∙ seek_here (base c.args.plot.now) c.args.key (c.args.plot.now.blocks + 1 - (c.loop-step.step + 1)) c.loop-step.cell c.args.part.now c.in_ok-pointer.pointer c.block.result c.in_ok-found.found c.in_ok-pointer.ensures c.if-pointer-eq0.false
+    (c.block.ensures) c.in_ok-found.ensures c.if-found-key.true
 
 pub block-cell-requires-clause-block : goal.block-cell-requires-clause-block
 block-cell-requires-clause-block c = pointer_below (base c.args.plot.now) c.args.plot.now.blocks c.args.part.now c.loop-step.cell c.in_ok-pointer.pointer c.loop-step.invariant.leads c.in_ok-pointer.ensures c.if-pointer-eq0.false
@@ -46,7 +43,7 @@ block-cell-requires-clause-block c = pointer_below (base c.args.plot.now) c.args
 pub loop-step-preserved : goal.loop-step-preserved
 loop-step-preserved c = record {
   ran = c.loop-step.invariant.ran ∙ ap (λ (n : ℕ). run (seek (base c.args.plot.now) c.args.key n c.loop-step.cell) c.args.part.now) (turn (c.args.plot.now.blocks + 1) c.loop-step.step c.loop-step-test.true)
-    ∙ seek_on (base c.args.plot.now) c.args.key (c.args.plot.now.blocks + 1 - (c.loop-step.step + 1)) c.loop-step.cell c.args.part.now c.in_ok-pointer.pointer c.block.result c.in_ok-found.found c.block-cell.result c.in_ok-pointer.ensures c.if-pointer-eq0.false
+      ∙ seek_on (base c.args.plot.now) c.args.key (c.args.plot.now.blocks + 1 - (c.loop-step.step + 1)) c.loop-step.cell c.args.part.now c.in_ok-pointer.pointer c.block.result c.in_ok-found.found c.block-cell.result c.in_ok-pointer.ensures c.if-pointer-eq0.false
       (c.block.ensures) c.in_ok-found.ensures c.if-found-key.false c.block-cell.ensures;
   leads = leads_on (base c.args.plot.now) c.args.plot.now.blocks c.args.part.now c.loop-step.cell c.in_ok-pointer.pointer c.block-cell.result c.loop-step.invariant.leads c.in_ok-pointer.ensures c.if-pointer-eq0.false c.block-cell.ensures;
 }

@@ -1,4 +1,4 @@
-use Rattle.std.proofs.Common.{rules, ◌≡◌, None}
+use Rattle.std.proofs.Common.{rules, None}
 use Rattle.std.specs.Prelude.{MatchResult}
 use Rattle.of_mem.specs.Plots.{base}
 use Rattle.of_mem.specs.Programs.{RunsAs, NeedsAt}
@@ -22,4 +22,4 @@ pub returns-clause-acts : goal.returns-clause-acts
 returns-clause-acts c =
     let walk : MatchResult c.pop_front.result (λ r. RunsAs (pop_program (base c.args.plot.now) c.args.queue) c.args.part.now r c.pop_front.new.part) (λ need. NeedsAt (pop_program (base c.args.plot.now) c.args.queue) c.args.part.now need.addr) = search rules in
     so_ok (pop_program (base c.args.plot.now) c.args.queue) c.args.part.now c.pop_front.new.part (λ r. Acts (base c.args.plot.now) c.args.plot.now.blocks c.args.part.now r c.pop_front.new.part (λ s. front_of (s.queues c.args.queue)) (after_pop c.args.queue)) c.pop_front.result walk
-      (λ r e. pop_acts_whole (base c.args.plot.now) c.args.plot.now.blocks c.args.plot.now.few_blocks c.args.queue c.requires.queue c.args.part.now c.pop_front.new.part r e)
+    (λ r e. pop_acts_whole (base c.args.plot.now) c.args.plot.now.blocks c.args.plot.now.few_blocks c.args.queue c.requires.queue c.args.part.now c.pop_front.new.part r e)

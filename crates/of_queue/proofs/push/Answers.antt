@@ -37,4 +37,4 @@ returns-in-Some-clause-walk c =
 pub returns-in-Some-clause-acts : goal.returns-in-Some-clause-acts
 returns-in-Some-clause-acts c =
     so_ok (push_program (base c.args.plot.now) c.args.plot.now.blocks c.args.queue c.args.value) c.args.part.now c.append.new.part (λ r. Acts (base c.args.plot.now) c.args.plot.now.blocks c.args.part.now r c.append.new.part (has_room c.args.plot.now.blocks) (after_push c.args.plot.now.blocks c.args.queue c.args.value)) c.append.result (returns-in-Some-clause-walk c)
-      (λ r e. push_acts (base c.args.plot.now) c.args.plot.now.blocks c.args.plot.now.few_blocks c.args.queue c.args.value c.requires.queue c.requires.value c.args.part.now c.append.new.part r e)
+    (λ r e. push_acts (base c.args.plot.now) c.args.plot.now.blocks c.args.plot.now.few_blocks c.args.queue c.args.value c.requires.queue c.requires.value c.args.part.now c.append.new.part r e)
