@@ -89,7 +89,7 @@ module _ (S : Setup) (Lawful : List ℕ → Type 0) (B : Start) (w : World) (g :
         let t = counts (seq (durable_log S w.words p 0)) d (pay (durable_log S w.words p 0)) S.cells s (omega (arith, v, log.few)) in
         rw t v
 
-  -- D16 on data cells
+  -- recovery gives each data cell's word in the state of the durable sequence
   pub claim : (a : ℕ) → a < S.cells → recovered S w.words a ≡ at B w.batches (risen S w.words) a
   claim a l = go (is_replayed S w.words) (nat_lt (seq (durable_cell S w.words a)) (risen S w.words)) refl refl
     where
