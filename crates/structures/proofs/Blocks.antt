@@ -19,7 +19,7 @@ pub free_at_first : (o blocks : ℕ) (p : Pad) → IsPartOf p (λ (a : ℕ). 0) 
 free_at_first o blocks p h = ((λ (a : ℕ). 0), [], h, record { linked = refl; below = tt; few = omega arith })
 
 -- a block that was taken is out
-pub took : (o blocks : ℕ) (p q : Pad) (r : Option ℕ) (b : ℕ) → r ≡ Some b → HasFree o blocks p → TakesFrom o blocks p r q → HasOut o blocks q b
+took : (o blocks : ℕ) (p q : Pad) (r : Option ℕ) (b : ℕ) → r ≡ Some b → HasFree o blocks p → TakesFrom o blocks p r q → HasOut o blocks q b
 took o blocks p q r b e h t =
     let takes : TakesFrom o blocks p (Some b) q = subst (λ (x : Option ℕ). TakesFrom o blocks p x q) e t in
     let n = takes h.0 h.1 h.2 h.3 in
@@ -32,8 +32,12 @@ stays_out o blocks m n free q b (Some x) part list out t =
     (n, t.left, part, t.list, (t.others b other).0 out)
 
 -- a block that is out stays so while another one is taken
-pub still_out : (o blocks : ℕ) (p q : Pad) (b : ℕ) (r : Option ℕ) → HasOut o blocks p b → TakesFrom o blocks p r q → HasOut o blocks q b
+still_out : (o blocks : ℕ) (p q : Pad) (b : ℕ) (r : Option ℕ) → HasOut o blocks p b → TakesFrom o blocks p r q → HasOut o blocks q b
 still_out o blocks p q b r h t = let n = t h.0 h.1 h.2 h.3 in stays_out o blocks h.0 n.0 h.1 q b r n.1 h.3 h.4 n.2
+
+-- the first one of two that were taken
+pub first_out : (o blocks : ℕ) (p q n : Pad) (r s : Option ℕ) (b : ℕ) → r ≡ Some b → HasFree o blocks p → TakesFrom o blocks p r q → TakesFrom o blocks q s n → HasOut o blocks n b
+first_out o blocks p q n r s b e h t u = still_out o blocks q n b s (took o blocks p q r b e h t) u
 
 -- there is a free list after a block was given back
 pub gave : (o blocks : ℕ) (p q : Pad) (b : ℕ) → HasOut o blocks p b → GivesTo o blocks p b q → HasFree o blocks q
