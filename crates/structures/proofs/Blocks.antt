@@ -1,8 +1,6 @@
 -- What takes and gives leave, whatever the free list is.
-use Rattle.std.proofs.Common.{◌≡◌, ◌≢◌, ℕ, ◌<◌, List, [], ◌∷◌, Option, Some, None, refl, subst, arith}
-use Rattle.std.specs.List.{AllByRecursion as Each}
+use Rattle.std.proofs.Common.{◌≡◌, ◌≢◌, ℕ, List, [], ◌∷◌, Option, Some, None, refl, subst, arith}
 use Rattle.of_mem.specs.Pad.{Pad}
-use Rattle.of_mem.specs.Places.{fresh_at}
 use Rattle.of_mem.specs.Programs.{IsPartOf}
 use Rattle.of_alloc.specs.Blocks.{IsFreeList, IsOut, Takes, TakesFrom, GivesTo}
 

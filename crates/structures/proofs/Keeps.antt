@@ -1,10 +1,10 @@
 -- A memory stays what it was where the batch takes over what the script wrote.
-use Rattle.std.proofs.Common.{◌≡◌, ℕ, suc, ◌==◌, Bool, true, false, if◌then◌else◌, Option, Some, None, List, [], ◌∷◌, length, get_or, refl, sym, ◌∙◌, ap, subst, arith}
+use Rattle.std.proofs.Common.{◌≡◌, ℕ, suc, ◌==◌, Bool, true, false, if◌then◌else◌, Option, Some, None, List, [], ◌∷◌, get_or, refl, sym, ◌∙◌, ap, subst, arith}
 use Rattle.std.proofs.lemmas.Bool.Decides.{nat_tests}
 use Rattle.of_mem.specs.Pairs.{value_at, put, put_all, IsAbsent}
 use Rattle.of_mem.specs.Pad.{Pad, newest, wrote, newer}
 use Rattle.of_mem.specs.Meaning.{Once}
-use Rattle.of_mem.specs.Programs.{Program, Done, Read, Write, Ran, Lacks, Ends, with_number, run, IsPartOf}
+use Rattle.of_mem.specs.Programs.{Program, Done, Read, Write, Ran, Lacks, Ends, with_number, run}
 use Rattle.of_mem.specs.StoreParts.{HasStore}
 use Rattle.of_mem.proofs.Indexed.{value_at-absent, value_at_put}
 use Rattle.of_mem.proofs.Writes.{once_put}

@@ -1,5 +1,5 @@
 -- Partial memory goes on standing for a store.
-use Rattle.std.proofs.Common.{◌≡◌, ℕ, refl}
+use Rattle.std.proofs.Common.{ℕ, refl}
 use Rattle.of_mem.specs.Pad.{Pad}
 use Rattle.of_mem.specs.Programs.{IsPartOf}
 use Rattle.of_mem.specs.Stores.{Store}

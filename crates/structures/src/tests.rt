@@ -63,11 +63,7 @@ fn takes_the_only_block_again(rt: HostRuntime) -> Result<(), Fail> {
 }
 
 /// What an instruction on keys or queues answers over cells: a number or none, or that there is no room.
-fn answer(
-    plot: &Plot,
-    part: &mut Part,
-    instr: Instr,
-) -> Result<Result<Option<u32>, Cause>, Need>
+fn answer(plot: &Plot, part: &mut Part, instr: Instr) -> Result<Result<Option<u32>, Cause>, Need>
     requires fits { length part.old.known ≡ size plot.now }
     requires stands { HasStore (base plot.now) plot.now.blocks part.old }
     requires empty { part.old.script ≡ [] }

@@ -1,4 +1,4 @@
-use Rattle.std.proofs.Common.{List, ℕ, ◌≡◌, sym, subst}
+use Rattle.std.proofs.Common.{sym, subst}
 use Rattle.std.specs.FinMap as fin
 use Rattle.of_mem.specs.Plots.{base}
 use Rattle.of_mem.specs.Meaning.{Once}
