@@ -4,7 +4,7 @@ ghost use Rattle.std.specs.Prelude.{◌≡◌, ◌≢◌, ◌<◌, ◌≤◌, �
 ghost use Rattle.std.proofs.Common.{get_or};
 ghost use Rattle.of_mem.specs.declared.work.TheConstants.{MOST_INSTRS};
 ghost use Rattle.of_core.specs.Table.{size, table_size, data_at, ticket_cell, shape_cell, reply_cell};
-ghost use Rattle.of_core.specs.Seen.{setup, HasTime};
+ghost use Rattle.of_core.specs.Seen.{setup, ended};
 ghost use Rattle.of_core.specs.Machine.{idle, opened, log_words};
 ghost use Rattle.of_core.specs.Steps.{want, took, word_of};
 ghost use Rattle.of_core.specs.Meets.{Meets};
@@ -175,9 +175,12 @@ impl<W: Work> Machine<W> {
 
     /// How the last call ended. None where a call is open, and where none has ended.
     pub fn answer(&self) -> Option<Outcome>
-        ensures { result ≡ self.now.call.answer }
+        ensures { result ≡ ended self.now.call }
     {
-        self.answer
+        match self.place {
+            Place::Idle => self.answer,
+            _ => None,
+        }
     }
 
     /// Whether no call is open.
@@ -324,6 +327,49 @@ impl<W: Work> Machine<W> {
                 word: shape.durable_word(shape.request(self.owner)),
                 value: pack(self.seq, 1),
             },
+        }
+    }
+
+    /// Goes on with the word that the wanted step found, for a store with any number.
+    #[tactic(auto, unfolding(crate::specs::Steps::took))]
+    pub fn take(&mut self, found: u64)
+        requires open { self.old.call.place ≢ Place.Idle }
+        requires good { Meets (setup W.meaning self.old) (W.lawful self.old.work) self.old.call found }
+        ensures { self.new ≡ record self.old { call = took (setup W.meaning self.old) self.old.call found } }
+    {
+        // the step bound keeps the count within its type
+        prove!(self.steps < u64::MAX);
+        match self.place {
+            Place::Idle => unreachable!(),
+            Place::TryCurrent => self.after_try_current(found),
+            Place::TryRequest => self.after_try_request(found),
+            Place::TryCell(addr) => self.after_try_cell(addr, found),
+            Place::StoreScript(at) => self.after_store_script(at),
+            Place::StoreAnnouncement => self.after_store_announcement(),
+            Place::LoadCurrent => self.after_load_current(found),
+            Place::LoadRequest => self.after_load_request(found),
+            Place::CopyLog(at) => self.after_copy_log(at, found),
+            Place::LookAgain => self.after_look_again(found),
+            Place::LoadOwnTicket => self.after_own_ticket(found),
+            Place::LoadShape => self.after_load_shape(found),
+            Place::LoadReply(at) => self.after_load_reply(at, found),
+            Place::LoadAnnouncement => self.after_load_announcement(found),
+            Place::LoadTicket => self.after_load_ticket(found),
+            Place::LoadScript(at) => self.after_load_script(at, found),
+            Place::LoadCell(addr) => self.after_load_cell(addr, found),
+            Place::RaiseOld => self.after_raise_old(),
+            Place::StoreLog(at) => self.after_store_log(at),
+            Place::RaiseLog(at) => self.after_raise_log(at),
+            Place::StoreRequest => self.after_store_request(),
+            Place::RaiseRequest => self.after_raise_request(),
+            Place::ExchangeCurrent => self.after_exchange(found),
+            Place::RaiseCurrent => self.after_raise_current(),
+            Place::LoadTarget(entry) => self.after_load_target(entry, found),
+            Place::ExchangeTarget(entry, old) => self.after_exchange_target(entry, old),
+            Place::ReloadTarget(entry) => self.after_reload_target(entry, found),
+            Place::RaiseTarget(entry, raised) => self.after_raise_target(entry, raised),
+            Place::CloseRequest => self.after_close_request(),
+            Place::RaiseClosed => self.after_raise_closed(),
         }
     }
 }
