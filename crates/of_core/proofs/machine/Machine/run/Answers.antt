@@ -79,7 +79,7 @@ returns-in-Ok-push g c =
     let s = rw (← c.self.view_is) at c.requires.scan in
     let walked : M.walk (merged known log) script ≡ Gives es r = rw (all, c.as_slice.ensures.value) at c.in-Ok.ensures.walk in
     let number : c.seq_of-ticket.result ≡ ticket = c.seq_of-ticket.ensures in
-    let words : c.len-words.result ≡ length script = c.len-words.ensures in
+    let words : c.len-words.result ≡ length script = c.len-words.ensures ∙ c.self.inside.script.ok.0 in
     let small : ticket < 4294967296 = rw (← number) (omega arith) in
     let own : c.put_own.new.part.script ≡ es ++ own_cells S scan ticket (length script) r =
     c.put_own.ensures.script ∙ ap (λ (t : ℕ). put_all es (own_cells_at (scan * 10) t c.len-words.result r)) number ∙ ap (λ (n : ℕ). put_all es (own_cells_at (scan * 10) ticket n r)) words
