@@ -83,6 +83,10 @@ module _ {X : Type 0} (work : X) (callers cells limit : ℕ) where
       let e : t ≡ at d = q ∙ ap (λ (x : Seen X). record x { call = d }) p in
       e ∙ ap at (sym (ap (λ (x : Seen X). x.call) e))
 
+  -- one that was made for it
+  pub alike_new : (s : Seen X) → s.work ≡ work → s.callers ≡ callers → s.cells ≡ cells → s.limit ≡ limit → s ≡ at s.call
+  alike_new s p q r t = rw (← p, ← q, ← r, ← t) refl
+
   module _ (ms : List (Seen X)) where
     pub alike_set : (i : ℕ) (s : Seen X) → Alike work callers cells limit ms → s ≡ at s.call → Alike work callers cells limit (set ms i s)
     alike_set i s a p k d l = go (cases_eq k i)
@@ -111,12 +115,20 @@ module _ {X : Type 0} (work : X) (callers cells limit : ℕ) where
     pub held_put : (i : ℕ) (t : Seen X) (d : Data) → t.call ≡ d → held (set ms i t) ≡ set (held ms) i d
     held_put i t d e = map-set (λ (m : Seen X). m.call) ms i t ∙ ap (set (held ms) i) e
 
+    -- what is read after a write
+    pub held_now : (i : ℕ) (t : Seen X) → i < length ms → get_or (held (set ms i t)) i no_machine ≡ t.call
+    held_now i t l = get_or-map (λ (m : Seen X). m.call) (set ms i t) i t no_machine (omega (arith, length-set ms i t)) ∙ ap (λ (x : Seen X). x.call) (get_or-set_same ms i t t l)
+
     pub held_push : (S : Setup) (s : Seen X) (n : ℕ) → held ms ≡ idles S 0 n → s.call ≡ idle S n 0 → held (ms ++ s ∷ []) ≡ idles S 0 (n + 1)
-    held_push S s n p q = map-append (λ (m : Seen X). m.call) ms (s ∷ []) ∙ rw (p, q) (idles_push 0 n n refl)
+    held_push S s n p q = map-append (λ (m : Seen X). m.call) ms (s ∷ []) ∙ rw (p, q) (idles_push 0 n n (omega arith) ∙ ap (idles S 0) (let z : suc n ≡ n + 1 = omega arith in z))
       where
-        idles_push : (i n k : ℕ) → i + n ≡ k → idles S i n ++ idle S k 0 ∷ [] ≡ idles S i (n + 1)
+        idles_push : (i n k : ℕ) → i + n ≡ k → idles S i n ++ idle S k 0 ∷ [] ≡ idles S i (suc n)
         idles_push i zero k e = let z : k ≡ i = omega arith in rw z refl
         idles_push i (suc n) k e = ap (λ (xs : List Data). idle S i 0 ∷ xs) (idles_push (suc i) n k (omega arith))
+
+-- where a count has come to its end
+pub at_end : (i n : ℕ) → i ≤ n → n ≤ i → i ≡ n
+at_end i n l u = omega arith
 
 -- two reads of one machine
 pub same_read : {X : Type 0} (xs : List X) (i : ℕ) (s t : X) → i < length xs → s ≡ get_or xs i s → t ≡ get_or xs i t → t ≡ s
@@ -124,7 +136,7 @@ same_read xs i s t l p q = q ∙ get_or_default xs i t s l ∙ sym p
 
 -- a turn of an idle machine leaves words and machines as they are
 pub rests : (S : Setup) (ws : List ℕ) (ms : List Data) (i : ℕ) (m : Data) → get_or ms i no_machine ≡ m → m.place ≡ Idle → (words_after (want S m) ws ≡ ws) × (set ms i (took S m (finds S ws m)) ≡ ms)
-unfolding want, took
+unfolding want took
 rests S ws ms i m e p = go m.place p (get_or ws (word_of (want_at S m m.place)) 0)
   where
     go : (p : Place) → p ≡ Idle → (n : ℕ) → (words_after (want_at S m p) ws ≡ ws) × (set ms i (took_at S m n p) ≡ ms)
@@ -138,3 +150,19 @@ turn_is p m o r h e q = e ∙ ap told q
 -- what events leave, of a bench under another name
 pub carry : {X : Type 0} (M : X → Meaning) (b x y : Bench X) (es : List Event) → x ≡ y → b ≡ after M es x → b ≡ after M es y
 carry M b x y es e p = p ∙ ap (after M es) e
+
+-- what events leave of a bank
+module _ {X : Type 0} (M : X → Meaning) (b : Bench X) where
+  module _ (i : ℕ) (m : Data) (e : get_or b.machines i no_machine ≡ m) where
+    pub begun_after : (op : List ℕ) (ms : List Data) → ms ≡ set b.machines i (opened (table M b) m op) → record b { machines = ms } ≡ after M (Begins i op ∷ []) b
+    begun_after op ms q = rw (q, ← e) refl
+
+    pub rests_after : m.place ≡ Idle → b ≡ after M (Turns i ∷ []) b
+    rests_after p = let r = rests (table M b) b.words b.machines i (get_or b.machines i no_machine) refl (ap (λ (m : Data). m.place) e ∙ p) in rw (r.0, r.1) refl
+
+    pub turned_after : (ws : List ℕ) (ms : List Data) → ws ≡ words_after (want (table M b) m) b.words → ms ≡ set b.machines i (took (table M b) m (finds (table M b) b.words m))
+        → record b { words = ws; machines = ms } ≡ after M (Turns i ∷ []) b
+    turned_after ws ms p q = rw (p, q, ← e) refl
+
+  pub raised_after : (c : ℕ) (ws : List ℕ) → ws ≡ set b.words (durable_at (table M b) c) (max (get_or b.words (durable_at (table M b) c) 0) (get_or b.words c 0)) → record b { words = ws } ≡ after M (Raises c ∷ []) b
+  raised_after c ws p = rw p refl

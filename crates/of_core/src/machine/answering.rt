@@ -65,11 +65,7 @@ impl<W: Work> Machine<W> {
             self.steps += 1;
         } else {
             self.raw.values[at as usize] = payload_of(found);
-            self.ask_or_tell(first_mark(
-                self.raw.shape,
-                at + 1,
-                MOST_INSTRS as u32 - at - 1,
-            ));
+            self.ask_or_tell(first_mark(self.raw.shape, at + 1, MOST_INSTRS as u32 - at - 1));
         }
     }
 

@@ -26,7 +26,11 @@ impl<W: Work> Machine<W> {
     {
         self.seq = seq_of(found);
         self.owner = payload_of(found);
-        self.first = if self.rounds == 0 { self.seq } else { self.first };
+        self.first = if self.rounds == 0 {
+            self.seq
+        } else {
+            self.first
+        };
         self.rounds += 1;
         self.place = Place::LoadRequest;
         self.steps += 1;
