@@ -1,2 +1,5 @@
 pub mod Masks
 pub mod Unpacked
+pub mod Registers
+pub mod Instructions
+pub mod Scripted
