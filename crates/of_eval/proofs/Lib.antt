@@ -1,5 +1,3 @@
 pub mod Masks
 pub mod Unpacked
-pub mod Registers
-pub mod Instructions
-pub mod Scripted
+pub mod Meanings

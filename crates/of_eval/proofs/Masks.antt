@@ -8,13 +8,10 @@ use Rattle.std.proofs.lemmas.List.{append_assoc, append-nil, take_more_set, take
 use Rattle.std.specs.Bool.{then_some}
 use Rattle.of_eval.specs.Shapes.{mark, mask_of}
 use Rattle.of_eval.specs.Reading.{marked_in}
+use Rattle.of_eval.specs.ShapeLaws.{mark_small, mask_below}
 
 half_below : (m n : ℕ) → m < 2 ^ suc n → m / 2 < 2 ^ n
 half_below m n l = grind arith
-
-mark_small : (v : Option ℕ) → mark v ≤ 1
-mark_small None = omega arith
-mark_small (Some v) = omega arith
 
 mask_push : (vs : List (Option ℕ)) (v : Option ℕ) → mask_of (vs ++ v ∷ []) ≡ mask_of vs + mark v * 2 ^ length vs
 mask_push [] v = omega arith
@@ -23,27 +20,6 @@ mask_push (x ∷ vs) v = let again : mask_of (vs ++ v ∷ []) ≡ mask_of vs + m
 -- the marks of one value more
 pub mask_more : (vs : List (Option ℕ)) (i : ℕ) → i < length vs → mask_of (take (i + 1) vs) ≡ mask_of (take i vs) + mark (get_or vs i None) * 2 ^ i
 mask_more vs i l = ap mask_of (take_more vs i None l) ∙ mask_push (take i vs) (get_or vs i None) ∙ ap (λ (n : ℕ). mask_of (take i vs) + mark (get_or vs i None) * 2 ^ n) (length-take-le i vs (omega arith))
-
--- a mask is below the bit of the first place from which on there is no number
-pub mask_below : (vs : List (Option ℕ)) (n : ℕ) → ((i : ℕ) → n ≤ i → get_or vs i None ≡ None) → mask_of vs < 2 ^ n
-mask_below [] zero h = omega arith
-mask_below [] (suc n) h = let again : 0 < 2 ^ n = mask_below [] n (λ i l. refl) in grind arith
-mask_below (v ∷ vs) zero h =
-    let here : v ≡ None = h 0 (omega arith) in
-    let again : mask_of vs < 1 = mask_below vs 0 (λ i l. h (suc i) (omega arith)) in
-    rw here (omega (arith, again))
-mask_below (v ∷ vs) (suc n) h =
-    let again : mask_of vs < 2 ^ n = mask_below vs n (λ i l. h (suc i) (omega arith)) in
-    let small : mark v ≤ 1 = mark_small v in
-    grind arith
-
-pub mask_width : (vs : List (Option ℕ)) → mask_of vs < 2 ^ length vs
-mask_width vs = mask_below vs (length vs) (λ i l. past vs i l)
-  where
-    past : (vs : List (Option ℕ)) (i : ℕ) → length vs ≤ i → get_or vs i None ≡ None
-    past [] i l = refl
-    past (v ∷ vs) zero l = absurd (omega arith)
-    past (v ∷ vs) (suc i) l = past vs i (omega arith)
 
 half_marked : (mask c : ℕ) (cs : List ℕ) → mask_of (marked_in (mask / 2) cs) ≡ mask / 2 → (t : Bool) → (mask % 2 == 1) ≡ t → mark (then_some t c) + 2 * mask_of (marked_in (mask / 2) cs) ≡ mask
 half_marked mask c cs again true e = let odd : mask % 2 ≡ 1 = grind (arith, nat_tests) in omega (arith, odd, again)

@@ -11,7 +11,8 @@ use Rattle.of_script.specs.declared.instr.Cause.TheVariants.{Overflow, Short, No
 use Rattle.of_mem.specs.declared.work.RawReply.{RawReply}
 use Rattle.of_eval.specs.Shapes.{IsHeldBy, mask_of, code_of, abort_part}
 use Rattle.of_eval.specs.Reading.{marked_in}
-use Rattle.of_eval.proofs.Masks.{mask_width, mask_below, mask_marked, marked_again, marked_are, marked_past, marked_length, below_all}
+use Rattle.of_eval.specs.ShapeLaws.{mask_width, mask_below, code_some}
+use Rattle.of_eval.proofs.Masks.{mask_marked, marked_again, marked_are, marked_past, marked_length, below_all}
 
 -- four numbers that were put together
 pub record Parts (s m n p c : ℕ) : Type 0 where
@@ -30,13 +31,6 @@ place_in (Some a) = a.place
 abbrev pub code_in : Option Abort → ℕ
 code_in None = 0
 code_in (Some a) = code_of a.cause
-
-pub code_some : (c : Cause) → (1 ≤ code_of c) × (code_of c ≤ 5)
-code_some Overflow = (omega arith, omega arith)
-code_some Short = (omega arith, omega arith)
-code_some NoRoom = (omega arith, omega arith)
-code_some Differs = (omega arith, omega arith)
-code_some BadOp = (omega arith, omega arith)
 
 pub code_injective : (c d : Cause) → code_of c ≡ code_of d → c ≡ d
 code_injective Overflow Overflow e = refl

@@ -21,11 +21,11 @@ abbrev pub cells_in : Scripts → ℕ
 cells_in w = cells_at (store_at w) w.blocks
 
 -- a memory stands for some store
-abbrev pub HasState : ℕ → ℕ → (ℕ → ℕ) → Type 0
-HasState o blocks m = (s : State) × IsStored o blocks m s
+abbrev pub StandsForSome : ℕ → ℕ → (ℕ → ℕ) → Type 0
+StandsForSome o blocks m = (s : State) × IsStored o blocks m s
 
 abbrev pub LawfulCells : Scripts → List ℕ → Type 0
-LawfulCells w xs = HasState (store_at w) w.blocks (memory xs)
+LawfulCells w xs = StandsForSome (store_at w) w.blocks (memory xs)
 
 -- the reply is no abort: an abort's cause stands in the highest bits
 abbrev pub is_success : RawReply → Bool

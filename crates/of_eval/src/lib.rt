@@ -1,6 +1,7 @@
 //! Scripts over cells.
 #![tactic(auto)]
 
+pub mod laws;
 mod reply;
 mod scripts;
 #[cfg(test)]

@@ -27,7 +27,7 @@ use Rattle.of_store.specs.State.{State, IsState, Effect, effect, popped, queue, 
 use Rattle.of_store.proofs.Keeps.{effect_leaves, Leaves}
 use Rattle.of_eval.specs.Stored.{plain, IsStored}
 use Rattle.of_eval.specs.ScriptPrograms.{Answer, answers, put_answers, answers_if, need_answers, add_to, add_unless, sub_from, sub_unless, instr_program}
-use Rattle.of_eval.proofs.Registers.{register_stands}
+use Rattle.of_eval.specs.Registers.{register_stands}
 
 -- the answer and the cells are those of this effect; an abort's cells are not asked
 abbrev pub Gives : ℕ → ℕ → Effect → Answer → (ℕ → ℕ) → Type 0

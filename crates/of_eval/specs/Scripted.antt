@@ -17,7 +17,7 @@ use Rattle.of_eval.specs.Shapes.{cells_of}
 use Rattle.of_eval.specs.Stored.{plain, IsStored}
 use Rattle.of_eval.specs.Words.{effect_of, word_effect, words_outcome, reply_to}
 use Rattle.of_eval.specs.ScriptPrograms.{Answer, word_program, program_of, go_on, words_program, script_program}
-use Rattle.of_eval.proofs.Instructions.{Gives, Acts, instr_acts}
+use Rattle.of_eval.specs.Instructions.{Gives, Acts, instr_acts}
 
 -- the response to a script of which these values were answered before
 abbrev pub behind : List (Option ℕ) → Outcome → Response
@@ -83,7 +83,7 @@ module _ (o blocks : ℕ) (few : blocks ≤ 512) where
       let l = instr_leaves s w (instr_at w) refl h.state in
       runs_then o blocks n (word_program o blocks w) (go_on n done (λ v. words_program o blocks n (done ++ v ∷ []) ws)) m done (then_on (word_effect s w) (λ t. words_outcome t ws)) a.0
       (first_word o blocks n (λ v. words_program o blocks n (done ++ v ∷ []) ws) (λ t. words_outcome t ws) done (after (word_program o blocks w) m) (answer (word_program o blocks w) m) (word_effect s w) a.1 l
-        (λ t v k. words_run n ws (done ++ v ∷ []) (after (word_program o blocks w) m) t k))
+      (λ t v k. words_run n ws (done ++ v ∷ []) (after (word_program o blocks w) m) t k))
 
 -- what words answer: a number of a store for each, or an abort at one of them
 abbrev pub Answers : List ℕ → Outcome → Type 0
