@@ -1,3 +1,4 @@
 pub mod Masks
 pub mod Unpacked
 pub mod Meanings
+pub mod Walks

@@ -59,7 +59,7 @@ code_injective BadOp Short e = absurd (omega arith)
 code_injective BadOp NoRoom e = absurd (omega arith)
 code_injective BadOp Differs e = absurd (omega arith)
 
-nones : (vs : List (Option ℕ)) → ((i : ℕ) → get_or vs i None ≡ None) → vs ≡ replicate (length vs) None
+pub nones : (vs : List (Option ℕ)) → ((i : ℕ) → get_or vs i None ≡ None) → vs ≡ replicate (length vs) None
 nones [] h = refl
 nones (v ∷ vs) h = let first : v ≡ None = h 0 in let rest : vs ≡ replicate (length vs) None = nones vs (λ i. h (suc i)) in cc
 

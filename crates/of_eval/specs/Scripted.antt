@@ -67,12 +67,12 @@ first_word o blocks n further others done m r (Err cause) k l again =
     subst (λ (y : Answer). Runs o blocks n (go_on n done further y) m done (Err (0, cause))) (sym k)
     (record { inside = tt; reply = ap (λ (p : ℕ). cells_of (reply_to n (Aborted p cause))) (omega arith); leads = tt })
 
-instr_leaves : (s : State) (w : ℕ) (i : Option Instr) → instr_at w ≡ i → IsState s → Leaves (effect_of s i)
+pub instr_leaves : (s : State) (w : ℕ) (i : Option Instr) → instr_at w ≡ i → IsState s → Leaves (effect_of s i)
 instr_leaves s w None e h = tt
 instr_leaves s w (Some i) e h = effect_leaves s i h (instr_at_takes w i e).range
 
 module _ (o blocks : ℕ) (few : blocks ≤ 512) where
-  word_acts : (m : ℕ → ℕ) (s : State) → IsStored o blocks m s → (w : ℕ) (i : Option Instr) → instr_at w ≡ i → Acts o blocks m (program_of o blocks i) (effect_of s i)
+  pub word_acts : (m : ℕ → ℕ) (s : State) → IsStored o blocks m s → (w : ℕ) (i : Option Instr) → instr_at w ≡ i → Acts o blocks m (program_of o blocks i) (effect_of s i)
   word_acts m s h w None e = (tt, refl)
   word_acts m s h w (Some i) e = instr_acts o blocks few m s h i (instr_at_takes w i e).range
 
@@ -98,7 +98,7 @@ first_answers : (w : ℕ) (ws : List ℕ) (e : Effect) (others : State → Outco
 first_answers w ws (Ok x) others l k again = answers_more w ws x.1 (others x.0) k (again x.0 l)
 first_answers w ws (Err cause) others l k again = omega arith
 
-instr_small : (s : State) (w : ℕ) (i : Option Instr) → instr_at w ≡ i → IsState s → IsSmall (value_of (effect_of s i))
+pub instr_small : (s : State) (w : ℕ) (i : Option Instr) → instr_at w ≡ i → IsState s → IsSmall (value_of (effect_of s i))
 instr_small s w None e h = tt
 instr_small s w (Some i) e h = effect_small s i h (instr_at_takes w i e).range
 
