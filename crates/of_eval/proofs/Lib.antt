@@ -2,3 +2,5 @@ pub mod Masks
 pub mod Unpacked
 pub mod Meanings
 pub mod Walks
+pub mod Overlay
+pub mod ReadsOnly

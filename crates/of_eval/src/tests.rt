@@ -1,8 +1,10 @@
-//! Replies and the cells that hold them.
+//! Replies and the cells that hold them, and runs of scripts.
 
 use crate::reply::{reply_cells, reply_of};
-use of_mem::RawReply;
+use crate::scripts::Scripts;
+use of_mem::{Need, Part, RawReply, Work};
 use of_script::{Abort, Cause, MOST_INSTRS, Reply};
+use std::test::Fail;
 
 #[test]
 fn shapes_are_as_laid_out(rt: HostRuntime) {
@@ -46,4 +48,55 @@ fn other_cells_hold_no_reply(rt: HostRuntime) {
     ] {
         assert_eq!(rt; reply_of(&RawReply { shape, values }), None);
     }
+}
+
+#[test]
+fn a_run_asks_for_what_it_reads(rt: HostRuntime) -> Result<(), Fail> {
+    let scripts = Scripts {
+        callers: 1,
+        blocks: 1,
+    };
+    let mut part = Part::new(rt.alloc(), scripts.cells())?;
+    let mut out = RawReply {
+        shape: 0,
+        values: [0; MOST_INSTRS],
+    };
+    // put 5 7
+    let put = [4_611_686_029_164_806_151];
+    assert_eq!(rt;
+        scripts.run(&mut part, &put, &mut out),
+        Err(Need { addr: 34 })
+    );
+    assert_eq!(rt; part.pending_len(), 0);
+    Ok(())
+}
+
+#[test]
+fn runs_leave_writes_or_none(rt: HostRuntime) -> Result<(), Fail> {
+    let scripts = Scripts {
+        callers: 1,
+        blocks: 1,
+    };
+    let mut part = Part::new(rt.alloc(), scripts.cells())?;
+    for addr in 0..scripts.cells() {
+        part.learn(addr, 0);
+    }
+    let mut out = RawReply {
+        shape: 0,
+        values: [0; MOST_INSTRS],
+    };
+    // store 3 7 leaves one write, and store 3 7 before a word that is no instruction none
+    assert_eq!(rt; scripts.run(&mut part, &[75_161_927_687], &mut out), Ok(()));
+    assert_eq!(rt; out.shape, 65_536);
+    assert_eq!(rt; part.pending(0), (13, 7));
+    part.undo();
+    assert_eq!(rt;
+        scripts.run(&mut part, &[75_161_927_687, 0], &mut out),
+        Ok(())
+    );
+    assert_eq!(rt; out.shape, (2 << 16) + (1 << 21) + (5 << 26));
+    assert_eq!(rt; part.pending_len(), 0);
+    assert!(rt; scripts.reads_only(&[343_597_383_680]));
+    assert!(rt; !scripts.reads_only(&[75_161_927_687]));
+    Ok(())
 }
