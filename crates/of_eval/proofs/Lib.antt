@@ -4,3 +4,4 @@ pub mod Meanings
 pub mod Walks
 pub mod Overlay
 pub mod ReadsOnly
+pub mod Starts

@@ -70,33 +70,3 @@ fn a_run_asks_for_what_it_reads(rt: HostRuntime) -> Result<(), Fail> {
     assert_eq!(rt; part.pending_len(), 0);
     Ok(())
 }
-
-#[test]
-fn runs_leave_writes_or_none(rt: HostRuntime) -> Result<(), Fail> {
-    let scripts = Scripts {
-        callers: 1,
-        blocks: 1,
-    };
-    let mut part = Part::new(rt.alloc(), scripts.cells())?;
-    for addr in 0..scripts.cells() {
-        part.learn(addr, 0);
-    }
-    let mut out = RawReply {
-        shape: 0,
-        values: [0; MOST_INSTRS],
-    };
-    // store 3 7 leaves one write, and store 3 7 before a word that is no instruction none
-    assert_eq!(rt; scripts.run(&mut part, &[75_161_927_687], &mut out), Ok(()));
-    assert_eq!(rt; out.shape, 65_536);
-    assert_eq!(rt; part.pending(0), (13, 7));
-    part.undo();
-    assert_eq!(rt;
-        scripts.run(&mut part, &[75_161_927_687, 0], &mut out),
-        Ok(())
-    );
-    assert_eq!(rt; out.shape, (2 << 16) + (1 << 21) + (5 << 26));
-    assert_eq!(rt; part.pending_len(), 0);
-    assert!(rt; scripts.reads_only(&[343_597_383_680]));
-    assert!(rt; !scripts.reads_only(&[75_161_927_687]));
-    Ok(())
-}
