@@ -1,24 +1,21 @@
 -- What the invariant says of the word that a wanted step finds, as far as the code needs it.
-use Rattle.std.proofs.Common.{◌≡◌, ℕ, zero, suc, ◌+◌, ◌*◌, ◌<◌, ◌≤◌, ◌==◌, ◌⊎◌, inl, inr, List, [], ◌∷◌, length, Option, Some, None, Bool, true, false, get_or, refl, sym, ◌∙◌, ap, subst, arith, map, if◌then◌else◌}
+use Rattle.std.proofs.Common.{◌≡◌, ℕ, suc, ◌+◌, ◌<◌, ◌≤◌, ◌==◌, inl, inr, List, [], ◌∷◌, length, None, Bool, true, false, get_or, refl, sym, ◌∙◌, subst, arith}
 use Rattle.std.proofs.lemmas.List.{length-map, take_all}
-use Rattle.std.proofs.lemmas.Bool.{cases_eq}
 use Rattle.std.proofs.lemmas.Bool.Decides.{nat_tests}
-use Rattle.std.specs.List.{All}
 use Rattle.of_cell.specs.Words.{word, seq, pay}
 use Rattle.of_mem.specs.Meaning.{Meaning, Sound, Agrees, written}
 use Rattle.of_mem.specs.Pairs.{value_at}
 use Rattle.of_core.specs.declared.place.Place.{Place}
-use Rattle.of_core.specs.declared.place.Place.TheVariants.{Idle, TryCurrent, TryRequest, TryCell, LoadCurrent, CopyLog, LookAgain, LoadAnnouncement, LoadTicket, LoadScript, LoadCell, RaiseClosed}
-use Rattle.of_core.specs.Table.{Setup, setup_of, base, ticket_cell, cell, log_word, announcement_of}
-use Rattle.of_core.specs.Machine.{Data, Call, no_call, log_words, learned, merged}
+use Rattle.of_core.specs.declared.place.Place.TheVariants.{TryCurrent, TryRequest, TryCell, LoadCurrent, CopyLog, LookAgain, LoadAnnouncement, LoadTicket, LoadScript, LoadCell, RaiseClosed}
+use Rattle.of_core.specs.Table.{Setup, setup_of, base, ticket_cell, cell}
+use Rattle.of_core.specs.Machine.{Data, no_call, log_words, learned, merged}
 use Rattle.of_core.specs.Steps.{want, want_at, copy_more, FoundBy}
-use Rattle.of_core.specs.World.{World, Start}
-use Rattle.of_core.specs.History.{state, batch, numbers, InRow, ticket_among}
+use Rattle.of_core.specs.History.{state, batch, numbers}
 use Rattle.of_core.specs.Shared.{IsLog}
 use Rattle.of_core.specs.Rounds.{Helper, Past}
-use Rattle.of_core.specs.Scan.{Scans, Over}
+use Rattle.of_core.specs.Scan.{Scans}
 use Rattle.of_core.specs.Transaction.{Mode}
-use Rattle.of_core.specs.Invariant.{Good, At}
+use Rattle.of_core.specs.Invariant.{At}
 use Rattle.of_core.specs.Meets.{Meets}
 use Rattle.of_core.proofs.Logs.{room_for}
 use Rattle.of_core.proofs.States.{state_length}

@@ -1,5 +1,5 @@
 -- A bank's words and machines stay those of a moment.
-use Rattle.std.proofs.Common.{◌≡◌, ℕ, zero, suc, ◌+◌, ◌*◌, ◌<◌, ◌≤◌, List, [], ◌∷◌, ◌++◌, length, get_or, set, replicate, map, Option, max, refl, sym, ◌∙◌, ap, subst, arith, length-append, length-set, ◌⊎◌, inl, inr}
+use Rattle.std.proofs.Common.{◌≡◌, ℕ, zero, suc, ◌+◌, ◌<◌, ◌≤◌, List, [], ◌∷◌, ◌++◌, length, get_or, set, replicate, Option, max, refl, sym, ◌∙◌, ap, arith, length-append, length-set, ◌⊎◌, inl, inr}
 use Rattle.std.proofs.lemmas.List.{get_or_default, get_or_push, get_or_append_left, get_or-map, length-map, map-set, map-append, get_or-set_same, get_or-set_other, set-get_or}
 use Rattle.std.proofs.lemmas.Bool.{cases_eq}
 use Rattle.of_mem.specs.Meaning.{Meaning, Sound}
@@ -7,16 +7,16 @@ use Rattle.of_core.specs.declared.place.Place.{Place}
 use Rattle.of_core.specs.declared.place.Place.TheVariants.{Idle}
 use Rattle.of_core.specs.declared.place.Outcome.{Outcome}
 use Rattle.of_core.specs.declared.bank.Turn.{Turn}
-use Rattle.of_core.specs.Table.{Setup, setup_of, base, size, durable_at}
+use Rattle.of_core.specs.Table.{Setup, base, size, durable_at}
 use Rattle.of_core.specs.Machine.{Data, no_machine, idle, opened}
-use Rattle.of_core.specs.Steps.{want, want_at, took, took_at, word_of, words_after, left, finds}
+use Rattle.of_core.specs.Steps.{want, want_at, took, took_at, word_of, words_after, finds}
 use Rattle.of_core.specs.World.{World}
 use Rattle.of_core.specs.Invariant.{Good}
 use Rattle.of_core.specs.Events.{Event, Begins, Turns, Raises, machine, happens, MayHappen, run, IsSchedule, opening, zeros, idles}
 use Rattle.of_core.specs.Seen.{Seen, ended}
 use Rattle.of_core.specs.Meets.{Meets}
 use Rattle.of_core.specs.Turn.{told, turn_from}
-use Rattle.of_core.specs.Moment.{Bench, Reached, Alike, held, after, world_of, table, table_words, machine_of}
+use Rattle.of_core.specs.Moment.{Bench, Reached, Alike, held, after, table, table_words}
 use Rattle.of_core.proofs.Moments.{run_good}
 use Rattle.of_core.proofs.Openings.{start_good}
 use Rattle.of_core.proofs.Found.{found_now}

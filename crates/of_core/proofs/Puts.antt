@@ -6,12 +6,12 @@ use Rattle.std.proofs.lemmas.Bool.Decides.{nat_tests}
 use Rattle.of_wset.specs.Pairs as wset
 use Rattle.of_mem.specs.Pairs as mem
 use Rattle.of_mem.specs.Pad.{Pad, over, newest, wrote}
-use Rattle.of_mem.specs.Meaning.{Meaning, Sound, Agrees, Once, Fits, Finishes, Walked, Needs, Gives, marked}
+use Rattle.of_mem.specs.Meaning.{Meaning, Sound, Agrees, Once, Fits, Walked, Needs, Gives, marked}
 use Rattle.of_core.specs.Table.{Setup, base}
 use Rattle.of_mem.specs.declared.work.TheConstants.{MOST_INSTRS}
 use Rattle.of_mem.specs.declared.work.RawReply.{RawReply}
 use Rattle.of_core.specs.declared.place.Place.{Place}
-use Rattle.of_core.specs.Machine.{Data, put, put_by, put_all, merged, flat, log_words, pairs, log_of, own_cells, listed, turned}
+use Rattle.of_core.specs.Machine.{Data, put, put_all, merged, flat, log_words, pairs, log_of, own_cells, listed, turned}
 use Rattle.of_core.specs.Steps.{read_ran, next_call, own_raw, first_mark}
 use Rattle.of_core.specs.Fill.{place_behind, newer_raw}
 use Rattle.of_core.proofs.Logs.{whole_log, once_append}

@@ -1,5 +1,5 @@
 -- What contracts see of a machine's fields, and what it keeps of them.
-use Rattle.std.specs.Prelude.{◌≡◌, ℕ, List, map}
+use Rattle.std.specs.Prelude.{◌≡◌, ℕ, map}
 use Rattle.std.proofs.Common.{take}
 use Rattle.std.specs.Vec.{vec_capacity}
 use Rattle.of_mem.specs.Meaning.{Meaning}

@@ -1,5 +1,5 @@
 -- What a turn answers.
-use Rattle.std.specs.Prelude.{◌≡◌, ℕ, Option, Some, None}
+use Rattle.std.specs.Prelude.{◌≡◌, Option, Some, None}
 use Rattle.of_core.specs.declared.bank.Turn.{Turn}
 use Rattle.of_core.specs.declared.bank.Turn.TheVariants.{Idle as NoCall, Open, Ended}
 use Rattle.of_core.specs.declared.place.Outcome.{Outcome}

@@ -1,9 +1,9 @@
-use Rattle.std.proofs.Common.{◌≡◌, ℕ, ◌+◌, ◌*◌, ◌<◌, ◌≤◌, List, [], ◌∷◌, ◌++◌, length, get_or, set, replicate, max, arith, ap, ◌∙◌, sym, refl, length-set, length-append}
-use Rattle.of_core.specs.Table.{Setup, setup_of, base, size, table_size, durable_at}
+use Rattle.std.proofs.Common.{◌≡◌, ℕ, ◌+◌, ◌<◌, [], ◌∷◌, length, set, arith, ap, ◌∙◌, length-set}
+use Rattle.of_core.specs.Table.{Setup, setup_of}
 use Rattle.of_core.specs.Seen.{Seen, setup}
 use Rattle.of_core.specs.Machine.{Data, opened}
 use Rattle.of_core.specs.Moment.{Bench, held}
-use Rattle.of_core.specs.Events.{Begins, Turns, Raises}
+use Rattle.of_core.specs.Events.{Begins}
 use Rattle.of_core.specs.declared.place.Place.TheVariants.{Idle}
 use Rattle.of_core.proofs.Benches.{begins, seen_at, alike_set, alike_call, held_put, begun_after, carry}
 use Rattle.of_core.proofs.bank.Bank.begin.Goals as goal

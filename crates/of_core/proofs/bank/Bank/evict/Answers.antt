@@ -1,10 +1,7 @@
-use Rattle.std.proofs.Common.{◌≡◌, ℕ, ◌+◌, ◌*◌, ◌<◌, ◌≤◌, List, [], ◌∷◌, ◌++◌, length, get_or, set, replicate, max, arith, ap, ◌∙◌, sym, refl, length-set, length-append}
-use Rattle.of_core.specs.Table.{Setup, setup_of, base, size, table_size, durable_at}
-use Rattle.of_core.specs.Seen.{Seen, setup}
-use Rattle.of_core.specs.Machine.{Data, opened}
+use Rattle.std.proofs.Common.{◌≡◌, ℕ, ◌<◌, List, [], ◌∷◌, get_or, set, max, arith, ◌∙◌, refl, length-set}
+use Rattle.of_core.specs.Table.{Setup, setup_of, size, durable_at}
 use Rattle.of_core.specs.Moment.{Bench, held}
-use Rattle.of_core.specs.Events.{Begins, Turns, Raises}
-use Rattle.of_core.specs.declared.place.Place.TheVariants.{Idle}
+use Rattle.of_core.specs.Events.{Raises}
 use Rattle.std.proofs.lemmas.List.{get_or_read}
 use Rattle.of_core.proofs.Benches.{raises, raised_after, carry}
 use Rattle.of_core.proofs.bank.Bank.evict.Goals as goal

@@ -1,10 +1,8 @@
-use Rattle.std.proofs.Common.{◌≡◌, ℕ, ◌+◌, ◌*◌, ◌<◌, ◌≤◌, List, [], ◌∷◌, ◌++◌, length, get_or, set, replicate, max, arith, ap, ◌∙◌, sym, refl, length-set, length-append}
-use Rattle.of_core.specs.Table.{Setup, setup_of, base, size, table_size, durable_at}
-use Rattle.of_core.specs.Seen.{Seen, setup}
-use Rattle.of_core.specs.Machine.{Data, idle}
-use Rattle.of_core.specs.Moment.{Bench, held}
-use Rattle.of_core.specs.Events.{Begins, Turns, Raises}
-use Rattle.of_core.specs.declared.place.Place.TheVariants.{Idle}
+use Rattle.std.proofs.Common.{◌≡◌, ℕ, length, replicate, arith, ap, ◌∙◌, sym, length-append}
+use Rattle.of_core.specs.Table.{Setup, setup_of}
+use Rattle.of_core.specs.Seen.{setup}
+use Rattle.of_core.specs.Machine.{idle}
+use Rattle.of_core.specs.Moment.{held}
 use Rattle.std.proofs.lemmas.List.{length-replicate}
 use Rattle.of_cell.specs.Cells.{table_words as cell_words}
 use Rattle.of_core.specs.Moment.{table_words}

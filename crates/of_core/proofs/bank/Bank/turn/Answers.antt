@@ -1,9 +1,9 @@
-use Rattle.std.proofs.Common.{◌≡◌, ℕ, ◌+◌, ◌*◌, ◌<◌, ◌≤◌, List, [], ◌∷◌, ◌++◌, length, get_or, set, replicate, max, arith, ap, subst, ◌∙◌, sym, refl, length-set, length-append}
-use Rattle.of_core.specs.Table.{Setup, setup_of, base, size, table_size, durable_at}
+use Rattle.std.proofs.Common.{◌≡◌, ℕ, ◌<◌, ◌≤◌, List, [], ◌∷◌, length, set, arith, ap, subst, ◌∙◌, sym, refl, length-set}
+use Rattle.of_core.specs.Table.{Setup, setup_of, base, table_size}
 use Rattle.of_core.specs.Seen.{Seen, setup}
-use Rattle.of_core.specs.Machine.{Data, opened}
+use Rattle.of_core.specs.Machine.{Data}
 use Rattle.of_core.specs.Moment.{Bench, held}
-use Rattle.of_core.specs.Events.{Begins, Turns, Raises}
+use Rattle.of_core.specs.Events.{Turns}
 use Rattle.of_core.specs.declared.place.Place.TheVariants.{Idle}
 use Rattle.std.specs.Vec.{with_items}
 use Rattle.std.proofs.lemmas.List.{with_items_is}

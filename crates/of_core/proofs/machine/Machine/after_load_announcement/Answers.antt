@@ -1,4 +1,4 @@
-use Rattle.std.proofs.Common.{◌≡◌, ℕ, ◌*◌, Option, Some, None, get_or, ◌∙◌, sym, refl}
+use Rattle.std.proofs.Common.{◌≡◌, ◌*◌, Some, None, get_or, ◌∙◌, sym, refl}
 use Rattle.of_mem.specs.Pairs.{value_at}
 use Rattle.of_core.specs.declared.place.Place.TheVariants.{LoadAnnouncement}
 use Rattle.of_core.proofs.Puts.{newest_known}

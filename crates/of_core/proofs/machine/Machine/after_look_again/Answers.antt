@@ -1,4 +1,4 @@
-use Rattle.std.proofs.Common.{◌≡◌, ◌==◌, ◌%◌, ℕ, List, length, Bool, true, arith, ap, ◌∙◌, refl}
+use Rattle.std.proofs.Common.{◌≡◌, ◌==◌, ◌%◌, length, true, arith, ap, ◌∙◌, refl}
 use Rattle.std.proofs.lemmas.Bool.Decides.{nat_tests}
 use Rattle.of_cell.specs.Words.{word}
 use Rattle.of_wset.specs.Pairs.{Pairs}

@@ -1,4 +1,4 @@
-use Rattle.std.proofs.Common.{◌≡◌, ℕ, ◌+◌, ◌*◌, length, refl}
+use Rattle.std.proofs.Common.{length, refl}
 use Rattle.of_mem.specs.Meaning.{Sound}
 use Rattle.of_core.specs.Table.{Setup, setup_of, base}
 use Rattle.of_core.proofs.Puts.{sound_at, zeros_agree}

@@ -1,4 +1,4 @@
-use Rattle.std.proofs.Common.{rules, ◌≡◌, ◌≤◌, ◌<◌, ℕ, sym, ap, ◌∙◌, length, arith, None}
+use Rattle.std.proofs.Common.{rules, sym, ap, ◌∙◌, length, arith, None}
 use Rattle.std.proofs.lemmas.List.{length-replicate}
 use Rattle.of_mem.specs.Pad.{Pad}
 use Rattle.of_wset.specs.Pairs.{Pairs}

@@ -1,4 +1,4 @@
-use Rattle.std.proofs.Common.{◌≡◌, ℕ, ◌<◌, ◌+◌, ◌*◌, List, [], ap, ◌∙◌, sym, refl, Bool}
+use Rattle.std.proofs.Common.{◌≡◌, ◌<◌, [], ap, ◌∙◌, sym, refl}
 use Rattle.of_mem.specs.Pad.{Pad}
 use Rattle.of_mem.specs.Meaning.{Sound, Needs}
 use Rattle.of_core.specs.Table.{Setup, setup_of, base}

@@ -1,4 +1,4 @@
-use Rattle.std.proofs.Common.{◌≡◌, ℕ, ◌<◌, ◌+◌, ◌*◌, List, [], ◌∷◌, ◌++◌, length, map, take, Option, ap, ◌∙◌, sym, refl, Bool, arith}
+use Rattle.std.proofs.Common.{◌≡◌, ℕ, ◌<◌, ◌*◌, List, [], ◌∷◌, ◌++◌, length, map, take, Option, ap, ◌∙◌, sym, refl, arith}
 use Rattle.std.proofs.lemmas.List.{map-append}
 use Rattle.of_cell.specs.Words.{seq}
 use Rattle.of_mem.specs.Pad.{Pad, over}

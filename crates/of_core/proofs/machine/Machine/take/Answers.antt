@@ -1,4 +1,4 @@
-use Rattle.std.proofs.Common.{◌≡◌, ℕ, ◌+◌, ◌*◌, refl}
+use Rattle.std.proofs.Common.{◌≡◌, refl}
 use Rattle.of_mem.specs.Meaning.{Sound}
 use Rattle.of_core.specs.declared.place.Place.TheVariants.{TryCurrent, TryCell, LoadCurrent, CopyLog, LookAgain, LoadAnnouncement, LoadScript, LoadCell, RaiseClosed}
 use Rattle.of_core.specs.Table.{Setup, setup_of, base}

@@ -1,5 +1,4 @@
-use Rattle.std.proofs.Common.{◌≡◌, ◌+◌, ◌<◌, ℕ, List, [], length, get_or, take, ◌∙◌, ap, sym, refl, arith}
-use Rattle.of_mem.specs.Pad.{Pad}
+use Rattle.std.proofs.Common.{◌≡◌, ◌<◌, ℕ, List, [], length, get_or, ◌∙◌, ap, sym, refl, arith}
 use Rattle.of_wset.specs.Pairs.{Pairs}
 use Rattle.of_core.specs.Machine.{put}
 use Rattle.of_core.proofs.Puts.{wset_put, mem_put_all, put_all_take}

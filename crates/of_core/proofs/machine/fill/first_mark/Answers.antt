@@ -1,4 +1,4 @@
-use Rattle.std.proofs.Common.{◌≡◌, ◌+◌, ◌-◌, ◌∙◌, arith}
+use Rattle.std.proofs.Common.{◌+◌, ◌-◌, ◌∙◌, arith}
 use Rattle.of_core.proofs.Puts.{mark_false, mark_later}
 use Rattle.of_core.proofs.machine.fill.first_mark.Goals as goal
 

@@ -1,6 +1,5 @@
-use Rattle.std.proofs.Common.{◌≡◌, ℕ, ◌%◌, List, length, get_or, take, drop, ap, ◌∙◌, refl}
-use Rattle.of_wset.specs.Pairs.{Pairs}
-use Rattle.of_core.specs.Machine.{log_of, put_all, turned}
+use Rattle.std.proofs.Common.{◌≡◌, ℕ, ◌%◌, List, length, get_or, ap, ◌∙◌, refl}
+use Rattle.of_core.specs.Machine.{log_of}
 use Rattle.of_core.proofs.Puts.{log_of_words, put_round}
 use Rattle.of_core.proofs.machine.fill.put_copy.Goals as goal
 

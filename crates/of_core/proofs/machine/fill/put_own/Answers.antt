@@ -1,4 +1,4 @@
-use Rattle.std.proofs.Common.{◌≡◌, ◌+◌, ℕ, List, [], ◌∷◌, ◌∙◌, ap, sym}
+use Rattle.std.proofs.Common.{◌+◌, ℕ, [], ◌∷◌, ◌∙◌, ap, sym}
 use Rattle.of_mem.specs.Pad.{Pad}
 use Rattle.of_core.specs.Machine.{put}
 use Rattle.of_core.specs.Fill.{reply_cells_at}

@@ -1,6 +1,6 @@
-use Rattle.std.proofs.Common.{◌≡◌, ◌+◌, ◌<◌, ℕ, List, length, get_or, take, ◌∙◌, ap, sym, arith}
+use Rattle.std.proofs.Common.{◌+◌, ◌<◌, ℕ, List, length, get_or, ◌∙◌, ap, sym, arith}
 use Rattle.of_mem.specs.Pad.{Pad}
-use Rattle.of_core.specs.Machine.{put, put_all, listed}
+use Rattle.of_core.specs.Machine.{put}
 use Rattle.of_core.proofs.Puts.{put_listed, wrote_script}
 use Rattle.of_core.proofs.machine.fill.put_reply.Goals as goal
 

@@ -1,4 +1,4 @@
-use Rattle.std.proofs.Common.{◌≡◌, ℕ, ◌<◌, ◌≤◌, ◌+◌, ◌*◌, List, length, get_or, take, drop, arith, ap, ◌∙◌, sym, refl}
+use Rattle.std.proofs.Common.{◌≡◌, ℕ, ◌<◌, ◌+◌, ◌*◌, List, length, get_or, take, drop, arith, ap, ◌∙◌, sym, refl}
 use Rattle.of_wset.specs.Pairs.{Pairs}
 use Rattle.of_core.specs.Machine.{log_words, log_of, put, put_all}
 use Rattle.of_core.proofs.Logs.{length-log_words, words_at}
