@@ -2,3 +2,4 @@ pub mod Takings
 pub mod Givings
 pub mod Heaped
 pub mod Stored
+pub mod Staying

@@ -28,7 +28,7 @@ written_set xs (e ∷ es) a v away =
     ap (λ (ys : List ℕ). written ys es) (set_comm xs a e.0 v e.1 (λ q. away 0 (omega arith) (sym q)))
     ∙ written_set (set xs e.0 e.1) es a v (λ j l q. away (suc j) (omega arith) q)
 
-apart_head : (e : ℕ × ℕ) (es : List (ℕ × ℕ)) → Once (e ∷ es) → (j : ℕ) → j < length es → (get_or es j (0, 0)).0 ≡ e.0 → ⊥
+pub apart_head : (e : ℕ × ℕ) (es : List (ℕ × ℕ)) → Once (e ∷ es) → (j : ℕ) → j < length es → (get_or es j (0, 0)).0 ≡ e.0 → ⊥
 apart_head e es o j l q = let r : suc j ≡ 0 = o (suc j) 0 (omega arith) (omega arith) q in omega arith
 
 written_put : (xs : List ℕ) (ds : List (ℕ × ℕ)) (e : ℕ × ℕ) → Once ds → written xs (put e ds) ≡ set (written xs ds) e.0 e.1

@@ -7,3 +7,4 @@ pub mod News
 pub mod Changes
 pub mod Dels
 pub mod Wholes
+pub mod Staying

@@ -5,7 +5,7 @@ use Rattle.std.proofs.lemmas.List.{get_or-replicate, get_or_past, length-replica
 use Rattle.std.proofs.lemmas.Bool.Decides.{nat_tests}
 use Rattle.of_mem.specs.Pairs.{value_at, put, put_all}
 use Rattle.of_mem.specs.Pad.{newer, Pad, newest, wrote}
-use Rattle.of_mem.specs.Programs.{Program, Done, Read, Write, Ran, Lacks, Ends, with_number, run, then_do, changed, answer, after, writes, Inside, StaysFrom, OnlyReads, IsPartOf}
+use Rattle.of_mem.specs.Programs.{Program, Done, Read, Write, Ran, Lacks, Ends, with_number, run, then_do, changed, answer, after, writes, Inside, StaysFrom, Yields, OnlyReads, IsPartOf}
 use Rattle.of_mem.proofs.Changes.{changed_same, changed_other}
 use Rattle.of_mem.proofs.Indexed.{value_at_put}
 
@@ -122,6 +122,12 @@ pub inside_then : {A B : Type 0} (low size : ℕ) (f : Program A) (g : A → Pro
 inside_then low size (Done r) g m h k = k
 inside_then low size (Read a q) g m h k = (h.0, h.1, inside_then low size (q (m a)) g m h.2 k)
 inside_then low size (Write a v f) g m h k = (h.0, h.1, h.2, inside_then low size f g (changed m a v) h.3 k)
+
+-- where the second one stays for each answer that the first one may give
+pub stays_after : {A B : Type 0} (low : ℕ) (P : A → Type 0) (f : Program A) (g : A → Program B) → StaysFrom low f → Yields P f → ((r : A) → P r → StaysFrom low (g r)) → StaysFrom low (then_do f g)
+stays_after low P (Done r) g h y k = k r y
+stays_after low P (Read a q) g h y k = (h.0, λ v. stays_after low P (q v) g (h.1 v) (y v) k)
+stays_after low P (Write a v f) g h y k = (h.0, stays_after low P f g h.1 y k)
 
 pub stays_then : {A B : Type 0} (low : ℕ) (f : Program A) (g : A → Program B) → StaysFrom low f → ((r : A) → StaysFrom low (g r)) → StaysFrom low (then_do f g)
 stays_then low (Done r) g h k = k r

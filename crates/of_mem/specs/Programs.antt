@@ -71,6 +71,12 @@ StaysFrom low (Done r) = Unit {0}
 StaysFrom low (Read a k) = (low ≤ a) × ((v : ℕ) → StaysFrom low (k v))
 StaysFrom low (Write a v f) = (low ≤ a) × StaysFrom low f
 
+-- on every memory its answer is such a one
+abbrev pub Yields : {A : Type 0} → (A → Type 0) → Program A → Type 0
+Yields P (Done r) = P r
+Yields P (Read a k) = (v : ℕ) → Yields P (k v)
+Yields P (Write a v f) = Yields P f
+
 -- it writes nothing
 abbrev pub OnlyReads : {A : Type 0} → Program A → Type 0
 OnlyReads (Done r) = Unit {0}

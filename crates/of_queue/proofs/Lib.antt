@@ -2,3 +2,4 @@ pub mod Pushes
 pub mod Pops
 pub mod Knows
 pub mod Wholes
+pub mod Staying

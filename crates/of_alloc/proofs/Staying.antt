@@ -1,0 +1,18 @@
+-- Taking and giving a block read and write nothing before the first cell of the store.
+use Rattle.std.proofs.Common.{ℕ, zero, suc, ◌≤◌, Bool, true, false, ltb, arith}
+use Rattle.of_mem.specs.Programs.{StaysFrom}
+use Rattle.of_alloc.specs.BlockPrograms.{take_program, take_fresh, with_free, give_program}
+
+fresh_stays : (o n : ℕ) (t : Bool) → StaysFrom o (take_fresh o n t)
+fresh_stays o n true = (omega arith, tt)
+fresh_stays o n false = tt
+
+free_stays : (o blocks f : ℕ) → StaysFrom o (with_free o blocks f)
+free_stays o blocks zero = (omega arith, λ n. fresh_stays o n (ltb n blocks))
+free_stays o blocks (suc b) = (omega arith, λ link. (omega arith, tt))
+
+pub take_stays : (o blocks : ℕ) → StaysFrom o (take_program o blocks)
+take_stays o blocks = (omega arith, λ f. free_stays o blocks f)
+
+pub give_stays : (o b : ℕ) → StaysFrom o (give_program o b)
+give_stays o b = (omega arith, λ front. (omega arith, (omega arith, tt)))

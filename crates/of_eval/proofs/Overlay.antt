@@ -1,0 +1,154 @@
+-- A run on a part of memory, batch and all, goes as on the known cells with the batch over them.
+use Rattle.std.proofs.Common.{◌≡◌, ℕ, ◌+◌, ◌*◌, ◌%◌, ◌^◌, ◌<◌, ◌≤◌, refl, sym, ◌∙◌, ap, subst, arith, inl, inr, Bool, true, false, cond, ltb, Option, Some, None, is_some, List, [], ◌∷◌, length, get_or}
+use Rattle.std.specs.Option.{unwrap_or}
+use Rattle.std.specs.List.{AllByRecursion as Each}
+use Rattle.std.proofs.lemmas.Bool.{lt-ltb, le-ltb, ltb-true, ltb-false, false≢true}
+use Rattle.of_mem.specs.declared.work.RawReply.{RawReply}
+use Rattle.of_mem.specs.Pairs.{value_at}
+use Rattle.of_mem.specs.Pad.{Pad, newest, newer, over}
+use Rattle.of_mem.specs.Places.{cells_at, register_at, fresh_at, keys_at, tail_at, length_at}
+use Rattle.of_mem.specs.Programs.{Program, Ran, Lacks, Ends, run, IsPartOf}
+use Rattle.of_mem.specs.Meaning.{Meaning, Walked, Needs, Gives, Agrees}
+use Rattle.of_mem.specs.ProgramWork.{memory, fresh_pad, walked}
+use Rattle.of_mem.specs.Stores.{Store, Stands, front_at, link_at, first_at, second_at}
+use Rattle.of_mem.proofs.Counts.{blocks_below}
+use Rattle.of_mem.proofs.Frames.{SameBlocks, value_same, bucket_same, queue_same}
+use Rattle.of_mem.proofs.Heaps.{front_below, chain_copy}
+use Rattle.of_mem.proofs.Overlaid.{over_at, over_length, SamePads, RunsAlike, run_alike}
+use Rattle.of_mem.proofs.Sounds.{part_fresh}
+use Rattle.of_script.specs.declared.instr.Reply.{Reply}
+use Rattle.of_script.specs.declared.instr.Abort.{Abort}
+use Rattle.of_store.specs.State.{State}
+use Rattle.of_eval.specs.declared.scripts.Scripts.{Scripts}
+use Rattle.of_eval.specs.Shapes.{IsWhole, cells_of, mask_of, abort_part, code_of}
+use Rattle.of_eval.specs.ShapeLaws.{code_some, mask_width}
+use Rattle.of_eval.specs.Stored.{plain, IsStored, HasState}
+use Rattle.of_eval.specs.ScriptPrograms.{script_program}
+use Rattle.of_eval.specs.Scripts.{store_at, cells_in, LawfulCells, is_success, scripts_meaning}
+use Rattle.of_eval.specs.SoundScripts.{script_run}
+
+-- Only cells of the store are looked at.
+module _ (o blocks : ℕ) (m n : ℕ → ℕ) (same : (a : ℕ) → o ≤ a → a < cells_at o blocks → m a ≡ n a) (s : Store) (h : Stands o blocks m s) where
+  back : (a : ℕ) → o ≤ a → a < cells_at o blocks → n a ≡ m a
+  back a l k = sym (same a l k)
+
+  links : (l : List ℕ) → Each (λ b. b < blocks) l → Each (λ b. n (link_at o b) ≡ m (link_at o b)) l
+  links [] k = tt
+  links (b ∷ l) k = (back (link_at o b) (omega arith) (omega (arith, k.0)), links l k.1)
+
+  blocks_same : (l : List ℕ) → Each (λ b. b < blocks) l → SameBlocks o m n l
+  blocks_same [] k = tt
+  blocks_same (b ∷ l) k = ((back (first_at o b) (omega arith) (omega (arith, k.0)), back (second_at o b) (omega arith) (omega (arith, k.0))), blocks_same l k.1)
+
+  chain_same : (c : ℕ) → c < 38 → SameBlocks o m n (h.chains c)
+  chain_same c l = blocks_same (h.chains c) (blocks_below o blocks m s h c l)
+
+  pub stands_below : Stands o blocks n s
+  stands_below =
+      let fresh : n (fresh_at o) ≡ m (fresh_at o) = back (fresh_at o) (omega arith) (omega arith) in
+      record {
+        chains = h.chains;
+        owner = h.owner;
+        heap = record {
+          linked = λ c l. chain_copy o m n (front_at o c) (front_at o c) (h.chains c) (back (front_at o c) (omega (arith, (front_below o c l).0)) (omega (arith, (front_below o c l).1))) (links (h.chains c) (blocks_below o blocks m s h c (omega (arith, l)))) (h.heap.linked c l);
+          owned = λ c l. rw fresh (h.heap.owned c l);
+          counted = h.heap.counted ∙ sym fresh;
+          few = rw fresh h.heap.few;
+        };
+        none_out = h.none_out;
+        room = h.room;
+        sixteen = h.sixteen;
+        holds = record {
+          registers = λ r l. let e : n (register_at o r) ≡ m (register_at o r) = back (register_at o r) (omega arith) (omega (arith, l)) in rw e (h.holds.registers r l);
+          values = λ key. h.holds.values key ∙ sym (value_same o m n key (h.chains (1 + key % 32)) (chain_same (1 + key % 32) (omega arith)));
+          buckets = λ b l. bucket_same o m n b (h.chains (1 + b)) (chain_same (1 + b) (omega (arith, l))) (h.holds.buckets b l);
+          keys = back (keys_at o) (omega arith) (omega arith) ∙ h.holds.keys;
+          key_blocks = h.holds.key_blocks;
+          queues = λ q l. queue_same o m n q (h.chains (33 + q)) (s.queues q) (chain_same (33 + q) (omega (arith, l))) (back (tail_at o q) (omega arith) (omega (arith, l))) (back (length_at o q) (omega arith) (omega (arith, l))) (h.holds.queues q l);
+        };
+      }
+
+abbrev pub is_none_of : Option Abort → Bool
+is_none_of None = true
+is_none_of (Some a) = false
+
+-- a success is a reply with no abort
+pub whole_success : (r : Reply) → IsWhole r → (o : Option Abort) → r.abort ≡ o → is_success (cells_of r) ≡ is_none_of o
+whole_success r h None e =
+    let k : mask_of r.values < 2 ^ length r.values = mask_width r.values in
+    let small : mask_of r.values < 2 ^ 8 = subst (λ (n : ℕ). mask_of r.values < 2 ^ n) h.width k in
+    lt-ltb _ _ (omega (arith, small, h.few, ap abort_part e))
+whole_success r h (Some a) e = let c = code_some a.cause in le-ltb _ _ (omega (arith, c.0, ap abort_part e))
+
+no_abort : (o : Option Abort) → is_some o ≡ false → is_none_of o ≡ true
+no_abort None e = refl
+no_abort (Some a) e = absurd (false≢true (sym e))
+
+an_abort : (o : Option Abort) → is_some o ≡ true → is_none_of o ≡ false
+an_abort None e = absurd (false≢true e)
+an_abort (Some a) e = refl
+
+-- the writes of a reply with no abort are kept
+pub kept_when : (r : Reply) (x : RawReply) (q p : Pad) → IsWhole r → is_some r.abort ≡ false → p ≡ q → x ≡ cells_of r → Gives (cond (is_success (cells_of r)) q.script []) (cells_of r) ≡ Gives p.script x
+kept_when r x q p h e same is = rw (whole_success r h r.abort refl ∙ no_abort r.abort e) (λ i. Gives (sym same i).script (sym is i))
+
+-- those of an abort are dropped
+pub dropped_when : (r : Reply) (x : RawReply) (q p : Pad) → IsWhole r → is_some r.abort ≡ true → p.script ≡ [] → x ≡ cells_of r → Gives (cond (is_success (cells_of r)) q.script []) (cells_of r) ≡ Gives p.script x
+dropped_when r x q p h e none is = rw (whole_success r h r.abort refl ∙ an_abort r.abort e) (λ i. Gives (sym none i) (sym is i))
+
+alike_gives : (keeps : RawReply → Bool) (x : Ran RawReply) (r : RawReply) (q : Pad) → RunsAlike x (Ends r q) → walked keeps x ≡ Gives (cond (keeps r) q.script []) r
+alike_gives keeps (Lacks a) r q h = absurd h
+alike_gives keeps (Ends s p) r q h = λ i. Gives (cond (keeps (h.0 i)) (h.1 i) []) (h.0 i)
+
+alike_needs : (keeps : RawReply → Bool) (x : Ran RawReply) (a : ℕ) → RunsAlike x (Lacks a) → walked keeps x ≡ Needs a
+alike_needs keeps (Lacks b) a h = ap Needs h
+alike_needs keeps (Ends s p) a h = absurd h
+
+-- what a run asks of its part of memory
+abbrev pub IsPartOfLawful : Scripts → Pad → Type 0
+IsPartOfLawful w p = (xs : List ℕ) × (length xs ≡ cells_in w) × LawfulCells w xs × Agrees (over p.known p.batch) xs
+
+module _ (w : Scripts) (p : Pad) (a : IsPartOfLawful w p) (size : length p.known ≡ cells_in w) (empty : p.script ≡ []) where
+  -- the list's cells, and past them whatever is known
+  abbrev whole : ℕ → ℕ
+  whole x = cond (ltb x (cells_in w)) (memory a.0 x) (unwrap_or (newest p x) 0)
+
+  inside : (x : ℕ) → x < cells_in w → memory a.0 x ≡ whole x
+  inside x l = rw (lt-ltb x (cells_in w) l) refl
+
+  newest_over : (x : ℕ) → x < cells_in w → newest p x ≡ get_or (over p.known p.batch) x None
+  unfolding newest
+  newest_over x l = ap (λ (es : List (ℕ × ℕ)). newer (value_at es x) (newer (value_at p.batch x) (get_or p.known x None))) empty ∙ sym (over_at p.known p.batch x (omega (arith, size, l)))
+
+  is_part : (x v : ℕ) → newest p x ≡ Some v → whole x ≡ v
+  is_part x v e = go (ltb x (cells_in w)) refl
+    where
+      go : (t : Bool) → ltb x (cells_in w) ≡ t → cond t (memory a.0 x) (unwrap_or (newest p x) 0) ≡ v
+      go true k = a.3 x v (sym (newest_over x (ltb-true x (cells_in w) k)) ∙ e)
+      go false k = ap (λ (y : Option ℕ). unwrap_or y 0) e
+
+  pub has_state : HasState (store_at w) w.blocks p
+  has_state = (whole, a.2.0, is_part, record { state = a.2.1.state; stands = stands_below (store_at w) w.blocks (memory a.0) whole (λ x l k. inside x k) (plain a.2.0) a.2.1.stands })
+
+  module _ (op : List ℕ) where
+    abbrev program : Program RawReply
+    program = script_program (store_at w) w.blocks op
+
+    alike : RunsAlike (run program (fresh_pad (over p.known p.batch))) (run program p)
+    alike = run_alike (store_at w) (cells_in w) program (fresh_pad (over p.known p.batch)) p (memory a.0)
+        (record { below = λ x l. over_at p.known p.batch x (omega (arith, size, l)); script = sym empty })
+        (part_fresh (over p.known p.batch) a.0 a.3)
+        (script_run (store_at w) w.blocks w.few_blocks op (memory a.0) a.2.0 a.2.1).inside
+
+    pub walk_gives : (r : RawReply) (q : Pad) → run program p ≡ Ends r q → (scripts_meaning w).walk (over p.known p.batch) op ≡ Gives (cond (is_success r) q.script []) r
+    walk_gives r q e = alike_gives is_success (run program (fresh_pad (over p.known p.batch))) r q (subst (RunsAlike (run program (fresh_pad (over p.known p.batch)))) e alike)
+
+    pub walk_needs : (x : ℕ) → run program p ≡ Lacks x → (scripts_meaning w).walk (over p.known p.batch) op ≡ Needs x
+    walk_needs x e = alike_needs is_success (run program (fresh_pad (over p.known p.batch))) x (subst (RunsAlike (run program (fresh_pad (over p.known p.batch)))) e alike)
+
+-- the same place by another name
+pub state_at : (o at blocks many : ℕ) (p : Pad) → o ≡ at → blocks ≡ many → HasState at many p → HasState o blocks p
+state_at o at blocks many p e f h = rw (e, f) h
+
+pub run_at : (o at blocks many : ℕ) (op : List ℕ) (p : Pad) (x : Ran RawReply) → o ≡ at → blocks ≡ many → run (script_program o blocks op) p ≡ x → run (script_program at many op) p ≡ x
+run_at o at blocks many op p x e f h = rw (← e, ← f) h

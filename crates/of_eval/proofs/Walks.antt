@@ -1,0 +1,103 @@
+-- The walk of an operation's words, one by one.
+use Rattle.std.proofs.Common.{◌≡◌, ℕ, zero, suc, ◌+◌, ◌-◌, ◌<◌, ◌≤◌, refl, sym, ◌∙◌, ap, subst, arith, Option, Some, None, Ok, Err, List, [], ◌∷◌, ◌++◌, length, get_or, set, map, take, drop, replicate, length-drop, take-append-drop, drop_of_length-le}
+use Rattle.std.specs.Prelude.{slice_get}
+use Rattle.std.proofs.lemmas.Option.{none-some}
+use Rattle.std.proofs.lemmas.List.{drop_more, take_more_set, take_all, get_or-drop, length-take-le}
+use Rattle.of_mem.specs.declared.work.RawReply.{RawReply}
+use Rattle.of_mem.specs.Pad.{Pad, newest}
+use Rattle.of_mem.specs.Places.{register_at, cells_at}
+use Rattle.of_mem.specs.Programs.{Program, Lacks, Ends, run, answer, after, RunsAs, IsPartOf}
+use Rattle.of_mem.specs.StoreParts.{HasStore}
+use Rattle.of_mem.proofs.Runs.{Ended, run_ended, run_then_gives, run_then_needs}
+use Rattle.of_script.specs.declared.instr.Instr.{Instr}
+use Rattle.of_script.specs.declared.instr.Cause.{Cause}
+use Rattle.of_script.specs.declared.instr.Reply.{Reply}
+use Rattle.of_script.specs.Language.{IsScript, InRange, instr_word}
+use Rattle.of_script.specs.Reading.{instr_at}
+use Rattle.of_script.proofs.WordLaws.{instr_at_again, instr_at_takes}
+use Rattle.of_script.proofs.Instrs.{some_is}
+use Rattle.of_store.specs.State.{State, Effect, Answered, Aborted}
+use Rattle.of_store.specs.Replies.{IsSmall}
+use Rattle.of_store.proofs.Keeps.{Leaves}
+use Rattle.of_store.proofs.Values.{value_of}
+use Rattle.of_eval.specs.Shapes.{IsWhole, cells_of}
+use Rattle.of_eval.specs.Stored.{plain, IsStored, HasState}
+use Rattle.of_eval.specs.Words.{word_effect, reply_to}
+use Rattle.of_eval.specs.ScriptPrograms.{Answer, word_program, go_on, words_program, script_program}
+use Rattle.of_eval.specs.Instructions.{Gives}
+use Rattle.of_eval.specs.Scripted.{word_acts, instr_leaves, instr_small}
+use Rattle.of_eval.proofs.Unpacked.{nones}
+
+-- a register that is known holds a number
+pub register_small : (o blocks : ℕ) (p : Pad) (r n a : ℕ) → HasStore o blocks p → r < 16 → a ≡ register_at o r → newest p a ≡ Some n → n < 2147483648
+register_small o blocks p r n a h l at e =
+    let is : h.0 (register_at o r) ≡ n = h.2 (register_at o r) n (subst (λ (x : ℕ). newest p x ≡ Some n) at e) in
+    let k = (h.3.holds.registers r l).1 in omega (arith, is, k)
+
+-- the instruction of the only word of a script
+pub decoded : (script : List Instr) (w : ℕ) (i : Instr) → map instr_word script ≡ w ∷ [] → slice_get script 0 ≡ Some i → InRange i → Some i ≡ instr_at w
+decoded [] w i e at h = absurd cc
+decoded (x ∷ xs) w i e at h =
+    let same : x ≡ i = some_is x i at in
+    let first : instr_word x ≡ w = cc in
+    sym (ap instr_at (sym first ∙ ap instr_word same) ∙ instr_at_again i h)
+
+no_instr : (w : ℕ) (o : Option Instr) → instr_at w ≡ o → ((script : List Instr) → IsScript script → map instr_word script ≡ w ∷ [] → ◌≡◌ {A = Option (List Instr)} None (Some script)) → ◌≡◌ {A = Option Instr} None o
+no_instr w None e h = refl
+no_instr w (Some i) e h =
+    let u = instr_at_takes w i e in
+    absurd (none-some (i ∷ []) (h (i ∷ []) (record { some = omega arith; few = omega arith; in_range = (u.range, tt) }) (ap (λ (x : ℕ). x ∷ []) u.word)))
+
+pub not_decoded : (w : ℕ) → ((script : List Instr) → IsScript script → map instr_word script ≡ w ∷ [] → ◌≡◌ {A = Option (List Instr)} None (Some script)) → None ≡ instr_at w
+not_decoded w h = no_instr w (instr_at w) refl h
+
+module _ (o blocks : ℕ) where
+  pub script_is : (op : List ℕ) (p : Pad) → length op ≤ 8 → run (script_program o blocks op) p ≡ run (words_program o blocks (length op) [] op) p
+  script_is op p few = ap (λ (ws : List ℕ). run (words_program o blocks (length ws) [] ws) p) (take_all 8 op few)
+
+  module _ (n : ℕ) (op : List ℕ) (i : ℕ) (l : i < length op) (vs : List (Option ℕ)) (p q : Pad) where
+    opened : run (words_program o blocks n (take i vs) (drop i op)) p ≡ run (words_program o blocks n (take i vs) (get_or op i 0 ∷ drop (i + 1) op)) p
+    opened = ap (λ (ws : List ℕ). run (words_program o blocks n (take i vs) ws) p) (drop_more op i 0 l)
+
+    abbrev next : Answer → Program RawReply
+    next = go_on n (take i vs) (λ v. words_program o blocks n (take i vs ++ v ∷ []) (drop (i + 1) op))
+
+    pub ran_more : (v : Option ℕ) → i < length vs → run (word_program o blocks (get_or op i 0)) p ≡ Ends (Ok v) q → run (words_program o blocks n (take i vs) (drop i op)) p ≡ run (words_program o blocks n (take (i + 1) (set vs i v)) (drop (i + 1) op)) q
+    ran_more v k e = opened ∙ run_then_gives (word_program o blocks (get_or op i 0)) next p q (Ok v) e ∙ ap (λ (d : List (Option ℕ)). run (words_program o blocks n d (drop (i + 1) op)) q) (sym (take_more_set vs i v k))
+
+    pub ran_aborts : (cause : Cause) → i ≤ length vs → run (word_program o blocks (get_or op i 0)) p ≡ Ends (Err cause) q → run (words_program o blocks n (take i vs) (drop i op)) p ≡ Ends (cells_of (reply_to n (Aborted i cause))) q
+    ran_aborts cause k e = opened ∙ run_then_gives (word_program o blocks (get_or op i 0)) next p q (Err cause) e ∙ ap (λ (x : ℕ). Ends (cells_of (reply_to n (Aborted x cause))) q) (length-take-le i vs k)
+
+    pub ran_lacks : (a : ℕ) → run (word_program o blocks (get_or op i 0)) p ≡ Lacks a → run (words_program o blocks n (take i vs) (drop i op)) p ≡ Lacks a
+    ran_lacks a e = opened ∙ run_then_needs (word_program o blocks (get_or op i 0)) next p a e
+
+  module _ (few : blocks ≤ 512) (w : ℕ) (p q : Pad) (v : Option ℕ) where
+    abbrev program : Program Answer
+    program = word_program o blocks w
+
+    by_effect : (m : ℕ → ℕ) (e : Effect) → Gives o blocks e (answer program m) (after program m) → Leaves e → IsSmall (value_of e) → Ended program p m (Ok v) q → HasState o blocks q × IsSmall v
+    by_effect m (Ok x) g l k d = let same : v ≡ x.1 = (let both : ◌≡◌ {A = Answer} (Ok v) (Ok x.1) = d.answers ∙ g.0 in cc) in ((after program m, x.0, d.part, record { state = l; stands = g.1 }), subst IsSmall (sym same) k)
+    by_effect m (Err cause) g l k d = absurd (let both : ◌≡◌ {A = Answer} (Ok v) (Err cause) = d.answers ∙ g in cc)
+
+    -- what a word leaves stands for a store, and its value is a number of one
+    pub word_leaves : HasState o blocks p → run program p ≡ Ends (Ok v) q → HasState o blocks q × IsSmall v
+    word_leaves h e =
+        let a = word_acts o blocks few h.0 h.1 h.3 w (instr_at w) refl in
+        by_effect h.0 (word_effect h.1 w) a.1 (instr_leaves h.1 w (instr_at w) refl h.3.state) (instr_small h.1 w (instr_at w) refl h.3.state) (run_ended o (cells_at o blocks) program p q h.0 (Ok v) h.2 a.0 e)
+
+pub has_store : (o blocks : ℕ) (p : Pad) → HasState o blocks p → HasStore o blocks p
+has_store o blocks p h = (h.0, plain h.1, h.2, h.3.stands)
+
+-- values with none from place n on are the first n values, filled up
+filled : (vs : List (Option ℕ)) (n : ℕ) → length vs ≡ 8 → n ≤ 8 → ((k : ℕ) → n ≤ k → get_or vs k None ≡ None) → take n vs ++ replicate (8 - length (take n vs)) None ≡ vs
+filled vs n e l past =
+    let rest : drop n vs ≡ replicate (length (drop n vs)) None = nones (drop n vs) (λ i. get_or-drop n vs i None ∙ past (n + i) (omega arith)) in
+    let many : length (drop n vs) ≡ 8 - length (take n vs) = omega (arith, length-drop n vs, length-take-le n vs (omega (arith, e, l)), e) in
+    ap (λ (k : ℕ). take n vs ++ replicate k None) (sym many) ∙ ap (λ (ws : List (Option ℕ)). take n vs ++ ws) (sym rest) ∙ take-append-drop n vs
+
+-- all words answered
+pub ran_ends : (o blocks n : ℕ) (op : List ℕ) (i : ℕ) (vs : List (Option ℕ)) (p : Pad) → n ≡ i → length op ≤ i → length vs ≡ 8 → n ≤ 8 → ((k : ℕ) → i ≤ k → get_or vs k None ≡ None)
+    → run (words_program o blocks n (take i vs) (drop i op)) p ≡ Ends (cells_of (record { len = n; values = vs; abort = None })) p
+ran_ends o blocks n op i vs p is l w few past =
+    let none : drop i op ≡ [] = drop_of_length-le op l in
+    ap (λ (ws : List ℕ). run (words_program o blocks n (take i vs) ws) p) none ∙ ap (λ (xs : List (Option ℕ)). Ends (cells_of (record { len = n; values = xs; abort = None })) p) (filled vs i w (omega (arith, is, few)) past)

@@ -1,0 +1,9 @@
+use Rattle.std.proofs.Common.{◌≡◌, ◌++◌, take, drop, length}
+use Rattle.of_eval.specs.Reading.{marked_in}
+use Rattle.of_eval.proofs.reply.marked.Given as goal
+
+abbrev pub invariant-loop-i : goal.invariant-loop-i
+invariant-loop-i l = record {
+  read : take l.i l.values ++ marked_in l.rest (drop l.i l.cells) ≡ marked_in l.mask l.cells;
+  width : length l.values ≡ 8;
+}

@@ -1,0 +1,14 @@
+pub mod Shapes
+pub mod ShapeLaws
+pub mod Reading
+pub mod Stored
+pub mod Words
+pub mod ScriptPrograms
+pub mod Scripts
+pub mod Registers
+pub mod Instructions
+pub mod Scripted
+pub mod Marked
+pub mod Staying
+pub mod SoundScripts
+pub mod Means

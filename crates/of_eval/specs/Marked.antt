@@ -1,0 +1,90 @@
+-- The reply of words is a reply of a work: it is made of words, and it marks numbers of its own instructions alone.
+use Rattle.std.proofs.Common.{◌≡◌, ℕ, zero, suc, ◌+◌, ◌-◌, ◌*◌, ◌<◌, ◌≤◌, ◌/◌, ◌%◌, ◌^◌, ◌==◌, Bool, true, false, refl, sym, ◌∙◌, ap, subst, arith, Option, Some, None, Ok, Err, List, [], ◌∷◌, ◌++◌, length, get_or, map, take, replicate, length-append, inl, inr}
+use Rattle.std.specs.List.{All, AllByRecursion as Each}
+use Rattle.std.specs.Option.{unwrap_or}
+use Rattle.std.proofs.Math.Nat.{div-div-eq-div-mul}
+use Rattle.std.proofs.lemmas.Bool.{cases_lt}
+use Rattle.std.proofs.lemmas.Bool.Decides.{nat_tests}
+use Rattle.std.proofs.lemmas.List.{length-map, length-replicate, get_or-replicate}
+use Rattle.of_mem.specs.declared.work.RawReply.{RawReply}
+use Rattle.of_mem.specs.Meaning.{marked}
+use Rattle.of_mem.specs.ProgramWork.{IsReply}
+use Rattle.of_mem.proofs.Writes.{all_each}
+use Rattle.of_script.specs.declared.instr.Cause.{Cause}
+use Rattle.of_script.specs.declared.instr.Reply.{Reply}
+use Rattle.of_store.specs.State.{Outcome, Response, Answered, Aborted}
+use Rattle.of_store.specs.Replies.{IsSmall}
+use Rattle.of_eval.specs.Shapes.{mark, mask_of, code_of, cells_of, shape_of}
+use Rattle.of_eval.specs.Words.{reply_to}
+use Rattle.of_eval.specs.ShapeLaws.{mark_small, mask_width}
+use Rattle.of_eval.specs.ShapeLaws.{code_some}
+use Rattle.of_eval.specs.Scripted.{behind, Answers}
+
+doubled : (x k : ℕ) → x * 2 ^ suc k ≡ 2 * (x * 2 ^ k)
+doubled x k = let p : 2 ^ suc k ≡ 2 * 2 ^ k = grind arith in rw p (grind arith)
+
+-- a mark is the bit at its place, whatever stands above the marks
+bit_of : (vs : List (Option ℕ)) (x k j : ℕ) → j < k → (mask_of vs + x * 2 ^ k) / 2 ^ j % 2 ≡ mark (get_or vs j None)
+bit_of vs x zero j l = absurd (omega arith)
+bit_of [] x (suc k) zero l = let e = doubled x k in rw e (omega arith)
+bit_of (v ∷ vs) x (suc k) zero l = let e = doubled x k in let s = mark_small v in rw e (omega (arith, s))
+bit_of [] x (suc k) (suc j) l =
+    let e = doubled x k in
+    let f : 2 ^ suc j ≡ 2 * 2 ^ j = grind arith in
+    let half : (0 + x * 2 ^ suc k) / 2 ≡ 0 + x * 2 ^ k = rw e (omega arith) in
+    ap (λ (d : ℕ). (0 + x * 2 ^ suc k) / d % 2) f ∙ ap (λ (q : ℕ). q % 2) (sym (div-div-eq-div-mul (0 + x * 2 ^ suc k) 2 (2 ^ j))) ∙ ap (λ (q : ℕ). q / 2 ^ j % 2) half ∙ bit_of [] x k j (omega arith)
+bit_of (v ∷ vs) x (suc k) (suc j) l =
+    let e = doubled x k in
+    let f : 2 ^ suc j ≡ 2 * 2 ^ j = grind arith in
+    let s = mark_small v in
+    let half : (mask_of (v ∷ vs) + x * 2 ^ suc k) / 2 ≡ mask_of vs + x * 2 ^ k = rw e (omega (arith, s)) in
+    ap (λ (d : ℕ). (mask_of (v ∷ vs) + x * 2 ^ suc k) / d % 2) f ∙ ap (λ (q : ℕ). q % 2) (sym (div-div-eq-div-mul (mask_of (v ∷ vs) + x * 2 ^ suc k) 2 (2 ^ j))) ∙ ap (λ (q : ℕ). q / 2 ^ j % 2) half ∙ bit_of vs x k j (omega arith)
+
+-- a marked place has a number
+marked_has : (vs : List (Option ℕ)) (shape x : ℕ) → shape ≡ mask_of vs + x * 2 ^ 16 → (j : ℕ) → j < 16 → marked shape j ≡ true → mark (get_or vs j None) ≡ 1
+unfolding marked
+marked_has vs shape x e j l h =
+    let b : shape / 2 ^ j % 2 ≡ mark (get_or vs j None) = ap (λ (q : ℕ). q / 2 ^ j % 2) e ∙ bit_of vs x 16 j l in
+    let k : shape / 2 ^ j % 2 ≡ 1 = grind (arith, nat_tests) in
+    sym b ∙ k
+
+none_past : (vs : List (Option ℕ)) (k j : ℕ) → mark (get_or (vs ++ replicate k None) j None) ≡ 1 → j < length vs
+none_past (v ∷ vs) k zero h = omega arith
+none_past (v ∷ vs) k (suc j) h = let r : j < length vs = none_past vs k j h in omega (arith, r)
+none_past [] zero j h = absurd (omega (arith, h))
+none_past [] (suc k) zero h = absurd (omega (arith, h))
+none_past [] (suc k) (suc j) h = absurd (let r : j < 0 = none_past [] k j h in omega (arith, r))
+
+word_small : (v : Option ℕ) → IsSmall v → unwrap_or v 0 < 4294967296
+word_small None h = omega arith
+word_small (Some v) h = omega (arith, h)
+
+words_small : (vs : List (Option ℕ)) (k : ℕ) → Each IsSmall vs → Each (λ (n : ℕ). n < 4294967296) (map (λ v. unwrap_or v 0) (vs ++ replicate k None))
+words_small [] zero h = tt
+words_small [] (suc k) h = (omega arith, words_small [] k tt)
+words_small (v ∷ vs) k h = (word_small v h.0, words_small vs k h.1)
+
+pub full_width : (vs : List (Option ℕ)) → length vs ≤ 8 → length (vs ++ replicate (8 - length vs) None) ≡ 8
+full_width vs l = length-append vs (replicate (8 - length vs) None) ∙ ap (λ (n : ℕ). length vs + n) (length-replicate (8 - length vs) None) ∙ omega (arith, l)
+
+pub mask_8 : (vs : List (Option ℕ)) → length vs ≡ 8 → mask_of vs < 256
+mask_8 vs e = let k : mask_of vs < 2 ^ length vs = mask_width vs in let q : mask_of vs < 2 ^ 8 = subst (λ (n : ℕ). mask_of vs < 2 ^ n) e k in omega (arith, q)
+
+-- so many words, the first of an operation
+pub reply_fits : (op ws : List ℕ) (x : Outcome) → length ws ≤ 8 → length ws ≤ length op → Answers ws x → IsReply op (cells_of (reply_to (length ws) (behind [] x)))
+reply_fits op ws (Ok e) few part h =
+    let vs = e.1 ++ replicate (8 - length e.1) None in
+    let wide : length vs ≡ 8 = full_width e.1 (omega (arith, few, h.0)) in
+    let small : mask_of vs < 256 = mask_8 vs wide in
+    record {
+      shape = omega (arith, small, few);
+      values = all_each (λ (n : ℕ). n < 4294967296) (map (λ v. unwrap_or v 0) vs) (words_small e.1 (8 - length e.1) h.1);
+      marks = λ j l m. (omega (arith, small, few), omega (arith, part, h.0, none_past e.1 (8 - length e.1) j (marked_has vs (mask_of vs + length ws * 2 ^ 16 + 0) (length ws) (omega arith) j l m)), omega (arith, length-map vs (λ (v : Option ℕ). unwrap_or v 0), wide, few, h.0, none_past e.1 (8 - length e.1) j (marked_has vs (mask_of vs + length ws * 2 ^ 16 + 0) (length ws) (omega arith) j l m)));
+    }
+reply_fits op ws (Err p) few part h =
+    let code = code_some p.1 in
+    record {
+      shape = omega (arith, h, few, code.1);
+      values = all_each (λ (n : ℕ). n < 4294967296) (map (λ v. unwrap_or v 0) (replicate 8 None)) (words_small [] 8 tt);
+      marks = λ j l m. absurd (let r : j < 0 = none_past [] 8 j (marked_has (replicate 8 None) (shape_of (reply_to (length ws) (Aborted (0 + p.0) p.1))) (length ws + p.0 * 32 + code_of p.1 * 1024) (omega arith) j l m) in omega (arith, r));
+    }

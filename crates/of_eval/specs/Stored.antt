@@ -1,0 +1,19 @@
+-- The store of scripts for which data cells stand.
+use Rattle.std.specs.Prelude.{ℕ}
+use Rattle.of_mem.specs.Pad.{Pad}
+use Rattle.of_mem.specs.Programs.{IsPartOf}
+use Rattle.of_mem.specs.Stores.{Store, Stands}
+use Rattle.of_store.specs.State.{State, IsState, queue}
+
+-- the same store as cells see it
+abbrev pub plain : State → Store
+plain s = record { registers = s.registers; map = s.keys; queues = λ q. queue s q; room = s.room }
+
+-- The cells from o on stand for this store, with so many blocks.
+pub record IsStored (o blocks : ℕ) (m : ℕ → ℕ) (s : State) : Type 0 where
+  pub state : IsState s
+  pub stands : Stands o blocks m (plain s)
+
+-- the partial memory is part of one that stands for a store
+abbrev pub HasState : ℕ → ℕ → Pad → Type 0
+HasState o blocks p = (m : ℕ → ℕ) × (s : State) × IsPartOf p m × IsStored o blocks m s

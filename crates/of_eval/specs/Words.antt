@@ -1,0 +1,29 @@
+-- What the words of an operation mean: those of a script are that script, and a word that is no instruction aborts at its place.
+use Rattle.std.specs.Prelude.{ℕ, ◌-◌, List, [], ◌∷◌, ◌++◌, length, replicate, Option, Some, None, Ok, Err}
+use Rattle.of_script.specs.declared.instr.Instr.{Instr}
+use Rattle.of_script.specs.declared.instr.Cause.TheVariants.{BadOp}
+use Rattle.of_script.specs.declared.instr.Reply.{Reply}
+use Rattle.of_script.specs.declared.instr.TheConstants.{MOST_INSTRS}
+use Rattle.of_script.specs.Reading.{instr_at}
+use Rattle.of_store.specs.State.{State, Effect, effect, Outcome, then_on, settled, Response, Answered, Aborted}
+
+abbrev pub effect_of : State → Option Instr → Effect
+effect_of s None = Err BadOp
+effect_of s (Some i) = effect s i
+
+abbrev pub word_effect : State → ℕ → Effect
+word_effect s w = effect_of s (instr_at w)
+
+-- the words in order
+abbrev pub words_outcome : State → List ℕ → Outcome
+words_outcome s [] = Ok (s, [])
+words_outcome s (w ∷ ws) = then_on (word_effect s w) (λ t. words_outcome t ws)
+
+-- the store after an operation, and its reply
+abbrev pub run_words : State → List ℕ → State × Response
+run_words s ws = settled s (words_outcome s ws)
+
+-- the reply of so many instructions
+abbrev pub reply_to : ℕ → Response → Reply
+reply_to n (Answered vs) = record { len = n; values = vs ++ replicate (MOST_INSTRS - length vs) None; abort = None }
+reply_to n (Aborted place cause) = record { len = n; values = replicate MOST_INSTRS None; abort = Some (record { place = place; cause = cause }) }

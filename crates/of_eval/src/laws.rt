@@ -1,0 +1,16 @@
+//! What operations mean.
+
+ghost use Rattle.of_eval.specs.Means.{MeansWords, WordsMeanScript};
+
+use crate::scripts::Scripts;
+
+/// Over cells that stand for a store, an operation leads to cells that stand for the store after its words, and answers what they
+/// answer: they run in order, and a word that is no instruction aborts.
+pub fn operations_mean_words(work: Scripts)
+    ensures { MeansWords work }
+{}
+
+/// The words of a script do to a store what the script does.
+pub fn words_mean_script()
+    ensures { WordsMeanScript }
+{}

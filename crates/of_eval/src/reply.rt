@@ -1,0 +1,181 @@
+//! Replies as cells hold them.
+
+ghost use Rattle.std.specs.Option.{unwrap_or};
+ghost use Rattle.std.specs.Prelude.{map, ◌≡◌, ◌≢◌, ◌≤◌, ◌<◌, ◌+◌, ◌*◌, ◌/◌, ◌%◌, ◌↔◌, length, IfSome, MatchOption, Some, None, IsTrue, All, ◌^◌};
+ghost use Rattle.of_script.specs.declared.instr.Reply.{Reply as TheReply};
+ghost use Rattle.of_script.specs.declared.instr.Cause.{Cause as TheCause};
+ghost use Rattle.of_store.specs.Replies.{IsSmall};
+ghost use Rattle.of_eval.specs.Shapes.{IsWhole, IsHeldBy, cells_of, mask_of, code_of, abort_part as the_abort_part};
+ghost use Rattle.of_eval.specs.Reading.{marked_in};
+
+use of_mem::RawReply;
+use of_script::{Abort, Cause, GREATEST, MOST_INSTRS, Reply};
+
+/// The number of a cause in a shape.
+fn code(cause: Cause) -> u32
+    ensures value { result ≡ code_of cause }
+    ensures small { result ≤ 5 }
+{
+    match cause {
+        Cause::Overflow => 1,
+        Cause::Short => 2,
+        Cause::NoRoom => 3,
+        Cause::Differs => 4,
+        Cause::BadOp => 5,
+    }
+}
+
+/// The cause with this number.
+fn cause(code: u32) -> Option<Cause>
+    ensures { MatchOption result ((c : TheCause) → code_of c ≢ code) (λ c. code_of c ≡ code) }
+{
+    match code {
+        1 => Some(Cause::Overflow),
+        2 => Some(Cause::Short),
+        3 => Some(Cause::NoRoom),
+        4 => Some(Cause::Differs),
+        5 => Some(Cause::BadOp),
+        _ => None,
+    }
+}
+
+/// The marks of these values.
+fn mask(values: &[Option<u32>; MOST_INSTRS]) -> u32
+    ensures value { result ≡ mask_of values.now }
+    ensures small { result < 2 ^ MOST_INSTRS }
+{
+    let mut mask = 0;
+    for i in 0..MOST_INSTRS {
+        if values[i].is_some() {
+            mask += 1 << i;
+        }
+    }
+    mask
+}
+
+/// The numbers that a mask marks.
+fn marked(mask: u32, cells: &[u32; MOST_INSTRS]) -> [Option<u32>; MOST_INSTRS]
+    ensures value { result ≡ marked_in mask cells.now }
+    ensures width { length cells.now ≡ MOST_INSTRS }
+{
+    let mut values = [None; MOST_INSTRS];
+    let mut rest = mask;
+    for i in 0..MOST_INSTRS {
+        values[i] = (rest % 2 == 1).then_some(cells[i]);
+        rest /= 2;
+    }
+    values
+}
+
+/// The number at each place, 0 for none.
+fn numbers(values: &[Option<u32>; MOST_INSTRS]) -> [u32; MOST_INSTRS]
+    ensures { result ≡ map (λ v. unwrap_or v 0) values.now }
+{
+    let mut numbers = [0; MOST_INSTRS];
+    for i in 0..MOST_INSTRS {
+        numbers[i] = values[i].unwrap_or(0);
+    }
+    numbers
+}
+
+/// Whether no number is above `GREATEST`.
+fn are_small(values: &[Option<u32>; MOST_INSTRS]) -> bool
+    ensures { IsTrue result ↔ All IsSmall values.now }
+{
+    values
+        .iter()
+        .all(|value| value.is_none_or(|number| number <= GREATEST))
+}
+
+/// What an abort adds to the shape.
+fn abort_part(abort: Option<Abort>) -> u32
+    requires { IfSome abort (λ a. a.place < MOST_INSTRS) }
+    ensures value { result ≡ the_abort_part abort }
+    ensures small { result ≤ 8 * 2 ^ 21 + 5 * 2 ^ 26 }
+{
+    match abort {
+        None => 0,
+        Some(abort) => u32::from(abort.place) * (1 << 21) + code(abort.cause) * (1 << 26),
+    }
+}
+
+/// A reply as cells hold it: its shape, and its number at each place, 0 for none.
+pub fn reply_cells(reply: &Reply) -> RawReply
+    requires { IsWhole reply.now }
+    ensures { result ≡ cells_of reply.now }
+{
+    RawReply {
+        shape: mask(&reply.values) + u32::from(reply.len) * (1 << 16) + abort_part(reply.abort),
+        values: numbers(&reply.values),
+    }
+}
+
+/// The reply that these cells hold. None comes exactly where they hold none: their shape is that of no reply, or a number that it
+/// marks is above `GREATEST`.
+pub fn reply_of(raw: &RawReply) -> Option<Reply>
+    ensures some { IfSome result (IsHeldBy raw.now) }
+    ensures only { (r : TheReply) → IsHeldBy raw.now r → result ≡ Some r }
+{
+    let len = raw.shape / (1 << 16) % 32;
+    if len == 0 {
+        return None;
+    }
+    if len > MOST_INSTRS as u32 {
+        return None;
+    }
+    if raw.shape < 1 << 21 {
+        return answered(raw, len);
+    }
+    aborted(raw, len)
+}
+
+/// The reply of a script that ran to its end.
+fn answered(raw: &RawReply, len: u32) -> Option<Reply>
+    requires len { len ≡ raw.now.shape / 2 ^ 16 % 32 }
+    requires some { 1 ≤ len }
+    requires few { len ≤ MOST_INSTRS }
+    requires shape { raw.now.shape < 2 ^ 21 }
+    ensures some { IfSome result (IsHeldBy raw.now) }
+    ensures only { (r : TheReply) → IsHeldBy raw.now r → result ≡ Some r }
+{
+    let marks = raw.shape % (1 << 16);
+    if marks >= 1 << len {
+        return None;
+    }
+    let values = marked(marks, &raw.values);
+    if !are_small(&values) {
+        return None;
+    }
+    Some(Reply {
+        len: len as u8,
+        values,
+        abort: None,
+    })
+}
+
+/// The reply of a script that aborted.
+fn aborted(raw: &RawReply, len: u32) -> Option<Reply>
+    requires len { len ≡ raw.now.shape / 2 ^ 16 % 32 }
+    requires some { 1 ≤ len }
+    requires few { len ≤ MOST_INSTRS }
+    requires shape { 2 ^ 21 ≤ raw.now.shape }
+    ensures some { IfSome result (IsHeldBy raw.now) }
+    ensures only { (r : TheReply) → IsHeldBy raw.now r → result ≡ Some r }
+{
+    let place = raw.shape / (1 << 21) % 32;
+    let cause = cause(raw.shape / (1 << 26))?;
+    if raw.shape % (1 << 16) != 0 {
+        return None;
+    }
+    if place >= len {
+        return None;
+    }
+    Some(Reply {
+        len: len as u8,
+        values: [None; MOST_INSTRS],
+        abort: Some(Abort {
+            place: place as u8,
+            cause,
+        }),
+    })
+}

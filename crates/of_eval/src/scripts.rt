@@ -1,0 +1,82 @@
+//! Scripts as a work.
+
+ghost use Rattle.std.specs.Prelude.{◌≡◌, ◌≤◌};
+
+use crate::reply::reply_cells;
+use crate::walk::run_words;
+use of_mem::{MOST_INSTRS, Need, Part, Plot, RawReply, Work};
+use of_script::from_words;
+
+/// What runs scripts on cells: so many callers, 1 to 16, and room for so many keys and items, at most 512. An operation is the words of
+/// a script; a word that is no instruction aborts at its place.
+#[derive(Clone, Copy, Debug, PartialEq, Eq)]
+pub struct Scripts {
+    pub callers: u32,
+    pub blocks: u32,
+    pub ghost some_callers: { 1 ≤ callers },
+    pub ghost few_callers: { callers ≤ 16 },
+    pub ghost few_blocks: { blocks ≤ 512 },
+}
+
+impl Scripts {
+    /// Where the data cells stand.
+    pub fn plot(&self) -> Plot
+        ensures callers { result.callers ≡ self.now.callers }
+        ensures instrs { result.instrs ≡ MOST_INSTRS }
+        ensures blocks { result.blocks ≡ self.now.blocks }
+    {
+        Plot {
+            callers: self.callers,
+            instrs: MOST_INSTRS as u32,
+            blocks: self.blocks,
+        }
+    }
+}
+
+impl Work for Scripts {
+    ghost use Rattle.of_eval.specs.Scripts.{cells_in, LawfulCells, scripts_meaning};
+    ghost use Rattle.of_eval.specs.SoundScripts.{scripts_fit, scripts_sound};
+
+    ghost many = { λ w. w.callers };
+
+    ghost size = { cells_in };
+
+    ghost lawful = { LawfulCells };
+
+    ghost meaning = { scripts_meaning };
+
+    fn callers(&self) -> u32 {
+        self.callers
+    }
+
+    fn cells(&self) -> u32 {
+        self.plot().cells()
+    }
+
+    fn run(&self, part: &mut Part, op: &[u64], out: &mut RawReply) -> Result<(), Need> {
+        match run_words(&self.plot(), part, op) {
+            Ok(reply) => {
+                if reply.abort.is_some() {
+                    part.undo();
+                }
+                *out = reply_cells(&reply);
+                Ok(())
+            }
+            Err(need) => {
+                part.undo();
+                Err(need)
+            }
+        }
+    }
+
+    fn reads_only(&self, op: &[u64]) -> bool {
+        match from_words(op) {
+            None => false,
+            Some(script) => script.reads_only(),
+        }
+    }
+
+    ghost fits = { scripts_fit };
+
+    ghost sound = { scripts_sound };
+}

@@ -1,0 +1,39 @@
+-- The calls of a queue read and write nothing before the first cell of the store; len writes nothing.
+use Rattle.std.proofs.Common.{ℕ, zero, suc, ◌+◌, ◌*◌, ◌≤◌, Option, Some, None, arith}
+use Rattle.of_mem.specs.Programs.{StaysFrom, OnlyReads}
+use Rattle.of_mem.proofs.Runs.{stays_then}
+use Rattle.of_alloc.specs.BlockPrograms.{take_program}
+use Rattle.of_alloc.proofs.Staying.{take_stays}
+use Rattle.of_queue.specs.QueuePrograms.{with_tail, push_new, push_program, drop_block, new_end, with_head, pop_program, len_program}
+
+module _ (o q : ℕ) where
+  tail_stays : (b tail : ℕ) → StaysFrom o (with_tail o q b tail)
+  tail_stays b zero = (omega arith, (omega arith, (omega arith, λ n. (omega arith, tt))))
+  tail_stays b (suc t) = (omega arith, (omega arith, (omega arith, λ n. (omega arith, tt))))
+
+  new_stays : (v : ℕ) (r : Option ℕ) → StaysFrom o (push_new o q v r)
+  new_stays v None = tt
+  new_stays v (Some b) = (omega arith, (omega arith, (omega arith, λ tail. tail_stays b tail)))
+
+  pub push_stays : (blocks v : ℕ) → StaysFrom o (push_program o blocks q v)
+  push_stays blocks v = stays_then o (take_program o blocks) (push_new o q v) (take_stays o blocks) (new_stays v)
+
+  drop_stays : (b v : ℕ) → StaysFrom o (drop_block o q b v)
+  drop_stays b v = (omega arith, λ f. (omega arith, (omega arith, (omega arith, λ n. (omega arith, tt)))))
+
+  end_stays : (b v link : ℕ) → StaysFrom o (new_end o q b v link)
+  end_stays b v zero = (omega arith, drop_stays b v)
+  end_stays b v (suc t) = drop_stays b v
+
+  head_stays : (f : ℕ) → StaysFrom o (with_head o q f)
+  head_stays zero = tt
+  head_stays (suc b) = (omega arith, λ v. (omega arith, λ link. (omega arith, end_stays b v link)))
+
+  pub pop_stays : StaysFrom o (pop_program o q)
+  pop_stays = (omega arith, λ f. head_stays f)
+
+  pub len_stays : StaysFrom o (len_program o q)
+  len_stays = (omega arith, λ n. tt)
+
+  pub len_reads : OnlyReads (len_program o q)
+  len_reads n = tt
