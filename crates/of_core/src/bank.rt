@@ -126,6 +126,14 @@ impl<W: Work> Bank<W> {
         self.machines[caller as usize].is_idle()
     }
 
+    /// How many calls of a caller were begun.
+    pub fn made(&self, caller: u32) -> u32
+        requires { caller < self.now.callers }
+        ensures { result ≡ (machine_of self.now caller).made }
+    {
+        self.machines[caller as usize].made()
+    }
+
     /// Opens a call of 1 to `MOST_INSTRS` words.
     pub fn begin(&mut self, caller: u32, op: &[u64])
         requires caller { caller < self.old.callers }

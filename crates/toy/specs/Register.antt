@@ -1,5 +1,5 @@
 -- A work with one register: an operation writes or reads it.
-use Rattle.std.specs.Prelude.{◌≡◌, ℕ, ◌+◌, ◌*◌, ◌==◌, List, [], ◌∷◌, Option, Some, None, Bool, true, false, if◌then◌else◌}
+use Rattle.std.specs.Prelude.{ℕ, ◌==◌, List, [], ◌∷◌, Option, Some, None, Bool, true, false}
 use Rattle.std.proofs.Common.{get_or, set, replicate}
 use Rattle.of_cell.specs.Words.{seq, pay}
 use Rattle.of_mem.specs.declared.work.RawReply.{RawReply}

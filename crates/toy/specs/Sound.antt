@@ -1,11 +1,9 @@
 -- A register meets the rules of a work.
 use Rattle.std.proofs.Common.{◌≡◌, ℕ, zero, suc, ◌+◌, ◌*◌, ◌<◌, ◌≤◌, ◌==◌, List, [], ◌∷◌, length, Option, Some, None, Bool, true, false, get_or, set, drop, refl, sym, ◌∙◌, ap, arith, length-set}
-use Rattle.std.specs.List.{All}
 use Rattle.std.proofs.lemmas.List.{drop-set-add, get_or-drop}
 use Rattle.of_cell.specs.Words.{pay}
 use Rattle.of_cell.proofs.Order.{pay_small}
-use Rattle.of_mem.specs.Meaning.{Meaning, Sound, HasRoom, SameFrom, Once, Agrees, Fits, Finishes, marked}
-use Rattle.of_mem.specs.declared.work.RawReply.{RawReply}
+use Rattle.of_mem.specs.Meaning.{Sound, HasRoom, SameFrom, Agrees, Fits, marked}
 use Rattle.toy.specs.Register.{meaning_of, reply_of, shape_of, reads_only, walk_by, walk_read, cells_by, reply_by}
 
 pub register_fits : (n : ℕ) → 1 ≤ n → n ≤ 16 → HasRoom n (n * 10 + 1)

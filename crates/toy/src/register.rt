@@ -60,13 +60,18 @@ impl Work for Register {
         let register = self.callers * OWN_CELLS;
         let word = first_word(op);
         if seq_of(word) == 0 {
-            let value = part.read(register)?;
-            *out = reply(value);
+            match part.read(register) {
+                Ok(value) => {
+                    *out = reply(value);
+                    Ok(())
+                }
+                Err(need) => Err(need),
+            }
         } else {
             part.write(register, payload_of(word));
             *out = reply(1);
+            Ok(())
         }
-        Ok(())
     }
 
     fn reads_only(&self, op: &[u64]) -> bool {

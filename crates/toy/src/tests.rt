@@ -1,5 +1,7 @@
 //! The bank on worked schedules: words, outcomes and step counts.
 
+ghost use Rattle.std.specs.Prelude.{◌≡◌, ◌<◌, ◌≤◌, ◌+◌, ◌*◌};
+
 use crate::Register;
 use of_cell::{Shape, pack};
 use of_core::{Bank, Outcome, Turn};
@@ -131,7 +133,10 @@ fn a_late_helper(rt: HostRuntime) -> Result<(), Fail> {
     assert_eq!(rt; turns(&mut bank, 0, 31), Left::Open);
     // caller 1 reads behind its help: current word, request, nine log words, a second look, current word raised, four entries of four
     // steps, request closed and raised, and the register
-    assert_eq!(rt; turns(&mut bank, 1, 32), Left::Answered(1, false, 65536, 32));
+    assert_eq!(rt;
+        turns(&mut bank, 1, 32),
+        Left::Answered(1, false, 65536, 32)
+    );
     // caller 0 finds each entry there: it leaves out two steps of each
     assert_eq!(rt; turns(&mut bank, 0, 11), Left::Answered(1, true, 65536, 42));
     Ok(())
