@@ -50,6 +50,22 @@ module _ (S : Setup) (Lawful : List ℕ → Type 0) (B : Start) where
             let opened : Opened B w.words = record { any = omega (arith, l, e); asks = rw (← s, ← e) q } in
             subst (λ (k : ℕ). log_word S w.words n.owner x ≡ word k (get_or (log_words (batch B w.batches k).log) x 0)) (sym e) (rw s (logged opened x (subst (λ (k : ℕ). x < length (log_words (batch B w.batches k).log)) e u)))
 
+    -- the number of entries that was copied is at most that of the cells
+    pub copied_count : (n : Data) (x : ℕ) → Copies S B w.words w.batches i n x → get_or (copy_more n (log_word S w.words n.owner x)) 0 0 ≤ S.cells
+    copied_count n x c = count_of (cases_eq x 0)
+      where
+        found : ℕ
+        found = log_word S w.words n.owner x
+
+        count_of : (x ≡ 0) ⊎ (x ≡ 0 → ⊥) → get_or (copy_more n found) 0 0 ≤ S.cells
+        count_of (inl z) =
+            let e : get_or (n.copy ++ pay found ∷ []) 0 0 ≡ pay found = get_or_push n.copy (pay found) 0 0 (c.many ∙ z) in
+            let f : pay (log_word S w.words n.owner x) ≡ pay (log_word S w.words n.owner 0) = ap (λ (k : ℕ). pay (log_word S w.words n.owner k)) z in
+            omega (arith, e, f, g.shared.heard.counts n.owner c.current_word.owner_in)
+        count_of (inr z) =
+            let e : get_or (n.copy ++ pay found ∷ []) 0 0 ≡ get_or n.copy 0 0 = get_or_append_left n.copy (pay found ∷ []) 0 0 (omega (arith, c.many)) in
+            omega (arith, e, c.count (omega arith))
+
     -- a value of a log word fits its payload
     pub copy_log_kept : (x : ℕ) → At S B w.words w.batches i m (CopyLog x) → Goes S Lawful B i w (stepped_at S i m (CopyLog x) w)
     copy_log_kept x a = assemble_read S Lawful B w g i h _ _ (took_at S m found (CopyLog x)) (same_words S Lawful B w g i m h (log_at S m.owner x)) (same_batches S Lawful B w g i m h) (
@@ -67,18 +83,8 @@ module _ (S : Setup) (Lawful : List ℕ → Type 0) (B : Start) where
         longer : length (copy_more m found) ≡ x + 1
         longer = length-append m.copy (pay found ∷ []) ∙ rw c.many refl
 
-        -- the number of entries that was copied is at most that of the cells
         count : get_or (copy_more m found) 0 0 ≤ S.cells
-        count = count_of (cases_eq x 0)
-          where
-            count_of : (x ≡ 0) ⊎ (x ≡ 0 → ⊥) → get_or (copy_more m found) 0 0 ≤ S.cells
-            count_of (inl z) =
-                let e : get_or (m.copy ++ pay found ∷ []) 0 0 ≡ pay found = get_or_push m.copy (pay found) 0 0 (c.many ∙ z) in
-                let f : pay (log_word S w.words m.owner x) ≡ pay (log_word S w.words m.owner 0) = ap (λ (k : ℕ). pay (log_word S w.words m.owner k)) z in
-                omega (arith, e, f, g.shared.heard.counts m.owner c.current_word.owner_in)
-            count_of (inr z) =
-                let e : get_or (m.copy ++ pay found ∷ []) 0 0 ≡ get_or m.copy 0 0 = get_or_append_left m.copy (pay found ∷ []) 0 0 (omega (arith, c.many)) in
-                omega (arith, e, c.count (omega arith))
+        count = copied_count m x c
 
         log_is : IsLog S (batch B w.batches m.seq).log
         log_is = g.shared.counted.logs m.seq c.after c.current_word.upto

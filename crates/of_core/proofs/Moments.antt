@@ -12,7 +12,7 @@ use Rattle.of_core.proofs.Openings.{start_good}
 
 -- the start
 module _ (S : Setup) (Lawful : List ℕ → Type 0) (sound : Sound S.meaning Lawful (base S) S.cells) (some : 0 < S.callers) (few : S.callers < 4294967296) (own_in : base S ≤ S.cells) (total : ℕ) (room : size S + size S + S.callers * (S.instrs + 1) ≤ total) (narrow : S.instrs ≤ 16) (little : S.cells < 4294967296) where
-  run_good : (es : List Event) (w : World) → Good S Lawful (zeros S) w → IsSchedule S w es → Good S Lawful (zeros S) (run S w es)
+  pub run_good : (es : List Event) (w : World) → Good S Lawful (zeros S) w → IsSchedule S w es → Good S Lawful (zeros S) (run S w es)
   run_good [] w g s = g
   run_good (e ∷ es) w g s = run_good es (happens S w e) (event_good S Lawful (zeros S) w g sound e s.0) s.1
 

@@ -226,7 +226,7 @@ module _ (S : Setup) (Lawful : List ℕ → Type 0) (sound : Sound S.meaning Law
 
   module _ (xs : List ℕ) (cs : List Call) (ds : List (ℕ × ℕ)) (size : length xs ≡ S.cells) (lawful : Lawful xs) (o : Overlay S xs cs ds) where
     -- the list that the log leaves
-    left_length : length (written xs ds) ≡ S.cells
+    pub left_length : length (written xs ds) ≡ S.cells
     left_length = length-written xs ds ∙ size
 
     pub left_lawful : Lawful (written xs ds)

@@ -34,6 +34,22 @@ module _ (S : Setup) (Lawful : List ℕ → Type 0) (B : Start) where
             let ne : s ≡ last w.words → ⊥ = λ e. let z : word s 0 < request_of w.words (holder w.words) = p.quiet e (omega (arith, op.any)) in omega (arith, op.asks, ap (λ (k : ℕ). word k 0) e) in
             q ∙ later S B w.batches g.shared.start (logs_of S Lawful B w g) s (last w.words - 1) x c.from (omega (arith, c.upto)) (omega (arith, n_is S Lawful B w g i m h)) l (rw (← q) fresh)
 
+    -- a try that has seen a cell of its state knows one more
+    pub watch_more : (s o : ℕ) (n : Data) → WasCurrent S B w.words w.batches s o → Watches S B w.words w.batches s n.known → (x : ℕ) → x < S.cells → seq (cell S w.words x) ≤ s
+        → Watches S B w.words w.batches s (learned S n x (cell S w.words x))
+    watch_more s o n c p x l fresh = record { quiet = p.quiet; agrees = λ y v q. knows y v q (cases_eq y x); all = length-set n.known x (Some (pay (cell S w.words x))) ∙ p.all }
+      where
+        this : get_or (numbers B w.batches s) x 0 ≡ pay (cell S w.words x)
+        this = number_at S Lawful B w.batches s x ∙ ap pay (sym (cell_seen s o n.known c p x l fresh))
+
+        knows : (y v : ℕ) → get_or (learned S n x (cell S w.words x)) y None ≡ Some v → (y ≡ x) ⊎ (y ≡ x → ⊥) → get_or (numbers B w.batches s) y 0 ≡ v
+        knows y v q (inl e) =
+            let z : get_or (learned S n x (cell S w.words x)) x None ≡ Some (pay (cell S w.words x)) = get_or-set_same n.known x (Some (pay (cell S w.words x))) None (omega (arith, p.all, l)) in
+            let t : Some v ≡ Some (pay (cell S w.words x)) = sym (rw e at q) ∙ z in
+            let u : v ≡ pay (cell S w.words x) = cc in
+            rw e (this ∙ sym u)
+        knows y v q (inr e) = p.agrees y v (sym (get_or-set_other n.known x y (Some (pay (cell S w.words x))) None e) ∙ q)
+
     seen_risen : (s o : ℕ) (known : List (Option ℕ)) → WasCurrent S B w.words w.batches s o → Watches S B w.words w.batches s known → s ≤ risen S w.words
     seen_risen s o known c p = go g.shared.durable.step
       where
@@ -143,15 +159,4 @@ module _ (S : Setup) (Lawful : List ℕ → Type 0) (B : Start) where
         go : (b : Bool) → nat_lt m.seq (seq (cell S w.words x)) ≡ b → At S B w.words w.batches i (after_try_cell S m x (cell S w.words x) b) (after_try_cell S m x (cell S w.words x) b).place
         go true e = over (nat_lt m.tries 4) refl
         go false e = reads_at (record m { known = learned S m x (cell S w.words x) }) sound (trying_as S Lawful B w g i m h m _ a.0 refl refl refl refl refl refl) a.1 a.2
-            (record { quiet = a.3.quiet; agrees = λ y v q. knows y v q (cases_eq y x); all = length-set m.known x (Some (pay (cell S w.words x))) ∙ a.3.all })
-          where
-            this : get_or (numbers B w.batches m.seq) x 0 ≡ pay (cell S w.words x)
-            this = number_at S Lawful B w.batches m.seq x ∙ ap pay (sym (cell_seen m.seq m.owner m.known a.1 a.3 x a.4 (not_newer m.seq (seq (cell S w.words x)) e)))
-
-            knows : (y v : ℕ) → get_or (learned S m x (cell S w.words x)) y None ≡ Some v → (y ≡ x) ⊎ (y ≡ x → ⊥) → get_or (numbers B w.batches m.seq) y 0 ≡ v
-            knows y v q (inl e) =
-                let s : get_or (learned S m x (cell S w.words x)) x None ≡ Some (pay (cell S w.words x)) = get_or-set_same m.known x (Some (pay (cell S w.words x))) None (omega (arith, a.3.all, a.4)) in
-                let t : Some v ≡ Some (pay (cell S w.words x)) = sym (rw e at q) ∙ s in
-                let u : v ≡ pay (cell S w.words x) = cc in
-                rw e (this ∙ sym u)
-            knows y v q (inr e) = a.3.agrees y v (sym (get_or-set_other m.known x y (Some (pay (cell S w.words x))) None e) ∙ q)
+            (watch_more m.seq m.owner m a.1 a.3 x a.4 (not_newer m.seq (seq (cell S w.words x)) e))

@@ -1,49 +1,21 @@
 -- What every moment claims: its history is legal, each round uses one state, and what recovery reads off the durable words.
-use Rattle.std.specs.Prelude.{ℕ, ◌+◌, ◌*◌, ◌==◌, nat_lt, ◌-◌, List, length, Option, Some, None, Bool, true, false, if◌then◌else◌, ◌&&◌, ◌≡◌, ◌≤◌, ◌<◌, map, nat_le}
-use Rattle.std.proofs.Common.{zero, suc, take}
-use Rattle.of_cell.specs.Words.{word, seq, pay}
+use Rattle.std.specs.Prelude.{ℕ, ◌+◌, ◌-◌, List, length, Option, Some, None, true, false, ◌≡◌, ◌≤◌, ◌<◌, map}
+use Rattle.std.proofs.Common.{take}
+use Rattle.of_cell.specs.Words.{pay}
 use Rattle.of_mem.specs.Meaning.{Agrees, SameFrom}
+use Rattle.of_recover.specs.Recovered.{recovered_data}
 use Rattle.of_core.specs.declared.place.Place.{Place}
 use Rattle.of_core.specs.declared.place.Place.TheVariants.{Idle, TryCurrent, TryRequest, TryCell, StoreScript, StoreAnnouncement, LoadCurrent, LoadRequest, CopyLog, LookAgain, LoadOwnTicket, LoadShape, LoadReply, LoadAnnouncement, LoadTicket, LoadScript, LoadCell, RaiseOld, StoreLog, RaiseLog, StoreRequest, RaiseRequest, ExchangeCurrent, RaiseCurrent, LoadTarget, ExchangeTarget, ReloadTarget, RaiseTarget, CloseRequest, RaiseClosed}
 use Rattle.of_core.specs.declared.place.Outcome.{Outcome}
 use Rattle.of_core.specs.declared.place.Outcome.TheVariants.{Answered, Spent}
 use Rattle.std.specs.List.{All}
-use Rattle.of_core.specs.Table.{Setup, base, durable_word, durable_request, durable_cell, durable_log, risen}
+use Rattle.of_core.specs.Table.{Setup, base, durable_word, risen}
 use Rattle.of_core.specs.Machine.{Call, Data}
 use Rattle.of_core.specs.World.{World, Start, Batch, Read}
 use Rattle.of_core.specs.Order.{Ordered}
 use Rattle.of_core.specs.History.{batch, at, numbers, replay, Legal, Last, Rising, HasCall}
 use Rattle.of_core.specs.Bound.{bound}
 use Rattle.of_core.specs.Events.{machine}
-
--- the first of n entries of p's durable log at sequence d, from entry j on, that names the cell a
-abbrev pub first_named : Setup → List ℕ → ℕ → ℕ → ℕ → ℕ → ℕ → Option ℕ
-first_named S ws p d a j zero = None
-first_named S ws p d a j (suc n) =
-    if (durable_log S ws p (2 * j + 1) == word d a) && (seq (durable_log S ws p (2 * j + 2)) == d) then Some (durable_log S ws p (2 * j + 2)) else first_named S ws p d a (j + 1) n
-
--- how many entries that log has
-abbrev pub entries : Setup → List ℕ → ℕ → ℕ → ℕ
-entries S ws p d = if (seq (durable_log S ws p 0) == d) && nat_le (pay (durable_log S ws p 0)) S.cells then pay (durable_log S ws p 0) else 0
-
--- the transaction that the durable words name is open
-abbrev pub is_replayed : Setup → List ℕ → Bool
-is_replayed S ws = nat_lt 0 (risen S ws) && (nat_lt (pay (durable_word S ws 0)) S.callers && (durable_request S ws (pay (durable_word S ws 0)) == word (risen S ws) 0))
-
--- the word, or else this one
-abbrev pub or_else : Option ℕ → ℕ → ℕ
-or_else None w = w
-or_else (Some v) w = v
-
--- an older cell takes the entry of the open transaction's log
-abbrev pub replayed : Setup → List ℕ → ℕ → (open_ older : Bool) → ℕ
-replayed S ws a true true = or_else (first_named S ws (pay (durable_word S ws 0)) (risen S ws) a 0 (entries S ws (pay (durable_word S ws 0)) (risen S ws))) (durable_cell S ws a)
-replayed S ws a true false = durable_cell S ws a
-replayed S ws a false older = durable_cell S ws a
-
--- the word of data cell a that recovery gives
-abbrev pub recovered : Setup → List ℕ → ℕ → ℕ
-recovered S ws a = replayed S ws a (is_replayed S ws) (nat_lt (seq (durable_cell S ws a)) (risen S ws))
 
 -- a machine in a round has loaded cells of one state alone
 abbrev pub UsesOne : Start → World → Data → Place → Type 0
@@ -104,7 +76,7 @@ pub record IsSound (S : Setup) (B : Start) (w : World) : Type 0 where
   -- each caller's calls, in batches and read, stand in the order in which it made them, and no read is newer than the durable sequence
   pub order : Ordered S B w.words w.batches w.reads
   -- recovery of the durable words gives the state after the batches up to the durable sequence, and each caller's own cells in it hold its last call
-  pub recovers : (a : ℕ) → a < S.cells → recovered S w.words a ≡ at B w.batches (risen S w.words) a
+  pub recovers : (a : ℕ) → a < S.cells → recovered_data S.callers S.cells (durable_word S w.words) a ≡ at B w.batches (risen S w.words) a
   pub reaches : risen S w.words ≤ B.seq + length w.batches
   pub own : (i : ℕ) → i < S.callers → Last S B w.batches (risen S w.words) i
   -- each round and each try has used the cells of one state alone

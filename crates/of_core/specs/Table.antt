@@ -3,6 +3,7 @@ use Rattle.std.specs.Prelude.{ℕ, ◌+◌, ◌*◌, List, [], ◌∷◌, ◌++�
 use Rattle.std.proofs.Common.{get_or, zero, suc}
 use Rattle.of_cell.specs.Words.{seq, pay}
 use Rattle.of_cell.specs.Cells.{request_cell, data_cell, log_cell, durable_cells, durable_place, script_place, members_place}
+use Rattle.of_recover.specs.Row.{current_seq}
 use Rattle.of_mem.specs.Meaning.{Meaning}
 use Rattle.of_mem.specs.declared.work.TheConstants.{MOST_INSTRS}
 
@@ -107,4 +108,4 @@ holder ws = pay (current_word ws)
 
 -- the durable sequence: the last one that a crash keeps
 abbrev pub risen : Setup → List ℕ → ℕ
-risen S ws = seq (durable_word S ws 0)
+risen S ws = current_seq (durable_word S ws)

@@ -2,7 +2,7 @@
 use Rattle.std.proofs.Common.{◌≡◌, ℕ, zero, suc, ◌+◌, ◌<◌, List, [], ◌∷◌, ◌++◌, length, get_or, take, sym, ap, ◌∙◌, arith, length-take-le}
 use Rattle.std.specs.Prelude.{flat_map}
 use Rattle.std.specs.List.{enumerate_from, range_with_len}
-use Rattle.std.proofs.lemmas.List.{take_more, flat_map_more, append-nil}
+use Rattle.std.proofs.lemmas.List.{take_more, flat_map_more}
 
 -- one more line behind those so far
 one_more : {X : Type 0} (f : X → List ℕ) (xs : List X) (x : X) (start out new : List ℕ) → out ≡ start ++ flat_map f xs → new ≡ out ++ f x → new ≡ start ++ flat_map f (xs ++ x ∷ [])

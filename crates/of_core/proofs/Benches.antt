@@ -1,0 +1,168 @@
+-- A bank's words and machines stay those of a moment.
+use Rattle.std.proofs.Common.{◌≡◌, ℕ, zero, suc, ◌+◌, ◌<◌, ◌≤◌, List, [], ◌∷◌, ◌++◌, length, get_or, set, replicate, Option, max, refl, sym, ◌∙◌, ap, arith, length-append, length-set, ◌⊎◌, inl, inr}
+use Rattle.std.proofs.lemmas.List.{get_or_default, get_or_push, get_or_append_left, get_or-map, length-map, map-set, map-append, get_or-set_same, get_or-set_other, set-get_or}
+use Rattle.std.proofs.lemmas.Bool.{cases_eq}
+use Rattle.of_mem.specs.Meaning.{Meaning, Sound}
+use Rattle.of_core.specs.declared.place.Place.{Place}
+use Rattle.of_core.specs.declared.place.Place.TheVariants.{Idle}
+use Rattle.of_core.specs.declared.place.Outcome.{Outcome}
+use Rattle.of_core.specs.declared.bank.Turn.{Turn}
+use Rattle.of_core.specs.Table.{Setup, base, size, durable_at}
+use Rattle.of_core.specs.Machine.{Data, no_machine, idle, opened}
+use Rattle.of_core.specs.Steps.{want, want_at, took, took_at, word_of, words_after, finds}
+use Rattle.of_core.specs.World.{World}
+use Rattle.of_core.specs.Invariant.{Good}
+use Rattle.of_core.specs.Events.{Event, Begins, Turns, Raises, machine, happens, MayHappen, run, IsSchedule, opening, zeros, idles}
+use Rattle.of_core.specs.Seen.{Seen, ended}
+use Rattle.of_core.specs.Meets.{Meets}
+use Rattle.of_core.specs.Turn.{told, turn_from}
+use Rattle.of_core.specs.Moment.{Bench, Reached, Alike, held, after, table, table_words}
+use Rattle.of_core.proofs.Moments.{run_good}
+use Rattle.of_core.proofs.Openings.{start_good}
+use Rattle.of_core.proofs.Found.{found_now}
+
+run_push : (S : Setup) (w : World) (es : List Event) (e : Event) → run S w (es ++ e ∷ []) ≡ happens S (run S w es) e
+run_push S w [] e = refl
+run_push S w (d ∷ es) e = run_push S (happens S w d) es e
+
+schedule_push : (S : Setup) (w : World) (es : List Event) (e : Event) → IsSchedule S w es → MayHappen S (run S w es) e → IsSchedule S w (es ++ e ∷ [])
+schedule_push S w [] e s m = (m, tt)
+schedule_push S w (d ∷ es) e s m = (s.0, schedule_push S (happens S w d) es e s.1 m)
+
+abbrev end : (S : Setup) (ws : List ℕ) (ms : List Data) → Reached S ws ms → World
+end S ws ms r = run S (opening S (table_words S)) r.events
+
+pub start : (S : Setup) → Reached S (replicate (table_words S) 0) (idles S 0 S.callers)
+start S = record { events = []; schedule = tt; words = refl; machines = refl }
+
+module _ (S : Setup) (ws : List ℕ) (ms : List Data) (r : Reached S ws ms) where
+  further : (e : Event) → MayHappen S (end S ws ms r) e → Reached S (happens S (end S ws ms r) e).words (happens S (end S ws ms r) e).machines
+  further e m = record {
+    events = r.events ++ e ∷ [];
+    schedule = schedule_push S (opening S (table_words S)) r.events e r.schedule m;
+    words = ap (λ (w : World). w.words) (run_push S (opening S (table_words S)) r.events e);
+    machines = ap (λ (w : World). w.machines) (run_push S (opening S (table_words S)) r.events e);
+  }
+
+  is_machine : (i : ℕ) → machine (end S ws ms r) i ≡ get_or ms i no_machine
+  is_machine i = ap (λ (xs : List Data). get_or xs i no_machine) r.machines
+
+  pub begins : (i : ℕ) (op : List ℕ) (m : Data) → get_or ms i no_machine ≡ m → i < S.callers → m.place ≡ Idle → 1 ≤ length op → length op ≤ S.instrs → m.made + 1 < 4294967296 → Reached S ws (set ms i (opened S m op))
+  begins i op m e h p l k t = rw (← r.words, ← r.machines, ← (is_machine i ∙ e)) (further (Begins i op) (h, rw (is_machine i ∙ e) p, l, k, rw (is_machine i ∙ e) t))
+
+  pub turns : (i : ℕ) (m : Data) → get_or ms i no_machine ≡ m → i < S.callers → Reached S (words_after (want S m) ws) (set ms i (took S m (finds S ws m)))
+  turns i m e h = rw (← r.words, ← r.machines, ← (is_machine i ∙ e)) (further (Turns i) h)
+
+  pub raises : (c : ℕ) → c < size S → Reached S (set ws (durable_at S c) (max (get_or ws (durable_at S c) 0) (get_or ws c 0))) ms
+  raises c h = rw (← r.words, ← r.machines) (further (Raises c) h)
+
+-- the machine of a bank meets the word that its wanted step finds
+module _ (S : Setup) (Lawful : List ℕ → Type 0) (sound : Sound S.meaning Lawful (base S) S.cells) (some : 0 < S.callers) (few : S.callers < 4294967296) (own_in : base S ≤ S.cells) (narrow : S.instrs ≤ 16) (little : S.cells < 4294967296) (ws : List ℕ) (ms : List Data) (r : Reached S ws ms) where
+  good : Good S Lawful (zeros S) (end S ws ms r)
+  good = run_good S Lawful sound some few own_in (table_words S) (omega arith) narrow little r.events (opening S (table_words S)) (start_good S Lawful sound some few own_in (table_words S) (omega arith) narrow little) r.schedule
+
+  pub meets : (i : ℕ) (m : Data) → i < S.callers → i < length ms → get_or ms i no_machine ≡ m → Meets S Lawful m (finds S ws m)
+  meets i m h l e = record {
+    start = zeros S;
+    world = end S ws ms r;
+    good = good;
+    caller = i;
+    in_range = h;
+    here = rw r.machines (get_or_default ms i m no_machine l ∙ e);
+    finds = rw (← r.words) (found_now S (end S ws ms r).words m);
+  }
+
+-- the machines of a bank
+module _ {X : Type 0} (work : X) (callers cells limit : ℕ) where
+  abbrev pub at : Data → Seen X
+  at d = record { work = work; callers = callers; cells = cells; limit = limit; call = d }
+
+  -- a machine that goes on stays one of the bank
+  pub alike_call : (s t : Seen X) (d : Data) → s ≡ at s.call → t ≡ record s { call = d } → t ≡ at t.call
+  alike_call s t d p q =
+      let e : t ≡ at d = q ∙ ap (λ (x : Seen X). record x { call = d }) p in
+      e ∙ ap at (sym (ap (λ (x : Seen X). x.call) e))
+
+  -- one that was made for it
+  pub alike_new : (s : Seen X) → s.work ≡ work → s.callers ≡ callers → s.cells ≡ cells → s.limit ≡ limit → s ≡ at s.call
+  alike_new s p q r t = rw (← p, ← q, ← r, ← t) refl
+
+  module _ (ms : List (Seen X)) where
+    pub alike_set : (i : ℕ) (s : Seen X) → Alike work callers cells limit ms → s ≡ at s.call → Alike work callers cells limit (set ms i s)
+    alike_set i s a p k d l = go (cases_eq k i)
+      where
+        here : k < length ms
+        here = omega (arith, length-set ms i s)
+
+        go : (k ≡ i) ⊎ (k ≡ i → ⊥) → get_or (set ms i s) k d ≡ at (get_or (set ms i s) k d).call
+        go (inl e) = rw (e, get_or-set_same ms i s d (rw (← e) here)) p
+        go (inr n) = rw (get_or-set_other ms i k s d n) (a k d here)
+
+    pub alike_push : (s : Seen X) → Alike work callers cells limit ms → s ≡ at s.call → Alike work callers cells limit (ms ++ s ∷ [])
+    alike_push s a p k d l = go (cases_eq k (length ms))
+      where
+        go : (k ≡ length ms) ⊎ (k ≡ length ms → ⊥) → get_or (ms ++ s ∷ []) k d ≡ at (get_or (ms ++ s ∷ []) k d).call
+        go (inl e) = rw (get_or_push ms s d k (sym e)) p
+        go (inr n) = let here : k < length ms = omega (arith, length-append ms (s ∷ [])) in rw (get_or_append_left ms (s ∷ []) d k here) (a k d here)
+
+    -- machine i as code sees it
+    pub seen_at : (i : ℕ) (s : Seen X) → Alike work callers cells limit ms → i < length ms → s ≡ get_or ms i s → (s ≡ at s.call) × (get_or (held ms) i no_machine ≡ s.call)
+    seen_at i s a l p = (p ∙ a i s l ∙ ap (λ (x : Seen X). at x.call) (sym p), get_or-map (λ (m : Seen X). m.call) ms i s no_machine l ∙ ap (λ (x : Seen X). x.call) (sym p))
+
+    pub held_length : length (held ms) ≡ length ms
+    held_length = length-map ms (λ (m : Seen X). m.call)
+
+    pub held_put : (i : ℕ) (t : Seen X) (d : Data) → t.call ≡ d → held (set ms i t) ≡ set (held ms) i d
+    held_put i t d e = map-set (λ (m : Seen X). m.call) ms i t ∙ ap (set (held ms) i) e
+
+    -- what is read after a write
+    pub held_now : (i : ℕ) (t : Seen X) → i < length ms → get_or (held (set ms i t)) i no_machine ≡ t.call
+    held_now i t l = get_or-map (λ (m : Seen X). m.call) (set ms i t) i t no_machine (omega (arith, length-set ms i t)) ∙ ap (λ (x : Seen X). x.call) (get_or-set_same ms i t t l)
+
+    pub held_push : (S : Setup) (s : Seen X) (n : ℕ) → held ms ≡ idles S 0 n → s.call ≡ idle S n 0 → held (ms ++ s ∷ []) ≡ idles S 0 (n + 1)
+    held_push S s n p q = map-append (λ (m : Seen X). m.call) ms (s ∷ []) ∙ rw (p, q) (idles_push 0 n n (omega arith) ∙ ap (idles S 0) (let z : suc n ≡ n + 1 = omega arith in z))
+      where
+        idles_push : (i n k : ℕ) → i + n ≡ k → idles S i n ++ idle S k 0 ∷ [] ≡ idles S i (suc n)
+        idles_push i zero k e = let z : k ≡ i = omega arith in rw z refl
+        idles_push i (suc n) k e = ap (λ (xs : List Data). idle S i 0 ∷ xs) (idles_push (suc i) n k (omega arith))
+
+-- where a count has come to its end
+pub at_end : (i n : ℕ) → i ≤ n → n ≤ i → i ≡ n
+at_end i n l u = omega arith
+
+-- two reads of one machine
+pub same_read : {X : Type 0} (xs : List X) (i : ℕ) (s t : X) → i < length xs → s ≡ get_or xs i s → t ≡ get_or xs i t → t ≡ s
+same_read xs i s t l p q = q ∙ get_or_default xs i t s l ∙ sym p
+
+-- a turn of an idle machine leaves words and machines as they are
+pub rests : (S : Setup) (ws : List ℕ) (ms : List Data) (i : ℕ) (m : Data) → get_or ms i no_machine ≡ m → m.place ≡ Idle → (words_after (want S m) ws ≡ ws) × (set ms i (took S m (finds S ws m)) ≡ ms)
+unfolding want took
+rests S ws ms i m e p = go m.place p (get_or ws (word_of (want_at S m m.place)) 0)
+  where
+    go : (p : Place) → p ≡ Idle → (n : ℕ) → (words_after (want_at S m p) ws ≡ ws) × (set ms i (took_at S m n p) ≡ ms)
+    go p q n = rw q (set-get_or ws 0 0, rw (← e) (set-get_or ms i no_machine))
+
+-- what a turn says of a machine that wasn't idle
+pub turn_is : (p : Place) (m : Data) (o : Option Outcome) (r : Turn) → (p ≡ Idle → ⊥) → r ≡ told o → o ≡ ended m → r ≡ turn_from p m
+turn_is Idle m o r h e q = absurd (h refl)
+turn_is p m o r h e q = e ∙ ap told q
+
+-- what events leave, of a bench under another name
+pub carry : {X : Type 0} (M : X → Meaning) (b x y : Bench X) (es : List Event) → x ≡ y → b ≡ after M es x → b ≡ after M es y
+carry M b x y es e p = p ∙ ap (after M es) e
+
+-- what events leave of a bank
+module _ {X : Type 0} (M : X → Meaning) (b : Bench X) where
+  module _ (i : ℕ) (m : Data) (e : get_or b.machines i no_machine ≡ m) where
+    pub begun_after : (op : List ℕ) (ms : List Data) → ms ≡ set b.machines i (opened (table M b) m op) → record b { machines = ms } ≡ after M (Begins i op ∷ []) b
+    begun_after op ms q = rw (q, ← e) refl
+
+    pub rests_after : m.place ≡ Idle → b ≡ after M (Turns i ∷ []) b
+    rests_after p = let r = rests (table M b) b.words b.machines i (get_or b.machines i no_machine) refl (ap (λ (m : Data). m.place) e ∙ p) in rw (r.0, r.1) refl
+
+    pub turned_after : (ws : List ℕ) (ms : List Data) → ws ≡ words_after (want (table M b) m) b.words → ms ≡ set b.machines i (took (table M b) m (finds (table M b) b.words m))
+        → record b { words = ws; machines = ms } ≡ after M (Turns i ∷ []) b
+    turned_after ws ms p q = rw (p, q, ← e) refl
+
+  pub raised_after : (c : ℕ) (ws : List ℕ) → ws ≡ set b.words (durable_at (table M b) c) (max (get_or b.words (durable_at (table M b) c) 0) (get_or b.words c 0)) → record b { words = ws } ≡ after M (Raises c ∷ []) b
+  raised_after c ws p = rw p refl

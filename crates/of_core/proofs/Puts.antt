@@ -1,0 +1,234 @@
+-- Filling a log: the puts of write-set and partial memory are those of the definitions, and where no cell stands twice they list the entries one behind the other.
+use Rattle.std.proofs.Common.{◌≡◌, ℕ, zero, suc, ◌+◌, ◌-◌, ◌*◌, ◌/◌, ◌%◌, ◌^◌, ◌<◌, ◌≤◌, ◌==◌, List, [], ◌∷◌, ◌++◌, length, get_or, set, take, drop, Option, Some, None, Bool, true, false, refl, ap, ◌∙◌, sym, subst, arith, append_assoc, length-append, replicate, ◌⊎◌, inl, inr}
+use Rattle.std.proofs.lemmas.List.{get_or_append_left, get_or_push, append-nil, take_more, length-replicate, get_or-replicate, get_or_past, set_comm, get_or-drop, get_or-take, length-take, length-drop, length-take-le, drop_all, take_all, drop-append-le}
+use Rattle.std.proofs.lemmas.Bool.{cases_lt, cases_eq}
+use Rattle.std.proofs.lemmas.Bool.Decides.{nat_tests}
+use Rattle.of_wset.specs.Pairs as wset
+use Rattle.of_mem.specs.Pairs as mem
+use Rattle.of_mem.specs.Pad.{Pad, over, newest, wrote}
+use Rattle.of_mem.specs.Meaning.{Meaning, Sound, Agrees, Once, Fits, Walked, Needs, Gives, marked}
+use Rattle.of_core.specs.Table.{Setup, base}
+use Rattle.of_mem.specs.declared.work.TheConstants.{MOST_INSTRS}
+use Rattle.of_mem.specs.declared.work.RawReply.{RawReply}
+use Rattle.of_core.specs.declared.place.Place.{Place}
+use Rattle.of_core.specs.Machine.{Data, put, put_all, merged, flat, log_words, pairs, log_of, own_cells, listed, turned}
+use Rattle.of_core.specs.Steps.{read_ran, next_call, own_raw, first_mark}
+use Rattle.of_core.specs.Fill.{place_behind, newer_raw}
+use Rattle.of_core.proofs.Logs.{whole_log, once_append}
+use Rattle.of_core.proofs.States.{once_tail}
+
+same_test : (a b : ℕ) → a ≡ b → (a == b) ≡ true
+same_test a b e = grind (arith, nat_tests)
+
+other_test : (a b : ℕ) → (a ≡ b → ⊥) → (a == b) ≡ false
+other_test a b e = grind (arith, nat_tests)
+
+-- a write-set's put
+pub wset_put : (ds : List (ℕ × ℕ)) (a v : ℕ) → wset.put ds a v ≡ put (a, v) ds
+wset_put [] a v = refl
+wset_put (d ∷ ds) a v = go (wset_put ds a v) (cases_eq d.0 a)
+  where
+    go : wset.put ds a v ≡ put (a, v) ds → (d.0 ≡ a) ⊎ (d.0 ≡ a → ⊥) → wset.put (d ∷ ds) a v ≡ put (a, v) (d ∷ ds)
+    go rest (inl e) = rw (same_test d.0 a e, same_test a d.0 (sym e)) refl
+    go rest (inr n) = rw (other_test d.0 a n, other_test a d.0 (λ q. n (sym q))) (ap (λ (xs : List (ℕ × ℕ)). d ∷ xs) rest)
+
+-- that of partial memory
+pub mem_put : (ds : List (ℕ × ℕ)) (a v : ℕ) → mem.put ds a v ≡ put (a, v) ds
+mem_put [] a v = refl
+mem_put (d ∷ ds) a v = go (mem_put ds a v) (cases_eq d.0 a)
+  where
+    go : mem.put ds a v ≡ put (a, v) ds → (d.0 ≡ a) ⊎ (d.0 ≡ a → ⊥) → mem.put (d ∷ ds) a v ≡ put (a, v) (d ∷ ds)
+    go rest (inl e) = rw (same_test d.0 a e, same_test a d.0 (sym e)) refl
+    go rest (inr n) = rw (other_test d.0 a n, other_test a d.0 (λ q. n (sym q))) (ap (λ (xs : List (ℕ × ℕ)). d ∷ xs) rest)
+
+pub mem_put_all : (ds es : List (ℕ × ℕ)) → mem.put_all ds es ≡ put_all ds es
+mem_put_all ds [] = refl
+mem_put_all ds (e ∷ es) = ap (λ (xs : List (ℕ × ℕ)). mem.put_all xs es) (mem_put ds e.0 e.1) ∙ mem_put_all (put e ds) es
+
+pub put_all_append : (ds es fs : List (ℕ × ℕ)) → put_all ds (es ++ fs) ≡ put_all (put_all ds es) fs
+put_all_append ds [] fs = refl
+put_all_append ds (e ∷ es) fs = put_all_append (put e ds) es fs
+
+-- one entry more
+pub put_all_take : (ds es : List (ℕ × ℕ)) (i : ℕ) (d : ℕ × ℕ) → i < length es → put_all ds (take (i + 1) es) ≡ put (get_or es i d) (put_all ds (take i es))
+put_all_take ds es i d l = ap (put_all ds) (take_more es i d l) ∙ put_all_append ds (take i es) (get_or es i d ∷ [])
+
+-- an entry of a cell that isn't there comes last
+put_absent : (e : ℕ × ℕ) (ds : List (ℕ × ℕ)) → ((k : ℕ) → k < length ds → (get_or ds k (0, 0)).0 ≡ e.0 → ⊥) → put e ds ≡ ds ++ e ∷ []
+put_absent e [] n = refl
+put_absent e (d ∷ ds) n = rw (other_test e.0 d.0 (λ q. n 0 (omega arith) (sym q))) (ap (λ (xs : List (ℕ × ℕ)). d ∷ xs) (put_absent e ds (λ k l q. n (suc k) (omega arith) q)))
+
+pub put_all_apart : (es ds : List (ℕ × ℕ)) → Once (es ++ ds) → put_all es ds ≡ es ++ ds
+put_all_apart es [] o = sym (append-nil es)
+put_all_apart es (d ∷ ds) o =
+    rw (put_absent d es absent) (put_all_apart (es ++ d ∷ []) ds (subst Once (sym regroup) o) ∙ regroup)
+  where
+    regroup : (es ++ d ∷ []) ++ ds ≡ es ++ d ∷ ds
+    regroup = append_assoc es (d ∷ []) ds
+
+    absent : (k : ℕ) → k < length es → (get_or es k (0, 0)).0 ≡ d.0 → ⊥
+    absent k l q =
+        let size : length (es ++ d ∷ ds) ≡ length es + suc (length ds) = length-append es (d ∷ ds) in
+        let old : get_or (es ++ d ∷ ds) k (0, 0) ≡ get_or es k (0, 0) = get_or_append_left es (d ∷ ds) (0, 0) k l in
+        let new : get_or (es ++ d ∷ ds) (length es) (0, 0) ≡ d = rw (← regroup) (get_or_append_left (es ++ d ∷ []) ds (0, 0) (length es) (omega (arith, length-append es (d ∷ []))) ∙ get_or_push es d (0, 0) (length es) refl) in
+        let s : k ≡ length es = o k (length es) (omega arith) (omega arith) (ap (λ (e : ℕ × ℕ). e.0) old ∙ q ∙ sym (ap (λ (e : ℕ × ℕ). e.0) new)) in
+        omega arith
+
+pub put_all_once : (ds : List (ℕ × ℕ)) → Once ds → put_all [] ds ≡ ds
+put_all_once ds o = put_all_apart [] ds o
+
+pub log_of_words : (es : List (ℕ × ℕ)) → log_of (log_words es) ≡ es
+log_of_words es = go es
+  where
+    go : (es : List (ℕ × ℕ)) → pairs (flat es) ≡ es
+    go [] = refl
+    go (e ∷ es) = ap (λ (xs : List (ℕ × ℕ)). e ∷ xs) (go es)
+
+-- a write that comes first or last, to a cell that the others don't name
+merged_set : (known : List (Option ℕ)) (es : List (ℕ × ℕ)) (a : ℕ) (v : Option ℕ) → ((k : ℕ) → k < length es → (get_or es k (0, 0)).0 ≡ a → ⊥) → merged (set known a v) es ≡ set (merged known es) a v
+merged_set known [] a v n = refl
+merged_set known (e ∷ es) a v n =
+    ap (λ (xs : List (Option ℕ)). merged xs es) (set_comm known a e.0 v (Some e.1) (λ q. n 0 (omega arith) (sym q))) ∙ merged_set (set known e.0 (Some e.1)) es a v (λ k l q. n (suc k) (omega arith) q)
+
+-- what lies over the known cells, where no cell stands twice in it
+pub over_merged : (known : List (Option ℕ)) (es : List (ℕ × ℕ)) → Once es → over known es ≡ merged known es
+over_merged known [] o = refl
+over_merged known (e ∷ es) o = ap (λ (xs : List (Option ℕ)). set xs e.0 (Some e.1)) (over_merged known es (once_tail e es o)) ∙ sym (merged_set known es e.0 (Some e.1) absent)
+  where
+    absent : (k : ℕ) → k < length es → (get_or es k (0, 0)).0 ≡ e.0 → ⊥
+    absent k l q = let z : suc k ≡ 0 = o (suc k) 0 (omega arith) (omega arith) q in omega (arith, z)
+
+-- a list of zeros is lawful, and agrees with nothing known
+pub zeros_agree : (M : Meaning) (Lawful : List ℕ → Type 0) (b n : ℕ) → Sound M Lawful b n → (k : ℕ) → (xs : List ℕ) × (length xs ≡ n) × Lawful xs × Agrees (replicate k None) xs
+zeros_agree M Lawful b n s k = (replicate n 0, length-replicate n 0, s.zeros (replicate n 0) (length-replicate n 0) zero_at, λ a v e. absurd (none_at a v e (cases_lt a k)))
+  where
+    zero_at : (a : ℕ) → get_or {A = ℕ} (replicate n 0) a 0 ≡ 0
+    zero_at a = go (cases_lt a n)
+      where
+        go : (a < n) ⊎ (n ≤ a) → get_or {A = ℕ} (replicate n 0) a 0 ≡ 0
+        go (inl l) = get_or-replicate n a 0 0 l
+        go (inr l) = get_or_past (replicate n 0) a 0 (rw length-replicate l)
+
+    none_at : (a v : ℕ) → get_or {A = Option ℕ} (replicate k None) a None ≡ Some v → (a < k) ⊎ (k ≤ a) → ⊥
+    none_at a v e (inl l) = let n : get_or {A = Option ℕ} (replicate k None) a None ≡ None = get_or-replicate k a None None l in cc
+    none_at a v e (inr l) = let n : get_or {A = Option ℕ} (replicate k None) a None ≡ None = get_or_past (replicate k None) a None (rw length-replicate l) in cc
+
+-- a work's rules for the setup of its machines
+pub sound_at : (S : Setup) (M : Meaning) (Lawful : List ℕ → Type 0) (many size : ℕ) → many ≡ S.callers → size ≡ S.cells → S.instrs ≡ MOST_INSTRS → Sound M Lawful (many * (MOST_INSTRS + 2)) size → Sound M Lawful (base S) S.cells
+sound_at S M Lawful many size p q r s =
+    let b : many * (MOST_INSTRS + 2) ≡ base S = rw (p, r) refl in
+    subst (λ (n : ℕ). Sound M Lawful (base S) n) q (subst (λ (n : ℕ). Sound M Lawful n size) b s)
+
+module _ (S : Setup) (Lawful : List ℕ → Type 0) (sound : Sound S.meaning Lawful (base S) S.cells) (known : List (Option ℕ)) (op xs : List ℕ) (size : length xs ≡ S.cells) (lawful : Lawful xs) (agrees : Agrees known xs) where
+  walk_fits : (r : Walked) → S.meaning.walk known op ≡ r → Fits S.meaning (base S) S.cells known xs op r
+  walk_fits r e = subst (λ (r : Walked). Fits S.meaning (base S) S.cells known xs op r) e (sound.walks known xs op size lawful agrees)
+
+  -- a run that needs a cell
+  pub needs_cell : (a : ℕ) → S.meaning.walk known op ≡ Needs a → a < S.cells
+  needs_cell a e = (walk_fits (Needs a) e).1
+
+  -- a run that is over: the own cells come behind what it wrote
+  pub own_behind : (i ticket : ℕ) (es : List (ℕ × ℕ)) (r : RawReply) → i < S.callers → length op ≤ S.instrs → ticket < 4294967296 → base S ≤ S.cells → S.meaning.walk known op ≡ Gives es r
+      → put_all es (own_cells S i ticket (length op) r) ≡ es ++ own_cells S i ticket (length op) r
+  own_behind i ticket es r h c t b e = put_all_apart es (own_cells S i ticket (length op) r) (whole_log S i ticket (length op) xs op es r h c t b (walk_fits (Gives es r) e)).once
+
+-- where a run needs a cell the place before doesn't matter
+pub read_anywhere : (m : Data) (p : Place) (r : Walked) → read_ran (record m { place = p }) r ≡ read_ran m r
+read_anywhere m p (Needs a) = refl
+read_anywhere m p (Gives es r) = refl
+
+-- how a scan goes on, where the choices are by value
+pub next_call_is : (m : Data) (more : Bool) → next_call m more ≡ record m { place = place_behind more; scan = m.scan + 1; steps = m.steps + 1 }
+next_call_is m true = refl
+next_call_is m false = refl
+
+pub own_raw_is : (m : Data) (r : RawReply) (own : Bool) → own_raw m r own ≡ newer_raw r m.raw own
+own_raw_is m r true = refl
+own_raw_is m r false = refl
+
+-- places that a shape marks
+pub mark_true : (shape j : ℕ) → shape / 2 ^ j % 2 ≡ 1 → marked shape j ≡ true
+unfolding marked
+mark_true shape j e = same_test (shape / 2 ^ j % 2) 1 e
+
+pub mark_false : (shape j : ℕ) → (shape / 2 ^ j % 2 ≡ 1 → ⊥) → marked shape j ≡ false
+unfolding marked
+mark_false shape j e = other_test (shape / 2 ^ j % 2) 1 e
+
+pub mark_here : (shape j n : ℕ) → 0 < n → marked shape j ≡ true → first_mark shape j n ≡ Some j
+mark_here shape j zero l e = absurd (omega arith)
+mark_here shape j (suc n) l e = rw e refl
+
+pub mark_later : (shape j n k : ℕ) → n ≡ k + 1 → marked shape j ≡ false → first_mark shape j n ≡ first_mark shape (j + 1) k
+mark_later shape j zero k l e = absurd (omega arith)
+mark_later shape j (suc n) k l e = let q : n ≡ k = omega arith in rw (e, q) refl
+
+-- what a script of partial memory writes
+pub wrote_script : (p : Pad) (a v : ℕ) → (wrote p a v).script ≡ put (a, v) p.script
+unfolding wrote
+wrote_script p a v = mem_put p.script a v
+
+-- a cell that neither script nor batch wrote
+pub newest_known : (p : Pad) (a : ℕ) → p.script ≡ [] → mem.value_at p.batch a ≡ None → newest p a ≡ get_or p.known a None
+unfolding newest
+newest_known p a e n = rw (e, n) refl
+
+-- one number more of a reply
+pub put_listed : (ds : List (ℕ × ℕ)) (a : ℕ) (vs : List ℕ) (j : ℕ) → j < length vs → put_all ds (listed a (take (j + 1) vs)) ≡ put (a + j, get_or vs j 0) (put_all ds (listed a (take j vs)))
+put_listed ds a vs j l = ap (λ (k : ℕ). put_all ds (listed a (take k vs))) (let z : j + 1 ≡ suc j = omega arith in z) ∙ ap (put_all ds) (more a vs j l) ∙ put_all_append ds (listed a (take j vs)) ((a + j, get_or vs j 0) ∷ [])
+  where
+    more : (a : ℕ) (vs : List ℕ) (j : ℕ) → j < length vs → listed a (take (suc j) vs) ≡ listed a (take j vs) ++ (a + j, get_or vs j 0) ∷ []
+    more a [] j l = absurd (omega arith)
+    more a (v ∷ vs) zero l = let z : a ≡ a + 0 = omega arith in ap (λ (k : ℕ). (k, v) ∷ []) z
+    more a (v ∷ vs) (suc j) l =
+        let z : a + 1 + j ≡ a + suc j = omega arith in
+        ap (λ (xs : List (ℕ × ℕ)). (a, v) ∷ xs) (more (a + 1) vs j (omega arith) ∙ ap (λ (k : ℕ). listed (a + 1) (take j vs) ++ (k, get_or vs j 0) ∷ []) z)
+
+-- one entry more of a part of a log
+pub put_part : (ds es : List (ℕ × ℕ)) (from j : ℕ) → from ≤ j → j < length es → put_all ds (drop from (take (j + 1) es)) ≡ put (get_or es j (0, 0)) (put_all ds (drop from (take j es)))
+put_part ds es from j p l =
+    let size : length (take j es) ≡ j = length-take-le j es (omega arith) in
+    ap (λ (xs : List (ℕ × ℕ)). put_all ds (drop from xs)) (take_more es j (0, 0) l)
+    ∙ ap (put_all ds) (drop-append-le from (take j es) (get_or es j (0, 0) ∷ []) (omega arith))
+    ∙ put_all_append ds (drop from (take j es)) (get_or es j (0, 0) ∷ [])
+
+pub put_no_part : (ds es : List (ℕ × ℕ)) (from : ℕ) → put_all ds (drop from (take from es)) ≡ ds
+put_no_part ds es from = ap (put_all ds) (drop_all from (take from es) (omega (arith, length-take from es)))
+
+-- the parts of a log, going round
+pub put_round : (ds es : List (ℕ × ℕ)) (f n : ℕ) → length es ≡ n → put_all (put_all ds (drop f (take n es))) (drop 0 (take f es)) ≡ put_all ds (turned f es)
+put_round ds es f n e = ap (λ (xs : List (ℕ × ℕ)). put_all (put_all ds (drop f xs)) (take f es)) (take_all n es (omega arith)) ∙ sym (put_all_append ds (drop f es) (take f es))
+
+pub turned_none : (es : List (ℕ × ℕ)) (f : ℕ) → length es ≡ 0 → turned f es ≡ []
+turned_none es f e = ap (λ (xs : List (ℕ × ℕ)). xs ++ take f es) (drop_all f es (omega arith)) ∙ none (take f es) (omega (arith, length-take f es))
+  where
+    none : (xs : List (ℕ × ℕ)) → length xs ≡ 0 → xs ≡ []
+    none [] q = refl
+    none (x ∷ xs) q = absurd (omega arith)
+
+-- going round names no cell twice either
+pub once_turned : (es : List (ℕ × ℕ)) (f : ℕ) → Once es → Once (turned f es)
+once_turned es f o = once_append (drop f es) (take f es) behind before apart
+  where
+    size : length (drop f es) ≡ length es - f
+    size = length-drop f es
+
+    behind : Once (drop f es)
+    behind j k l u q =
+        let z : f + j ≡ f + k = o (f + j) (f + k) (omega (arith, size)) (omega (arith, size)) (ap (λ (e : ℕ × ℕ). e.0) (sym (get_or-drop f es j (0, 0))) ∙ q ∙ ap (λ (e : ℕ × ℕ). e.0) (get_or-drop f es k (0, 0))) in
+        omega (arith, size)
+
+    before : Once (take f es)
+    before j k l u q =
+        let s = length-take f es in
+        o j k (omega (arith, s)) (omega (arith, s)) (ap (λ (e : ℕ × ℕ). e.0) (sym (get_or-take f es j (0, 0) (omega (arith, s)))) ∙ q ∙ ap (λ (e : ℕ × ℕ). e.0) (get_or-take f es k (0, 0) (omega (arith, s))))
+
+    apart : (j k : ℕ) → j < length (drop f es) → k < length (take f es) → (get_or (drop f es) j (0, 0)).0 ≡ (get_or (take f es) k (0, 0)).0 → ⊥
+    apart j k l u q =
+        let s = length-take f es in
+        let z : f + j ≡ k = o (f + j) k (omega (arith, size)) (omega (arith, s)) (ap (λ (e : ℕ × ℕ). e.0) (sym (get_or-drop f es j (0, 0))) ∙ q ∙ ap (λ (e : ℕ × ℕ). e.0) (get_or-take f es k (0, 0) (omega (arith, s)))) in
+        omega (arith, size)
+
+-- what has no case
+pub no_case : {X : Type 0} → ◌≡◌ {A = Bool} false true → X
+no_case e = absurd (let z : ◌≡◌ {A = Bool} false true = e in cc)

@@ -1,0 +1,60 @@
+use Rattle.std.proofs.Common.{◌≡◌, ℕ, length, replicate, arith, ap, ◌∙◌, sym, length-append}
+use Rattle.of_core.specs.Table.{Setup, setup_of}
+use Rattle.of_core.specs.Seen.{setup}
+use Rattle.of_core.specs.Machine.{idle}
+use Rattle.of_core.specs.Moment.{held}
+use Rattle.std.proofs.lemmas.List.{length-replicate}
+use Rattle.of_cell.specs.Cells.{table_words as cell_words}
+use Rattle.of_core.specs.Moment.{table_words}
+use Rattle.of_core.specs.Events.{idles}
+use Rattle.of_core.proofs.Benches.{at_end, alike_new, alike_push, held_push, start}
+use Rattle.of_core.proofs.bank.Bank.new.Goals as goal
+
+pub loop-caller-preserved : goal.loop-caller-preserved
+loop-caller-preserved g c =
+    let a = c.args in
+    let M = g.W.Work.meaning in
+    let S : Setup = setup_of a.shape.callers a.shape.cells a.limit (M a.work) in
+    let ms = c.loop-caller.machines.items in
+    let m = c.in_ok-machine.machine in
+    let made = c.in_ok-machine.ensures in
+    let pushed = c.in_ok-push.ensures.items in
+    let inv = c.loop-caller.invariant in
+    let alike = alike_new a.work a.shape.callers a.shape.cells a.limit m made.work made.callers made.cells made.limit in
+    let idle_is : m.call ≡ idle S c.loop-caller.caller 0 = made.idle ∙ ap (λ (T : Setup). idle T c.loop-caller.caller 0) (ap (setup M) alike) in
+    record {
+      members = ap length pushed ∙ length-append ms _ ∙ omega (arith, inv.members);
+      alike = rw pushed (alike_push a.work a.shape.callers a.shape.cells a.limit ms m inv.alike alike);
+      machines = rw pushed (held_push a.work a.shape.callers a.shape.cells a.limit ms S m c.loop-caller.caller inv.machines idle_is);
+    }
+
+pub returns-clause-words : goal.returns-clause-words
+returns-clause-words g c =
+    let a = c.args in
+    let size : c.words.result ≡ table_words (setup_of a.shape.callers a.shape.cells a.limit (g.W.Work.meaning a.work)) = c.words.ensures ∙ ap (λ (k : ℕ). cell_words a.shape.callers k a.shape.cells) c.requires.instrs in
+    c.in_ok-words.ensures.items_if_clones_equal (λ y e. e) ∙ ap (λ (k : ℕ). replicate k 0) size
+
+pub returns-clause-machines : goal.returns-clause-machines
+returns-clause-machines g c =
+    let a = c.args in
+    let all : c.loop-caller.caller ≡ a.shape.callers = at_end _ _ c.loop-caller.auto.caller-end c.loop-caller-test.false in
+    c.loop-caller.invariant.machines ∙ ap (idles (setup_of a.shape.callers a.shape.cells a.limit (g.W.Work.meaning a.work)) 0) all
+
+pub invariant_of-result : goal.invariant_of-result
+invariant_of-result g c =
+    let a = c.args in
+    let S : Setup = setup_of a.shape.callers a.shape.cells a.limit (g.W.Work.meaning a.work) in
+    let size : c.words.result ≡ table_words S = c.words.ensures ∙ ap (λ (k : ℕ). cell_words a.shape.callers k a.shape.cells) c.requires.instrs in
+    let words : c.in_ok-words.words.items ≡ replicate (table_words S) 0 = c.in_ok-words.ensures.items_if_clones_equal (λ y e. e) ∙ ap (λ (k : ℕ). replicate k 0) size in
+    let all : c.loop-caller.caller ≡ a.shape.callers = at_end _ _ c.loop-caller.auto.caller-end c.loop-caller-test.false in
+    let machines : held c.loop-caller.machines.items ≡ idles S 0 a.shape.callers = c.loop-caller.invariant.machines ∙ ap (idles S 0) all in
+    record {
+      callers = sym c.requires.callers;
+      instrs = c.requires.instrs;
+      cells = sym c.requires.cells;
+      limit = c.requires.limit;
+      room = ap length words ∙ length-replicate (table_words S) 0;
+      members = c.loop-caller.invariant.members ∙ all;
+      alike = c.loop-caller.invariant.alike;
+      reached = rw (words, machines) (start S);
+    }

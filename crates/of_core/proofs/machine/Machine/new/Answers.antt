@@ -1,0 +1,37 @@
+use Rattle.std.proofs.Common.{rules, sym, ap, ◌∙◌, length, arith, None}
+use Rattle.std.proofs.lemmas.List.{length-replicate}
+use Rattle.of_mem.specs.Pad.{Pad}
+use Rattle.of_wset.specs.Pairs.{Pairs}
+use Rattle.of_core.proofs.machine.Machine.new.Goals as goal
+
+pub invariant_of-result : goal.invariant_of-result
+invariant_of-result g c =
+    let laws = g.met.W.Work g.world.𝓛 g.world.𝓜 g.world.𝓡 ((λ s x. x), (λ x. x), (λ x. x), λ x. x) in
+    let fits = laws.fits c.args.work in
+    let r = c.requires in
+    record {
+      instrs = r.instrs;
+      fit = record {
+        callers = sym r.callers;
+        cells = sym r.cells;
+        own_in = omega (arith, fits.own, r.callers, r.cells);
+        limit = r.limit;
+        caller = r.caller;
+        owner = omega arith;
+        upto = omega arith;
+        words = search rules;
+        script = search rules;
+        known = ap (λ (p : Pad). length p.known) c.in_ok-part.ensures ∙ length-replicate c.args.shape.cells None;
+        place = tt;
+      };
+      room = record {
+        log = ap (λ (p : Pairs). p.room) c.in_ok-log.ensures;
+        op = search rules;
+        scripts_in = search rules;
+        copy = search rules;
+        calls = search rules;
+        scanning = search rules;
+        reading = search rules;
+        empty = ap (λ (p : Pad). p.script) c.in_ok-part.ensures;
+      };
+    }

@@ -1,0 +1,10 @@
+use Rattle.std.proofs.Common.{◌≡◌, ◌+◌, take}
+use Rattle.of_core.specs.Machine.{listed, put_all}
+use Rattle.of_core.proofs.machine.fill.put_reply.Given as goal
+
+abbrev pub invariant-loop-j : goal.invariant-loop-j
+invariant-loop-j l = record {
+  script : l.part.script ≡ put_all l.initial.part.script (listed (l.row + 2) (take l.j l.raw.values));
+  known : l.part.known ≡ l.initial.part.known;
+  batch : l.part.batch ≡ l.initial.part.batch;
+}

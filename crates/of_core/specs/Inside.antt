@@ -1,0 +1,50 @@
+-- What contracts see of a machine's fields, and what it keeps of them.
+use Rattle.std.specs.Prelude.{◌≡◌, ℕ, map}
+use Rattle.std.proofs.Common.{take}
+use Rattle.std.specs.Vec.{vec_capacity}
+use Rattle.of_mem.specs.Meaning.{Meaning}
+use Rattle.of_mem.specs.declared.work.TheConstants.{MOST_INSTRS}
+use Rattle.of_core.specs.declared.ran.RanCall.{RanCall}
+use Rattle.of_core.specs.declared.machine.Machine.TheInside.{Inside}
+use Rattle.of_core.specs.Machine.{Call}
+use Rattle.of_core.specs.Seen.{Seen, setup}
+use Rattle.of_core.specs.Fit.{Fit, Room}
+
+abbrev pub call_of : RanCall → Call
+call_of c = record { caller = c.caller; ticket = c.ticket; op = take c.words c.op; raw = c.raw }
+
+abbrev pub seen : {W : Type 0} → Inside W → Seen W
+seen m = record {
+  work = m.work;
+  callers = m.shape.callers;
+  cells = m.shape.cells;
+  limit = m.limit;
+  call = record {
+    caller = m.caller;
+    made = m.made;
+    op = m.op.items;
+    place = m.place;
+    seq = m.seq;
+    owner = m.owner;
+    known = m.part.known;
+    log = m.log.entries;
+    copy = m.copy.items;
+    helps = m.helps;
+    raw = m.raw;
+    answer = m.answer;
+    kept = m.kept;
+    steps = m.steps;
+    rounds = m.rounds;
+    first = m.first;
+    tries = m.tries;
+    scan = m.scan;
+    heard = m.heard;
+    script = m.script.items;
+    calls = map call_of m.calls.items;
+  };
+}
+
+pub record IsFit {W : Type 0} (many size : W → ℕ) (meaning : W → Meaning) (m : Inside W) : Type 0 where
+  pub instrs : m.shape.instrs ≡ MOST_INSTRS
+  pub fit : Fit (many m.work) (size m.work) (setup meaning (seen m)) (seen m).call
+  pub room : Room (setup meaning (seen m)) (seen m).call m.log.room (vec_capacity m.op) (vec_capacity m.script) (vec_capacity m.copy) (vec_capacity m.calls) m.part.batch m.part.script

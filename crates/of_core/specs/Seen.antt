@@ -1,0 +1,39 @@
+-- What contracts see of a machine.
+use Rattle.std.specs.Prelude.{ℕ, ◌+◌, ◌<◌, Option, None}
+use Rattle.of_mem.specs.Meaning.{Meaning}
+use Rattle.of_core.specs.declared.place.Place.{Place}
+use Rattle.of_core.specs.declared.place.Place.TheVariants.{Idle}
+use Rattle.of_core.specs.declared.place.Outcome.{Outcome}
+use Rattle.of_core.specs.Table.{Setup, setup_of}
+use Rattle.of_core.specs.Machine.{Data}
+use Rattle.of_core.specs.Steps.{took_at}
+
+pub record Seen (X : Type 0) : Type 0 where
+  -- what runs operations
+  pub work : X
+  -- how many callers and data cells there are, and the last sequence that may be committed
+  pub callers : ℕ
+  pub cells : ℕ
+  pub limit : ℕ
+  -- what the machine holds
+  pub call : Data
+
+-- what it has in common with all machines of its table, where each work has its meaning
+abbrev pub setup : {X : Type 0} → (X → Meaning) → Seen X → Setup
+setup meaning m = setup_of m.callers m.cells m.limit (meaning m.work)
+
+-- the machine after its step from a place found this number
+abbrev pub step_from : {X : Type 0} → (X → Meaning) → Place → (found : ℕ) → Seen X → Seen X
+step_from meaning p found m = record m { call = took_at (setup meaning m) m.call found p }
+
+-- one step more is still counted
+abbrev pub HasTime : {X : Type 0} → Seen X → Type 0
+HasTime m = m.call.steps + 1 < 18446744073709551616
+
+-- how the last call ended, where none is open
+abbrev pub ended_at : Place → Data → Option Outcome
+ended_at Idle m = m.answer
+ended_at p m = None
+
+abbrev pub ended : Data → Option Outcome
+ended m = ended_at m.place m

@@ -1,0 +1,375 @@
+//! One call as a machine of atomic steps.
+
+ghost use Rattle.std.specs.Prelude.{◌≡◌, ◌≢◌, ◌<◌, ◌≤◌, ◌+◌, IfOk, IsTrue, ◌↔◌, length};
+ghost use Rattle.std.proofs.Common.{get_or};
+ghost use Rattle.of_mem.specs.declared.work.TheConstants.{MOST_INSTRS};
+ghost use Rattle.of_core.specs.Table.{size, table_size, data_at, ticket_cell, shape_cell, reply_cell};
+ghost use Rattle.of_core.specs.Seen.{setup, ended};
+ghost use Rattle.of_core.specs.Machine.{idle, opened, log_words};
+ghost use Rattle.of_core.specs.Steps.{want, took, word_of};
+ghost use Rattle.of_core.specs.Meets.{Meets};
+
+mod announcing;
+mod answering;
+mod applying;
+mod committing;
+mod fill;
+mod helping;
+mod scanning;
+mod trying;
+
+use crate::place::{Op, Outcome, Place};
+use crate::ran::RanCall;
+use of_cell::{Shape, pack};
+use of_mem::{MOST_INSTRS, Part, RawReply, Work};
+use of_wset::WriteSet;
+use std::alloc::{AllocError, Global};
+use std::marker::Model;
+
+/// How many data cells belong to each caller: its ticket, the shape of its reply, and the reply's numbers.
+const OWN_CELLS: u32 = MOST_INSTRS as u32 + 2;
+
+/// One call as a machine of atomic steps on the words of a shared table. It makes no step itself: it names the next one, and takes the
+/// word which that step found.
+#[derive(Drop)]
+pub struct Machine<W: Work> {
+    work: W,
+    shape: Shape,
+    limit: u32,
+    caller: u32,
+    made: u32,
+    op: Vec<u64>,
+    place: Place,
+    seq: u32,
+    owner: u32,
+    /// What is known of the data cells; in a scan the log lies over it as the batch.
+    part: Part,
+    log: WriteSet,
+    /// The log words that a helper has loaded.
+    copy: Vec<u32>,
+    helps: bool,
+    raw: RawReply,
+    answer: Option<Outcome>,
+    /// The last value that one knows one's request's durable word to have.
+    kept: u64,
+    steps: u64,
+    rounds: u32,
+    first: u32,
+    tries: u32,
+    scan: u32,
+    heard: u64,
+    script: Vec<u64>,
+    calls: Vec<RanCall>,
+}
+
+impl<W: Work> Model for Machine<W> {
+    ghost use Rattle.of_core.specs.Seen.{Seen};
+
+    ghost Value = { Seen W };
+
+    ghost use Rattle.of_core.specs.Inside.{seen, IsFit};
+
+    ghost view = { seen };
+
+    ghost invariant = { IsFit W.many W.size W.meaning };
+}
+
+impl<W: Work> Machine<W> {
+    /// An idle machine of a caller that has begun `made` calls before. `limit` is the last sequence that may be committed. The error is
+    /// that there is no memory.
+    pub fn new(
+        alloc: Global,
+        shape: Shape,
+        limit: u32,
+        caller: u32,
+        made: u32,
+        work: W,
+    ) -> Result<Self, AllocError>
+        requires callers { shape.callers ≡ W.many work }
+        requires instrs { shape.instrs ≡ MOST_INSTRS }
+        requires cells { shape.cells ≡ W.size work }
+        requires caller { caller < shape.callers }
+        requires limit { limit ≤ 4294967294 }
+        ensures work { IfOk result (λ m. m.work ≡ work) }
+        ensures callers { IfOk result (λ m. m.callers ≡ shape.callers) }
+        ensures cells { IfOk result (λ m. m.cells ≡ shape.cells) }
+        ensures limit { IfOk result (λ m. m.limit ≡ limit) }
+        ensures idle { IfOk result (λ m. m.call ≡ idle (setup W.meaning m) caller made) }
+    {
+        let op = Vec::with_capacity(alloc, MOST_INSTRS)?;
+        let part = Part::new(alloc, shape.cells)?;
+        let log = WriteSet::new(alloc, shape.cells)?;
+        let copy = Vec::with_capacity(alloc, 2 * shape.cells as usize + 1)?;
+        let script = Vec::with_capacity(alloc, MOST_INSTRS)?;
+        let calls = Vec::with_capacity(alloc, shape.callers as usize)?;
+        Ok(Machine {
+            work,
+            shape,
+            limit,
+            caller,
+            made,
+            op,
+            place: Place::Idle,
+            seq: 0,
+            owner: 0,
+            part,
+            log,
+            copy,
+            helps: false,
+            raw: RawReply {
+                shape: 0,
+                values: [0; MOST_INSTRS],
+            },
+            answer: None,
+            kept: 0,
+            steps: 0,
+            rounds: 0,
+            first: 0,
+            tries: 0,
+            scan: 0,
+            heard: 0,
+            script,
+            calls,
+        })
+    }
+
+    /// Opens a call of 1 to `MOST_INSTRS` words: one that only reads is tried first, any other is announced.
+    pub fn begin(&mut self, op: &[u64])
+        requires idle { self.old.call.place ≡ Place.Idle }
+        requires some { 1 ≤ length op.now }
+        requires few { length op.now ≤ MOST_INSTRS }
+        requires made { self.old.call.made + 1 < 4294967296 }
+        ensures { self.new ≡ record self.old { call = opened (setup W.meaning self.old) self.old.call op.now } }
+    {
+        self.op.clear();
+        match self.op.extend_from_slice(op) {
+            Ok(()) => {}
+            // there is room for the words of every operation
+            Err(_) => unreachable!(),
+        }
+        self.made += 1;
+        self.answer = None;
+        self.steps = 0;
+        self.rounds = 0;
+        self.tries = 0;
+        self.place = if self.work.reads_only(op) {
+            Place::TryCurrent
+        } else {
+            Place::StoreScript(0)
+        };
+    }
+
+    /// How many calls were begun, with those before the machine was made.
+    pub fn made(&self) -> u32
+        ensures { result ≡ self.now.call.made }
+    {
+        self.made
+    }
+
+    /// How many steps the open call has made; 0 where none is open.
+    pub fn steps(&self) -> u64
+        ensures { result ≡ self.now.call.steps }
+    {
+        self.steps
+    }
+
+    /// How the last call ended. None where a call is open, and where none has ended.
+    pub fn answer(&self) -> Option<Outcome>
+        ensures { result ≡ ended self.now.call }
+    {
+        match self.place {
+            Place::Idle => self.answer,
+            _ => None,
+        }
+    }
+
+    /// Whether no call is open.
+    pub fn is_idle(&self) -> bool
+        ensures { IsTrue result ↔ (self.now.call.place ≡ Place.Idle) }
+    {
+        matches!(self.place, Place::Idle)
+    }
+
+    #[tactic(auto, using(crate::proofs::LogWords::word_laws))]
+    /// Word `at` of one's log: the number of entries, and then cell and number of each.
+    fn log_word(&self, at: u32) -> u32
+        requires { at < length (log_words self.now.call.log) }
+        ensures { result ≡ get_or (log_words self.now.call.log) at 0 }
+    {
+        if at == 0 {
+            return self.log.len();
+        }
+        let (addr, value) = self.log.entry((at - 1) / 2);
+        if at % 2 == 1 { addr } else { value }
+    }
+
+    /// The word of a caller's ticket cell.
+    fn ticket_word(&self, caller: u32) -> u32
+        requires { caller < self.now.callers }
+        ensures value { result ≡ data_at (setup W.meaning self.now) (ticket_cell (setup W.meaning self.now) caller) }
+        ensures below { result < size (setup W.meaning self.now) }
+    {
+        self.shape.data_cell(caller * OWN_CELLS)
+    }
+
+    /// The word of the shape of one's reply.
+    fn shape_word(&self) -> u32
+        ensures value { result ≡ data_at (setup W.meaning self.now) (shape_cell (setup W.meaning self.now) self.now.call.caller) }
+        ensures below { result < size (setup W.meaning self.now) }
+    {
+        self.shape.data_cell(self.caller * OWN_CELLS + 1)
+    }
+
+    /// The word of a number of one's reply.
+    fn reply_word(&self, at: u32) -> u32
+        requires { at < MOST_INSTRS }
+        ensures value { result ≡ data_at (setup W.meaning self.now) (reply_cell (setup W.meaning self.now) self.now.call.caller at) }
+        ensures below { result < size (setup W.meaning self.now) }
+    {
+        self.shape.data_cell(self.caller * OWN_CELLS + 2 + at)
+    }
+
+    /// The next atomic step.
+    #[tactic(auto, unfolding(crate::specs::Steps::want))]
+    pub fn want(&self) -> Op
+        requires { self.now.call.place ≢ Place.Idle }
+        ensures value { result ≡ want (setup W.meaning self.now) self.now.call }
+        ensures range { word_of result < table_size (setup W.meaning self.now) }
+    {
+        let shape = self.shape;
+        match self.place {
+            Place::Idle | Place::TryCurrent | Place::LoadCurrent => Op::Load { word: 0 },
+            Place::TryRequest | Place::LoadRequest | Place::LookAgain => Op::Load {
+                word: shape.request(self.owner),
+            },
+            Place::TryCell(addr) | Place::LoadCell(addr) => Op::Load {
+                word: shape.data_cell(addr),
+            },
+            Place::StoreScript(at) => Op::Store {
+                word: shape.script_word(self.caller, at),
+                value: self.op[at as usize],
+            },
+            Place::StoreAnnouncement => Op::Store {
+                word: shape.announce_word(self.caller),
+                value: pack(self.made, self.op.len() as u32),
+            },
+            Place::CopyLog(at) => Op::Load {
+                word: shape.log_word(self.owner, at),
+            },
+            Place::LoadOwnTicket => Op::Load {
+                word: self.ticket_word(self.caller),
+            },
+            Place::LoadShape => Op::Load {
+                word: self.shape_word(),
+            },
+            Place::LoadReply(at) => Op::Load {
+                word: self.reply_word(at),
+            },
+            Place::LoadAnnouncement => Op::Load {
+                word: shape.announce_word(self.scan),
+            },
+            Place::LoadTicket => Op::Load {
+                word: self.ticket_word(self.scan),
+            },
+            Place::LoadScript(at) => Op::Load {
+                word: shape.script_word(self.scan, at),
+            },
+            Place::RaiseOld => Op::Raise {
+                word: shape.durable_word(shape.request(self.caller)),
+                value: self.kept,
+            },
+            Place::StoreLog(at) => Op::Store {
+                word: shape.log_word(self.caller, at),
+                value: pack(self.seq + 1, self.log_word(at)),
+            },
+            Place::RaiseLog(at) => Op::Raise {
+                word: shape.durable_word(shape.log_word(self.caller, at)),
+                value: pack(self.seq + 1, self.log_word(at)),
+            },
+            Place::StoreRequest => Op::Store {
+                word: shape.request(self.caller),
+                value: pack(self.seq + 1, 0),
+            },
+            Place::RaiseRequest => Op::Raise {
+                word: shape.durable_word(shape.request(self.caller)),
+                value: pack(self.seq + 1, 0),
+            },
+            Place::ExchangeCurrent => Op::Exchange {
+                word: 0,
+                old: pack(self.seq, self.owner),
+                new: pack(self.seq + 1, self.caller),
+            },
+            Place::RaiseCurrent => Op::Raise {
+                word: shape.durable_word(0),
+                value: pack(self.seq, self.owner),
+            },
+            Place::LoadTarget(entry) | Place::ReloadTarget(entry) => Op::Load {
+                word: shape.data_cell(self.log.entry(entry).0),
+            },
+            Place::ExchangeTarget(entry, found) => {
+                let (addr, value) = self.log.entry(entry);
+                Op::Exchange {
+                    word: shape.data_cell(addr),
+                    old: found,
+                    new: pack(self.seq, value),
+                }
+            }
+            Place::RaiseTarget(entry, found) => Op::Raise {
+                word: shape.durable_word(shape.data_cell(self.log.entry(entry).0)),
+                value: found,
+            },
+            Place::CloseRequest => Op::Exchange {
+                word: shape.request(self.owner),
+                old: pack(self.seq, 0),
+                new: pack(self.seq, 1),
+            },
+            Place::RaiseClosed => Op::Raise {
+                word: shape.durable_word(shape.request(self.owner)),
+                value: pack(self.seq, 1),
+            },
+        }
+    }
+
+    /// Goes on with the word that the wanted step found, for a store with any number.
+    #[tactic(auto, unfolding(crate::specs::Steps::took))]
+    pub fn take(&mut self, found: u64)
+        requires open { self.old.call.place ≢ Place.Idle }
+        requires good { Meets (setup W.meaning self.old) (W.lawful self.old.work) self.old.call found }
+        ensures { self.new ≡ record self.old { call = took (setup W.meaning self.old) self.old.call found } }
+    {
+        // the step bound keeps the count within its type
+        prove!(self.steps < u64::MAX);
+        match self.place {
+            Place::Idle => unreachable!(),
+            Place::TryCurrent => self.after_try_current(found),
+            Place::TryRequest => self.after_try_request(found),
+            Place::TryCell(addr) => self.after_try_cell(addr, found),
+            Place::StoreScript(at) => self.after_store_script(at),
+            Place::StoreAnnouncement => self.after_store_announcement(),
+            Place::LoadCurrent => self.after_load_current(found),
+            Place::LoadRequest => self.after_load_request(found),
+            Place::CopyLog(at) => self.after_copy_log(at, found),
+            Place::LookAgain => self.after_look_again(found),
+            Place::LoadOwnTicket => self.after_own_ticket(found),
+            Place::LoadShape => self.after_load_shape(found),
+            Place::LoadReply(at) => self.after_load_reply(at, found),
+            Place::LoadAnnouncement => self.after_load_announcement(found),
+            Place::LoadTicket => self.after_load_ticket(found),
+            Place::LoadScript(at) => self.after_load_script(at, found),
+            Place::LoadCell(addr) => self.after_load_cell(addr, found),
+            Place::RaiseOld => self.after_raise_old(),
+            Place::StoreLog(at) => self.after_store_log(at),
+            Place::RaiseLog(at) => self.after_raise_log(at),
+            Place::StoreRequest => self.after_store_request(),
+            Place::RaiseRequest => self.after_raise_request(),
+            Place::ExchangeCurrent => self.after_exchange(found),
+            Place::RaiseCurrent => self.after_raise_current(),
+            Place::LoadTarget(entry) => self.after_load_target(entry, found),
+            Place::ExchangeTarget(entry, old) => self.after_exchange_target(entry, old),
+            Place::ReloadTarget(entry) => self.after_reload_target(entry, found),
+            Place::RaiseTarget(entry, raised) => self.after_raise_target(entry, raised),
+            Place::CloseRequest => self.after_close_request(),
+            Place::RaiseClosed => self.after_raise_closed(),
+        }
+    }
+}

@@ -1,0 +1,125 @@
+//! How a machine goes on at the steps by which it looks at another's transaction and copies its log.
+
+ghost use Rattle.std.specs.Prelude.{◌≡◌, ◌<◌, ◌≤◌, ◌+◌, ◌*◌, ◌==◌, ℕ, List, length, true};
+ghost use Rattle.std.proofs.Common.{get_or};
+ghost use Rattle.of_cell.specs.Words.{word, seq, pay};
+ghost use Rattle.of_core.specs.Machine.{log_words};
+ghost use Rattle.of_core.specs.Shared.{IsLog};
+ghost use Rattle.of_core.specs.Steps.{after_load_request, copy_more, entered, resumed};
+ghost use Rattle.of_core.specs.Seen.{setup, step_from, HasTime};
+ghost use Rattle.of_core.specs.declared.place.Place.TheVariants.{CopyLog};
+
+use crate::machine::Machine;
+use crate::machine::fill::put_copy;
+use crate::place::Place;
+use of_cell::{pack, payload_of, seq_of};
+use of_mem::Work;
+
+impl<W: Work> Machine<W> {
+    /// From the load of the current-transaction word, which begins a round.
+    pub(super) fn after_load_current(&mut self, found: u64)
+        requires owner { pay found < self.old.callers }
+        requires upto { seq found ≤ self.old.limit }
+        requires rounds { self.old.call.rounds ≤ 2 }
+        requires time { HasTime self.old }
+        ensures { self.new ≡ step_from W.meaning Place.LoadCurrent found self.old }
+    {
+        self.seq = seq_of(found);
+        self.owner = payload_of(found);
+        self.first = if self.rounds == 0 {
+            self.seq
+        } else {
+            self.first
+        };
+        self.rounds += 1;
+        self.place = Place::LoadRequest;
+        self.steps += 1;
+    }
+
+    /// From the load of the request of that word's owner.
+    pub(super) fn after_load_request(&mut self, found: u64)
+        requires time { HasTime self.old }
+        ensures { self.new ≡ step_from W.meaning Place.LoadRequest found self.old }
+    {
+        if self.seq > 0 && found == pack(self.seq, 0) {
+            self.help();
+        } else {
+            self.enter();
+        }
+    }
+
+    /// Begins to copy the log of the open transaction.
+    pub(super) fn help(&mut self)
+        requires time { HasTime self.old }
+        ensures { self.new ≡ record self.old { call = after_load_request (setup W.meaning self.old) self.old.call true } }
+    {
+        self.copy.clear();
+        self.helps = true;
+        self.place = Place::CopyLog(0);
+        self.steps += 1;
+    }
+
+    /// From the load of a log word.
+    pub(super) fn after_copy_log(&mut self, at: u32, found: u64)
+        requires at { self.old.call.place ≡ CopyLog at }
+        requires count { get_or (copy_more self.old.call found) 0 0 ≤ self.old.cells }
+        requires time { HasTime self.old }
+        ensures { self.new ≡ step_from W.meaning (CopyLog at) found self.old }
+    {
+        match self.copy.push(payload_of(found)) {
+            Ok(()) => {}
+            // there is room for the words of the longest log
+            Err(_) => unreachable!(),
+        }
+        self.place = if at + 1 < 2 * self.copy[0] + 1 {
+            Place::CopyLog(at + 1)
+        } else {
+            Place::LookAgain
+        };
+        self.steps += 1;
+    }
+
+    /// From the second look at the request: a copy that was made while the transaction was open is its log.
+    pub(super) fn after_look_again(&mut self, found: u64)
+        requires some { 1 ≤ length self.old.call.op }
+        requires copied { found ≡ word self.old.call.seq 0 → (es : List (ℕ × ℕ)) × (self.old.call.copy ≡ log_words es) × IsLog (setup W.meaning self.old) es }
+        requires time { HasTime self.old }
+        ensures { self.new ≡ step_from W.meaning Place.LookAgain found self.old }
+    {
+        if found == pack(self.seq, 0) {
+            self.log.clear();
+            put_copy(&mut self.log, self.copy.as_slice(), self.caller);
+            self.place = Place::RaiseCurrent;
+            self.steps += 1;
+        } else {
+            self.resume();
+        }
+    }
+
+    /// Goes on with the try or the round behind its help.
+    pub(super) fn resume(&mut self)
+        requires some { 1 ≤ length self.old.call.op }
+        requires time { HasTime self.old }
+        ensures { self.new ≡ record self.old { call = resumed (setup W.meaning self.old) self.old.call (self.old.call.rounds == 0) } }
+    {
+        if self.rounds == 0 {
+            self.begin_reading();
+        } else {
+            self.enter();
+        }
+    }
+
+    /// Begins to read the state of a round, behind the look at the request or the help.
+    pub(super) fn enter(&mut self)
+        requires time { HasTime self.old }
+        ensures { self.new ≡ record self.old { call = entered (setup W.meaning self.old) self.old.call } }
+    {
+        self.part.clear();
+        self.log.clear();
+        self.calls.clear();
+        self.helps = false;
+        self.scan = 0;
+        self.place = Place::LoadOwnTicket;
+        self.steps += 1;
+    }
+}

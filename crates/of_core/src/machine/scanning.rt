@@ -1,0 +1,186 @@
+//! How a machine goes on at the steps of a scan: of each caller in turn the announced call is run, where its ticket is new.
+
+ghost use Rattle.std.specs.Prelude.{◌≡◌, ◌<◌, ◌≤◌, ◌+◌, ℕ, List, None, length, true, IsTrue};
+ghost use Rattle.of_cell.specs.Words.{seq, pay};
+ghost use Rattle.of_mem.specs.declared.work.TheConstants.{MOST_INSTRS};
+ghost use Rattle.of_mem.specs.Meaning.{Agrees};
+ghost use Rattle.of_mem.specs.Pairs.{value_at};
+ghost use Rattle.of_core.specs.Table.{ticket_cell};
+ghost use Rattle.of_core.specs.Machine.{learned, merged};
+ghost use Rattle.of_core.specs.Steps.{runs, weighed};
+ghost use Rattle.of_core.specs.Fill.{place_behind, newer_raw};
+ghost use Rattle.of_core.specs.Fit.{Scanning, is_scanning};
+ghost use Rattle.of_core.specs.Seen.{setup, step_from, HasTime};
+ghost use Rattle.of_core.specs.declared.place.Place.TheVariants.{LoadScript, LoadCell};
+
+use crate::machine::fill::{collect, put_own, words_of};
+use crate::machine::{Machine, OWN_CELLS};
+use crate::place::Place;
+use crate::ran::RanCall;
+use of_cell::{payload_of, seq_of};
+use of_mem::{MOST_INSTRS, RawReply, Work};
+
+/// Where a scan goes on that has passed a caller: at the next one, or at the log.
+fn place_behind(more: bool) -> Place
+    ensures { result ≡ place_behind more }
+{
+    if more {
+        Place::LoadAnnouncement
+    } else {
+        Place::RaiseOld
+    }
+}
+
+/// The reply of one's own call: the new one where the call that was run is one's own.
+fn newer_raw(own: bool, new: &RawReply, old: &RawReply) -> RawReply
+    ensures { result ≡ newer_raw new.now old.now own }
+{
+    if own { *new } else { *old }
+}
+
+impl<W: Work> Machine<W> {
+    /// From the load of an announcement: its ticket is weighed against the caller's ticket cell, which is loaded where it isn't known.
+    pub(super) fn after_load_announcement(&mut self, found: u64)
+        requires at { self.old.call.place ≡ Place.LoadAnnouncement }
+        requires small { pay found ≤ MOST_INSTRS }
+        requires some { 0 < seq found → 1 ≤ pay found }
+        requires unnamed { value_at self.old.call.log (ticket_cell (setup W.meaning self.old) self.old.call.scan) ≡ None }
+        requires time { HasTime self.old }
+        ensures { self.new ≡ step_from W.meaning Place.LoadAnnouncement found self.old }
+    {
+        self.heard = found;
+        match self.part.read(self.scan * OWN_CELLS) {
+            Ok(ticket) => self.weigh(ticket < seq_of(found)),
+            Err(_) => {
+                self.place = Place::LoadTicket;
+                self.steps += 1;
+            }
+        }
+    }
+
+    /// From the load of the ticket cell.
+    pub(super) fn after_load_ticket(&mut self, found: u64)
+        requires at { self.old.call.place ≡ Place.LoadTicket }
+        requires small { pay self.old.call.heard ≤ MOST_INSTRS }
+        requires some { 0 < seq self.old.call.heard → 1 ≤ pay self.old.call.heard }
+        requires time { HasTime self.old }
+        ensures { self.new ≡ step_from W.meaning Place.LoadTicket found self.old }
+    {
+        if self.seq < seq_of(found) {
+            self.place = Place::LoadCurrent;
+            self.steps += 1;
+        } else {
+            self.part.learn(self.scan * OWN_CELLS, payload_of(found));
+            self.weigh(payload_of(found) < seq_of(self.heard));
+        }
+    }
+
+    /// Takes in a call with a new ticket, and passes one with an old ticket by.
+    fn weigh(&mut self, new: bool)
+        requires scanning { is_scanning self.old.call.place ≡ true }
+        requires scan { Scanning (setup W.meaning self.old) self.old.call }
+        requires small { pay self.old.call.heard ≤ MOST_INSTRS }
+        requires some { IsTrue new → 0 < pay self.old.call.heard }
+        requires time { HasTime self.old }
+        ensures { self.new ≡ record self.old { call = weighed (setup W.meaning self.old) self.old.call new } }
+    {
+        if new {
+            self.script.clear();
+            self.place = Place::LoadScript(0);
+        } else {
+            self.scan += 1;
+            self.place = place_behind(self.scan < self.shape.callers);
+        }
+        self.steps += 1;
+    }
+
+    /// From the load of a script word.
+    pub(super) fn after_load_script(&mut self, at: u32, found: u64)
+        requires at { self.old.call.place ≡ LoadScript at }
+        requires many { length self.old.call.script ≡ at }
+        requires agrees { (xs : List ℕ) × (length xs ≡ self.old.cells) × W.lawful self.old.work xs × Agrees (merged self.old.call.known self.old.call.log) xs }
+        requires time { HasTime self.old }
+        ensures { self.new ≡ step_from W.meaning (LoadScript at) found self.old }
+    {
+        match self.script.push(found) {
+            Ok(()) => {}
+            // there is room for the words of every script
+            Err(_) => unreachable!(),
+        }
+        if at + 1 < payload_of(self.heard) {
+            self.place = Place::LoadScript(at + 1);
+            self.steps += 1;
+        } else {
+            self.run();
+        }
+    }
+
+    /// From the load of a data cell: a newer one ends the round.
+    pub(super) fn after_load_cell(&mut self, addr: u32, found: u64)
+        requires at { self.old.call.place ≡ LoadCell addr }
+        requires some { 1 ≤ length self.old.call.script }
+        requires agrees { seq found ≤ self.old.call.seq → (xs : List ℕ) × (length xs ≡ self.old.cells) × W.lawful self.old.work xs × Agrees (merged (learned (setup W.meaning self.old) self.old.call addr found) self.old.call.log) xs }
+        requires time { HasTime self.old }
+        ensures { self.new ≡ step_from W.meaning (LoadCell addr) found self.old }
+    {
+        if self.seq < seq_of(found) {
+            self.place = Place::LoadCurrent;
+            self.steps += 1;
+        } else {
+            self.part.learn(addr, payload_of(found));
+            self.run();
+        }
+    }
+
+    /// Runs the script over the calls before it: it needs a cell, or the call is taken in.
+    fn run(&mut self)
+        requires scanning { is_scanning self.old.call.place ≡ true }
+        requires scan { Scanning (setup W.meaning self.old) self.old.call }
+        requires some { 1 ≤ length self.old.call.script }
+        requires agrees { (xs : List ℕ) × (length xs ≡ self.old.cells) × W.lawful self.old.work xs × Agrees (merged self.old.call.known self.old.call.log) xs }
+        requires time { HasTime self.old }
+        ensures { self.new ≡ record self.old { call = runs (setup W.meaning self.old) self.old.call } }
+    {
+        let work = self.work;
+        // a log names no cell twice
+        let _entries = self.log.len();
+        let mut raw = RawReply {
+            shape: 0,
+            values: [0; MOST_INSTRS],
+        };
+        match work.run(&mut self.part, self.script.as_slice(), &mut raw) {
+            Ok(()) => {
+                let ticket = seq_of(self.heard);
+                let words = self.script.len();
+                put_own(
+                    &mut self.part,
+                    self.scan * OWN_CELLS,
+                    ticket,
+                    words as u32,
+                    &raw,
+                );
+                collect(&mut self.part, &mut self.log);
+                let ran = RanCall {
+                    caller: self.scan,
+                    ticket,
+                    words,
+                    op: words_of(self.script.as_slice()),
+                    raw,
+                };
+                match self.calls.push(ran) {
+                    Ok(()) => {}
+                    // there is room for a call of each caller
+                    Err(_) => unreachable!(),
+                }
+                self.raw = newer_raw(self.scan == self.caller, &raw, &self.raw);
+                self.scan += 1;
+                self.place = place_behind(self.scan < self.shape.callers);
+                self.steps += 1;
+            }
+            Err(need) => {
+                self.place = Place::LoadCell(need.addr);
+                self.steps += 1;
+            }
+        }
+    }
+}

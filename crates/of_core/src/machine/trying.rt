@@ -1,0 +1,123 @@
+//! How a machine goes on at the steps of a try: a read runs on the last committed state, and is answered unannounced.
+
+ghost use Rattle.std.specs.Prelude.{◌≡◌, ◌<◌, ◌≤◌, ◌+◌, ℕ, List, length, true, nat_lt};
+ghost use Rattle.of_cell.specs.Words.{seq, pay};
+ghost use Rattle.of_mem.specs.Meaning.{Agrees};
+ghost use Rattle.of_core.specs.Machine.{learned};
+ghost use Rattle.of_core.specs.Steps.{over_try, read_on, tried};
+ghost use Rattle.of_core.specs.Fit.{is_reading};
+ghost use Rattle.of_core.specs.Seen.{setup, step_from, HasTime};
+ghost use Rattle.of_core.specs.declared.place.Place.TheVariants.{TryCell};
+
+use crate::machine::Machine;
+use crate::place::{Outcome, Place};
+use of_cell::{pack, payload_of, seq_of};
+use of_mem::{MOST_INSTRS, RawReply, Work};
+
+/// How often a read is tried before it is announced.
+const MOST_TRIES: u32 = 4;
+
+impl<W: Work> Machine<W> {
+    /// From the load of the current-transaction word.
+    pub(super) fn after_try_current(&mut self, found: u64)
+        requires owner { pay found < self.old.callers }
+        requires upto { seq found ≤ self.old.limit }
+        requires tries { self.old.call.tries ≤ 3 }
+        requires time { HasTime self.old }
+        ensures { self.new ≡ step_from W.meaning Place.TryCurrent found self.old }
+    {
+        self.seq = seq_of(found);
+        self.owner = payload_of(found);
+        self.tries += 1;
+        self.place = Place::TryRequest;
+        self.steps += 1;
+    }
+
+    /// From the load of the request of that word's owner.
+    pub(super) fn after_try_request(&mut self, found: u64)
+        requires some { 1 ≤ length self.old.call.op }
+        requires time { HasTime self.old }
+        ensures { self.new ≡ step_from W.meaning Place.TryRequest found self.old }
+    {
+        if self.seq > 0 && found == pack(self.seq, 0) {
+            self.help();
+        } else {
+            self.begin_reading();
+        }
+    }
+
+    /// From the load of a data cell: a newer one ends the try.
+    pub(super) fn after_try_cell(&mut self, addr: u32, found: u64)
+        requires at { self.old.call.place ≡ TryCell addr }
+        requires some { 1 ≤ length self.old.call.op }
+        requires agrees { seq found ≤ self.old.call.seq → (xs : List ℕ) × (length xs ≡ self.old.cells) × W.lawful self.old.work xs × Agrees (learned (setup W.meaning self.old) self.old.call addr found) xs }
+        requires time { HasTime self.old }
+        ensures { self.new ≡ step_from W.meaning (TryCell addr) found self.old }
+    {
+        if self.seq < seq_of(found) {
+            self.end_try();
+        } else {
+            self.part.learn(addr, payload_of(found));
+            self.read_on();
+        }
+    }
+
+    /// Tries once more, or announces the call.
+    fn end_try(&mut self)
+        requires some { 1 ≤ length self.old.call.op }
+        requires time { HasTime self.old }
+        ensures { self.new ≡ record self.old { call = over_try self.old.call (nat_lt self.old.call.tries 4) } }
+    {
+        self.place = if self.tries < MOST_TRIES {
+            Place::TryCurrent
+        } else {
+            Place::StoreScript(0)
+        };
+        self.steps += 1;
+    }
+
+    /// Begins the run of a try, behind the look at the request or the help.
+    pub(super) fn begin_reading(&mut self)
+        requires some { 1 ≤ length self.old.call.op }
+        requires time { HasTime self.old }
+        ensures { self.new ≡ record self.old { call = tried (setup W.meaning self.old) self.old.call } }
+    {
+        self.part.clear();
+        self.helps = false;
+        // cells are asked for from here on
+        self.place = Place::TryCell(0);
+        self.read_on();
+    }
+
+    /// Runs the operation on what is known of the state: it needs a cell, or the call is answered.
+    fn read_on(&mut self)
+        requires reading { is_reading self.old.call.place ≡ true }
+        requires some { 1 ≤ length self.old.call.op }
+        requires agrees { (xs : List ℕ) × (length xs ≡ self.old.cells) × W.lawful self.old.work xs × Agrees self.old.call.known xs }
+        requires time { HasTime self.old }
+        ensures { self.new ≡ record self.old { call = read_on (setup W.meaning self.old) self.old.call } }
+    {
+        let work = self.work;
+        let mut raw = RawReply {
+            shape: 0,
+            values: [0; MOST_INSTRS],
+        };
+        match work.run(&mut self.part, self.op.as_slice(), &mut raw) {
+            Ok(()) => {
+                self.part.undo();
+                self.place = Place::Idle;
+                self.answer = Some(Outcome::Answered {
+                    seq: self.seq,
+                    announced: false,
+                    raw,
+                    steps: self.steps + 1,
+                });
+                self.steps = 0;
+            }
+            Err(need) => {
+                self.place = Place::TryCell(need.addr);
+                self.steps += 1;
+            }
+        }
+    }
+}

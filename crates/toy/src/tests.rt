@@ -1,0 +1,150 @@
+//! The bank on worked schedules: words, outcomes and step counts.
+
+use crate::Register;
+use of_cell::{Shape, pack};
+use of_core::{Bank, Outcome, Turn};
+use std::test::Fail;
+
+/// How a run of turns of one caller ended, as far as the tests compare it.
+#[derive(Clone, Copy, Debug, PartialEq, Eq)]
+enum Left {
+    Idle,
+    Open,
+    /// The sequence, whether the call was announced, the reply's shape and the steps.
+    Answered(u32, bool, u32, u64),
+    /// The sequence.
+    Spent(u32),
+}
+
+fn left_by(turn: Turn) -> Left {
+    match turn {
+        Turn::Idle => Left::Idle,
+        Turn::Open => Left::Open,
+        Turn::Ended(
+            Outcome::Answered {
+                seq,
+                announced,
+                raw,
+                steps,
+            },
+        ) => Left::Answered(seq, announced, raw.shape, steps),
+        Turn::Ended(Outcome::Spent { seq }) => Left::Spent(seq),
+    }
+}
+
+/// Makes a number of turns of a caller, and gives what the last one left.
+fn turns(bank: &mut Bank<Register>, caller: u32, count: u64) -> Left
+    requires { caller < bank.old.callers }
+    ensures { bank.new.callers ≡ bank.old.callers }
+{
+    let mut last = Left::Idle;
+    for _ in 0..count {
+        last = left_by(bank.turn(caller));
+    }
+    last
+}
+
+/// The shape of a table of one register for one or two callers.
+fn shape_for(callers: u32) -> Shape
+    requires some { 1 ≤ callers }
+    requires few { callers ≤ 2 }
+    ensures callers { result.callers ≡ callers }
+    ensures instrs { result.instrs ≡ 8 }
+    ensures cells { result.cells ≡ callers * 10 + 1 }
+{
+    Shape {
+        callers,
+        instrs: 8,
+        cells: callers * 10 + 1,
+    }
+}
+
+#[test]
+fn a_write_alone(rt: HostRuntime) -> Result<(), Fail> {
+    // how many turns, the current-transaction word then, and what the last turn left
+    let rows = [
+        (28, pack(0, 0), Left::Open),
+        (29, pack(1, 0), Left::Open),
+        (47, pack(1, 0), Left::Open),
+        (48, pack(1, 0), Left::Answered(1, true, 65536, 48)),
+        (49, pack(1, 0), Left::Idle),
+    ];
+    for (count, current, left) in rows {
+        let mut bank = Bank::new(rt.alloc(), shape_for(1), 5, Register { callers: 1 })?;
+        bank.begin(0, [pack(1, 7)].as_slice());
+        assert_eq!(rt; turns(&mut bank, 0, count), left);
+        bank.evict(0);
+        assert_eq!(rt; bank.words().get(0).copied(), Some(current));
+    }
+    Ok(())
+}
+
+#[test]
+fn a_write_beside_a_quiet_caller(rt: HostRuntime) -> Result<(), Fail> {
+    let rows = [
+        (30, pack(0, 0), Left::Open),
+        (31, pack(1, 0), Left::Open),
+        (50, pack(1, 0), Left::Answered(1, true, 65536, 50)),
+    ];
+    for (count, current, left) in rows {
+        let mut bank = Bank::new(rt.alloc(), shape_for(2), 5, Register { callers: 2 })?;
+        bank.begin(0, [pack(1, 7)].as_slice());
+        assert_eq!(rt; turns(&mut bank, 0, count), left);
+        assert!(rt; bank.is_idle(1));
+        assert_eq!(rt; bank.words().get(0).copied(), Some(current));
+    }
+    Ok(())
+}
+
+#[test]
+fn a_read_is_not_announced(rt: HostRuntime) -> Result<(), Fail> {
+    let mut bank = Bank::new(rt.alloc(), shape_for(1), 5, Register { callers: 1 })?;
+    bank.begin(0, [0].as_slice());
+    assert_eq!(rt; turns(&mut bank, 0, 2), Left::Open);
+    assert_eq!(rt; turns(&mut bank, 0, 1), Left::Answered(0, false, 0, 3));
+    Ok(())
+}
+
+#[test]
+fn two_calls_in_one_batch(rt: HostRuntime) -> Result<(), Fail> {
+    let mut bank = Bank::new(rt.alloc(), shape_for(2), 5, Register { callers: 2 })?;
+    bank.begin(0, [pack(1, 7)].as_slice());
+    bank.begin(1, [pack(1, 8)].as_slice());
+    assert_eq!(rt; turns(&mut bank, 1, 2), Left::Open);
+    // 50 steps alone, one script word more in place of a ticket cell, and three entries more of eight steps each
+    let first = turns(&mut bank, 0, 90);
+    assert_eq!(rt; first, Left::Idle);
+    // caller 1 finds its own ticket in the batch: its script, its announcement, current word, request, ticket and shape
+    assert_eq!(rt; turns(&mut bank, 1, 4), Left::Answered(1, true, 65536, 6));
+    let words = bank.words();
+    assert_eq!(rt; words.get(0).copied(), Some(pack(1, 0)));
+    assert_eq!(rt; words.get(23).copied(), Some(pack(1, 8)));
+    Ok(())
+}
+
+#[test]
+fn a_late_helper(rt: HostRuntime) -> Result<(), Fail> {
+    let mut bank = Bank::new(rt.alloc(), shape_for(2), 5, Register { callers: 2 })?;
+    bank.begin(0, [pack(1, 7)].as_slice());
+    bank.begin(1, [0].as_slice());
+    // caller 0 has committed and applied nothing
+    assert_eq!(rt; turns(&mut bank, 0, 31), Left::Open);
+    // caller 1 reads behind its help: current word, request, nine log words, a second look, current word raised, four entries of four
+    // steps, request closed and raised, and the register
+    assert_eq!(rt; turns(&mut bank, 1, 32), Left::Answered(1, false, 65536, 32));
+    // caller 0 finds each entry there: it leaves out two steps of each
+    assert_eq!(rt; turns(&mut bank, 0, 11), Left::Answered(1, true, 65536, 42));
+    Ok(())
+}
+
+#[test]
+fn spent_at_the_limit(rt: HostRuntime) -> Result<(), Fail> {
+    let mut bank = Bank::new(rt.alloc(), shape_for(2), 1, Register { callers: 2 })?;
+    bank.begin(0, [pack(1, 7)].as_slice());
+    bank.begin(1, [pack(1, 8)].as_slice());
+    assert_eq!(rt; turns(&mut bank, 0, 50), Left::Answered(1, true, 65536, 50));
+    // script, announcement, current word, request and ticket
+    assert_eq!(rt; turns(&mut bank, 1, 4), Left::Open);
+    assert_eq!(rt; turns(&mut bank, 1, 1), Left::Spent(1));
+    Ok(())
+}
