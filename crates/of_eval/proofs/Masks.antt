@@ -8,7 +8,7 @@ use Rattle.std.proofs.lemmas.List.{append_assoc, append-nil, take_more_set, take
 use Rattle.std.specs.Bool.{then_some}
 use Rattle.of_eval.specs.Shapes.{mark, mask_of}
 use Rattle.of_eval.specs.Reading.{marked_in}
-use Rattle.of_eval.specs.ShapeLaws.{mark_small, mask_below}
+use Rattle.of_eval.specs.ShapeLaws.{mask_below}
 
 half_below : (m n : ℕ) → m < 2 ^ suc n → m / 2 < 2 ^ n
 half_below m n l = grind arith

@@ -1,26 +1,25 @@
 -- What operations mean, by the outcome of their words.
-use Rattle.std.proofs.Common.{◌≡◌, ℕ, ◌+◌, ◌-◌, ◌*◌, ◌^◌, ◌<◌, ◌≤◌, Bool, true, false, cond, ltb, refl, sym, ◌∙◌, ap, subst, arith, Option, Some, None, Ok, Err, List, [], ◌∷◌, ◌++◌, length, map, take, replicate}
+use Rattle.std.proofs.Common.{◌≡◌, ℕ, ◌-◌, ◌<◌, ◌≤◌, Bool, true, false, cond, refl, sym, ◌∙◌, ap, subst, arith, Option, None, Ok, Err, List, [], ◌∷◌, ◌++◌, length, map, take, replicate}
 use Rattle.std.specs.List.{AllByRecursion as Each}
 use Rattle.std.proofs.lemmas.Bool.{lt-ltb, le-ltb}
 use Rattle.std.proofs.lemmas.List.{take_all}
 use Rattle.of_mem.specs.declared.work.RawReply.{RawReply}
-use Rattle.of_mem.specs.Programs.{Program, answer, after, writes}
+use Rattle.of_mem.specs.Programs.{Program, answer, writes}
 use Rattle.of_mem.specs.Meaning.{written}
 use Rattle.of_mem.specs.ProgramWork.{memory}
 use Rattle.of_mem.proofs.Sounds.{memory-written}
 use Rattle.of_script.specs.declared.instr.Instr.{Instr}
-use Rattle.of_script.specs.Language.{IsScript, InRange, instr_word}
-use Rattle.of_script.specs.Reading.{instr_at}
+use Rattle.of_script.specs.Language.{InRange, instr_word}
 use Rattle.of_script.proofs.WordLaws.{instr_at_again}
-use Rattle.of_store.specs.State.{State, Outcome, outcome, settled, then_on, effect, run, Response, Aborted}
+use Rattle.of_store.specs.State.{State, Outcome, outcome, settled, then_on, effect, Aborted}
 use Rattle.of_eval.specs.declared.scripts.Scripts.{Scripts}
 use Rattle.of_eval.specs.Shapes.{cells_of, mask_of}
 use Rattle.of_eval.specs.ShapeLaws.{code_some}
 use Rattle.of_eval.specs.Stored.{IsStored}
 use Rattle.of_eval.specs.Words.{effect_of, words_outcome, run_words, reply_to}
-use Rattle.of_eval.specs.ScriptPrograms.{script_program, words_program}
-use Rattle.of_eval.specs.Scripts.{store_at, cells_in, is_success, scripts_meaning}
-use Rattle.of_eval.specs.Scripted.{Runs, Leads, Answers, behind, words_run, words_answer}
+use Rattle.of_eval.specs.ScriptPrograms.{words_program}
+use Rattle.of_eval.specs.Scripts.{store_at, cells_in, is_success}
+use Rattle.of_eval.specs.Scripted.{Runs, Answers, behind, words_run, words_answer}
 use Rattle.of_eval.specs.Marked.{full_width, mask_8}
 use Rattle.of_eval.specs.Means.{Does, MeansWords, WordsMeanScript}
 

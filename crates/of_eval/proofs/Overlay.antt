@@ -1,28 +1,27 @@
 -- A run on a part of memory, batch and all, goes as on the known cells with the batch over them.
-use Rattle.std.proofs.Common.{◌≡◌, ℕ, ◌+◌, ◌*◌, ◌%◌, ◌^◌, ◌<◌, ◌≤◌, refl, sym, ◌∙◌, ap, subst, arith, inl, inr, Bool, true, false, cond, ltb, Option, Some, None, is_some, List, [], ◌∷◌, length, get_or}
+use Rattle.std.proofs.Common.{◌≡◌, ℕ, ◌+◌, ◌%◌, ◌^◌, ◌<◌, ◌≤◌, refl, sym, ◌∙◌, ap, subst, arith, Bool, true, false, cond, ltb, Option, Some, None, is_some, List, [], ◌∷◌, length, get_or}
 use Rattle.std.specs.Option.{unwrap_or}
 use Rattle.std.specs.List.{AllByRecursion as Each}
-use Rattle.std.proofs.lemmas.Bool.{lt-ltb, le-ltb, ltb-true, ltb-false, false≢true}
+use Rattle.std.proofs.lemmas.Bool.{lt-ltb, le-ltb, ltb-true, false≢true}
 use Rattle.of_mem.specs.declared.work.RawReply.{RawReply}
 use Rattle.of_mem.specs.Pairs.{value_at}
 use Rattle.of_mem.specs.Pad.{Pad, newest, newer, over}
 use Rattle.of_mem.specs.Places.{cells_at, register_at, fresh_at, keys_at, tail_at, length_at}
-use Rattle.of_mem.specs.Programs.{Program, Ran, Lacks, Ends, run, IsPartOf}
-use Rattle.of_mem.specs.Meaning.{Meaning, Walked, Needs, Gives, Agrees}
+use Rattle.of_mem.specs.Programs.{Program, Ran, Lacks, Ends, run}
+use Rattle.of_mem.specs.Meaning.{Needs, Gives, Agrees}
 use Rattle.of_mem.specs.ProgramWork.{memory, fresh_pad, walked}
 use Rattle.of_mem.specs.Stores.{Store, Stands, front_at, link_at, first_at, second_at}
 use Rattle.of_mem.proofs.Counts.{blocks_below}
 use Rattle.of_mem.proofs.Frames.{SameBlocks, value_same, bucket_same, queue_same}
 use Rattle.of_mem.proofs.Heaps.{front_below, chain_copy}
-use Rattle.of_mem.proofs.Overlaid.{over_at, over_length, SamePads, RunsAlike, run_alike}
+use Rattle.of_mem.proofs.Overlaid.{over_at, RunsAlike, run_alike}
 use Rattle.of_mem.proofs.Sounds.{part_fresh}
 use Rattle.of_script.specs.declared.instr.Reply.{Reply}
 use Rattle.of_script.specs.declared.instr.Abort.{Abort}
-use Rattle.of_store.specs.State.{State}
 use Rattle.of_eval.specs.declared.scripts.Scripts.{Scripts}
-use Rattle.of_eval.specs.Shapes.{IsWhole, cells_of, mask_of, abort_part, code_of}
+use Rattle.of_eval.specs.Shapes.{IsWhole, cells_of, mask_of, abort_part}
 use Rattle.of_eval.specs.ShapeLaws.{code_some, mask_width}
-use Rattle.of_eval.specs.Stored.{plain, IsStored, HasState}
+use Rattle.of_eval.specs.Stored.{plain, HasState}
 use Rattle.of_eval.specs.ScriptPrograms.{script_program}
 use Rattle.of_eval.specs.Scripts.{store_at, cells_in, LawfulCells, is_success, scripts_meaning}
 use Rattle.of_eval.specs.SoundScripts.{script_run}

@@ -1,5 +1,5 @@
 -- Which operations only read: both ways between words and scripts.
-use Rattle.std.proofs.Common.{◌≡◌, ℕ, zero, suc, ◌≤◌, refl, sym, ◌∙◌, ap, subst, arith, Bool, true, false, ◌&&◌, leb, Option, Some, None, List, [], ◌∷◌, length, map}
+use Rattle.std.proofs.Common.{◌≡◌, ℕ, refl, sym, ◌∙◌, ap, subst, arith, Bool, true, false, ◌&&◌, leb, Option, Some, None, List, [], ◌∷◌, length, map}
 use Rattle.std.specs.List.{All, AllByRecursion as Each}
 use Rattle.std.specs.Prelude.{◌↔◌, IsTrue}
 use Rattle.std.proofs.lemmas.Bool.{false≢true, le-leb, leb-true}

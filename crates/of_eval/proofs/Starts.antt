@@ -1,5 +1,5 @@
 -- A part of memory of which nothing is known is part of one that stands for the empty store.
-use Rattle.std.proofs.Common.{◌≡◌, ℕ, ◌≤◌, ◌<◌, inl, inr, refl, sym, ◌∙◌, ap, subst, arith, Option, Some, None, List, [], length, get_or, replicate}
+use Rattle.std.proofs.Common.{◌≡◌, ℕ, ◌≤◌, inl, inr, sym, ◌∙◌, ap, arith, None, List, [], length, get_or, replicate}
 use Rattle.std.proofs.lemmas.Bool.{cases_lt}
 use Rattle.std.proofs.lemmas.Option.{none-some}
 use Rattle.std.proofs.lemmas.List.{length-replicate, get_or-replicate, get_or_past}

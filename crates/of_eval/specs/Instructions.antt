@@ -1,12 +1,12 @@
 -- What an instruction does to cells that stand for a store is what it does to the store.
-use Rattle.std.proofs.Common.{◌≡◌, ◌≢◌, ℕ, zero, suc, ◌+◌, ◌-◌, ◌<◌, ◌≤◌, inl, inr, refl, sym, ◌∙◌, ap, subst, arith, Bool, true, false, cond, leb, ltb, eqb, ◌&&◌, Option, Some, None, Result, Ok, Err, is_none, List, [], ◌∷◌, ◌++◌, length, get_or, set}
+use Rattle.std.proofs.Common.{◌≡◌, ℕ, ◌+◌, ◌-◌, ◌<◌, ◌≤◌, inl, inr, refl, sym, ap, subst, arith, Bool, true, false, cond, leb, ltb, ◌&&◌, Option, Some, None, Ok, Err, is_none, List, [], ◌∷◌, ◌++◌, length, get_or}
 use Rattle.std.specs.Prelude.{sum_by}
 use Rattle.std.specs.FinMap as fin
 use Rattle.std.proofs.lemmas.Bool.{cases_eq, ltb-false, ltb-true, lt-leb, le-leb}
 use Rattle.std.proofs.lemmas.List.{get_or-set_same, get_or-set_other}
 use Rattle.of_mem.specs.Places.{register_at, cells_at}
 use Rattle.of_mem.specs.Programs.{Program, answer, after, changed, Inside, then_do}
-use Rattle.of_mem.specs.Stores.{Store, Stands, things}
+use Rattle.of_mem.specs.Stores.{Stands, things}
 use Rattle.of_mem.proofs.Changes.{changed_same, changed_other}
 use Rattle.of_mem.proofs.Runs.{answer_then, after_then, inside_then}
 use Rattle.of_map.specs.MapPrograms.{get_program, put_program, del_program}
@@ -18,13 +18,11 @@ use Rattle.of_map.proofs.Dels.{del_means}
 use Rattle.of_queue.specs.QueuePrograms.{push_program, pop_program}
 use Rattle.of_queue.specs.Means.{push_store, pop_store, front_of}
 use Rattle.of_queue.proofs.Wholes.{push_means, pop_means}
-use Rattle.of_script.specs.declared.instr.Cause.{Cause}
 use Rattle.of_script.specs.declared.instr.Cause.TheVariants.{Overflow, Short, NoRoom, Differs}
 use Rattle.of_script.specs.declared.instr.Instr.{Instr}
 use Rattle.of_script.specs.declared.instr.Instr.TheVariants.{Load, Store as Put_in, Add, Sub, Get, Put, Del, Need, Push, Pop, Len, Count}
 use Rattle.of_script.specs.Language.{InRange, greatest}
 use Rattle.of_store.specs.State.{State, IsState, Effect, effect, popped, queue, kept, register, with_register, with_queue, is_there}
-use Rattle.of_store.proofs.Keeps.{effect_leaves, Leaves}
 use Rattle.of_eval.specs.Stored.{plain, IsStored}
 use Rattle.of_eval.specs.ScriptPrograms.{Answer, answers, put_answers, answers_if, need_answers, add_to, add_unless, sub_from, sub_unless, instr_program}
 use Rattle.of_eval.specs.Registers.{register_stands}

@@ -1,18 +1,14 @@
 -- The reply of words is a reply of a work: it is made of words, and it marks numbers of its own instructions alone.
-use Rattle.std.proofs.Common.{◌≡◌, ℕ, zero, suc, ◌+◌, ◌-◌, ◌*◌, ◌<◌, ◌≤◌, ◌/◌, ◌%◌, ◌^◌, ◌==◌, Bool, true, false, refl, sym, ◌∙◌, ap, subst, arith, Option, Some, None, Ok, Err, List, [], ◌∷◌, ◌++◌, length, get_or, map, take, replicate, length-append, inl, inr}
-use Rattle.std.specs.List.{All, AllByRecursion as Each}
+use Rattle.std.proofs.Common.{◌≡◌, ℕ, zero, suc, ◌+◌, ◌-◌, ◌*◌, ◌<◌, ◌≤◌, ◌/◌, ◌%◌, ◌^◌, true, sym, ◌∙◌, ap, subst, arith, Option, Some, None, Ok, Err, List, [], ◌∷◌, ◌++◌, length, get_or, map, replicate, length-append}
+use Rattle.std.specs.List.{AllByRecursion as Each}
 use Rattle.std.specs.Option.{unwrap_or}
 use Rattle.std.proofs.Math.Nat.{div-div-eq-div-mul}
-use Rattle.std.proofs.lemmas.Bool.{cases_lt}
 use Rattle.std.proofs.lemmas.Bool.Decides.{nat_tests}
-use Rattle.std.proofs.lemmas.List.{length-map, length-replicate, get_or-replicate}
-use Rattle.of_mem.specs.declared.work.RawReply.{RawReply}
+use Rattle.std.proofs.lemmas.List.{length-map, length-replicate}
 use Rattle.of_mem.specs.Meaning.{marked}
 use Rattle.of_mem.specs.ProgramWork.{IsReply}
 use Rattle.of_mem.proofs.Writes.{all_each}
-use Rattle.of_script.specs.declared.instr.Cause.{Cause}
-use Rattle.of_script.specs.declared.instr.Reply.{Reply}
-use Rattle.of_store.specs.State.{Outcome, Response, Answered, Aborted}
+use Rattle.of_store.specs.State.{Outcome, Aborted}
 use Rattle.of_store.specs.Replies.{IsSmall}
 use Rattle.of_eval.specs.Shapes.{mark, mask_of, code_of, cells_of, shape_of}
 use Rattle.of_eval.specs.Words.{reply_to}

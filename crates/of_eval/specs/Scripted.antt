@@ -1,5 +1,5 @@
 -- What the words of an operation do to cells that stand for a store is what they do to the store.
-use Rattle.std.proofs.Common.{◌≡◌, ℕ, zero, suc, ◌+◌, ◌<◌, ◌≤◌, refl, sym, ◌∙◌, ap, subst, arith, Option, Some, None, Ok, Err, List, [], ◌∷◌, ◌++◌, length, take, length-append}
+use Rattle.std.proofs.Common.{◌≡◌, ℕ, suc, ◌+◌, ◌<◌, ◌≤◌, refl, sym, ◌∙◌, ap, subst, arith, Option, Some, None, Ok, Err, List, [], ◌∷◌, ◌++◌, length, length-append}
 use Rattle.std.specs.List.{AllByRecursion as Each}
 use Rattle.std.proofs.lemmas.List.{append_assoc, append-nil}
 use Rattle.of_mem.specs.declared.work.RawReply.{RawReply}
@@ -14,9 +14,9 @@ use Rattle.of_store.specs.Replies.{IsSmall}
 use Rattle.of_store.proofs.Keeps.{Leaves, effect_leaves}
 use Rattle.of_store.proofs.Values.{value_of, effect_small}
 use Rattle.of_eval.specs.Shapes.{cells_of}
-use Rattle.of_eval.specs.Stored.{plain, IsStored}
+use Rattle.of_eval.specs.Stored.{IsStored}
 use Rattle.of_eval.specs.Words.{effect_of, word_effect, words_outcome, reply_to}
-use Rattle.of_eval.specs.ScriptPrograms.{Answer, word_program, program_of, go_on, words_program, script_program}
+use Rattle.of_eval.specs.ScriptPrograms.{Answer, word_program, program_of, go_on, words_program}
 use Rattle.of_eval.specs.Instructions.{Gives, Acts, instr_acts}
 
 -- the response to a script of which these values were answered before

@@ -1,23 +1,21 @@
 -- Scripts keep the rules of a work.
-use Rattle.std.proofs.Common.{◌≡◌, ℕ, zero, suc, ◌+◌, ◌*◌, ◌^◌, ◌<◌, ◌≤◌, Bool, true, false, ltb, leb, ◌&&◌, refl, sym, ◌∙◌, ap, subst, arith, List, [], ◌∷◌, length, take, replicate, get_or, Ok, Err, length-take}
-use Rattle.std.proofs.lemmas.Bool.{false≢true, ltb-true, leb-true}
-use Rattle.of_mem.specs.declared.work.RawReply.{RawReply}
-use Rattle.of_mem.specs.Places.{cells_at}
-use Rattle.of_mem.specs.Programs.{Program, answer, after, Inside, OnlyReads}
+use Rattle.std.proofs.Common.{◌≡◌, ℕ, zero, suc, ◌*◌, ◌≤◌, true, leb, ◌&&◌, refl, sym, ◌∙◌, ap, subst, arith, List, [], ◌∷◌, length, take, replicate, get_or, Ok, Err, length-take}
+use Rattle.std.proofs.lemmas.Bool.{ltb-true}
+use Rattle.of_mem.specs.Programs.{answer, after}
 use Rattle.of_mem.specs.Stores.{Store, Stands}
 use Rattle.of_mem.specs.Meaning.{Sound, HasRoom}
-use Rattle.of_mem.specs.ProgramWork.{memory, IsReply}
+use Rattle.of_mem.specs.ProgramWork.{IsReply}
 use Rattle.of_mem.proofs.Standing.{empty_stands, stands_from}
 use Rattle.of_mem.proofs.Sounds.{sound}
 use Rattle.of_script.specs.declared.instr.TheConstants.{MOST_INSTRS}
 use Rattle.of_script.proofs.Numbers.{both}
-use Rattle.of_store.specs.State.{State, IsState, Outcome, empty_store}
+use Rattle.of_store.specs.State.{State, Outcome, empty_store}
 use Rattle.of_store.proofs.Keeps.{empty_is}
 use Rattle.of_eval.specs.declared.scripts.Scripts.{Scripts}
 use Rattle.of_eval.specs.Stored.{plain, IsStored}
 use Rattle.of_eval.specs.Shapes.{cells_of}
 use Rattle.of_eval.specs.Words.{words_outcome, reply_to}
-use Rattle.of_eval.specs.ScriptPrograms.{script_program, words_program}
+use Rattle.of_eval.specs.ScriptPrograms.{script_program}
 use Rattle.of_eval.specs.Scripts.{store_at, cells_in, StandsForSome, LawfulCells, is_success, script_reads, instr_reads, words_read, scripts_meaning}
 use Rattle.of_script.specs.Reading.{instr_at}
 use Rattle.of_eval.specs.Scripted.{Runs, Leads, behind, words_run, words_answer}

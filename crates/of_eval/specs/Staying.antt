@@ -1,5 +1,5 @@
 -- Scripts read and write nothing before the first cell of the store; those that only read write nothing.
-use Rattle.std.proofs.Common.{◌≡◌, ℕ, ◌+◌, ◌-◌, ◌*◌, ◌≤◌, Bool, true, false, ◌&&◌, Option, Some, None, Ok, Err, List, [], ◌∷◌, ◌++◌, arith, refl, sym, ◌∙◌}
+use Rattle.std.proofs.Common.{◌≡◌, ℕ, ◌+◌, ◌-◌, Bool, true, false, Option, Some, None, Ok, Err, List, [], ◌∷◌, ◌++◌, arith}
 use Rattle.std.proofs.lemmas.Bool.{false≢true}
 use Rattle.of_mem.specs.declared.work.RawReply.{RawReply}
 use Rattle.of_mem.specs.Programs.{Program, StaysFrom, OnlyReads}
@@ -18,7 +18,7 @@ use Rattle.of_store.specs.State.{is_there}
 use Rattle.std.specs.Prelude.{nat_lt}
 use Rattle.of_script.specs.Language.{greatest}
 use Rattle.of_eval.specs.Scripts.{instr_reads, words_read}
-use Rattle.of_eval.specs.ScriptPrograms.{Answer, answers, put_answers, answers_if, need_answers, add_unless, add_to, sub_unless, sub_from, instr_program, program_of, word_program, go_on, words_program}
+use Rattle.of_eval.specs.ScriptPrograms.{Answer, answers, put_answers, answers_if, need_answers, add_unless, sub_unless, instr_program, program_of, word_program, go_on, words_program}
 
 module _ (o blocks : ℕ) where
   put_after : (r : Option (Option ℕ)) → StaysFrom o (put_answers r)

@@ -1,4 +1,4 @@
-use Rattle.std.proofs.Common.{◌≡◌, ◌∙◌, ap, arith}
+use Rattle.std.proofs.Common.{◌∙◌, ap, arith}
 use Rattle.of_mem.specs.Plots.{base}
 use Rattle.of_mem.specs.Places.{register_at}
 use Rattle.of_eval.proofs.Walks.{register_small}

@@ -1,4 +1,4 @@
-use Rattle.std.proofs.Common.{◌≡◌, ◌∙◌}
+use Rattle.std.proofs.Common.{◌∙◌}
 use Rattle.of_eval.proofs.Walks.{decoded, not_decoded}
 use Rattle.of_eval.proofs.step.decode.Goals as goal
 

@@ -1,4 +1,4 @@
-use Rattle.std.proofs.Common.{◌≤◌, arith}
+use Rattle.std.proofs.Common.{arith}
 use Rattle.of_eval.proofs.Starts.{nothing_known}
 use Rattle.of_eval.proofs.tests.a_run_asks_for_what_it_reads.Goals as goal
 

@@ -1,9 +1,7 @@
-use Rattle.std.proofs.Common.{◌≡◌, ◌∙◌, refl, sym, ap, Bool, true, false, cond, List, []}
-use Rattle.of_mem.specs.declared.work.RawReply.{RawReply}
+use Rattle.std.proofs.Common.{◌∙◌, refl, sym, ap}
 use Rattle.of_mem.specs.Pad.{Pad}
 use Rattle.of_mem.specs.Places.{base_of}
 use Rattle.of_mem.specs.Plots.{base}
-use Rattle.of_mem.specs.Meaning.{Gives}
 use Rattle.of_eval.specs.Scripts.{store_at}
 use Rattle.of_eval.specs.Shapes.{cells_of}
 use Rattle.of_eval.proofs.Overlay.{has_state, state_at, run_at, walk_gives, walk_needs, kept_when, dropped_when}
