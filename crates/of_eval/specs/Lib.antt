@@ -12,3 +12,4 @@ pub mod Marked
 pub mod Staying
 pub mod SoundScripts
 pub mod Means
+pub mod Lawful
