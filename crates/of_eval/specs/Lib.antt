@@ -13,3 +13,4 @@ pub mod Staying
 pub mod SoundScripts
 pub mod Means
 pub mod Lawful
+pub mod Record
