@@ -4,6 +4,7 @@
 pub mod laws;
 mod reply;
 mod scripts;
+mod standing;
 mod step;
 #[cfg(test)]
 mod tests;
@@ -11,3 +12,4 @@ mod walk;
 
 pub use reply::{reply_cells, reply_of};
 pub use scripts::Scripts;
+pub use standing::{LawErr, lawful};
