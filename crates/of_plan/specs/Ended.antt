@@ -1,5 +1,5 @@
 -- What contracts see of what a run leaves.
-use Rattle.std.specs.Prelude.{ℕ, List, [], map, slice_index_or}
+use Rattle.std.specs.Prelude.{ℕ, max, List, [], ◌∷◌, map, slice_index_or}
 use Rattle.of_plan.specs.declared.answer.Answer.{Answer}
 use Rattle.of_plan.specs.declared.answer.Ending.{Ending}
 use Rattle.of_plan.specs.declared.answer.Ending.TheVariants.{Done}
@@ -21,3 +21,8 @@ answers_of e c = slice_index_or e.answers c []
 -- how a caller ended
 abbrev pub ending_of : Run → ℕ → Ending
 ending_of e c = slice_index_or e.endings c Done
+
+-- the most steps that an answer tells, 0 where there is none
+abbrev pub longest : List Answer → ℕ
+longest [] = 0
+longest (answer ∷ others) = max answer.steps (longest others)
