@@ -1,14 +1,14 @@
 -- The report of a history is legal.
-use Rattle.std.proofs.Common.{◌≡◌, ℕ, ◌+◌, ◌<◌, ◌≤◌, inl, Bool, true, false, eqb, List, [], ◌∷◌, length, map, refl, sym, ap, subst, ◌∙◌, arith}
+use Rattle.std.proofs.Common.{◌≡◌, ℕ, ◌<◌, ◌≤◌, inl, Bool, true, false, eqb, List, [], ◌∷◌, length, map, refl, sym, ap, subst, ◌∙◌, arith}
 use Rattle.std.specs.Prelude.{filter, IsTrue, All, Any}
-use Rattle.std.specs.List.{range_with_len, AllByRecursion as Each}
+use Rattle.std.specs.List.{range_with_len}
 use Rattle.std.proofs.lemmas.List.Elements.{All-from_recursion, All-from_get_or}
 use Rattle.of_plan.specs.Plan.{Plan}
 use Rattle.of_plan.specs.Report.{CallEntry, CallerLine, done, Start, finished_of}
 use Rattle.of_plan.specs.Legal.{StandInOrder, HasOpenCall, CountOpenCalls, HasSequence, StandsBefore, StandBySequence, IsWithinBound, IsLegal}
-use Rattle.of_plan.specs.Histories.{IsIn, History, IsBatch, HasPlace, IsHistory, reads_at, history_entries, history_report, FitsLine, FitLines, HistoriesAreLegal}
+use Rattle.of_plan.specs.Histories.{IsIn, History, HasPlace, IsHistory, reads_at, history_entries, history_report, FitsLine, FitLines, HistoriesAreLegal}
 use Rattle.of_plan.proofs.HistoriesLists.{each_at, each_weaker, in_left, any_in, pairs_in_line}
-use Rattle.of_plan.proofs.HistoriesOrder.{IsKnown, part, batch_at, entries_in_line, entries_known, own_entry, in_part, caller_entries}
+use Rattle.of_plan.proofs.HistoriesOrder.{IsKnown, entries_in_line, entries_known, own_entry, in_part, caller_entries}
 use Rattle.of_plan.proofs.HistoriesReplay.{entries_lead}
 
 has_sequence : (p : Plan) (s : Start) (h : History) (e : CallEntry) (a : Bool) → e.announced ≡ a → s.seq ≤ e.seq → HasPlace p s h e a → HasSequence p s e

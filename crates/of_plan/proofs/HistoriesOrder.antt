@@ -1,5 +1,5 @@
 -- The entries of a history: whose each is and at which sequence, in which order they stand, and which are a caller's.
-use Rattle.std.proofs.Common.{◌≡◌, ◌≢◌, ℕ, ◌+◌, ◌-◌, ◌<◌, ◌≤◌, ◌⊎◌, inl, inr, Bool, true, false, eqb, List, ◌++◌, refl, sym, subst, ◌∙◌, arith}
+use Rattle.std.proofs.Common.{◌≡◌, ℕ, ◌+◌, ◌-◌, ◌<◌, ◌≤◌, inl, inr, Bool, true, false, eqb, List, ◌++◌, refl, sym, subst, ◌∙◌, arith}
 use Rattle.std.specs.Prelude.{filter, flat_map, not, ◌&&◌, ◌==◌}
 use Rattle.std.specs.List.{range_with_len, AllByRecursion as Each}
 use Rattle.std.proofs.Math.Nat.{eq-or-lt_of_le}
@@ -8,7 +8,7 @@ use Rattle.std.proofs.lemmas.Bool.Decides.{eqb_tells}
 use Rattle.of_plan.specs.Plan.{Plan}
 use Rattle.of_plan.specs.Report.{CallEntry, Start}
 use Rattle.of_plan.specs.Legal.{StandsBefore, StandsBeforeWithin}
-use Rattle.of_plan.specs.Histories.{IsIn, History, IsBatch, HasPlace, IsOwn, IsHistory, reads_at, history_entries}
+use Rattle.of_plan.specs.Histories.{IsIn, History, IsBatch, HasPlace, IsHistory, reads_at, history_entries}
 use Rattle.of_plan.proofs.HistoriesLists.{each_at, each_from_in, each_weaker, each_append, each_filter, each_over, in_left, in_right, in_filter, in_over, InLine, in_line_pairs, in_line_weaker, in_line_append, in_line_filter, in_line_over, same_in_line}
 
 -- ---- which of two entries stands before the other

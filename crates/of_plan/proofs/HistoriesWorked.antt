@@ -1,13 +1,12 @@
 -- A worked history: two callers, of whom the second reads before it writes, and the first after it wrote.
-use Rattle.std.proofs.Common.{◌≡◌, ℕ, zero, suc, ◌<◌, ◌≤◌, inl, inr, Bool, true, false, cond, eqb, Option, Some, None, List, [], ◌∷◌, refl, arith}
+use Rattle.std.proofs.Common.{◌≡◌, ℕ, zero, suc, ◌<◌, ◌≤◌, inl, inr, Bool, true, false, Option, Some, None, List, [], ◌∷◌, refl, arith}
 use Rattle.std.specs.Prelude.{IsTrue, All}
 use Rattle.std.proofs.lemmas.List.Elements.{All-nil, All-cons}
-use Rattle.of_script.specs.declared.instr.Instr.{Instr}
 use Rattle.of_script.specs.declared.instr.Instr.TheVariants.{Load, Store, Add}
 use Rattle.of_script.specs.Language.{reads_only}
-use Rattle.of_store.specs.State.{State, Response, Answered, run, empty_store, last_store}
+use Rattle.of_store.specs.State.{State, Answered, empty_store, last_store}
 use Rattle.of_plan.specs.Plan.{Plan}
-use Rattle.of_plan.specs.Report.{CallEntry, Start, empty_start}
+use Rattle.of_plan.specs.Report.{CallEntry, empty_start}
 use Rattle.of_plan.specs.Legal.{StandsBefore}
 use Rattle.of_plan.specs.Histories.{History, IsBatch, IsOwn, IsHistory, history_entries}
 use Rattle.of_plan.proofs.HistoriesLists.{pairs_in_line}
