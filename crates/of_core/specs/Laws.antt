@@ -12,6 +12,7 @@ use Rattle.of_core.specs.Moves.{Moves}
 use Rattle.of_core.specs.Events.{Event, begun, evicted, run, turns, IsSchedule, StaysOpen, machine, zeros, opening}
 use Rattle.of_core.specs.Bound.{bound}
 use Rattle.of_core.specs.Claim.{IsSound}
+use Rattle.of_core.specs.Calls.{Calls, TurnsTold, operations, outcomes}
 
 -- each step of each machine keeps the invariant
 abbrev pub StepKept : Setup → (List ℕ → Type 0) → Type 0
@@ -71,6 +72,16 @@ GoodIsSound S Lawful = (B : Start) (w : World) → Good S Lawful B w → IsSound
 -- so does every moment of every schedule
 abbrev pub EveryMoment : Setup → Type 0
 EveryMoment S = (n : ℕ) → table_size S ≤ n → (es : List Event) → IsSchedule S (opening S n) es → IsSound S (zeros S) (run S (opening S n) es)
+
+-- every schedule leaves each caller's calls as its events begin and end them
+abbrev pub EveryCall : Setup → Type 0
+EveryCall S =
+    (n : ℕ) → table_size S ≤ n → (es : List Event) → IsSchedule S (opening S n) es → (i : ℕ) → i < S.callers
+    → Calls S (run S (opening S n) es) i (operations es i) (outcomes S (opening S n) es i)
+
+-- and its turns are the steps of those calls
+abbrev pub EveryTurn : Setup → Type 0
+EveryTurn S = (n : ℕ) → table_size S ≤ n → (es : List Event) → IsSchedule S (opening S n) es → (i : ℕ) → i < S.callers → TurnsTold S (opening S n) es i
 
 -- a call that stays open has made fewer steps than the bound, so its last one comes in time; and it never begins a fourth round
 abbrev pub EndsInTime : Setup → (List ℕ → Type 0) → Type 0
