@@ -5,3 +5,4 @@ pub mod Walks
 pub mod Overlay
 pub mod ReadsOnly
 pub mod Starts
+pub mod OneStore
