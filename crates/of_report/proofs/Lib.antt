@@ -1,3 +1,5 @@
 pub mod Lines
 pub mod Keys
 pub mod Computes
+pub mod Sorted
+pub mod Gathers
