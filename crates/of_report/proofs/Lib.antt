@@ -3,3 +3,8 @@ pub mod Keys
 pub mod Computes
 pub mod Sorted
 pub mod Gathers
+pub mod Ranks
+pub mod Entries
+pub mod Recovery
+pub mod Cells
+pub mod OpenCalls

@@ -11,7 +11,7 @@ use Rattle.std.proofs.lemmas.List.Sums.{sum_by-cons}
 use Rattle.std.proofs.Math.ListN.{get_or-map}
 
 -- 1 at the number
-counts : ℕ → ℕ → ℕ
+abbrev counts : ℕ → ℕ → ℕ
 counts n k = cond (eqb k n) 1 0
 
 module _ {X : Type 0} (rank : X → ℕ) where
@@ -23,22 +23,20 @@ module _ {X : Type 0} (rank : X → ℕ) where
 
   -- a number below the first rank is no rank
   none_below : (n : ℕ) (xs : List X) → ((j : ℕ) (d : X) → j < length xs → n < rank (get_or xs j d)) → sum_by (λ x. counts n (rank x)) xs ≡ 0
-  unfolding counts
   none_below n [] above = refl
   none_below n (x ∷ xs) above =
       let first : n < rank x = above 0 x (omega arith) in
       let apart : eqb (rank x) n ≡ false = grind (arith, nat_tests) in
-      let here : cond (eqb (rank x) n) 1 0 ≡ 0 = rw apart in
-      let others : sum_by (λ y. cond (eqb (rank y) n) 1 0) xs ≡ 0 = none_below n xs (λ j d l. above (suc j) d (omega arith)) in
-      omega (arith, sum_by-cons (λ y. cond (eqb (rank y) n) 1 0) x xs, here, others)
+      let here : counts n (rank x) ≡ 0 = rw apart in
+      let others : sum_by (λ y. counts n (rank y)) xs ≡ 0 = none_below n xs (λ j d l. above (suc j) d (omega arith)) in
+      omega (arith, sum_by-cons (λ y. counts n (rank y)) x xs, here, others)
 
   -- the first rank is met
   first_met : (x : X) (xs : List X) → 1 ≤ sum_by (λ y. counts (rank x) (rank y)) (x ∷ xs)
-  unfolding counts
   first_met x xs =
       let same : eqb (rank x) (rank x) ≡ true = grind (arith, nat_tests) in
-      let here : cond (eqb (rank x) (rank x)) 1 0 ≡ 1 = rw same in
-      omega (arith, sum_by-cons (λ y. cond (eqb (rank y) (rank x)) 1 0) x xs, here)
+      let here : counts (rank x) (rank x) ≡ 1 = rw same in
+      omega (arith, sum_by-cons (λ y. counts (rank x) (rank y)) x xs, here)
 
   -- the first of one list is no earlier than that of the other
   no_earlier : (x y : X) (xs ys : List X) → IsNonDecreasingBy rank (y ∷ ys) → ((f : ℕ → ℕ) → sum_by (λ z. f (rank z)) (x ∷ xs) ≡ sum_by (λ z. f (rank z)) (y ∷ ys)) → rank x < rank y → ⊥
@@ -82,7 +80,7 @@ module _ {X : Type 0} (rank : X → ℕ) where
           let met = Contains-permutation xs ys (get_or xs k d) moved (Contains-get_or xs k d l) in
           let at : get_or ys met.0 d ≡ get_or xs k d = get_or_default ys met.0 d (get_or xs k d) met.1 ∙ met.2 in
           let level : rank (get_or ys met.0 d) ≡ rank (get_or ys k d) = ap rank at ∙ rank_at k d in
-          let place : met.0 ≡ k = same_place met.0 k d met.1 (omega arith) level in
+          let place : met.0 ≡ k = same_place met.0 k d met.1 (omega (arith, long)) level in
           sym at ∙ ap (λ (n : ℕ). get_or ys n d) place
         where
           same_place : (i j : ℕ) (d : X) → i < length ys → j < length ys → rank (get_or ys i d) ≡ rank (get_or ys j d) → i ≡ j

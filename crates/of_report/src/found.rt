@@ -1,11 +1,11 @@
 //! What recovery finds in the table that a run leaves.
 
-ghost use Rattle.std.specs.Prelude.{◌≡◌, ◌<◌, ◌+◌, ◌*◌, ◌≤◌, ℕ, length, IfOk, IfSome, slice_index, slice_range};
+ghost use Rattle.std.specs.Prelude.{◌≡◌, ◌<◌, ◌+◌, ◌*◌, ◌≤◌, ℕ, length, map, IfOk, slice_index, slice_range};
+ghost use Rattle.of_cell.specs.Words.{pay};
 ghost use Rattle.of_cell.specs.Cells.{data_cell, durable_cells, table_words};
 ghost use Rattle.of_recover.specs.Row.{IsDurableRow};
 ghost use Rattle.of_mem.specs.Places.{ticket_at};
 ghost use Rattle.of_mem.specs.Plots.{size};
-ghost use Rattle.of_mem.specs.ProgramWork.{memory};
 ghost use Rattle.of_script.specs.declared.instr.TheConstants.{MOST_INSTRS};
 ghost use Rattle.of_store.specs.State.{State};
 ghost use Rattle.of_plan.specs.Ended.{run_of};
@@ -125,12 +125,19 @@ impl Found {
         }
     }
 
+    /// The numbers of the data cells.
+    fn numbers(&self, alloc: Global) -> Result<Vec<u32>, AllocError>
+        ensures { IfOk result (λ numbers. numbers.items ≡ map pay self.now.words.items) }
+    {
+        self.words.iter().map(|word| payload_of(*word)).collect(alloc)
+    }
+
     /// The store that the data cells stand for.
     pub fn store(&self, alloc: Global) -> Result<Store, AllocError>
         requires { (s : State) × StandsFor self.now.plot.callers MOST_INSTRS self.now.plot.blocks (number_of self.now) s }
         ensures { IfOk result (λ store. (s : State) → StandsFor self.now.plot.callers MOST_INSTRS self.now.plot.blocks (number_of self.now) s → store ≡ s) }
     {
-        let numbers: Vec<u32> = self.words.iter().map(|word| payload_of(*word)).collect(alloc)?;
+        let numbers = self.numbers(alloc)?;
         match lawful(alloc, &self.plot, &numbers) {
             Ok(store) => Ok(store),
             Err(LawErr::Memory) => Err(AllocError),

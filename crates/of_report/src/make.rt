@@ -71,7 +71,8 @@ fn line(ended: &Ended, caller: u32, entries: u32) -> Line
 /// The entries of a caller's answers.
 fn answered(alloc: Global, caller: u32, answers: &[Answer]) -> Result<Vec<Entry>, AllocError>
     requires { length answers.now ≤ MOST_SCRIPTS }
-    ensures { IfOk result (λ entries. map entry_of entries.items ≡ answer_entries caller 0 answers.now) }
+    ensures len { IfOk result (λ entries. vec_len entries ≡ length answers.now) }
+    ensures entries { IfOk result (λ entries. map entry_of entries.items ≡ answer_entries caller 0 answers.now) }
 {
     let mut entries = Vec::new(alloc);
     for (index, answer) in answers.iter().enumerate() {
