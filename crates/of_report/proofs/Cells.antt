@@ -13,6 +13,8 @@ use Rattle.of_eval.specs.Shapes.{IsHeldBy}
 use Rattle.of_eval.specs.Stored.{plain}
 use Rattle.of_eval.specs.Lawful.{reply_number, reply_in, HoldsReply, OwnStand, StandsFor}
 use Rattle.of_eval.proofs.Overlay.{stands_below}
+use Rattle.of_report.specs.declared.found.Found.{Found}
+use Rattle.of_report.specs.Found.{number_of}
 
 same_map : {X Y : Type 0} (f g : X → Y) → ((x : X) → f x ≡ g x) → (xs : List X) → map f xs ≡ map g xs
 same_map f g same [] = refl
@@ -42,6 +44,12 @@ module _ (callers blocks : ℕ) (m n : ℕ → ℕ) (same : (a : ℕ) → a < ce
   }
 
 -- the numbers of words as a memory
-pub numbers_are : (words numbers : List ℕ) → numbers ≡ map pay words → (a : ℕ) → pay (get_or words a 0) ≡ memory numbers a
+numbers_are : (words numbers : List ℕ) → numbers ≡ map pay words → (a : ℕ) → pay (get_or words a 0) ≡ memory numbers a
 unfolding pay
 numbers_are words numbers e a = sym (get_or-map pay words a 0) ∙ ap (λ (l : List ℕ). get_or l a 0) (sym e)
+
+-- a list of the numbers stands for what the words stand for
+pub numbers_stand : (f : Found) (numbers : List ℕ) → numbers ≡ map pay f.words.items → (s : State) → StandsFor f.plot.callers MOST_INSTRS f.plot.blocks (number_of f) s → StandsFor f.plot.callers f.plot.instrs f.plot.blocks (memory numbers) s
+numbers_stand f numbers e s h =
+    subst (λ (n : ℕ). StandsFor f.plot.callers n f.plot.blocks (memory numbers) s) (sym f.instrs)
+    (stands_for_same f.plot.callers f.plot.blocks (number_of f) (memory numbers) (λ a _. numbers_are f.words.items numbers e a) s h)

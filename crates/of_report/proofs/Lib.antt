@@ -8,3 +8,4 @@ pub mod Entries
 pub mod Recovery
 pub mod Cells
 pub mod OpenCalls
+pub mod Records

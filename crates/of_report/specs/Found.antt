@@ -4,14 +4,15 @@ use Rattle.of_cell.specs.Words.{pay}
 use Rattle.of_cell.specs.Cells.{table_words}
 use Rattle.of_script.specs.declared.instr.TheConstants.{MOST_INSTRS}
 use Rattle.of_plan.specs.declared.plan.TheConstants.{MOST_SCRIPTS}
-use Rattle.of_plan.specs.Plan.{Plan}
+use Rattle.of_plan.specs.Plan.{Plan, IsPlan}
 use Rattle.of_plan.specs.Report.{CallEntry, empty_start}
 use Rattle.of_plan.specs.Ended.{Run, answers_of}
 use Rattle.of_eval.specs.Record.{cells_in, recovered_seq, recovered_word, OwnEntries}
 use Rattle.of_report.specs.declared.found.Found.{Found}
 
--- what recovery finds in the table that the run leaves
+-- what recovery finds in the table that the run of a plan leaves
 pub record Finds (p : Plan) (e : Run) (f : Found) : Type 0 where
+  pub plan : IsPlan p
   pub callers : f.plot.callers ≡ p.callers
   pub blocks : f.plot.blocks ≡ p.blocks
   pub seq : f.seq ≡ recovered_seq p e

@@ -8,6 +8,7 @@ ghost use Rattle.of_mem.specs.Places.{ticket_at};
 ghost use Rattle.of_mem.specs.Plots.{size};
 ghost use Rattle.of_script.specs.declared.instr.TheConstants.{MOST_INSTRS};
 ghost use Rattle.of_store.specs.State.{State};
+ghost use Rattle.of_plan.specs.Plan.{IsPlan};
 ghost use Rattle.of_plan.specs.Ended.{run_of};
 ghost use Rattle.of_eval.specs.Lawful.{StandsFor, reply_in};
 ghost use Rattle.of_eval.specs.Record.{cells_in};
@@ -35,6 +36,7 @@ pub(crate) struct Found {
 
 /// Where the data cells of a plan stand.
 fn plot_of(plan: &Plan) -> Plot
+    ensures plan { IsPlan plan.now }
     ensures callers { result.callers ≡ plan.now.callers }
     ensures instrs { result.instrs ≡ MOST_INSTRS }
     ensures blocks { result.blocks ≡ plan.now.blocks }

@@ -1,4 +1,4 @@
-use Rattle.std.proofs.Common.{◌≡◌, ℕ, ◌+◌, ◌*◌, ◌<◌, ◌≤◌, List, length, get_or, sym, ◌∙◌, ap, subst, arith}
+use Rattle.std.proofs.Common.{◌≡◌, ℕ, ◌+◌, ◌*◌, ◌<◌, ◌≤◌, List, length, get_or, drop, sym, ◌∙◌, ap, subst, arith}
 use Rattle.std.specs.Prelude.{slice_range}
 use Rattle.of_cell.specs.Words.{seq}
 use Rattle.of_cell.specs.Cells.{data_cell, durable_cells, durable_place, table_words}
@@ -7,7 +7,9 @@ use Rattle.of_mem.specs.Places.{base_of, cells_at}
 use Rattle.of_plan.specs.Ended.{run_of}
 use Rattle.of_eval.specs.Record.{cells_in}
 use Rattle.of_recover.specs.Recovered.{recovered_data, recovered}
-use Rattle.of_report.proofs.Recovery.{row_long, found_seq, found_word}
+use Rattle.std.proofs.lemmas.List.{take_at}
+use Rattle.of_recover.proofs.Rows.{length-recovered}
+use Rattle.of_report.proofs.Recovery.{found_seq, found_word}
 use Rattle.of_report.proofs.found.Found.find.Goals as goal
 
 pub returns : goal.returns
@@ -21,9 +23,19 @@ returns c =
     let long : length ws ≡ table_words N MOST_INSTRS M = c.requires ∙ (λ i. table_words (sym callers i) MOST_INSTRS (sym cells i)) in
     let row : c.in_ok-durable.durable.items ≡ slice_range ws (durable_cells N M) (durable_cells N M + durable_cells N M) =
       c.in_ok-durable.ensures ∙ ap (λ (l : List ℕ). slice_range l (durable_cells N M) (durable_cells N M + durable_cells N M)) c.deref.ensures.value in
+    let after : c.recover-seq.new.durable ≡ recovered N M c.in_ok-durable.durable.items = c.recover-seq.ensures.row ∙ ap (recovered N M) c.deref_mut.ensures.value in
+    let kept : length c.recover-seq.new.durable ≡ c.in_ok-durable.durable.len = ap length c.recover-seq.ensures.row ∙ length-recovered N M c.deref_mut.result.now ∙ c.deref_mut.ensures.len in
+    let part : c.in_ok-words.words.items ≡ slice_range (recovered N M c.in_ok-durable.durable.items) (data_cell N 0) (data_cell N 0 + M) = 
+      c.in_ok-words.ensures ∙ ap (λ (l : List ℕ). slice_range l (data_cell N 0) (data_cell N 0 + M)) (
+        c.deref-2.ensures.value
+        ∙ take_at c.recover-seq.new.durable (drop (length c.recover-seq.new.durable) c.in_ok-durable.durable.items) c.in_ok-durable.durable.len kept
+        ∙ after) in
     record {
+      plan = c.plot_of-plot.ensures.plan;
       callers = c.plot_of-plot.ensures.callers;
       blocks = c.plot_of-plot.ensures.blocks;
-      seq = ?;
-      words = λ a l. ?;
+      seq = c.recover-seq.ensures.seq ∙ ap (λ (l : List ℕ). seq (get_or l 0 0)) c.deref_mut.ensures.value ∙ found_seq N M ws c.in_ok-durable.durable.items row ∙ (λ i. seq (get_or ws (durable_place (callers i) (cells i) 0) 0));
+      words = λ a l.
+        found_word N M ws c.in_ok-durable.durable.items c.in_ok-words.words.items (omega arith) long row part a (subst (λ (n : ℕ). a < n) (sym cells) l)
+        ∙ (λ i. recovered_data (callers i) (cells i) (λ d. get_or ws (durable_place (callers i) (cells i) d) 0) a);
     }
