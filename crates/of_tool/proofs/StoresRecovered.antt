@@ -18,7 +18,7 @@ use Rattle.of_tool.specs.Play.{setup_for}
 use Rattle.of_tool.specs.Moments.{batch_calls, batch_scripts, store_after}
 use Rattle.of_tool.proofs.StoresHeld.{HasReply}
 use Rattle.of_tool.proofs.StoresMoments.{moment, IsMoment}
-use Rattle.of_tool.proofs.Stores.{no_response}
+use Rattle.of_tool.proofs.StoresReplay.{no_response}
 
 -- the last call of caller c up to the recovered sequence: its ticket is the recovered one, and the recovered own cells hold its reply
 pub record IsLastCall (p : Plan) (es : List Event) (e : Run) (c : ℕ) : Type 0 where
