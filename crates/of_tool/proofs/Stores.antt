@@ -6,6 +6,7 @@ use Rattle.std.proofs.lemmas.Bool.{false≢true}
 use Rattle.std.proofs.lemmas.List.{take_more, length-map, length-replicate}
 use Rattle.std.proofs.lemmas.List.Elements.{All-from_recursion, recursion_from_All}
 use Rattle.of_cell.specs.Words.{pay}
+use Rattle.of_cell.proofs.Order.{pay_zero}
 use Rattle.of_mem.specs.declared.work.RawReply.{RawReply}
 use Rattle.of_mem.specs.Meaning.{SameFrom}
 use Rattle.of_mem.specs.Places.{base_of}
@@ -65,11 +66,7 @@ pub record IsReadAt (p : Plan) (es : List Event) (i t s : ℕ) (raw : RawReply) 
   pub only : All (λ j. IsTrue (reads_only j)) (script_at p i t)
   pub reply : HasReply raw (run (store_after p (moment p es) s) (script_at p i t)).1
 
-pay_zero : pay 0 ≡ 0
-unfolding pay
-pay_zero = refl
-
-zero_at : (n a : ℕ) → ◌≡◌ {A = ℕ} (get_or (replicate n 0) a 0) 0
+pub zero_at : (n a : ℕ) → ◌≡◌ {A = ℕ} (get_or (replicate n 0) a 0) 0
 zero_at zero a = refl
 zero_at (suc n) zero = refl
 zero_at (suc n) (suc a) = zero_at n a
