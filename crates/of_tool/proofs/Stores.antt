@@ -76,6 +76,11 @@ idle_is : (q : Place) → is_idle q ≡ true → q ≡ Idle
 idle_is Idle e = refl
 idle_is q e = absurd (false≢true e)
 
+-- where the raw reply of an outcome comes from
+abbrev pub IsHeldAt : Plan → List Event → (i t s : ℕ) → RawReply → (announced : Bool) → Type 0
+IsHeldAt p es i t s raw true = IsAnnouncedAt p es i t s raw
+IsHeldAt p es i t s raw false = IsReadAt p es i t s raw
+
 module _ (p : Plan) (es : List Event) (h : IsMoment p es) where
   abbrev S : Setup
   S = setup_for p
@@ -107,7 +112,7 @@ module _ (p : Plan) (es : List Event) (h : IsMoment p es) where
       let leads = calls_lead p h.plan (get_or w.batches k no_batch).calls (replay S.meaning start (take k w.batches)) (store_after p w k) (replayed k (omega (arith, l))) (each_call k (omega (arith, l))) in
       let P : List ℕ → Batch → Type 0 = λ xs b. Cells p h.plan xs (last_store (store_after p w k) (map (call_script p) b.calls)) in
       let cells : replay S.meaning start (take (suc k) w.batches) ≡ after_calls S.meaning (replay S.meaning start (take k w.batches)) (get_or w.batches k no_batch).calls =
-          ap (replay S.meaning start) t ∙ replay_more S.meaning start (take k w.batches) (get_or w.batches k no_batch) in
+      ap (replay S.meaning start) t ∙ replay_more S.meaning start (take k w.batches) (get_or w.batches k no_batch) in
       subst (λ (b : Batch). P (replay S.meaning start (take (suc k) w.batches)) b) (sym (batch_at k)) (subst (λ (xs : List ℕ). P xs (get_or w.batches k no_batch)) (sym cells) leads)
 
   same_state : (k : ℕ) → k ≤ length w.batches → SameFrom (base S) (numbers (zeros S) w.batches k) (replay S.meaning start (take k w.batches))
@@ -128,12 +133,14 @@ module _ (p : Plan) (es : List Event) (h : IsMoment p es) where
         };
       }
 
+  -- the cells after batch k stand for the store of its replay
   pub is_stored : (k : ℕ) → k ≤ length (moment p es).batches → IsStored (base_of p.callers MOST_INSTRS) p.blocks (memory (numbers (zeros (setup_for p)) (moment p es).batches k)) (store_after p (moment p es) k)
   is_stored k upto = (numbers_stand k upto).stored
 
   met : (k : ℕ) → k < length w.batches → Replies S.meaning (replay S.meaning start (take k w.batches)) (get_or w.batches k no_batch).calls
   met k l = legal_at S.meaning start w.batches k h.sound.legal l
 
+  -- the calls of a batch have the replies of serial replay
   pub have_raws : (k : ℕ) → k < length (moment p es).batches → HaveRaws (batch_calls p (moment p es) (k + 1)) (replies (store_after p (moment p es) k) (batch_scripts p (moment p es) (k + 1)))
   have_raws k upto =
       let have = calls_have p h.plan (get_or w.batches k no_batch).calls (replay S.meaning start (take k w.batches)) (store_after p w k) (replayed k (omega (arith, upto))) (each_call k upto) (met k upto) in
@@ -148,7 +155,7 @@ module _ (p : Plan) (es : List Event) (h : IsMoment p es) where
   replied (suc k) y some upto l =
       let b = batch_at k in
       let at = call_replied p h.plan (get_or w.batches k no_batch).calls y (replay S.meaning start (take k w.batches)) (store_after p w k) (replayed k (omega (arith, upto))) (each_call k (omega (arith, upto))) (met k (omega (arith, upto)))
-          (subst (λ (x : Batch). y < length x.calls) b l) in
+      (subst (λ (x : Batch). y < length x.calls) b l) in
       let P : ℕ → Batch → Type 0 = λ n x. IsReplied (get_or x.calls y no_call) (get_or (replies (store_after p w n) (map (call_script p) x.calls)) y no_response) in
       let e : suc k - 1 ≡ k = omega arith in
       subst (λ (n : ℕ). P n (batch (zeros S) w.batches (suc k))) (sym e) (subst (P k) (sym b) at)
@@ -173,6 +180,7 @@ module _ (p : Plan) (es : List Event) (h : IsMoment p es) where
       let same : s.0.script ≡ script = words_injective s.0.script script s.0.range is.in_range (s.0.words ∙ words) in
       subst (All (λ i. IsTrue (reads_only i))) same (All-from_recursion (λ i. IsTrue (reads_only i)) s.0.script s.0.reads)
 
+  -- each read has the reply of its script on the store after its sequence
   pub read_raw : (j : ℕ) → j < length (moment p es).reads → IsReadOf p es (get_or (moment p es).reads j no_read)
   read_raw j among =
       let r = get_or w.reads j no_read in
@@ -190,6 +198,7 @@ module _ (p : Plan) (es : List Event) (h : IsMoment p es) where
       }
 
   module _ (i x s steps : ℕ) (raw : RawReply) (caller : i < p.callers) (among : x < length (outcomes (setup_for p) (opening_for p) es i)) where
+    -- an announced call that has ended
     pub announced_held : get_or (outcomes (setup_for p) (opening_for p) es i) x no_outcome ≡ Answered s true raw steps → IsAnnouncedAt p es i (x + 1) s raw
     announced_held is =
         let stood = subst (Stood S w i (x + 1) (get_or (operations es i) x [])) is ((h.calls i caller).each x among) in
@@ -206,6 +215,7 @@ module _ (p : Plan) (es : List Event) (h : IsMoment p es) where
           reply = has_reply p raw (length c.op) (get_or (replies (store_after p w (s - 1)) (batch_scripts p w s)) call.place no_response) has.some has.few has.fits (subst (SameReply S raw) has.raw call.reply);
         }
 
+    -- a read that was not announced
     pub read_held : get_or (outcomes (setup_for p) (opening_for p) es i) x no_outcome ≡ Answered s false raw steps → IsReadAt p es i (x + 1) s raw
     read_held is =
         let stood = subst (Stood S w i (x + 1) (get_or (operations es i) x [])) is ((h.calls i caller).each x among) in
@@ -222,3 +232,8 @@ module _ (p : Plan) (es : List Event) (h : IsMoment p es) where
           only = subst P at.2 q.only;
           reply = subst Q at.2 q.reply;
         }
+
+    -- each answer has the reply of serial replay
+    pub outcome_held : (announced : Bool) → get_or (outcomes (setup_for p) (opening_for p) es i) x no_outcome ≡ Answered s announced raw steps → IsHeldAt p es i (x + 1) s raw announced
+    outcome_held true is = announced_held is
+    outcome_held false is = read_held is

@@ -62,13 +62,13 @@ whole n (Answered vs) some few fits = record {
   some = some;
   few = few;
   width = full_width vs (omega (arith, few, fits.0));
-  fits = record { len = refl; small = λ i. padded_small vs (8 - length vs) i fits.1; past = λ i l. padded_past vs (8 - length vs) i (omega (arith, fits.0, l)); aborted = tt };
+  fits = record { len = refl; small = λ i. padded_small vs (MOST_INSTRS - length vs) i fits.1; past = λ i l. padded_past vs (MOST_INSTRS - length vs) i (omega (arith, fits.0, l)); aborted = tt };
 }
 whole n (Aborted place cause) some few fits = record {
   some = some;
   few = few;
   width = refl;
-  fits = record { len = refl; small = λ i. padded_small [] 8 i tt; past = λ i l. none_at 8 i; aborted = (fits, λ i. none_at 8 i) };
+  fits = record { len = refl; small = λ i. padded_small [] MOST_INSTRS i tt; past = λ i l. none_at MOST_INSTRS i; aborted = (fits, λ i. none_at MOST_INSTRS i) };
 }
 
 -- ---- marks
@@ -101,8 +101,8 @@ has_marked vs shape x j v e l has = eq-eqb (shape / 2 ^ j % 2) 1 (ap (λ (q : �
 -- ---- what is laid out
 
 -- a number stands at one of the places that there are
-within : (vs : List (Option ℕ)) (i v : ℕ) → length vs ≡ 8 → get_or vs i None ≡ Some v → i < 8
-within vs i v wide has = elim (cases_lt i 8) [
+within : (vs : List (Option ℕ)) (i v : ℕ) → length vs ≡ MOST_INSTRS → get_or vs i None ≡ Some v → i < MOST_INSTRS
+within vs i v wide has = elim (cases_lt i MOST_INSTRS) [
   | inl l ↦ l
   | inr l ↦ absurd (none-some v (sym (get_or_past vs i None (omega (arith, wide, l))) ∙ has))
 ]
@@ -110,11 +110,11 @@ within vs i v wide has = elim (cases_lt i 8) [
 numbers_same : (p : Plan) (raw : RawReply) (n : ℕ) (response : Response) → 1 ≤ n → n ≤ MOST_INSTRS → FitsIn n response → SameReply (setup_for p) raw (raw_of n response)
     → (i v : ℕ) → get_or (reply_to n response).values i None ≡ Some v → get_or raw.values i 0 ≡ v
 numbers_same p raw n (Answered vs) some few fits same i v has =
-    let all = vs ++ replicate (8 - length vs) None in
+    let all = vs ++ replicate (MOST_INSTRS - length vs) None in
     let l = within all i v (full_width vs (omega (arith, few, fits.0))) has in
     let m = has_marked all raw.shape n i v (same.0 ∙ omega arith) (omega (arith, l)) has in
     same.1 i l m ∙ get_or-map (λ (o : Option ℕ). unwrap_or o 0) all i None ∙ ap (λ (o : Option ℕ). unwrap_or o 0) has
-numbers_same p raw n (Aborted place cause) some few fits same i v has = absurd (none-some v (sym (none_at 8 i) ∙ has))
+numbers_same p raw n (Aborted place cause) some few fits same i v has = absurd (none-some v (sym (none_at MOST_INSTRS i) ∙ has))
 
 -- a raw reply that is the same as that of a response holds it
 pub held : (p : Plan) (raw : RawReply) (n : ℕ) (response : Response) → 1 ≤ n → n ≤ MOST_INSTRS → FitsIn n response → SameReply (setup_for p) raw (raw_of n response) → IsHeldBy raw (reply_to n response)
@@ -157,16 +157,18 @@ one_reply raw r q h k =
 
 -- the reply of a response is that response
 pub response_again : (n : ℕ) (response : Response) → FitsIn n response → response_of (reply_to n response) ≡ response
-response_again n (Answered vs) fits = ap (λ (k : ℕ). Answered (take k (vs ++ replicate (8 - length vs) None))) (sym fits.0) ∙ ap Answered (take-append_seam vs (replicate (8 - length vs) None))
+response_again n (Answered vs) fits = ap (λ (k : ℕ). Answered (take k (vs ++ replicate (MOST_INSTRS - length vs) None))) (sym fits.0) ∙ ap Answered (take-append_seam vs (replicate (MOST_INSTRS - length vs) None))
 response_again n (Aborted place cause) fits = refl
 
 -- whatever reply the cells hold is the response that they lay out
 pub held_response : (p : Plan) (raw : RawReply) (r : Reply) (n : ℕ) (response : Response) → 1 ≤ n → n ≤ MOST_INSTRS → FitsIn n response → SameReply (setup_for p) raw (raw_of n response) → IsHeldBy raw r → response_of r ≡ response
 held_response p raw r n response some few fits same h = ap response_of (one_reply raw r (reply_to n response) h (held p raw n response some few fits same)) ∙ response_again n response fits
 
+-- so is whatever reply they hold, where they hold a reply that is a response
 pub held_is : (raw : RawReply) (r : Reply) (response : Response) → IsHeldBy raw r → HasReply raw response → response_of r ≡ response
 held_is raw r response h k = ap response_of (one_reply raw r k.0 h k.1) ∙ k.2
 
+-- what lays out a response holds a reply that is it
 pub has_reply : (p : Plan) (raw : RawReply) (n : ℕ) (response : Response) → 1 ≤ n → n ≤ MOST_INSTRS → FitsIn n response → SameReply (setup_for p) raw (raw_of n response) → HasReply raw response
 has_reply p raw n response some few fits same = (reply_to n response, held p raw n response some few fits same, response_again n response fits)
 

@@ -1,5 +1,5 @@
 -- A script that only reads needs a cell when nothing is known.
-use Rattle.std.proofs.Common.{◌≡◌, ℕ, zero, suc, ◌+◌, true, List, [], ◌∷◌, length, get_or, take, replicate, Option, None, Some, refl, ap, subst, ◌∙◌, arith}
+use Rattle.std.proofs.Common.{◌≡◌, ℕ, zero, suc, ◌+◌, ◌-◌, true, List, [], ◌∷◌, length, get_or, take, replicate, Option, None, Some, refl, ap, subst, ◌∙◌, arith}
 use Rattle.std.specs.Prelude.{IsTrue}
 use Rattle.std.specs.List.{All}
 use Rattle.of_mem.specs.declared.work.RawReply.{RawReply}
@@ -55,12 +55,13 @@ lacks n (Done r) g h = absurd h
 lacks n (Read a k) g h = ap (λ (o : Option ℕ). least_of (walked is_success (with_number o a (λ v. run (then_do (k v) g) (fresh_pad (replicate n None)))))) (nothing_new n a)
 lacks n (Write a v f) g h = absurd h
 
+-- the walk of such a script's words needs a cell, so a try of it makes three steps at least
 pub least_reads : (p : Plan) (script : List Instr) → IsScript script → All (λ i. IsTrue (reads_only i)) script → least_read (setup_for p) (words_of script) ≡ 3
 least_reads p [] is only = absurd (omega (arith, is.some))
 least_reads p (i ∷ others) is only =
     let o = base_of p.callers MOST_INSTRS in
     let n = (setup_for p).cells in
-    let ws = take 7 (words_of others) in
+    let ws = take (MOST_INSTRS - 1) (words_of others) in
     let count = length (take MOST_INSTRS (words_of (i ∷ others))) in
     let g : Answer → Program RawReply = go_on count [] (λ v. words_program o p.blocks count (v ∷ []) ws) in
     let reads : reads_only i ≡ true = only 0 i (omega arith) in

@@ -44,6 +44,11 @@ sound_here p is es schedule =
     let work = work_of p is in
     every_moment S (LawfulCells work) (scripts_sound work) (omega (arith, is.some_callers)) (omega (arith, is.few_callers)) (omega arith) (table_words S) (omega arith) (omega arith) (omega (arith, is.few_callers, is.few_blocks)) es schedule
 
+-- and with its calls as its events began and ended them it is a moment
+pub is_moment : (p : Plan) → IsPlan p → (es : List Event) → IsSchedule (setup_for p) (opening_for p) es → IsOfPlan p es
+    → ((i : ℕ) → i < p.callers → Calls (setup_for p) (moment p es) i (operations es i) (outcomes (setup_for p) (opening_for p) es i)) → IsMoment p es
+is_moment p is es schedule of_plan calls = record { plan = is; of_plan = of_plan; sound = sound_here p is es schedule; calls = calls }
+
 -- caller i has a script with the ticket t, and these are its words
 pub record IsOperation (p : Plan) (i t : ℕ) (op : List ℕ) : Type 0 where
   pub caller : i < p.callers
@@ -52,6 +57,7 @@ pub record IsOperation (p : Plan) (i t : ℕ) (op : List ℕ) : Type 0 where
   pub words : op ≡ words_of (script_at p i t)
   pub script : IsScript (script_at p i t)
 
+-- the call is one of a script of its caller
 abbrev pub IsCallOf : Plan → Call → Type 0
 IsCallOf p c = IsOperation p c.caller c.ticket c.op
 
@@ -63,7 +69,7 @@ module _ (p : Plan) (es : List Event) (h : IsMoment p es) where
       let scripts = scripts_of p i in
       let many : length (operations es i) ≡ q.0 = ap length q.2 ∙ length-map (take q.0 scripts) words_of ∙ length-take-le q.0 scripts q.1 in
       let e : get_or (operations es i) (t - 1) [] ≡ words_of (script_at p i t) =
-          ap (λ (ops : List (List ℕ)). get_or ops (t - 1) []) q.2 ∙ get_or-map words_of (take q.0 scripts) (t - 1) [] ∙ ap words_of (get_or-take q.0 scripts (t - 1) [] (omega (arith, many, some, among))) in
+      ap (λ (ops : List (List ℕ)). get_or ops (t - 1) []) q.2 ∙ get_or-map words_of (take q.0 scripts) (t - 1) [] ∙ ap words_of (get_or-take q.0 scripts (t - 1) [] (omega (arith, many, some, among))) in
       let each : Each IsScript scripts = All-from_recursion (Each IsScript) p.scripts h.plan.each_script i [] (omega (arith, h.plan.each_caller, l)) in
       record {
         caller = l;

@@ -61,7 +61,7 @@ module _ (p : Plan) (es : List Event) (h : IsMoment p es) (e : Run) (left : e.wo
   abbrev w : World
   w = moment p es
 
-  -- the recovered sequence
+  -- the durable sequence
   abbrev d : ℕ
   d = risen S w.words
 
@@ -69,6 +69,7 @@ module _ (p : Plan) (es : List Event) (h : IsMoment p es) (e : Run) (left : e.wo
   abbrev word_in : ℕ → ℕ
   word_in a = at (zeros S) w.batches d a
 
+  -- the recovered sequence is the durable one
   pub recovered_seq_is : recovered_seq p e ≡ risen (setup_for p) (moment p es).words
   recovered_seq_is = ap (λ (ws : List ℕ). current_seq (λ c. get_or ws (durable_place p.callers (cells_in p) c) 0)) left
 
@@ -81,6 +82,7 @@ module _ (p : Plan) (es : List Event) (h : IsMoment p es) (e : Run) (left : e.wo
   upto_last : d ≤ length w.batches
   upto_last = omega (arith, h.sound.reaches)
 
+  -- the recovered cells stand for the store after the batches up to it
   pub recovered_stored : IsStored (base_of p.callers MOST_INSTRS) p.blocks (recovered_number p e) (store_after p (moment p es) (risen (setup_for p) (moment p es).words))
   recovered_stored =
       let stored = is_stored p es h d upto_last in
@@ -153,20 +155,23 @@ module _ (p : Plan) (es : List Event) (h : IsMoment p es) (e : Run) (left : e.wo
           reply = has_reply p raw (length call.op) (get_or (replies (store_after p w (q.number - 1)) (batch_scripts p w q.number)) q.place no_response) has.some has.few has.fits (subst (SameReply S raw) has.raw (shape, number));
         }
 
+  -- the recovered ticket is that of the caller's last call up to there, or 0 where there is none
   pub recovered_ticket : (c : ℕ) → c < p.callers → HasNoCall p es e c ⊎ IsLastCall p es e c
   recovered_ticket c l = elim (h.sound.own c l) [
     | inl q ↦ inl (no_call_yet c l q.0 q.1)
     | inr q ↦ inr (last_call c l q)
   ]
 
+  -- the recovered own cells of each caller are those of no call, or hold the reply to its last one
   pub recovered_own : (c : ℕ) → c < p.callers → OwnStand MOST_INSTRS (recovered_number p e) c
   recovered_own c l = elim (recovered_ticket c l) [
     | inl q ↦ record { none = λ zero. q.shape_is; some = λ some. absurd (some q.ticket_is) }
     | inr q ↦ record {
-        none = λ zero. absurd (let is = op_is p es h q.number q.some (omega (arith, q.upto, upto_last)) q.place no_call q.among in omega (arith, is.some, q.ticket_is, zero));
-        some = λ some. record { reply = q.reply.0; held = q.reply.1; few = q.reply.1.0.few };
-      }
+      none = λ zero. absurd (let is = op_is p es h q.number q.some (omega (arith, q.upto, upto_last)) q.place no_call q.among in omega (arith, is.some, q.ticket_is, zero));
+      some = λ some. record { reply = q.reply.0; held = q.reply.1; few = q.reply.1.0.few };
+    }
   ]
 
+  -- so all recovered cells stand for that store
   pub stands_for : StandsFor p.callers MOST_INSTRS p.blocks (recovered_number p e) (store_after p (moment p es) (risen (setup_for p) (moment p es).words))
   stands_for = record { own = recovered_own; stored = recovered_stored }
