@@ -4,13 +4,11 @@ use Rattle.std.specs.List.{All, AllByRecursion as Each}
 use Rattle.std.proofs.Math.ListN.{get_or-map}
 use Rattle.std.proofs.lemmas.List.{length-map, length-take-le, get_or-take}
 use Rattle.std.proofs.lemmas.List.Elements.{All-from_recursion}
-use Rattle.of_script.specs.declared.instr.Instr.{Instr}
 use Rattle.of_script.specs.Language.{IsScript}
 use Rattle.of_eval.specs.declared.scripts.Scripts.{Scripts}
 use Rattle.of_eval.specs.Scripts.{LawfulCells}
 use Rattle.of_eval.specs.SoundScripts.{scripts_sound}
 use Rattle.of_plan.specs.Plan.{Plan, IsPlan, scripts_of}
-use Rattle.of_core.specs.declared.place.Outcome.{Outcome}
 use Rattle.of_core.specs.Machine.{Call}
 use Rattle.of_core.specs.World.{World}
 use Rattle.of_core.specs.Claim.{IsSound}
@@ -20,7 +18,7 @@ use Rattle.of_core.specs.Events as events
 use Rattle.of_core.specs.Moment.{table_words}
 use Rattle.of_core.proofs.Moments.{every_moment}
 use Rattle.of_tool.specs.Play.{setup_for, opening_for, words_of, IsOfPlan}
-use Rattle.of_tool.specs.Moments.{script_at, call_script, batch_calls}
+use Rattle.of_tool.specs.Moments.{script_at, batch_calls}
 
 -- the moment that events leave
 abbrev pub moment : Plan → List Event → World

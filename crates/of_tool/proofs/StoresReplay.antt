@@ -4,7 +4,6 @@ use Rattle.std.specs.List.{AllByRecursion as Each}
 use Rattle.std.proofs.Math.ListN.{get_or-map}
 use Rattle.std.proofs.lemmas.List.{get_or-drop, length-map, length-drop}
 use Rattle.of_cell.specs.Words.{pay}
-use Rattle.of_mem.specs.declared.work.RawReply.{RawReply}
 use Rattle.of_mem.specs.Meaning.{Meaning, SameFrom}
 use Rattle.of_mem.specs.Places.{base_of}
 use Rattle.of_mem.specs.ProgramWork.{memory}
@@ -14,7 +13,6 @@ use Rattle.of_script.specs.Language.{IsScript, instr_word}
 use Rattle.of_store.specs.State.{State, Response, Answered, run, replies, last_store}
 use Rattle.of_eval.specs.Stored.{IsStored}
 use Rattle.of_eval.specs.SoundScripts.{scripts_sound}
-use Rattle.of_eval.specs.Words.{run_words}
 use Rattle.of_eval.proofs.Meanings.{means_words, words_mean_script}
 use Rattle.of_plan.specs.Plan.{Plan, IsPlan, data_cells}
 use Rattle.of_core.specs.Machine.{Call, no_call}
