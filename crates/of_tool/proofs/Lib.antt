@@ -6,3 +6,6 @@ pub mod StoresReplay
 pub mod Stores
 pub mod StoresRecovered
 pub mod StoresLeast
+pub mod KnownCells
+pub mod HeldReplies
+pub mod Cases
