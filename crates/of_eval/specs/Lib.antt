@@ -13,3 +13,5 @@ pub mod Staying
 pub mod SoundScripts
 pub mod Means
 pub mod Lawful
+pub mod Faults
+pub mod Walking

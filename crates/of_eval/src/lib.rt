@@ -1,6 +1,7 @@
 //! Scripts over cells.
 #![tactic(auto)]
 
+mod lawful_cells;
 pub mod laws;
 mod reply;
 mod scripts;
@@ -9,5 +10,6 @@ mod step;
 mod tests;
 mod walk;
 
+pub use lawful_cells::{LawErr, lawful};
 pub use reply::{reply_cells, reply_of};
 pub use scripts::Scripts;
