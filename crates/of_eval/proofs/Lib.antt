@@ -5,3 +5,7 @@ pub mod Walks
 pub mod Overlay
 pub mod ReadsOnly
 pub mod Starts
+pub mod Paths
+pub mod Paintings
+pub mod Passing
+pub mod Filling

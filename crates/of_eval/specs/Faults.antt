@@ -51,10 +51,9 @@ IsPath o m cell [] = Unit {0}
 IsPath o m cell (b ∷ bs) = (m cell ≡ b + 1) × IsPath o m (link_at o b) bs
 
 -- the list has this number
-pub record Has (l : List ℕ) (x : ℕ) : Type 0 where
-  pub front : List ℕ
-  pub rest : List ℕ
-  pub split : l ≡ front ++ x ∷ rest
+abbrev pub Has : List ℕ → ℕ → Type 0
+Has [] x = ⊥
+Has (a ∷ l) x = (x ≡ a) ⊎ Has l x
 
 -- The blocks that were met: all of the chains before chain n, and those of chain n from its front up to here. Each is below fresh and
 -- stands in one chain, and once in it, and what stands in the blocks is sound.

@@ -1,5 +1,5 @@
 -- How far the walk through the chains came: what its owners table and its store say of the blocks that were met.
-use Rattle.std.specs.Prelude.{◌≡◌, ◌≢◌, ◌⊎◌, ℕ, ◌+◌, ◌%◌, ◌==◌, ◌<◌, ◌≤◌, Option, Some, None, List, [], length, map, count_by}
+use Rattle.std.specs.Prelude.{◌≡◌, ◌≢◌, ◌⊎◌, ℕ, ◌+◌, ◌%◌, ◌<◌, ◌≤◌, cond, eqb, Option, Some, None, List, [], ◌∷◌, length, map}
 use Rattle.std.specs.FinMap as fin
 use Rattle.std.proofs.Common.{get_or, set}
 use Rattle.of_mem.specs.declared.plot.Plot.{Plot}
@@ -27,7 +27,8 @@ HasBegun p cells = Begun p.callers p.instrs p.blocks (memory cells)
 
 -- how many blocks have no owner yet
 abbrev pub unmet : List ℕ → ℕ
-unmet owners = count_by (λ x. x == 0) owners
+unmet [] = 0
+unmet (x ∷ owners) = cond (eqb x 0) 1 0 + unmet owners
 
 -- The owners table has 1 more than its chain's number for each block that was met, and 0 for the others.
 pub record Painted (fresh : ℕ) (chains : ℕ → List ℕ) (owners : List ℕ) : Type 0 where
