@@ -9,3 +9,4 @@ pub mod Paths
 pub mod Paintings
 pub mod Passing
 pub mod Filling
+pub mod Filled
