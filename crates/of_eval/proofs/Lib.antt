@@ -10,3 +10,4 @@ pub mod Paintings
 pub mod Passing
 pub mod Filling
 pub mod Filled
+pub mod OwnCells
