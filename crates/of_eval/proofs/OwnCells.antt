@@ -4,14 +4,20 @@ use Rattle.std.specs.List.{range_with_len}
 use Rattle.std.proofs.lemmas.Bool.{cases_lt, lt-ltb, false≢true}
 use Rattle.std.proofs.lemmas.List.FromFn.{get_or-map-range_with_len}
 use Rattle.of_mem.specs.Places.{ticket_at, shape_at, reply_at}
+use Rattle.of_mem.specs.declared.plot.Plot.{Plot}
+use Rattle.of_mem.specs.ProgramWork.{memory}
 use Rattle.of_mem.specs.Stores.{IsNumber}
+use Rattle.of_eval.specs.declared.lawful_cells.LawErr.{LawErr}
+use Rattle.of_eval.specs.declared.lawful_cells.LawErr.TheVariants.{Memory, Unlawful}
+use Rattle.of_eval.specs.Walking.{NamesFault}
+use Rattle.of_eval.specs.Faults.IsFirstFault.{Own}
 use Rattle.of_script.specs.Language.{greatest}
 use Rattle.of_script.specs.declared.instr.Reply.{Reply}
 use Rattle.of_script.specs.declared.instr.Abort.{Abort}
 use Rattle.of_store.specs.Replies.{IsReply, IsSmall}
 use Rattle.of_eval.specs.Shapes.{IsWhole, IsLaidOut, IsHeldBy, mark, mask_of, shape_of, abort_part}
 use Rattle.of_eval.specs.Lawful.{reply_number, reply_in, HoldsReply, OwnStand}
-use Rattle.of_eval.specs.Faults.{IsShapeOf, HasNumber, bare}
+use Rattle.of_eval.specs.Faults.{IsShapeOf, HasNumber, OwnFault, AtCell, bare}
 
 -- another number at a place that has one
 abbrev pub renumbered : Option ℕ → ℕ → Option ℕ
@@ -110,3 +116,8 @@ numbers_hold instrs m c r h small =
         go : (w : Option ℕ) → renumbered w (m (reply_at instrs c (0 + i))) ≡ Some v → m (reply_at instrs c i) ≡ v
         go None q = absurd (false≢true (ap is_some q))
         go (Some w) q = let k : 0 + i ≡ i = omega arith in let p : m (reply_at instrs c (0 + i)) ≡ v = cc in ap (λ n. m (reply_at instrs c n)) (sym k) ∙ p
+
+-- the first fault of a caller's cells, where those of the callers before are sound
+pub own_names : (p : Plot) (cells : List ℕ) (c : ℕ) (e : LawErr) → c < p.callers → ((d : ℕ) → d < c → OwnStand p.instrs (memory cells) d) → AtCell (OwnFault p.instrs (memory cells) c) e → NamesFault p cells e
+own_names p cells c Memory l h f = tt
+own_names p cells c (Unlawful cell) l h f = Own c l h f
