@@ -11,3 +11,4 @@ pub mod Passing
 pub mod Filling
 pub mod Filled
 pub mod OwnCells
+pub mod Starting
