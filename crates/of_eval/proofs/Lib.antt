@@ -12,3 +12,4 @@ pub mod Filling
 pub mod Filled
 pub mod OwnCells
 pub mod Starting
+pub mod Buckets
