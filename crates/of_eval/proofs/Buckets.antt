@@ -102,9 +102,11 @@ module _ (p : Plot) (cells : List ℕ) (k : ℕ) (chains : ℕ → List ℕ) (ow
 
       pub met_entry : (t : State) → memory cells second ≤ greatest → t ≡ with_key s (memory cells first) (memory cells second) → Walked p cells (1 + k) 0 (with_block chains (1 + k) b) after × Kept p cells (with_block chains (1 + k) b) t
       met_entry t value t_is =
-          let m = met_block good' mine' absent' (subst (λ a. memory cells a ≤ greatest) second_is value) in
-          (m.0, subst (λ (x : State). Kept p cells (with_block chains (1 + k) b) x)
-              (sym (t_is ∙ ap (λ a. with_key s (memory cells a) (memory cells second)) first_is ∙ ap (λ a. with_key s (memory cells (first_at (base p) b)) (memory cells a)) second_is)) m.1)
+          let m = met_block good' mine' absent' (subst (λ a. memory cells a ≤ greatest) second_is value) in (
+            m.0,
+            subst (λ (x : State). Kept p cells (with_block chains (1 + k) b) x)
+                (sym (t_is ∙ ap (λ a. with_key s (memory cells a) (memory cells second)) first_is ∙ ap (λ a. with_key s (memory cells (first_at (base p) b)) (memory cells a)) second_is)) m.1,
+          )
 
   -- the bucket ends
   pub bucket_ends : (cell : ℕ) (after : List ℕ) → cell ≡ here (base p) (1 + k) chains → memory cells cell ≡ 0 → after ≡ owners → Before p cells (2 + k) 0 after s

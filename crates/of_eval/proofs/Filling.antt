@@ -47,7 +47,7 @@ module _ (p : Plot) (cells : List ℕ) (chains : ℕ → List ℕ) (s : State) (
   abbrev m : ℕ → ℕ
   m = memory cells
 
-  lengths : (q : ℕ) → q < 4 → length (chains (33 + q)) ≡ length (queue s q)
+  pub lengths : (q : ℕ) → q < 4 → length (chains (33 + q)) ≡ length (queue s q)
   lengths q l = sym (length-map (chains (33 + q)) (λ (b : ℕ). m (first_at o b))) ∙ ap length (h.items q l)
 
   -- as many things are kept as blocks stand behind the free list
@@ -79,12 +79,12 @@ module _ (p : Plot) (cells : List ℕ) (chains : ℕ → List ℕ) (s : State) (
           let at : 1 + key % 32 ≡ n = omega (arith, ap (λ x. x % 32) e, here, n_is) in
           got key ∙ ap (λ (t : Bool). cond t (Some (m (second_at o b))) (fin.get s.keys key)) (eq-eqb key (m (first_at o b)) e)
           ∙ sym (ap (λ c. value_in o m key (chains' c)) at ∙ ap (value_in o m key) (changed_same chains n (chains n ++ b ∷ []))
-              ∙ ap (λ y. value_in o m y (chains n ++ b ∷ [])) e ∙ value_last o m (m (first_at o b)) b (chains n) key_apart refl)
+          ∙ ap (λ y. value_in o m y (chains n ++ b ∷ [])) e ∙ value_last o m (m (first_at o b)) b (chains n) key_apart refl)
       | inr e ↦
           got key ∙ ap (λ (t : Bool). cond t (Some (m (second_at o b))) (fin.get s.keys key)) (ne_eqb key (m (first_at o b)) e)
           ∙ changed_cases (λ c x. fin.get s.keys key ≡ value_in o m key x) chains n (chains n ++ b ∷ []) (1 + key % 32)
-              (λ q. h.values key ∙ ap (λ c. value_in o m key (chains c)) q ∙ sym (value_past o m key b (chains n) (λ i. e (sym i))))
-              (λ q. h.values key)
+          (λ q. h.values key ∙ ap (λ c. value_in o m key (chains c)) q ∙ sym (value_past o m key b (chains n) (λ i. e (sym i))))
+          (λ q. h.values key)
     ]
 
     pub bucket_kept : Kept p cells chains' s'

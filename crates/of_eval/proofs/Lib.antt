@@ -13,3 +13,5 @@ pub mod Filled
 pub mod OwnCells
 pub mod Starting
 pub mod Buckets
+pub mod Queues
+pub mod Endings

@@ -100,10 +100,13 @@ numbers_hold instrs m c r h small =
     let fits : (i : ℕ) → i < r.len → HasNumber r i → m (reply_at instrs c i) ≤ greatest = λ i l k. omega (arith, small i l k) in
     record {
       reply = with_numbers r (λ i. m (reply_at instrs c i));
-      held = (whole_with r (λ i. m (reply_at instrs c i)) h.held.0 fits, record {
+      held = (
+        whole_with r (λ i. m (reply_at instrs c i)) h.held.0 fits,
+        record {
           shape = h.held.1.shape ∙ sym (shape_with r (λ i. m (reply_at instrs c i)) h.held.0 fits);
           numbers = λ i v e. numbers i v e;
-        });
+        },
+      );
       few = h.few;
     }
   where

@@ -62,11 +62,13 @@ module _ (fresh : ℕ) (chains : ℕ → List ℕ) (owners : List ℕ) (h : Pain
     met' x k = elim (cases_eq x b) [
       | inl q ↦ (n, subst (λ (l : List ℕ). Has l x) (sym (changed_same chains n (chains n ++ b ∷ []))) (subst (λ (y : ℕ). Has (chains n ++ b ∷ []) y) (sym q) (has_last (chains n) b)))
       | inr q ↦
-          let old = h.met x (λ e. k (get_or-set_other owners b x (n + 1) 0 q ∙ e)) in
-          (old.0, elim (cases_eq old.0 n) [
-            | inl e ↦ subst (λ (d : ℕ). Has (chains' d) x) (sym e) (subst (λ (l : List ℕ). Has l x) (sym (changed_same chains n (chains n ++ b ∷ []))) (has_more (chains n) (b ∷ []) x (subst (λ (d : ℕ). Has (chains d) x) e old.1)))
-            | inr e ↦ subst (λ (l : List ℕ). Has l x) (sym (changed_other chains n (chains n ++ b ∷ []) old.0 e)) old.1
-          ])
+          let old = h.met x (λ e. k (get_or-set_other owners b x (n + 1) 0 q ∙ e)) in (
+            old.0,
+            elim (cases_eq old.0 n) [
+              | inl e ↦ subst (λ (d : ℕ). Has (chains' d) x) (sym e) (subst (λ (l : List ℕ). Has l x) (sym (changed_same chains n (chains n ++ b ∷ []))) (has_more (chains n) (b ∷ []) x (subst (λ (d : ℕ). Has (chains d) x) e old.1)))
+              | inr e ↦ subst (λ (l : List ℕ). Has l x) (sym (changed_other chains n (chains n ++ b ∷ []) old.0 e)) old.1
+            ],
+          )
     ]
 
     pub painted_step : Painted fresh chains' owners'

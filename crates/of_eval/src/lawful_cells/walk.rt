@@ -1,6 +1,6 @@
 //! The walk through the chains.
 
-ghost use Rattle.std.specs.Prelude.{◌≡◌, ◌≢◌, ◌≤◌, ◌<◌, ◌+◌, ◌⊎◌, ℕ, List, Some, None, length, IfOk, IfErr, OnOk, All};
+ghost use Rattle.std.specs.Prelude.{◌≡◌, ◌≢◌, ◌≤◌, ◌<◌, ◌+◌, ◌⊎◌, ◌↔◌, IsTrue, EachIndex, slice_index, ℕ, List, Some, None, length, IfOk, IfErr, OnOk, All};
 ghost use Rattle.of_mem.specs.Plots.{base, size};
 ghost use Rattle.of_mem.specs.Places.{register_at, fresh_at};
 ghost use Rattle.of_mem.specs.ProgramWork.{memory};
@@ -174,8 +174,15 @@ pub(crate) fn all_met(plot: &Plot, cells: &[u32], owners: &[u8]) -> Result<(), L
     ensures ok { OnOk result ((s : State) → Before plot.now cells.now 37 37 owners.now s → StandFor plot.now cells.now s) }
     ensures err { IfErr result (λ e. (s : State) → Before plot.now cells.now 37 37 owners.now s → NamesFault plot.now cells.now e) }
 {
-    if owners.iter().all(|owner| *owner != 0) {
+    if all_owned(owners) {
         return Ok(());
     }
     Err(LawErr::Unlawful { cell: plot.fresh() })
+}
+
+/// Whether each block of the table has an owner.
+fn all_owned(owners: &[u8]) -> bool
+    ensures { IsTrue result ↔ EachIndex owners.now (λ k. slice_index owners.now k ≢ 0) }
+{
+    owners.iter().all(|owner| *owner != 0)
 }

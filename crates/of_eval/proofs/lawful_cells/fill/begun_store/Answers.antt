@@ -22,7 +22,7 @@ loop-r-preserved c =
     let small : IsNumber (memory c.args.cells.now c.register.result) = subst (λ (a : ℕ). IsNumber (memory c.args.cells.now a)) (sym c.register.ensures) (c.requires.numbers c.loop-r.r r_in) in
     let is = c.in_ok-apply.ensures (Store c.loop-r.r (get_or c.args.cells.now c.register.result 0)) (r_in, omega (arith, small)) (omega (arith, c.from.ensures)) in
     subst (λ (s : State). HasRegisters c.args.plot.now c.args.cells.now (c.loop-r.r + 1) s) (sym is)
-        (registers_more c.args.plot.now c.args.cells.now c.loop-r.r (get_or c.args.cells.now c.register.result 0) c.loop-r.store r_in (ap (memory c.args.cells.now) c.register.ensures) (omega (arith, small)) c.loop-r.invariant)
+    (registers_more c.args.plot.now c.args.cells.now c.loop-r.r (get_or c.args.cells.now c.register.result 0) c.loop-r.store r_in (ap (memory c.args.cells.now) c.register.ensures) (omega (arith, small)) c.loop-r.invariant)
 
 pub returns : goal.returns
 returns c = let e : c.loop-r.r ≡ 16 = omega (arith, c.loop-r-test.false, c.loop-r.auto.r-end) in subst (λ (n : ℕ). HasRegisters c.args.plot.now c.args.cells.now n c.loop-r.store) e c.loop-r.invariant

@@ -66,9 +66,12 @@ loop-block-preserved c =
     let i = c.loop-block.invariant in
     let s = subst (λ (o : Option ℕ). Stepped c.args.cells.now c.loop-block.cell (1 + c.args.b) c.loop-block.owners c.next.new.owners o) c.in-Some.is c.in_ok-block.ensures.ok in
     let absent : fin.get c.loop-block.store.keys (memory c.args.cells.now c.block-first.result) ≡ None = none_is (fin.get c.loop-block.store.keys (memory c.args.cells.now c.block-first.result)) (sym (c.is_some.ensures ∙ ap is_some c.key.ensures.value) ∙ c.if-is_some.false) in
-    let m = met_entry c.args.plot.now c.args.cells.now c.args.b i.0 c.loop-block.owners c.loop-block.store c.requires.b i.1 i.2 c.loop-block.cell c.in-Some.block c.next.new.owners i.3 s c.block-first.result c.block-second.result c.block-first.ensures c.block-second.ensures (omega (arith, c.if-key-gt-GREATEST.false)) (omega (arith, c.if-key-b.false)) absent c.put.new.store (omega (arith, c.if-value-gt-GREATEST.false)) c.in_ok-put.ensures in
-    (with_block i.0 (1 + c.args.b) c.in-Some.block, m.0, m.1,
-    c.block-cell.ensures ∙ sym (here_push c.args.plot.now c.args.cells.now (1 + c.args.b) 0 i.0 c.loop-block.owners i.1 c.in-Some.block))
+    let m = met_entry c.args.plot.now c.args.cells.now c.args.b i.0 c.loop-block.owners c.loop-block.store c.requires.b i.1 i.2 c.loop-block.cell c.in-Some.block c.next.new.owners i.3 s c.block-first.result c.block-second.result c.block-first.ensures c.block-second.ensures (omega (arith, c.if-key-gt-GREATEST.false)) (omega (arith, c.if-key-b.false)) absent c.put.new.store (omega (arith, c.if-value-gt-GREATEST.false)) c.in_ok-put.ensures in (
+      with_block i.0 (1 + c.args.b) c.in-Some.block,
+      m.0,
+      m.1,
+      c.block-cell.ensures ∙ sym (here_push c.args.plot.now c.args.cells.now (1 + c.args.b) 0 i.0 c.loop-block.owners i.1 c.in-Some.block),
+    )
 
 pub returns-clause-ok : goal.returns-clause-ok
 returns-clause-ok c =

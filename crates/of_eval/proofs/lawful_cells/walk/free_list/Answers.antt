@@ -33,10 +33,11 @@ pub loop-block-preserved : goal.loop-block-preserved
 loop-block-preserved c =
     let i = c.loop-block.invariant in
     let s = subst (λ (o : Option ℕ). Stepped c.args.cells.now c.loop-block.cell 0 c.loop-block.owners c.next.new.owners o) c.in-Some.is c.in_ok-block.ensures.ok in
-    let l = leads_on c.args.plot.now c.args.cells.now 0 0 i.0 c.loop-block.owners i.1 c.loop-block.cell 0 c.in-Some.block c.next.new.owners i.2 s in
-    (with_block i.0 0 c.in-Some.block,
-    walked_step c.args.plot.now c.args.cells.now 0 0 i.0 c.loop-block.owners i.1 0 c.in-Some.block c.next.new.owners refl (omega arith) (omega arith) s.1 s.2 s.3 l (fits_free (base c.args.plot.now) (memory c.args.cells.now) i.0 c.in-Some.block),
-    c.block-cell.ensures ∙ sym (here_push c.args.plot.now c.args.cells.now 0 0 i.0 c.loop-block.owners i.1 c.in-Some.block))
+    let l = leads_on c.args.plot.now c.args.cells.now 0 0 i.0 c.loop-block.owners i.1 c.loop-block.cell 0 c.in-Some.block c.next.new.owners i.2 s in (
+      with_block i.0 0 c.in-Some.block,
+      walked_step c.args.plot.now c.args.cells.now 0 0 i.0 c.loop-block.owners i.1 0 c.in-Some.block c.next.new.owners refl (omega arith) (omega arith) s.1 s.2 s.3 l (fits_free (base c.args.plot.now) (memory c.args.cells.now) i.0 c.in-Some.block),
+      c.block-cell.ensures ∙ sym (here_push c.args.plot.now c.args.cells.now 0 0 i.0 c.loop-block.owners i.1 c.in-Some.block),
+    )
 
 pub returns-clause-ok : goal.returns-clause-ok
 returns-clause-ok c =
