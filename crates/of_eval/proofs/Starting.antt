@@ -1,5 +1,7 @@
 -- The walk begins with no block met, and its pointer cell is a cell.
-use Rattle.std.proofs.Common.{◌≡◌, ℕ, zero, suc, ◌+◌, ◌<◌, ◌≤◌, ◌≢◌, List, [], ◌∷◌, length, get_or, set, Option, Some, None, ap, refl, sym, subst, inl, inr, arith}
+use Rattle.std.proofs.Common.{◌≡◌, ℕ, zero, suc, ◌+◌, ◌<◌, ◌≤◌, ◌≢◌, ◌%◌, ◌∙◌, List, [], ◌∷◌, length, map, get_or, set, Option, Some, None, ap, refl, sym, subst, inl, inr, arith}
+use Rattle.std.specs.FinMap as fin
+use Rattle.std.specs.Ordering.{nat_cmp}
 use Rattle.std.specs.List.{All, AllByRecursion as Each}
 use Rattle.std.proofs.lemmas.Bool.{cases_lt}
 use Rattle.std.proofs.lemmas.List.{get_or_past}
@@ -7,10 +9,11 @@ use Rattle.of_mem.specs.declared.plot.Plot.{Plot}
 use Rattle.of_mem.specs.Places.{fresh_at, cells_at}
 use Rattle.of_mem.specs.Plots.{base, size}
 use Rattle.of_mem.specs.ProgramWork.{memory}
-use Rattle.of_mem.specs.Stores.{front_at, link_at, total}
+use Rattle.of_mem.specs.Stores.{front_at, link_at, first_at, value_in, total}
+use Rattle.of_store.specs.State.{State}
 use Rattle.of_mem.proofs.Heaps.{front_below, each_weaker, cell_in}
 use Rattle.of_eval.specs.Faults.{here}
-use Rattle.of_eval.specs.Walking.{HasBegun, Painted, Walked, Stepped, Freed, unmet}
+use Rattle.of_eval.specs.Walking.{HasBegun, Painted, Walked, Stepped, Freed, Before, HasRegisters, unmet}
 use Rattle.of_eval.proofs.Paintings.{unmet_set}
 use Rattle.of_eval.proofs.Passing.{Fits, counted_few, walked_on}
 
@@ -77,3 +80,33 @@ freed p cells chains owners after cell w e z same = subst (λ (x : List ℕ). Fr
       walked = record { begun = w.begun; passed = on.passed; counted = counted_few (base p) (memory cells) 1 chains (omega arith); painted = w.painted };
       start = w.passed.others 1 (omega arith);
     })
+
+-- only the first chain has blocks
+total_first : (chains : ℕ → List ℕ) → ((c : ℕ) → 1 ≤ c → chains c ≡ []) → (n : ℕ) → total chains (suc n) ≡ length (chains 0)
+total_first chains h zero = omega arith
+total_first chains h (suc n) = let r : total chains (suc n) ≡ length (chains 0) = total_first chains h n in omega (arith, r, ap length (h (suc n) (omega arith)))
+
+-- the buckets begin with a store that has the registers alone
+pub begins : (p : Plot) (cells owners : List ℕ) (s : State) → Freed p cells owners → HasRegisters p cells 16 s → Before p cells 1 0 owners s
+begins p cells owners s f r = record {
+  chains = f.chains;
+  walked = record { begun = f.walked.begun; passed = f.walked.passed; counted = counted_few (base p) (memory cells) 0 f.chains (omega arith); painted = f.walked.painted };
+  kept = record {
+    state = r.state;
+    room = r.room;
+    registers = r.registers;
+    values = λ key. ap (λ (m : fin.FinMap nat_cmp ℕ). fin.get m key) r.keys ∙ fin.get-empty nat_cmp key ∙ ap (value_in (base p) (memory cells) key) (sym (none (1 + key % 32) (omega arith)));
+    key_blocks =
+        let t = total_first f.chains none 32 in
+        let e : fin.len s.keys ≡ 0 = ap fin.len r.keys ∙ fin.len-empty nat_cmp ℕ in
+        t ∙ omega (arith, e);
+    items = λ q l. ap (map (λ b. memory cells (first_at (base p) b))) (none (33 + q) (omega arith)) ∙ sym (r.queues q);
+  };
+  start = f.start;
+}
+  where
+    none : (c : ℕ) → 1 ≤ c → f.chains c ≡ []
+    none c l = elim (cases_lt 1 c) [
+      | inl k ↦ f.walked.passed.others c k
+      | inr k ↦ (let e : c ≡ 1 = omega arith in subst (λ x. f.chains x ≡ []) (sym e) f.start)
+    ]
