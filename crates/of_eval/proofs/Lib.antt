@@ -15,3 +15,7 @@ pub mod Starting
 pub mod Buckets
 pub mod Queues
 pub mod Endings
+pub mod OwnFaults
+pub mod ChainFaults
+pub mod FaultLaws
+pub mod Zeros

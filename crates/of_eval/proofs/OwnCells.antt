@@ -38,7 +38,7 @@ filled_width : (i : ℕ) (f : ℕ → ℕ) (vs : List (Option ℕ)) → length (
 filled_width i f [] = refl
 filled_width i f (v ∷ vs) = ap suc (filled_width (suc i) f vs)
 
-filled_at : (i : ℕ) (f : ℕ → ℕ) (vs : List (Option ℕ)) (k : ℕ) → get_or (filled i f vs) k None ≡ renumbered (get_or vs k None) (f (i + k))
+pub filled_at : (i : ℕ) (f : ℕ → ℕ) (vs : List (Option ℕ)) (k : ℕ) → get_or (filled i f vs) k None ≡ renumbered (get_or vs k None) (f (i + k))
 filled_at i f [] k = refl
 filled_at i f (v ∷ vs) zero = ap (λ n. renumbered v (f n)) (omega arith)
 filled_at i f (v ∷ vs) (suc k) = filled_at (suc i) f vs k ∙ ap (λ n. renumbered (get_or vs k None) (f n)) (omega arith)
@@ -51,7 +51,7 @@ none_filled : (f : ℕ → ℕ) (vs : List (Option ℕ)) (k : ℕ) → get_or vs
 none_filled f vs k e = filled_at 0 f vs k ∙ ap (λ (v : Option ℕ). renumbered v (f (0 + k))) e
 
 -- whether there is a number does not change
-filled_marks : (f : ℕ → ℕ) (vs : List (Option ℕ)) (k : ℕ) → is_some (get_or (filled 0 f vs) k None) ≡ is_some (get_or vs k None)
+pub filled_marks : (f : ℕ → ℕ) (vs : List (Option ℕ)) (k : ℕ) → is_some (get_or (filled 0 f vs) k None) ≡ is_some (get_or vs k None)
 filled_marks f vs k = ap is_some (filled_at 0 f vs k) ∙ kept (get_or vs k None)
   where
     kept : (v : Option ℕ) → is_some (renumbered v (f (0 + k))) ≡ is_some v
@@ -90,7 +90,7 @@ module _ (r : Reply) (f : ℕ → ℕ) (h : IsWhole r) (small : (i : ℕ) → i 
   shape_with = ap (λ n. n + r.len * 2 ^ 16 + abort_part r.abort) (filled_mask 0 f r.values)
 
 -- a number of the cells
-number_at : (instrs : ℕ) (m : ℕ → ℕ) (c i : ℕ) → i < 8 → i < instrs → get_or (map (reply_number instrs m c) (range_with_len 0 8)) i 0 ≡ m (reply_at instrs c i)
+pub number_at : (instrs : ℕ) (m : ℕ → ℕ) (c i : ℕ) → i < 8 → i < instrs → get_or (map (reply_number instrs m c) (range_with_len 0 8)) i 0 ≡ m (reply_at instrs c i)
 number_at instrs m c i l k = get_or-map-range_with_len (reply_number instrs m c) 0 8 i i 0 l (omega arith) ∙ ap (λ (t : Bool). if t then m (reply_at instrs c i) else 0) (lt-ltb i instrs k)
 
 -- a shape whose numbers are all small is that of a reply that the cells hold

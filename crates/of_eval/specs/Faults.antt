@@ -9,7 +9,8 @@ use Rattle.of_mem.specs.Stores.{IsChain, IsBucket, IsNumber, front_at, first_at,
 use Rattle.of_eval.specs.declared.lawful_cells.LawErr.{LawErr}
 use Rattle.of_eval.specs.declared.lawful_cells.LawErr.TheVariants.{Memory, Unlawful}
 use Rattle.of_eval.specs.Shapes.{IsHeldBy}
-use Rattle.of_eval.specs.Lawful.{OwnStand}
+use Rattle.of_store.specs.State.{State}
+use Rattle.of_eval.specs.Lawful.{OwnStand, StandsFor}
 
 -- ---- the cells of a caller
 
@@ -126,3 +127,11 @@ pub data IsFirstFault (callers instrs blocks : ℕ) (m : ℕ → ℕ) (cell : �
 abbrev pub AtCell : (ℕ → Type 0) → LawErr → Type 0
 AtCell P Memory = Unit {0}
 AtCell P (Unlawful cell) = P cell
+
+-- cells with a first fault stand for no store
+abbrev pub FaultsExclude : Type 0
+FaultsExclude = (callers instrs blocks : ℕ) (m : ℕ → ℕ) (s : State) (cell : ℕ) → StandsFor callers instrs blocks m s → IsFirstFault callers instrs blocks m cell → ⊥
+
+-- the first cell at fault is one
+abbrev pub OneFirstFault : Type 0
+OneFirstFault = (callers instrs blocks : ℕ) (m : ℕ → ℕ) (a b : ℕ) → IsFirstFault callers instrs blocks m a → IsFirstFault callers instrs blocks m b → a ≡ b

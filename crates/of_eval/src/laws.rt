@@ -1,5 +1,6 @@
 //! What operations mean.
 
+ghost use Rattle.of_eval.specs.Faults.{FaultsExclude};
 ghost use Rattle.of_eval.specs.Means.{MeansWords, WordsMeanScript};
 
 use crate::scripts::Scripts;
@@ -13,4 +14,9 @@ pub fn operations_mean_words(work: Scripts)
 /// The words of a script do to a store what the script does.
 pub fn words_mean_script()
     ensures { WordsMeanScript }
+{}
+
+/// Cells with a first fault stand for no store: so `lawful` names a cell exactly where they stand for none.
+pub fn faults_exclude_stores()
+    ensures { FaultsExclude }
 {}
