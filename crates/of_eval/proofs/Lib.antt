@@ -19,3 +19,4 @@ pub mod OwnFaults
 pub mod ChainFaults
 pub mod FaultLaws
 pub mod Zeros
+pub mod OneFault

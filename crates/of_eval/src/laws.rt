@@ -1,6 +1,6 @@
 //! What operations mean.
 
-ghost use Rattle.of_eval.specs.Faults.{FaultsExclude};
+ghost use Rattle.of_eval.specs.Faults.{FaultsExclude, OneFirstFault};
 ghost use Rattle.of_eval.specs.Means.{MeansWords, WordsMeanScript};
 
 use crate::scripts::Scripts;
@@ -19,4 +19,9 @@ pub fn words_mean_script()
 /// Cells with a first fault stand for no store: so `lawful` names a cell exactly where they stand for none.
 pub fn faults_exclude_stores()
     ensures { FaultsExclude }
+{}
+
+/// The first cell at fault is one.
+pub fn first_fault_is_one()
+    ensures { OneFirstFault }
 {}
