@@ -2,7 +2,9 @@
 
 ghost use Rattle.std.specs.Prelude.{◌≡◌, IfOk, IfErr, length};
 ghost use Rattle.of_mem.specs.Plots.{size};
-ghost use Rattle.of_eval.specs.Walking.{StandFor, NamesFault};
+ghost use Rattle.of_mem.specs.ProgramWork.{memory};
+ghost use Rattle.of_eval.specs.Lawful.{StandsFor};
+ghost use Rattle.of_eval.specs.Walking.{NamesFault};
 
 mod fill;
 mod own;
@@ -44,7 +46,7 @@ const BUCKETS: u32 = 32;
 /// queues.
 pub fn lawful(alloc: Global, plot: &Plot, cells: &[u32]) -> Result<Store, LawErr>
     requires { length cells.now ≡ size plot.now }
-    ensures ok { IfOk result (StandFor plot.now cells.now) }
+    ensures ok { IfOk result (λ s. StandsFor plot.now.callers plot.now.instrs plot.now.blocks (memory cells.now) s) }
     ensures unlawful { IfErr result (NamesFault plot.now cells.now) }
 {
     callers(plot, cells)?;
