@@ -10,10 +10,11 @@ use Rattle.of_mem.specs.ProgramWork.{memory}
 use Rattle.of_mem.specs.Stores.{IsNumber, Stands, first_at, total}
 use Rattle.of_store.specs.State.{State, queue}
 use Rattle.of_eval.specs.Stored.{plain}
+use Rattle.of_eval.specs.Lawful.{StandsFor}
 use Rattle.of_eval.specs.Faults.{Counted, IsFirstFault}
 use Rattle.of_eval.specs.Faults.CountFault.{Keys}
 use Rattle.of_eval.specs.Faults.IsFirstFault.{Count, Lost}
-use Rattle.of_eval.specs.Walking.{Before, StandFor, unmet}
+use Rattle.of_eval.specs.Walking.{Before, unmet}
 use Rattle.of_eval.proofs.Passing.{counted_few}
 use Rattle.of_eval.proofs.Filling.{lengths}
 
@@ -104,5 +105,5 @@ module _ (p : Plot) (cells owners : List ℕ) (s : State) where
         len : (n : ℕ) → n + length (h.chains 0) ≡ total h.chains 33 → n ≡ fin.len s.keys
         len n e = let k : total h.chains 33 ≡ length (h.chains 0) + fin.len s.keys = h.kept.key_blocks in let both : n + length (h.chains 0) ≡ length (h.chains 0) + fin.len s.keys = e ∙ k in omega (arith, both)
 
-    pub stand_for : unmet owners ≡ 0 → StandFor p cells s
+    pub stand_for : unmet owners ≡ 0 → StandsFor p.callers p.instrs p.blocks (memory cells) s
     stand_for none = record { own = h.walked.begun.own; stored = record { state = h.kept.state; stands = stands none } }

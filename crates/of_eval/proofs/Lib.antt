@@ -10,9 +10,9 @@ pub mod Paths
 pub mod Paintings
 pub mod Passing
 pub mod Filling
-pub mod Filled
+pub mod FillSteps
 pub mod OwnCells
-pub mod Starting
+pub mod Beginnings
 pub mod Buckets
 pub mod Queues
 pub mod Endings

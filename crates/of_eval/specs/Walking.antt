@@ -10,12 +10,7 @@ use Rattle.of_mem.specs.Stores.{first_at, value_in, total}
 use Rattle.of_store.specs.State.{State, IsState, queue}
 use Rattle.of_eval.specs.declared.lawful_cells.LawErr.{LawErr}
 use Rattle.of_eval.specs.declared.lawful_cells.LawErr.TheVariants.{Memory, Unlawful}
-use Rattle.of_eval.specs.Lawful.{StandsFor}
 use Rattle.of_eval.specs.Faults.{IsFirstFault, Begun, Passed, Counted, Has, IsMet, AtCell}
-
--- the cells of this plot stand for this store
-abbrev pub StandFor : Plot → List ℕ → State → Type 0
-StandFor p cells s = StandsFor p.callers p.instrs p.blocks (memory cells) s
 
 -- an error that names a cell names the first one at fault
 abbrev pub NamesFault : Plot → List ℕ → LawErr → Type 0

@@ -1,6 +1,6 @@
 //! A store is filled with what cells hold.
 
-ghost use Rattle.std.specs.Prelude.{◌≡◌, ◌≤◌, ◌<◌, ◌%◌, ℕ, None, [], ◌∷◌, ◌++◌, length, IfOk, OnOk};
+ghost use Rattle.std.specs.Prelude.{◌≡◌, ◌≤◌, ◌<◌, ◌+◌, ◌*◌, ◌^◌, ℕ, None, [], ◌∷◌, ◌++◌, length, IfOk, OnOk};
 ghost use Rattle.std.specs.FinMap as fm;
 ghost use Rattle.of_mem.specs.Plots.{base, size};
 ghost use Rattle.of_mem.specs.Places.{register_at};
@@ -15,6 +15,21 @@ use of_mem::Plot;
 use of_script::{REGISTERS, from_words};
 use of_store::Store;
 use std::alloc::{AllocError, Global};
+
+// Where the words of these instructions begin.
+const STORES: u64 = 32;
+
+const PUSHES: u64 = 112;
+
+const PUTS: u64 = 1 << 31;
+
+/// The word of an instruction: where its words begin together with its first number, and its second number.
+fn word(first: u64, second: u32) -> u64
+    requires { first < 2 ^ 32 }
+    ensures { result ≡ first * 2 ^ 31 + second }
+{
+    first * (1 << 31) + u64::from(second)
+}
 
 /// Does an instruction to a store, by its word.
 fn apply(store: &mut Store, word: u64) -> Result<(), AllocError>
@@ -36,10 +51,7 @@ pub(crate) fn put(store: &mut Store, key: u32, value: u32) -> Result<(), AllocEr
     requires room { kept store.old < store.old.room }
     ensures { OnOk result (store.new ≡ with_key store.old key value) }
 {
-    apply(
-        store,
-        (1 << 62) + u64::from(key) * (1 << 31) + u64::from(value),
-    )
+    apply(store, word(PUTS + u64::from(key), value))
 }
 
 /// Puts an item behind a queue, where there is room for it.
@@ -49,7 +61,7 @@ pub(crate) fn push(store: &mut Store, q: u32, item: u32) -> Result<(), AllocErro
     requires room { kept store.old < store.old.room }
     ensures { OnOk result (store.new ≡ with_queue store.old q (queue store.old q ++ item ∷ [])) }
 {
-    apply(store, (112 + u64::from(q)) * (1 << 31) + u64::from(item))
+    apply(store, word(PUSHES + u64::from(q), item))
 }
 
 /// The store with these registers and nothing else.
@@ -61,7 +73,7 @@ pub(crate) fn begun_store(alloc: Global, plot: &Plot, cells: &[u32]) -> Result<S
     let mut store = Store::new(alloc, plot.blocks)?;
     for r in 0..REGISTERS {
         let number = cells[plot.register(r as u32) as usize];
-        apply(&mut store, (32 + r as u64) * (1 << 31) + u64::from(number))?;
+        apply(&mut store, word(STORES + r as u64, number))?;
     }
     Ok(store)
 }

@@ -6,14 +6,21 @@ ghost use Rattle.of_mem.specs.Places.{register_at, fresh_at};
 ghost use Rattle.of_mem.specs.ProgramWork.{memory};
 ghost use Rattle.of_mem.specs.Stores.{IsNumber, first_at, second_at};
 ghost use Rattle.of_store.specs.State.{State};
-ghost use Rattle.of_eval.specs.Lawful.{OwnStand};
-ghost use Rattle.of_eval.specs.Walking.{NamesFault, HasBegun, Freed, Before, Stepped, StoppedAt, StandFor};
+ghost use Rattle.of_eval.specs.Lawful.{OwnStand, StandsFor};
+ghost use Rattle.of_eval.specs.Walking.{NamesFault, HasBegun, Freed, Before, Stepped, StoppedAt};
 
-use crate::lawful_cells::LawErr;
 use crate::lawful_cells::fill::{push, put};
+use crate::lawful_cells::{BUCKETS, LawErr};
 use of_mem::Plot;
 use of_script::{GREATEST, REGISTERS};
 use of_store::Store;
+
+// The chains in order: the free list, the buckets, the queues.
+const FREE_LIST: u8 = 0;
+
+const FIRST_BUCKET: u8 = 1;
+
+const FIRST_QUEUE: u8 = 33;
 
 /// Looks at the registers.
 pub(crate) fn registers(plot: &Plot, cells: &[u32]) -> Result<(), LawErr>
@@ -81,7 +88,7 @@ pub(crate) fn free_list(plot: &Plot, cells: &[u32], owners: &mut [u8]) -> Result
     ensures err { IfErr result (NamesFault plot.now cells.now) }
 {
     let mut cell = plot.free();
-    while let Some(block) = next(cells, cell, 0, owners)? {
+    while let Some(block) = next(cells, cell, FREE_LIST, owners)? {
         cell = plot.block(block, 2);
     }
     Ok(())
@@ -102,12 +109,12 @@ pub(crate) fn bucket(
     ensures err { IfErr result (NamesFault plot.now cells.now) }
 {
     let mut cell = plot.bucket(b);
-    while let Some(block) = next(cells, cell, 1 + b as u8, owners)? {
+    while let Some(block) = next(cells, cell, FIRST_BUCKET + b as u8, owners)? {
         let first = plot.block(block, 0);
         let second = plot.block(block, 1);
         let key = cells[first as usize];
         let value = cells[second as usize];
-        if key > GREATEST || key % 32 != b || store.key(key).is_some() {
+        if key > GREATEST || key % BUCKETS != b || store.key(key).is_some() {
             return Err(LawErr::Unlawful { cell: first });
         }
         if value > GREATEST {
@@ -148,7 +155,7 @@ pub(crate) fn queue(
 {
     let mut cell = plot.head(q);
     let mut last = 0;
-    while let Some(block) = next(cells, cell, 33 + q as u8, owners)? {
+    while let Some(block) = next(cells, cell, FIRST_QUEUE + q as u8, owners)? {
         let first = plot.block(block, 0);
         let item = cells[first as usize];
         if item > GREATEST {
@@ -171,7 +178,7 @@ pub(crate) fn queue(
 
 /// Looks for a block that is in no chain.
 pub(crate) fn all_met(plot: &Plot, cells: &[u32], owners: &[u8]) -> Result<(), LawErr>
-    ensures ok { OnOk result ((s : State) → Before plot.now cells.now 37 37 owners.now s → StandFor plot.now cells.now s) }
+    ensures ok { OnOk result ((s : State) → Before plot.now cells.now 37 37 owners.now s → StandsFor plot.now.callers plot.now.instrs plot.now.blocks (memory cells.now) s) }
     ensures err { IfErr result (λ e. (s : State) → Before plot.now cells.now 37 37 owners.now s → NamesFault plot.now cells.now e) }
 {
     if all_owned(owners) {

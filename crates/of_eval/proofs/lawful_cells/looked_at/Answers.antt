@@ -2,7 +2,7 @@ use Rattle.std.proofs.Common.{ℕ, ◌≡◌, ◌+◌, ◌≤◌, ◌++◌, ◌�
 use Rattle.std.proofs.lemmas.List.{take-append-le, take_all}
 use Rattle.std.proofs.lemmas.Result.{err_from_is_err_and}
 use Rattle.of_eval.specs.Walking.{Before, NamesFault}
-use Rattle.of_eval.proofs.Starting.{begins}
+use Rattle.of_eval.proofs.Beginnings.{begins}
 use Rattle.of_eval.proofs.lawful_cells.looked_at.Goals as goal
 
 -- a whole table is written back

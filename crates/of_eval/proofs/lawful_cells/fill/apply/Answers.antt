@@ -2,7 +2,7 @@ use Rattle.std.proofs.Common.{◌≡◌, List, [], ◌∷◌, Some, refl, sym, �
 use Rattle.of_script.specs.declared.instr.Instr.{Instr}
 use Rattle.of_script.specs.Language.{instr_word}
 use Rattle.of_store.specs.State.{run}
-use Rattle.of_eval.proofs.Filled.{one}
+use Rattle.of_eval.proofs.FillSteps.{one}
 use Rattle.of_eval.proofs.lawful_cells.fill.apply.Goals as goal
 
 pub unreachable-requires : goal.unreachable-requires

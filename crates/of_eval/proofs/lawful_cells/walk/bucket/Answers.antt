@@ -9,7 +9,7 @@ use Rattle.of_script.specs.Language.{greatest}
 use Rattle.of_store.specs.State.{State, with_key}
 use Rattle.of_eval.specs.Faults.{here}
 use Rattle.of_eval.specs.Walking.{Stepped, Walked, Kept}
-use Rattle.of_eval.proofs.Starting.{here_below, stepped_smaller, stepped_end}
+use Rattle.of_eval.proofs.Beginnings.{here_below, stepped_smaller, stepped_end}
 use Rattle.of_eval.proofs.Passing.{counted_few, pointer_fault, here_push, with_block}
 use Rattle.of_eval.proofs.Buckets.{here_start, none_is, met_key, key_fault, second_fault, room, met_entry, bucket_ends}
 use Rattle.of_eval.proofs.lawful_cells.walk.bucket.Goals as goal

@@ -5,7 +5,7 @@ use Rattle.of_mem.specs.Plots.{base}
 use Rattle.of_mem.specs.Stores.{last_pointer}
 use Rattle.of_mem.proofs.Heaps.{front_head}
 use Rattle.of_eval.specs.Walking.{Stepped, Walked, Kept}
-use Rattle.of_eval.proofs.Starting.{here_below, stepped_smaller, stepped_end}
+use Rattle.of_eval.proofs.Beginnings.{here_below, stepped_smaller, stepped_end}
 use Rattle.of_eval.proofs.Passing.{pointer_fault, here_push, with_block}
 use Rattle.of_eval.proofs.Buckets.{here_start}
 use Rattle.of_eval.proofs.Queues.{item_room, last_push, item_fault, met_item, tail_fault, length_fault, queue_ends}
