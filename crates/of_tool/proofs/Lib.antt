@@ -1,5 +1,11 @@
 pub mod CommandLemmas
 pub mod Histories
+pub mod StoresHeld
+pub mod StoresMoments
+pub mod StoresReplay
+pub mod Stores
+pub mod StoresRecovered
+pub mod StoresLeast
 pub mod KnownCells
 pub mod HeldReplies
 pub mod Cases
