@@ -1,2 +1,4 @@
 pub mod CommandLemmas
 pub mod Histories
+pub mod RecordsLists
+pub mod RecordsCalls
