@@ -2,3 +2,5 @@ pub mod CommandLemmas
 pub mod Histories
 pub mod RecordsLists
 pub mod RecordsCalls
+pub mod RecordsFacts
+pub mod RecordsOwn
