@@ -4,3 +4,4 @@ pub mod RecordsLists
 pub mod RecordsCalls
 pub mod RecordsFacts
 pub mod RecordsOwn
+pub mod RecordsHistory
