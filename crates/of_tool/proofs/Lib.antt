@@ -5,3 +5,4 @@ pub mod RecordsCalls
 pub mod RecordsFacts
 pub mod RecordsOwn
 pub mod RecordsHistory
+pub mod RecordsLawful
