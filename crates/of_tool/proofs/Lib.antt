@@ -6,3 +6,4 @@ pub mod RecordsFacts
 pub mod RecordsOwn
 pub mod RecordsHistory
 pub mod RecordsLawful
+pub mod RecordsAllowance

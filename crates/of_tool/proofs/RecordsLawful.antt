@@ -43,7 +43,7 @@ below_or_not : (a b : ℕ) → (a < b) ⊎ (b ≤ a)
 below_or_not a b = grind arith
 
 module _ (p : Plan) (w : World) (e : Run) (ops : ℕ → List (List ℕ)) (outs : ℕ → List Outcome) (facts : MomentFacts p w e ops outs) where
-  narrow : (c : ℕ) → c < p.callers → length (scripts_of p c) < 4294967296
+  pub narrow : (c : ℕ) → c < p.callers → length (scripts_of p c) < 4294967296
   narrow c lt = omega (arith, few_scripts p facts.plan c lt)
 
   -- what each caller has beyond its answers

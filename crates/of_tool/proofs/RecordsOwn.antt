@@ -21,7 +21,7 @@ use Rattle.of_plan.specs.declared.answer.Answer.{Answer}
 use Rattle.of_plan.specs.declared.answer.Ending.{Ending}
 use Rattle.of_plan.specs.declared.answer.Ending.TheVariants.{Done, Stopped, Spent as Ran_out}
 use Rattle.of_plan.specs.Plan.{Plan, scripts_of}
-use Rattle.of_plan.specs.Report.{CallEntry}
+use Rattle.of_plan.specs.Report.{CallEntry, stopped, spent}
 use Rattle.of_plan.specs.Legal.{HasOpenCall, HasEnded}
 use Rattle.of_plan.specs.Allowance.{least_steps}
 use Rattle.of_plan.specs.Ended.{Run, answers_of, ending_of}
@@ -36,7 +36,7 @@ use Rattle.of_core.specs.Machine.{Data, is_idle, no_call}
 use Rattle.of_core.specs.World.{World}
 use Rattle.of_core.specs.Events.{machine, zeros}
 use Rattle.of_core.specs.Claim.{IsSound, IsTold}
-use Rattle.of_core.specs.Calls.{no_outcome, last_of, Stood}
+use Rattle.of_core.specs.Calls.{no_outcome, last_of, NoneSpent, Stood}
 use Rattle.of_tool.specs.Play.{setup_for, words_of, is_spent, Tells, halted, ending_at}
 use Rattle.of_tool.specs.Moments.{script_at, store_after}
 use Rattle.of_tool.proofs.RecordsLists.{index_at, SpentLast, told_at, ends_so, AllTold, LastSpent, answer_at, answer_indices, length-answer_entries, each_by_place}
@@ -222,22 +222,33 @@ module _ (p : Plan) (w : World) (sound : IsSound (setup_for p) (zeros (setup_for
     ending = subst (λ (r : Ending). HasEnded (state_of r) (length (answers_of e c)) (length (scripts_of p c)) (risen (setup_for p) w.words) p.limit) (sym is) ending;
   }
 
-  spent_case : LastSpent outs (answers_of e c) (last_of outs) → IsOwnOf p w e c []
-  spent_case sp =
-      let all : length (answers_of e c) + 1 ≡ length ops = f.ends_spent (length (answers_of e c)) sp.seq (omega (arith, sp.count)) sp.is in
-      let idle : (machine w c).place ≡ Idle = elim (idle_or_open (machine w c).place) [
-        | inl is ↦ is
-        | inr opened ↦ absurd (omega (arith, (f.calls.open_call opened).0, sp.count, all))
-      ] in
-      let answer : (machine w c).answer ≡ Some (Spent sp.seq) = f.calls.last idle ∙ sp.after in
-      let told : IsTold (setup_for p) (zeros (setup_for p)) w c (machine w c) (Some (Spent sp.seq)) = subst (λ (o : Option Outcome). IsTold (setup_for p) (zeros (setup_for p)) w c (machine w c) o) answer (sound.answered c lt idle) in
-      let stood : Stood (setup_for p) w c (length (answers_of e c) + 1) (get_or ops (length (answers_of e c)) []) (Spent sp.seq) =
-      subst (λ (o : Outcome). Stood (setup_for p) w c (length (answers_of e c) + 1) (get_or ops (length (answers_of e c)) []) o) sp.is (f.calls.each (length (answers_of e c)) (omega (arith, sp.count))) in
-      let ending : ending_of e c ≡ Ran_out sp.seq =
-      f.ended ∙ halted_at (machine w c) (length (scripts_of p c)) (length (answers_of e c)) (λ same. absurd (omega (arith, same, all, few_begun))) ∙ ap (λ (o : Option Outcome). halted o (machine w c).steps) answer in
-      own_of [] (Ran_out sp.seq) ending tt refl (omega (arith, all, few_begun))
-      (λ k y there same. let low = told.2 k there.from (omega (arith, there.upto, stood.1)) y no_call there.among same in omega (arith, low, f.calls.made, all))
-      refl (omega arith) (omega (arith, all, few_begun), stood.1 ∙ stood.0)
+  -- where the last call was spent
+  module _ (sp : LastSpent outs (answers_of e c) (last_of outs)) where
+    spent_all : length (answers_of e c) + 1 ≡ length ops
+    spent_all = f.ends_spent (length (answers_of e c)) sp.seq (omega (arith, sp.count)) sp.is
+
+    spent_idle : (machine w c).place ≡ Idle
+    spent_idle = elim (idle_or_open (machine w c).place) [
+      | inl is ↦ is
+      | inr opened ↦ absurd (omega (arith, (f.calls.open_call opened).0, sp.count, spent_all))
+    ]
+
+    spent_answer : (machine w c).answer ≡ Some (Spent sp.seq)
+    spent_answer = f.calls.last spent_idle ∙ sp.after
+
+    spent_ending : ending_of e c ≡ Ran_out sp.seq
+    spent_ending =
+        f.ended ∙ halted_at (machine w c) (length (scripts_of p c)) (length (answers_of e c)) (λ same. absurd (omega (arith, same, spent_all, few_begun))) ∙ ap (λ (o : Option Outcome). halted o (machine w c).steps) spent_answer
+
+    spent_case : IsOwnOf p w e c []
+    spent_case =
+        let told : IsTold (setup_for p) (zeros (setup_for p)) w c (machine w c) (Some (Spent sp.seq)) =
+        subst (λ (o : Option Outcome). IsTold (setup_for p) (zeros (setup_for p)) w c (machine w c) o) spent_answer (sound.answered c lt spent_idle) in
+        let stood : Stood (setup_for p) w c (length (answers_of e c) + 1) (get_or ops (length (answers_of e c)) []) (Spent sp.seq) =
+        subst (λ (o : Outcome). Stood (setup_for p) w c (length (answers_of e c) + 1) (get_or ops (length (answers_of e c)) []) o) sp.is (f.calls.each (length (answers_of e c)) (omega (arith, sp.count))) in
+        own_of [] (Ran_out sp.seq) spent_ending tt refl (omega (arith, spent_all, few_begun))
+        (λ k y there same. let low = told.2 k there.from (omega (arith, there.upto, stood.1)) y no_call there.among same in omega (arith, low, f.calls.made, spent_all))
+        refl (omega arith) (omega (arith, spent_all, few_begun), stood.1 ∙ stood.0)
 
   done_case : length (answers_of e c) ≡ length (scripts_of p c) → IsOwnOf p w e c []
   done_case same =
@@ -311,4 +322,11 @@ module _ (p : Plan) (w : World) (sound : IsSound (setup_for p) (zeros (setup_for
   own_at = elim (ends_so outs (answers_of e c) None refl f.told spent_last) [
     | inl all ↦ all_case all
     | inr one ↦ ([], spent_case one)
+  ]
+
+  -- of a stopped caller no call was spent
+  pub stopped_unspent : state_of (ending_of e c) ≡ stopped → NoneSpent outs
+  stopped_unspent state = elim (ends_so outs (answers_of e c) None refl f.told spent_last) [
+    | inl all ↦ all.none
+    | inr one ↦ let two : spent ≡ stopped = sym (ap state_of (spent_ending one)) ∙ state in absurd (cc)
   ]
