@@ -7,3 +7,4 @@ pub mod RecordsOwn
 pub mod RecordsHistory
 pub mod RecordsLawful
 pub mod RecordsAllowance
+pub mod RecordsMoments
