@@ -8,3 +8,12 @@ pub mod RecordsHistory
 pub mod RecordsLawful
 pub mod RecordsAllowance
 pub mod RecordsMoments
+pub mod StoresHeld
+pub mod StoresMoments
+pub mod StoresReplay
+pub mod Stores
+pub mod StoresRecovered
+pub mod StoresLeast
+pub mod KnownCells
+pub mod HeldReplies
+pub mod Cases
