@@ -63,7 +63,7 @@ pub record IsAnswerOf (p : Plan) (w : World) (c x : ℕ) (a : Answer) : Type 0 w
   pub within : a.steps ≤ bound (setup_for p)
   pub least : least_steps p (answer_entry c x a) ≤ a.steps
 
-idle_or_open : (q : Place) → (q ≡ Idle) ⊎ (is_idle q ≡ false)
+pub idle_or_open : (q : Place) → (q ≡ Idle) ⊎ (is_idle q ≡ false)
 idle_or_open Idle = inl refl
 idle_or_open q = inr refl
 
