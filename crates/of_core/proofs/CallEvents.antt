@@ -1,8 +1,7 @@
 -- Each event leads from the calls of one caller before it to those after it.
-use Rattle.std.proofs.Common.{◌≡◌, ℕ, ◌+◌, ◌-◌, ◌<◌, ◌≤◌, ◌⊎◌, ◌==◌, inl, inr, List, [], ◌∷◌, ◌++◌, length, get_or, refl, sym, ◌∙◌, ap, subst, arith, Option, Some, None, Bool, true, false}
+use Rattle.std.proofs.Common.{◌≡◌, ℕ, ◌+◌, ◌-◌, ◌<◌, ◌≤◌, ◌⊎◌, inl, inr, List, [], ◌∷◌, ◌++◌, length, get_or, refl, sym, ◌∙◌, ap, subst, arith, Option, Some, None, Bool, true, false}
 use Rattle.std.specs.List.{All}
 use Rattle.std.proofs.lemmas.Bool.{cases_eq}
-use Rattle.std.proofs.lemmas.Bool.Decides.{nat_tests}
 use Rattle.std.proofs.lemmas.List.{append-nil, length-append, get_or_push, get_or_append_left, get_or-set_same, get_or-set_other, get_or_default}
 use Rattle.of_cell.specs.Words.{word, seq}
 use Rattle.of_cell.proofs.Order.{seq_word, seq_mono, word_inj}
@@ -29,6 +28,7 @@ use Rattle.of_core.specs.Seen.{ended, ended_at}
 use Rattle.of_core.specs.Turn.{told, turn_of, turn_from}
 use Rattle.of_core.specs.Events.{Event, Begins, Turns, Loads, Evicts, Raises, evicted, machine, happens, MayHappen, zeros, one_turn, counted}
 use Rattle.of_core.specs.Calls.{only, begun_by, outcome_of, ended_by, Stood, Calls, ComesOpen, NoneSpent, steps_told}
+use Rattle.of_core.proofs.Tests.{same_number, other_number}
 use Rattle.of_core.proofs.Tickets.{tickets_grow}
 use Rattle.of_core.proofs.Stability.{tick_same}
 use Rattle.of_core.proofs.Raises.{rises}
@@ -40,20 +40,6 @@ use Rattle.of_core.proofs.Happenings.{load_kept, event_good}
 use Rattle.of_core.proofs.Benches.{turn_is}
 use Rattle.of_core.proofs.OpenCalls.{caller_at, quiet_or_said}
 use Rattle.of_core.proofs.Calls.{Among, Words, all_one, none_ended, Grows, stays, begins, ends_one}
-
-pub same_number : (i : ℕ) → (i == i) ≡ true
-same_number i = go (i == i) refl
-  where
-    go : (b : Bool) → (i == i) ≡ b → b ≡ true
-    go true e = refl
-    go false e = let z : i ≡ i → ⊥ = grind (arith, nat_tests) in absurd (z refl)
-
-pub other_number : (i j : ℕ) → (j ≡ i → ⊥) → (i == j) ≡ false
-other_number i j n = go (i == j) refl
-  where
-    go : (b : Bool) → (i == j) ≡ b → b ≡ false
-    go true e = let z : j ≡ i = grind (arith, nat_tests) in absurd (n z)
-    go false e = refl
 
 module _ (S : Setup) (Lawful : List ℕ → Type 0) (sound : Sound S.meaning Lawful (base S) S.cells) (w : World) (g : Good S Lawful (zeros S) w) where
   own : (i : ℕ) → i < S.callers → get_or w.machines i (machine w i) ≡ machine w i
@@ -133,9 +119,6 @@ module _ (S : Setup) (Lawful : List ℕ → Type 0) (sound : Sound S.meaning Law
 
     -- a call of caller i in a new batch is its open one
     module _ (i : ℕ) (member : i < S.callers) where
-      m : Data
-      m = machine w i
-
       open_one : (k : ℕ) → length w.batches < k → k ≤ length v.batches → All (λ (c : Call). c.caller ≡ i → IsOpen (machine w i).place × (c.ticket ≡ (machine w i).made) × (c.op ≡ (machine w i).op)) (batch (zeros S) v.batches k).calls
       open_one k l u y e z q = go (quiet_or_said S Lawful (zeros S) w g.core i (machine w i) member (machine w i).place (g.core.each i (machine w i) member (own i member)))
         where
@@ -314,7 +297,6 @@ module _ (S : Setup) (Lawful : List ℕ → Type 0) (sound : Sound S.meaning Law
   module _ (i : ℕ) (member : i < S.callers) (ops : List (List ℕ)) (outs : List Outcome) (c : Calls S w i ops outs) where
     own_begin : (op : List ℕ) → MayHappen S w (Begins i op) → Calls S (happens S w (Begins i op)) i (ops ++ begun_by (Begins i op) i) (outs ++ [])
     own_begin op may =
-        let v : World = happens S w (Begins i op) in
         subst (λ (b : Bool). Calls S (happens S w (Begins i op)) i (ops ++ only b (op ∷ [])) (outs ++ [])) (sym (same_number i))
         (subst (λ (os : List Outcome). Calls S (happens S w (Begins i op)) i (ops ++ op ∷ []) os) (sym (append-nil outs))
         (begins S w i ops outs c (happens S w (Begins i op)) (grows_same (happens S w (Begins i op)) (event_good S Lawful (zeros S) w g sound (Begins i op) may) (omega arith) refl refl) refl refl (machine w i) op refl may.1
