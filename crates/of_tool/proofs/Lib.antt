@@ -8,6 +8,7 @@ pub mod RecordsHistory
 pub mod RecordsLawful
 pub mod RecordsAllowance
 pub mod RecordsMoments
+pub mod RecordsSpent
 pub mod Records
 pub mod StoresHeld
 pub mod StoresMoments

@@ -17,15 +17,12 @@ use Rattle.of_tool.proofs.StoresMoments.{moment, IsMoment, operation_is}
 use Rattle.of_tool.proofs.Stores.{announced_held, read_held}
 use Rattle.of_tool.proofs.StoresRecovered.{recovered_seq_is, recovered_ticket, stands_for}
 use Rattle.of_tool.proofs.StoresLeast.{least_reads}
-use Rattle.of_tool.proofs.RecordsFacts.{EndsSpent, CallerFacts, HasNone, IsLast}
+use Rattle.of_tool.proofs.RecordsFacts.{CallerFacts, HasNone, IsLast}
 use Rattle.of_tool.proofs.RecordsLawful.{MomentFacts, lawful_left}
 use Rattle.of_tool.proofs.RecordsAllowance.{within_turns}
 use Rattle.of_tool.proofs.RecordsOwn.{idle_or_open}
+use Rattle.of_tool.proofs.RecordsSpent.{IsSpentLast}
 use Rattle.of_tool.proofs.RecordsMoments.{open_unspent, idle_steps, words_left}
-
--- a spent call is the last of its caller's
-abbrev pub IsSpentLast : Plan → List Event → Type 0
-IsSpentLast p es = (c : ℕ) → c < p.callers → EndsSpent (operations es c) (outcomes (setup_for p) (opening_for p) es c)
 
 module _ (p : Plan) (es : List Event) (h : IsMoment p es) (schedule : IsSchedule (setup_for p) (opening_for p) es) (spent : IsSpentLast p es) (e : Run) (left : IsLeftBy p es e) where
   recovered_is : (c : ℕ) → c < p.callers → HasNone p (moment p es) e c ⊎ IsLast p (moment p es) e c

@@ -3,11 +3,9 @@ use Rattle.std.proofs.Common.{◌≡◌, ℕ, zero, suc, ◌+◌, ◌<◌, ◌�
 use Rattle.std.proofs.lemmas.Bool.{cases_eq}
 use Rattle.std.proofs.lemmas.List.{get_or-set_same, get_or-set_other, get_or_default, length-replicate}
 use Rattle.of_mem.specs.Meaning.{Sound}
-use Rattle.of_eval.specs.declared.scripts.Scripts.{Scripts}
 use Rattle.of_eval.specs.Scripts.{LawfulCells}
 use Rattle.of_eval.specs.SoundScripts.{scripts_sound}
 use Rattle.of_plan.specs.Plan.{Plan, IsPlan}
-use Rattle.of_core.specs.declared.place.Place.{Place}
 use Rattle.of_core.specs.declared.place.Place.TheVariants.{Idle}
 use Rattle.of_core.specs.Table.{Setup, base}
 use Rattle.of_core.specs.Machine.{Data, IsOpen, is_idle, no_machine}
@@ -22,6 +20,8 @@ use Rattle.of_core.proofs.Moments.{run_good}
 use Rattle.of_core.proofs.Openings.{start_good}
 use Rattle.of_core.proofs.StepTaken.{step_taken}
 use Rattle.of_tool.specs.Play.{setup_for, opening_for, is_spent}
+use Rattle.of_tool.proofs.StoresMoments.{work_of}
+use Rattle.of_tool.proofs.RecordsOwn.{idle_or_open}
 
 -- no event changes how many words there are
 length_kept : (S : Setup) (w : World) (e : Event) → length (happens S w e).words ≡ length w.words
@@ -44,10 +44,6 @@ idle_first S j (suc n) (suc i) = idle_first S (suc j) n i
 abbrev pub Unanswered : World → ℕ → Type 0
 Unanswered w i = IsOpen (machine w i).place → (machine w i).answer ≡ None
 
-is_opened : (q : Place) → (q ≡ Idle) ⊎ (is_idle q ≡ false)
-is_opened Idle = inl refl
-is_opened q = inr refl
-
 module _ (S : Setup) (Lawful : List ℕ → Type 0) (sound : Sound S.meaning Lawful (base S) S.cells) (i : ℕ) (member : i < S.callers) where
   of_machine : (w : World) → Good S Lawful (zeros S) w → get_or w.machines i (machine w i) ≡ machine w i
   of_machine w g = get_or_default w.machines i (machine w i) no_machine (omega (arith, g.core.members))
@@ -63,7 +59,7 @@ module _ (S : Setup) (Lawful : List ℕ → Type 0) (sound : Sound S.meaning Law
       let d : Data = took S (machine w i) n in
       let is : machine (happens S w (Turns i)) i ≡ d = get_or-set_same w.machines i d no_machine (omega (arith, g.core.members)) in
       let live : IsOpen d.place = subst (λ (m : Data). IsOpen m.place) is now in
-      ap (λ (m : Data). m.answer) is ∙ elim (is_opened (machine w i).place) [
+      ap (λ (m : Data). m.answer) is ∙ elim (idle_or_open (machine w i).place) [
         | inl idle ↦ let z : true ≡ false = sym (ap (λ (m : Data). is_idle m.place) (rests_as w n idle) ∙ ap is_idle idle) ∙ live in cc
         | inr opened ↦ ((step_taken S Lawful (zeros S) w g i (machine w i) member (of_machine w g) opened n (found_now S w.words (machine w i))).goes_on live).1 ∙ before opened
       ]
@@ -87,25 +83,22 @@ module _ (S : Setup) (Lawful : List ℕ → Type 0) (sound : Sound S.meaning Law
 
 -- ---- a plan's table
 
-abbrev plan_work : (p : Plan) → IsPlan p → Scripts
-plan_work p plan = record { callers = p.callers; blocks = p.blocks; some_callers = plan.some_callers; few_callers = plan.few_callers; few_blocks = plan.few_blocks }
-
 module _ (p : Plan) (plan : IsPlan p) where
-  pub good_opening : Good (setup_for p) (LawfulCells (plan_work p plan)) (zeros (setup_for p)) (opening_for p)
+  pub good_opening : Good (setup_for p) (LawfulCells (work_of p plan)) (zeros (setup_for p)) (opening_for p)
   good_opening =
-      start_good (setup_for p) (LawfulCells (plan_work p plan)) (scripts_sound (plan_work p plan)) (omega (arith, plan.some_callers)) (omega (arith, plan.few_callers)) (omega arith) (table_words (setup_for p)) (omega arith) (omega arith)
+      start_good (setup_for p) (LawfulCells (work_of p plan)) (scripts_sound (work_of p plan)) (omega (arith, plan.some_callers)) (omega (arith, plan.few_callers)) (omega arith) (table_words (setup_for p)) (omega arith) (omega arith)
       (omega (arith, plan.few_callers, plan.few_blocks))
 
-  pub good_moment : (es : List Event) → IsSchedule (setup_for p) (opening_for p) es → Good (setup_for p) (LawfulCells (plan_work p plan)) (zeros (setup_for p)) (run (setup_for p) (opening_for p) es)
+  pub good_moment : (es : List Event) → IsSchedule (setup_for p) (opening_for p) es → Good (setup_for p) (LawfulCells (work_of p plan)) (zeros (setup_for p)) (run (setup_for p) (opening_for p) es)
   good_moment es schedule =
-      run_good (setup_for p) (LawfulCells (plan_work p plan)) (scripts_sound (plan_work p plan)) (omega (arith, plan.some_callers)) (omega (arith, plan.few_callers)) (omega arith) (table_words (setup_for p)) (omega arith) (omega arith)
+      run_good (setup_for p) (LawfulCells (work_of p plan)) (scripts_sound (work_of p plan)) (omega (arith, plan.some_callers)) (omega (arith, plan.few_callers)) (omega arith) (table_words (setup_for p)) (omega arith) (omega arith)
       (omega (arith, plan.few_callers, plan.few_blocks)) es (opening_for p) good_opening schedule
 
   module _ (es : List Event) (schedule : IsSchedule (setup_for p) (opening_for p) es) (c : ℕ) (lt : c < p.callers) where
     -- the answer of an open call isn't that of a spent one
     pub open_unspent : IsOpen (machine (run (setup_for p) (opening_for p) es) c).place → is_spent (machine (run (setup_for p) (opening_for p) es) c).answer ≡ false
     open_unspent opened =
-        ap is_spent (run_unanswered (setup_for p) (LawfulCells (plan_work p plan)) (scripts_sound (plan_work p plan)) c lt es (opening_for p) good_opening schedule
+        ap is_spent (run_unanswered (setup_for p) (LawfulCells (work_of p plan)) (scripts_sound (work_of p plan)) c lt es (opening_for p) good_opening schedule
         (λ now. let z : true ≡ false = sym (ap is_idle (idle_first (setup_for p) 0 p.callers c)) ∙ now in cc) opened)
 
     -- an idle machine has made no step
