@@ -10,10 +10,10 @@ use Rattle.of_core.specs.Least.{least_read}
 use Rattle.of_core.specs.World.{Read}
 use Rattle.of_core.specs.Events.{Event, IsSchedule, machine, turns}
 use Rattle.of_core.specs.Calls.{operations, outcomes, NeverIdle, TurnsTold}
-use Rattle.of_tool.specs.Play.{setup_for, opening_for, IsOfPlan, IsLeftBy}
+use Rattle.of_tool.specs.Play.{setup_for, opening_for, IsOfPlan, IsLeftBy, IsPlayed, play_events}
 use Rattle.of_tool.specs.Moments.{script_at, store_after}
 use Rattle.of_tool.proofs.StoresHeld.{held_is}
-use Rattle.of_tool.proofs.StoresMoments.{moment, IsMoment, operation_is}
+use Rattle.of_tool.proofs.StoresMoments.{moment, IsMoment, moment_here, turns_here, operation_is}
 use Rattle.of_tool.proofs.Stores.{announced_held, read_held}
 use Rattle.of_tool.proofs.StoresRecovered.{recovered_seq_is, recovered_ticket, stands_for}
 use Rattle.of_tool.proofs.StoresLeast.{least_reads}
@@ -21,7 +21,7 @@ use Rattle.of_tool.proofs.RecordsFacts.{CallerFacts, HasNone, IsLast}
 use Rattle.of_tool.proofs.RecordsLawful.{MomentFacts, lawful_left}
 use Rattle.of_tool.proofs.RecordsAllowance.{within_turns}
 use Rattle.of_tool.proofs.RecordsOwn.{idle_or_open}
-use Rattle.of_tool.proofs.RecordsSpent.{IsSpentLast}
+use Rattle.of_tool.proofs.RecordsSpent.{IsSpentLast, play_spent_last}
 use Rattle.of_tool.proofs.RecordsMoments.{open_unspent, idle_steps, words_left}
 
 module _ (p : Plan) (es : List Event) (h : IsMoment p es) (schedule : IsSchedule (setup_for p) (opening_for p) es) (spent : IsSpentLast p es) (e : Run) (left : IsLeftBy p es e) where
@@ -96,3 +96,21 @@ module _ (p : Plan) (es : List Event) (h : IsMoment p es) (schedule : IsSchedule
         | inr opened ↦ told.within opened
       ] in
       within_turns p (moment p es) e (operations es) (outcomes (setup_for p) (opening_for p) es) facts r lawful c lt (turns c es) told.few (λ state none. told.exact (busy state) none) few
+
+-- what a schedule of the plan's scripts leaves is a lawful record, where a spent caller begins no more
+pub left_is_lawful : (p : Plan) → IsPlan p → (es : List Event) → IsSchedule (setup_for p) (opening_for p) es → IsOfPlan p es → IsSpentLast p es → (e : Run) → IsLeftBy p es e → (r : Report) × IsLawful p (empty_start p) e r
+left_is_lawful p plan es schedule of_plan spent e left = moment_is_lawful p es (moment_here p plan es schedule of_plan) schedule spent e left
+
+-- and of such a record each caller keeps to its turns, of which a stopped one has made each in a call
+pub left_keeps_allowance : (p : Plan) → IsPlan p → (es : List Event) → IsSchedule (setup_for p) (opening_for p) es → IsOfPlan p es → IsSpentLast p es → (e : Run) → IsLeftBy p es e → (r : Report) → IsLawful p (empty_start p) e r
+    → (c : ℕ) → c < p.callers → (state_of (ending_of e c) ≡ stopped → NeverIdle (setup_for p) (opening_for p) es c) → KeepsAllowance p r c (Some (turns c es))
+left_keeps_allowance p plan es schedule of_plan spent e left r lawful c lt busy = moment_keeps_allowance p es (moment_here p plan es schedule of_plan) schedule spent e left r lawful c lt (turns_here p plan es schedule c lt) busy
+
+-- what a plan's own schedule leaves is a lawful record
+pub played_is_lawful : (p : Plan) → IsPlan p → IsSchedule (setup_for p) (opening_for p) (play_events p) → IsOfPlan p (play_events p) → (e : Run) → IsPlayed p e → (r : Report) × IsLawful p (empty_start p) e r
+played_is_lawful p plan schedule of_plan e played = left_is_lawful p plan (play_events p) schedule of_plan (play_spent_last p plan schedule) e played
+
+-- and each caller keeps to its turns in it
+pub played_keeps_allowance : (p : Plan) → IsPlan p → IsSchedule (setup_for p) (opening_for p) (play_events p) → IsOfPlan p (play_events p) → (e : Run) → IsPlayed p e → (r : Report) → IsLawful p (empty_start p) e r
+    → (c : ℕ) → c < p.callers → (state_of (ending_of e c) ≡ stopped → NeverIdle (setup_for p) (opening_for p) (play_events p) c) → KeepsAllowance p r c (Some (turns c (play_events p)))
+played_keeps_allowance p plan schedule of_plan e played r lawful c lt busy = left_keeps_allowance p plan (play_events p) schedule of_plan (play_spent_last p plan schedule) e played r lawful c lt busy
