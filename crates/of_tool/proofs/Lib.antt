@@ -1,5 +1,15 @@
 pub mod CommandLemmas
 pub mod Histories
+pub mod RecordsLists
+pub mod RecordsCalls
+pub mod RecordsFacts
+pub mod RecordsOwn
+pub mod RecordsHistory
+pub mod RecordsLawful
+pub mod RecordsAllowance
+pub mod RecordsMoments
+pub mod RecordsSpent
+pub mod Records
 pub mod StoresHeld
 pub mod StoresMoments
 pub mod StoresReplay
