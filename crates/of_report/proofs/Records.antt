@@ -1,7 +1,7 @@
 -- What follows from a lawful record.
-use Rattle.std.proofs.Common.{◌≡◌, ℕ, zero, suc, ◌+◌, ◌-◌, ◌<◌, ◌≤◌, ◌==◌, true, List, [], ◌∷◌, ◌++◌, length, map, get_or, refl, sym, ◌∙◌, ap, subst, arith, length-append}
-use Rattle.std.specs.Prelude.{flat_map, filter, All, AllPairs, sum_by}
-use Rattle.std.specs.List.{range_with_len, AllByRecursion}
+use Rattle.std.proofs.Common.{◌≡◌, ℕ, zero, suc, ◌+◌, ◌<◌, ◌≤◌, ◌==◌, true, List, [], ◌∷◌, length, map, get_or, sym, ◌∙◌, ap, subst, arith, length-append}
+use Rattle.std.specs.Prelude.{flat_map, All, AllPairs}
+use Rattle.std.specs.List.{range_with_len}
 use Rattle.std.specs.List.Sorted.{IsPermutation, IsNonDecreasingBy}
 use Rattle.std.proofs.lemmas.Bool.Decides.{nat_tests}
 use Rattle.std.proofs.lemmas.List.{length-map, get_or_default}
@@ -11,13 +11,12 @@ use Rattle.std.proofs.lemmas.List.Sorted.{All-permutation, IsPermutation-sym, Is
 use Rattle.std.proofs.lemmas.List.Sums.{get_or-le-sum_by}
 use Rattle.std.proofs.Math.ListN.{get_or-map}
 use Rattle.of_plan.specs.Plan.{Plan, IsPlan, scripts_of}
-use Rattle.of_plan.specs.Report.{CallEntry, Report, empty_start, entries_of, finished_of, line_of, done}
+use Rattle.of_plan.specs.Report.{CallEntry, Report, empty_start, entries_of, done}
 use Rattle.of_plan.specs.Ended.{Run, answers_of}
-use Rattle.of_plan.specs.Legal.{StandsBefore, IsLegal, to_do}
 use Rattle.of_script.specs.declared.instr.TheConstants.{MOST_INSTRS}
 use Rattle.of_cell.specs.Words.{pay}
 use Rattle.of_eval.specs.Lawful.{StandsFor}
-use Rattle.of_eval.specs.Record.{recovered_number, IsRecord, IsLawful, OwnEntries, answer_entries, line_for}
+use Rattle.of_eval.specs.Record.{recovered_number, IsRecord, IsLawful, answer_entries, line_for}
 use Rattle.of_report.specs.declared.report.Entry.{Entry}
 use Rattle.of_report.specs.declared.make.TheConstants.{SPAN}
 use Rattle.of_report.specs.Report.{entry_of}
@@ -73,9 +72,9 @@ module _ (p : Plan) (plan : IsPlan p) (e : Run) (r : Report) (h : IsLawful p (em
       let passes = All-get_or (λ (x : CallEntry). (x.caller == c) ≡ true) own k d m (filter_passes (λ (x : CallEntry). x.caller == c) r.entries) in
       let caller : (get_or own k d).caller ≡ c = met (get_or own k d).caller c passes in
       let index : (get_or own k d).index ≡ 0 + k =
-          sym (get_or-map (λ (x : CallEntry). x.index) own k d)
-          ∙ ap (λ (l : List ℕ). get_or l k d.index) (h.legal.in_order.one_by_one c l ∙ ap (λ (a : ℕ). range_with_len a (length own)) (none_done p c))
-          ∙ get_or-range_with_len 0 (length own) k d.index m in
+      sym (get_or-map (λ (x : CallEntry). x.index) own k d)
+      ∙ ap (λ (l : List ℕ). get_or l k d.index) (h.legal.in_order.one_by_one c l ∙ ap (λ (a : ℕ). range_with_len a (length own)) (none_done p c))
+      ∙ get_or-range_with_len 0 (length own) k d.index m in
       (omega (arith, caller, plan.few_callers), omega (arith, index, few_entries c l))
 
   small : All IsSmall r.entries

@@ -115,13 +115,17 @@ fn beyond_answers(found: &Found, caller: u32, answered: u32, ending: Ending) -> 
 {
     match ending {
         Ending::Stopped { .. } => open_call(found, caller, answered),
-        Ending::Done => None,
-        Ending::Spent { .. } => None,
+        Ending::Done | Ending::Spent { .. } => None,
     }
 }
 
 /// The entries of a caller: those of its answers, and what it has beyond them.
-fn own_entries(alloc: Global, found: &Found, ended: &Ended, caller: u32) -> Result<Vec<Entry>, AllocError>
+fn own_entries(
+    alloc: Global,
+    found: &Found,
+    ended: &Ended,
+    caller: u32,
+) -> Result<Vec<Entry>, AllocError>
     requires caller { caller < found.now.plot.callers }
     requires answers { caller < length (run_of ended.now).answers }
     requires few { length (answers_of (run_of ended.now) caller) ≤ MOST_SCRIPTS }
@@ -139,7 +143,12 @@ fn own_entries(alloc: Global, found: &Found, ended: &Ended, caller: u32) -> Resu
 }
 
 /// The entries and the line of each caller, one caller after the other.
-fn gather(alloc: Global, plan: &Plan, ended: &Ended, found: &Found) -> Result<(Vec<Entry>, Vec<Line>), AllocError>
+fn gather(
+    alloc: Global,
+    plan: &Plan,
+    ended: &Ended,
+    found: &Found,
+) -> Result<(Vec<Entry>, Vec<Line>), AllocError>
     requires whole { IsWhole plan.now (run_of ended.now) }
     requires found { Finds plan.now (run_of ended.now) found.now }
     ensures entries { IfOk result (λ told. (own : ℕ → List CallEntry) → AreOwn plan.now (run_of ended.now) own → map entry_of told.0.items ≡ flat_map own (range_with_len 0 plan.now.callers)) }
