@@ -1,2 +1,5 @@
 pub mod CommandLemmas
 pub mod Histories
+pub mod PlaysEvents
+pub mod PlaysGood
+pub mod PlaysFollow
