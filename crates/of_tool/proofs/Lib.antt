@@ -3,3 +3,4 @@ pub mod Histories
 pub mod PlaysEvents
 pub mod PlaysGood
 pub mod PlaysFollow
+pub mod PlaysStand

@@ -74,6 +74,15 @@ standing_after Idle s = s
 standing_after Open s = record s { steps = s.steps + 1 }
 standing_after (Ended o) s = record { spent = spent_at (Some o); steps = 0 }
 
+-- before its first call
+abbrev pub idle_standing : Standing
+idle_standing = record { spent = None; steps = 0 }
+
+-- one step more of the open call is still counted
+abbrev pub HasTime : Turn → Standing → Type 0
+HasTime Open s = s.steps + 1 < 18446744073709551616
+HasTime r s = Unit {0}
+
 -- the raw reply of a turn that has answered a call is that of some reply
 abbrev pub HasReply : Turn → Type 0
 HasReply (Ended (Answered s announced raw steps)) = (r : Reply) × IsHeldBy raw r

@@ -1,6 +1,7 @@
 //! A plan's schedule, run step by step on a bank.
 
 ghost use Rattle.std.specs.Prelude.{◌≡◌, IfOk};
+ghost use Rattle.of_mem.specs.Plots.{size};
 ghost use Rattle.of_plan.specs.Ended.{run_of};
 ghost use Rattle.of_tool.specs.Play.{IsPlayed};
 
@@ -30,7 +31,11 @@ struct Playing {
 }
 
 /// The shape of a table for the callers and cells of a plot.
-fn shape_for(plot: &Plot) -> Shape {
+fn shape_for(plot: &Plot) -> Shape
+    ensures callers { result.callers ≡ plot.now.callers }
+    ensures instrs { result.instrs ≡ plot.now.instrs }
+    ensures cells { result.cells ≡ size plot.now }
+{
     Shape {
         callers: plot.callers,
         instrs: plot.instrs,
@@ -44,7 +49,7 @@ impl Playing {
     ghost use Rattle.of_plan.specs.Ended.{run_of};
     ghost use Rattle.of_core.specs.Events.{Turns};
     ghost use Rattle.of_tool.specs.Play.{moves_in};
-    ghost use Rattle.of_tool.specs.Playing.{StandsAfter, IsPlaying, GoesOn, Begins, Notes, EndsAs, LeavesAs};
+    ghost use Rattle.of_tool.specs.Playing.{StandsAfter, IsPlaying, GoesOn, Begins, HasTime, Notes, idle_standing, EndsAs, LeavesAs};
 
     /// The run before the first step.
     fn new(alloc: Global, plan: &Plan) -> Result<Self, AllocError>
@@ -97,6 +102,7 @@ impl Playing {
     fn note(&mut self, caller: u32, turn: Turn) -> Result<(), AllocError>
         requires answers { caller < length self.old.answers.items }
         requires standings { caller < length self.old.standings.items }
+        requires time { HasTime turn (slice_index_or self.old.standings.items caller idle_standing) }
         ensures { OnOk result (Notes caller turn self.old self.new) }
     {
         match turn {
