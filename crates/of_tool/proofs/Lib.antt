@@ -4,3 +4,4 @@ pub mod PlaysEvents
 pub mod PlaysGood
 pub mod PlaysFollow
 pub mod PlaysStand
+pub mod PlaysNotes

@@ -12,6 +12,7 @@ use Rattle.of_eval.specs.Scripts.{scripts_meaning}
 use Rattle.of_plan.specs.declared.answer.Answer.{Answer}
 use Rattle.of_plan.specs.Plan.{Plan, IsPlan, scripts_of}
 use Rattle.of_core.specs.declared.bank.Turn.{Turn}
+use Rattle.of_core.specs.declared.bank.Turn.TheVariants.{Idle as NoCall, Open, Ended}
 use Rattle.of_core.specs.declared.place.Outcome.{Outcome}
 use Rattle.of_core.specs.declared.place.Outcome.TheVariants.{Answered, Spent}
 use Rattle.of_core.specs.Table.{Setup, size}
@@ -23,7 +24,7 @@ use Rattle.of_core.specs.Moment.{Bench, table, after, machine_of}
 use Rattle.of_core.specs.Events.{Event, Begins, Turns, Loads, Evicts, Raises, machine, happens, run}
 use Rattle.of_core.specs.Calls.{outcomes, outcome_of, ended_by, only}
 use Rattle.of_tool.specs.Play.{setup_for, opening_for, words_of, is_spent, begins_call, next_call, AreAnswers}
-use Rattle.of_tool.specs.Playing.{moment_after, Follows, spent_at, standing_of, standing_after, answers_in, StandsAfter, Notes}
+use Rattle.of_tool.specs.Playing.{moment_after, Follows, spent_at, standing_of, standing_after, answers_in, HasTime, StandsAfter, Notes, GoesOn, Begins as BeginsNext}
 use Rattle.of_tool.specs.declared.play.Playing.{Playing}
 use Rattle.of_tool.specs.declared.play.Standing.{Standing}
 use Rattle.of_tool.proofs.PlaysEvents.{run_append, outcomes_append}
@@ -243,3 +244,17 @@ module _ (p : Plan) (plan : IsPlan p) (es : List Event) (s : Playing) (st : Stan
       let op : take count out ≡ words_of (get_or (scripts_of p c) m.made []) = ap (take count) words ∙ words_first count (words_of script) rest many ∙ ap words_of first in
       subst (λ (fs : List Event). StandsAfter p (es ++ fs) (record s { bank = x })) (sym (next_one p c m begins))
       (begin_stands p plan es s st c h begins x (leaves ∙ ap (λ (o : List ℕ). after scripts_meaning (Begins c o ∷ []) s.bank) op))
+
+pub has_time : (r : Turn) (t : Standing) → t.steps + 1 < 18446744073709551616 → HasTime r t
+has_time NoCall t h = tt
+has_time Open t h = h
+has_time (Ended o) t h = tt
+
+-- a turn with the begin before it
+pub turn_goes_on : (p : Plan) (plan : IsPlan p) (c : ℕ) → c < p.callers → (first begun : Playing) → BeginsNext p c first begun
+    → (x : Bench Scripts) → x ≡ after scripts_meaning (Turns c ∷ []) begun.bank → (r : Turn) → r ≡ turn_of (machine_of begun.bank c) (machine_of x c)
+    → (t : Playing) → Notes c r (record begun { bank = x }) t → GoesOn p (Turns c ∷ []) first t
+turn_goes_on p plan c h first begun begins x leaves r says t notes es st =
+    let fs = next_call p c (machine (moment_after p es) c) in
+    let stands = turn_stands p plan (es ++ fs) begun (begins es st) c h x leaves r says t notes in
+    subst (λ (gs : List Event). StandsAfter p gs t) (append_assoc es fs (Turns c ∷ []) ∙ ap (λ (gs : List Event). es ++ gs) (sym (append-nil (fs ++ Turns c ∷ [])))) stands

@@ -96,6 +96,10 @@ pub record Notes (c : ℕ) (turn : Turn) (before now : Playing) : Type 0 where
   pub others : (i : ℕ) → i ≢ c → answers_in now i ≡ answers_in before i
   pub told : (os : List Outcome) → AreAnswers os (answers_in before c) → AreAnswers (os ++ outcome_of turn) (answers_in now c)
 
+-- how the caller's call has ended is noted
+abbrev pub NotesEnd : ℕ → Outcome → (before now : Playing) → Type 0
+NotesEnd c outcome before now = Notes c (Ended outcome) before now
+
 -- this is how the caller ends
 abbrev pub EndsAs : Plan → ℕ → Playing → Ending → Type 0
 EndsAs p c s ending = (es : List Event) → StandsAfter p es s → ending ≡ ending_at (machine (moment_after p es) c) (length (scripts_of p c)) (length (answers_in s c))

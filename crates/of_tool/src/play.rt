@@ -49,7 +49,7 @@ impl Playing {
     ghost use Rattle.of_plan.specs.Ended.{run_of};
     ghost use Rattle.of_core.specs.Events.{Turns};
     ghost use Rattle.of_tool.specs.Play.{moves_in};
-    ghost use Rattle.of_tool.specs.Playing.{StandsAfter, IsPlaying, GoesOn, Begins, HasTime, Notes, idle_standing, EndsAs, LeavesAs};
+    ghost use Rattle.of_tool.specs.Playing.{StandsAfter, IsPlaying, GoesOn, Begins, HasTime, Notes, NotesEnd, idle_standing, EndsAs, LeavesAs};
 
     /// The run before the first step.
     fn new(alloc: Global, plan: &Plan) -> Result<Self, AllocError>
@@ -98,6 +98,45 @@ impl Playing {
         self.bank.begin(caller, &words[..count as usize]);
     }
 
+    /// Notes how the call of a caller has ended. A spent call has no answer.
+    fn note_end(&mut self, caller: u32, outcome: Outcome) -> Result<(), AllocError>
+        requires answers { caller < length self.old.answers.items }
+        requires standings { caller < length self.old.standings.items }
+        ensures { OnOk result (NotesEnd caller outcome self.old self.new) }
+    {
+        let place = caller as usize;
+        match outcome {
+            Outcome::Spent { seq } => {
+                self.standings[place] = Standing {
+                    spent: Some(seq),
+                    steps: 0,
+                };
+                Ok(())
+            }
+            Outcome::Answered {
+                seq,
+                announced,
+                raw,
+                steps,
+            } => {
+                self.standings[place] = Standing {
+                    spent: None,
+                    steps: 0,
+                };
+                let Some(reply) = reply_of(&raw) else {
+                    return Err(AllocError);
+                };
+                self.answers[place].push(Answer {
+                    seq,
+                    announced,
+                    reply,
+                    steps,
+                })?;
+                Ok(())
+            }
+        }
+    }
+
     /// Notes what a turn has said of its caller.
     fn note(&mut self, caller: u32, turn: Turn) -> Result<(), AllocError>
         requires answers { caller < length self.old.answers.items }
@@ -111,36 +150,7 @@ impl Playing {
                 self.standings[caller as usize].steps += 1;
                 Ok(())
             }
-            Turn::Ended(Outcome::Spent { seq }) => {
-                self.standings[caller as usize] = Standing {
-                    spent: Some(seq),
-                    steps: 0,
-                };
-                Ok(())
-            }
-            Turn::Ended(
-                Outcome::Answered {
-                    seq,
-                    announced,
-                    raw,
-                    steps,
-                },
-            ) => {
-                self.standings[caller as usize] = Standing {
-                    spent: None,
-                    steps: 0,
-                };
-                let Some(reply) = reply_of(&raw) else {
-                    return Err(AllocError);
-                };
-                self.answers[caller as usize].push(Answer {
-                    seq,
-                    announced,
-                    reply,
-                    steps,
-                })?;
-                Ok(())
-            }
+            Turn::Ended(outcome) => self.note_end(caller, outcome),
         }
     }
 
