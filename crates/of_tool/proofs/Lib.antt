@@ -5,3 +5,5 @@ pub mod PlaysGood
 pub mod PlaysFollow
 pub mod PlaysStand
 pub mod PlaysNotes
+pub mod PlaysMoves
+pub mod PlaysEnds
