@@ -45,17 +45,6 @@ replicate_more n e = all n ∙ ap (λ (k : ℕ). replicate k e) (sym (add-one n)
 pub one_turn_more : (p : Plan) (c n : ℕ) (r s t : Playing) → GoesOn p (replicate n (Turns c)) r s → GoesOn p (Turns c ∷ []) s t → GoesOn p (replicate (n + 1) (Turns c)) r t
 one_turn_more p c n r s t f g = subst (λ (ms : List Event). GoesOn p ms r t) (replicate_more n (Turns c)) (goes_further p (replicate n (Turns c)) (Turns c ∷ []) r s t f g)
 
--- one item more
-pub one_item_more : (p : Plan) (items : List Item) (k : ℕ) (item : Item) (r s t : Playing) → k < length items → item ≡ get_or items k item
-    → GoesOn p (flat_map moves_in (take k items)) r s → GoesOn p (moves_in item) s t → GoesOn p (flat_map moves_in (take (k + 1) items)) r t
-one_item_more p items k item r s t l read f g =
-    subst (λ (ms : List Event). GoesOn p ms r t)
-    (ap (λ (ms : List Event). flat_map moves_in (take k items) ++ ms) (sym (append-nil (moves_in item)))
-    ∙ sym (flat_map-append moves_in (take k items) (item ∷ []))
-    ∙ ap (λ (x : Item). flat_map moves_in (take k items ++ x ∷ [])) read
-    ∙ ap (flat_map moves_in) (sym (take_more items k item l)))
-    (goes_further p (flat_map moves_in (take k items)) (moves_in item) r s t f g)
-
 -- an eviction
 pub evict_goes_on : (p : Plan) → IsPlan p → (item : Item) (a : ℕ) → item ≡ Evict a → IsItem p item → (s : Playing) (x : Bench Scripts) → x ≡ after scripts_meaning (Raises a ∷ []) s.bank → GoesOn p (moves_in item) s (record s { bank = x })
 evict_goes_on p plan item a is within s x leaves =

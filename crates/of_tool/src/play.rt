@@ -53,7 +53,8 @@ impl Playing {
 
     /// The run before the first step.
     fn new(alloc: Global, plan: &Plan) -> Result<Self, AllocError>
-        ensures { IfOk result (StandsAfter plan.now []) }
+        ensures plan { IsPlan plan.now }
+        ensures stands { IfOk result (StandsAfter plan.now []) }
     {
         let scripts = Scripts {
             callers: plan.callers(),
