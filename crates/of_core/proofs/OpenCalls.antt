@@ -110,16 +110,33 @@ module _ (S : Setup) (Lawful : List ℕ → Type 0) (B : Start) (w : World) (g :
       held (inr (inl b)) = b.mine k l u y d v c t
       held (inr (inr x)) = let n = x.0.call in one_call k m.seq y n.place d l u x.1 x.2 v n.among (c ∙ sym n.caller) (t ∙ sym n.ticket) ∙ n.same
 
+  -- the machine is its caller's
+  pub caller_at : (p : Place) → At S B w.words w.batches i m p → m.caller ≡ i
+  caller_at p a = go (is_idle p) refl
+    where
+      held : Holds → m.caller ≡ i
+      held (inl f) = f.caller
+      held (inr (inl b)) = b.caller
+      held (inr (inr o)) = o.0.caller
+
+      go : (b : Bool) → is_idle p ≡ b → m.caller ≡ i
+      go true e = (subst (λ (q : Place). At S B w.words w.batches i m q) (idle_is p e) a).caller
+      go false e = held (open_holds p e a)
+
+  -- the open call is announced
+  abbrev Said : Place → Type 0
+  Said p = IsOpen p × (announcement_of S w.words i ≡ word m.made (length m.op)) × (script_of S w.words i (length m.op) ≡ m.op) × (length m.op ≤ S.instrs)
+
   -- the caller announces nothing that is to be run, or it announces its open call
   pub quiet_or_said : (p : Place) → At S B w.words w.batches i m p
-      → Quieted S B w.words w.batches i ⊎ (IsOpen p × (announcement_of S w.words i ≡ word m.made (length m.op)) × (script_of S w.words i (length m.op) ≡ m.op))
+      → Quieted S B w.words w.batches i ⊎ Said p
   quiet_or_said p a = go (is_idle p) refl
     where
-      held : IsOpen p → Holds → Quieted S B w.words w.batches i ⊎ (IsOpen p × (announcement_of S w.words i ≡ word m.made (length m.op)) × (script_of S w.words i (length m.op) ≡ m.op))
+      held : IsOpen p → Holds → Quieted S B w.words w.batches i ⊎ Said p
       held o (inl f) = inl f.quieted
-      held o (inr (inl b)) = inr (o, b.says, b.script)
+      held o (inr (inl b)) = inr (o, b.says, b.script, b.words)
       held o (inr (inr x)) = inl (inl (omega (arith, x.0.says, x.0.reached)))
 
-      go : (b : Bool) → is_idle p ≡ b → Quieted S B w.words w.batches i ⊎ (IsOpen p × (announcement_of S w.words i ≡ word m.made (length m.op)) × (script_of S w.words i (length m.op) ≡ m.op))
+      go : (b : Bool) → is_idle p ≡ b → Quieted S B w.words w.batches i ⊎ Said p
       go true e = inl (subst (λ (q : Place). At S B w.words w.batches i m q) (idle_is p e) a).quieted
       go false e = held e (open_holds p e a)

@@ -27,7 +27,7 @@ module _ (S : Setup) (Lawful : List ℕ → Type 0) (sound : Sound S.meaning Law
   idles_length i zero = refl
   idles_length i (suc n) = ap suc (idles_length (suc i) n)
 
-  idles_at : (j n i : ℕ) (d : Data) → i < n → get_or (idles S j n) i d ≡ idle S (j + i) 0
+  pub idles_at : (j n i : ℕ) (d : Data) → i < n → get_or (idles S j n) i d ≡ idle S (j + i) 0
   idles_at j zero i d h = absurd (omega arith)
   idles_at j (suc n) zero d h = ap (λ (k : ℕ). idle S k 0) (omega arith)
   idles_at j (suc n) (suc i) d h = idles_at (suc j) n i d (omega arith) ∙ ap (λ (k : ℕ). idle S k 0) (omega arith)

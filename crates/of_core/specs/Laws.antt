@@ -1,7 +1,8 @@
 -- The laws of all steps and all schedules.
-use Rattle.std.specs.Prelude.{ℕ, ◌+◌, List, length, ◌≡◌, ◌≤◌, ◌<◌}
+use Rattle.std.specs.Prelude.{ℕ, ◌+◌, List, ◌++◌, length, ◌≡◌, ◌≤◌, ◌<◌}
 use Rattle.std.proofs.Common.{get_or, set}
 use Rattle.of_core.specs.declared.place.Place.TheVariants.{Idle, LoadCurrent}
+use Rattle.of_core.specs.declared.place.Outcome.{Outcome}
 use Rattle.of_core.specs.Table.{Setup, size, table_size}
 use Rattle.of_core.specs.Machine.{Data, IsOpen, idle, opened}
 use Rattle.of_core.specs.Steps.{want, took, FoundBy}
@@ -9,10 +10,10 @@ use Rattle.of_core.specs.World.{World, Start, added, stepped}
 use Rattle.of_core.specs.Facts.{Step, rests}
 use Rattle.of_core.specs.Invariant.{Good, IsLoaded}
 use Rattle.of_core.specs.Moves.{Moves}
-use Rattle.of_core.specs.Events.{Event, begun, evicted, run, turns, IsSchedule, StaysOpen, machine, zeros, opening}
+use Rattle.of_core.specs.Events.{Event, MayHappen, begun, happens, evicted, run, turns, IsSchedule, StaysOpen, machine, zeros, opening}
 use Rattle.of_core.specs.Bound.{bound}
 use Rattle.of_core.specs.Claim.{IsSound}
-use Rattle.of_core.specs.Calls.{Calls, TurnsTold, operations, outcomes}
+use Rattle.of_core.specs.Calls.{Calls, TurnsTold, begun_by, ended_by, operations, outcomes}
 
 -- each step of each machine keeps the invariant
 abbrev pub StepKept : Setup → (List ℕ → Type 0) → Type 0
@@ -79,7 +80,13 @@ EveryCall S =
     (n : ℕ) → table_size S ≤ n → (es : List Event) → IsSchedule S (opening S n) es → (i : ℕ) → i < S.callers
     → Calls S (run S (opening S n) es) i (operations es i) (outcomes S (opening S n) es i)
 
--- and its turns are the steps of those calls
+-- each event leads from the calls before it to those after it
+abbrev pub CallsKept : Setup → (List ℕ → Type 0) → Type 0
+CallsKept S Lawful =
+    (w : World) → Good S Lawful (zeros S) w → (i : ℕ) → i < S.callers → (ops : List (List ℕ)) (outs : List Outcome) → Calls S w i ops outs
+    → (e : Event) → MayHappen S w e → Calls S (happens S w e) i (ops ++ begun_by e i) (outs ++ ended_by S w e i)
+
+-- in every schedule the turns of a caller are the steps of its calls
 abbrev pub EveryTurn : Setup → Type 0
 EveryTurn S = (n : ℕ) → table_size S ≤ n → (es : List Event) → IsSchedule S (opening S n) es → (i : ℕ) → i < S.callers → TurnsTold S (opening S n) es i
 
