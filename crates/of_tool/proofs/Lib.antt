@@ -23,6 +23,7 @@ pub mod PlaysEvents
 pub mod PlaysGood
 pub mod PlaysFollow
 pub mod PlaysStand
+pub mod PlaysReplies
 pub mod PlaysNotes
 pub mod PlaysMoves
 pub mod PlaysEnds

@@ -140,49 +140,51 @@ module _ (p : Plan) (plan : IsPlan p) (es : List Event) (s : Playing) (st : Stan
           let steps = idle_steps p plan w good c h (begins_idle p plan es st.follows c h begins) in
           λ i. record { spent = spent i; steps = steps i }
 
-  pub turn_stands : (c : ℕ) → c < p.callers → (x : Bench Scripts) → x ≡ after scripts_meaning (Turns c ∷ []) s.bank → (r : Turn) → r ≡ turn_of (machine_of s.bank c) (machine_of x c)
-      → (t : Playing) → Notes c r (record s { bank = x }) t → StandsAfter p (es ++ Turns c ∷ []) t
-  turn_stands c h x leaves r says t notes = record {
-    follows = turn_follows p plan es st.follows c h;
-    callers = ap (λ (b : Bench Scripts). b.callers) notes.bank ∙ bank_callers (Turns c) tt x leaves;
-    table = ap (table scripts_meaning) notes.bank ∙ bank_table (Turns c) tt x leaves;
-    words = ap (λ (b : Bench Scripts). b.words) notes.bank ∙ bank_words (Turns c) tt x leaves;
-    machines = ap (λ (b : Bench Scripts). b.machines) notes.bank ∙ bank_machines (Turns c) tt x leaves;
-    standings = stood;
-    answers = notes.answers ∙ st.answers;
-    told = λ i l. answered i l (cases_eq i c);
-  }
-    where
-      v : World
-      v = happens S w (Turns c)
+  module _ (c : ℕ) (h : c < p.callers) where
+    turned_to : moment_after p (es ++ Turns c ∷ []) ≡ happens S w (Turns c)
+    turned_to = run_append S (opening_for p) es (Turns c ∷ [])
 
-      now_is : moment_after p (es ++ Turns c ∷ []) ≡ happens S w (Turns c)
-      now_is = run_append S (opening_for p) es (Turns c ∷ [])
+    -- what the bank says of a turn
+    pub turn_says : (x : Bench Scripts) → x ≡ after scripts_meaning (Turns c ∷ []) s.bank → (r : Turn) → r ≡ turn_of (machine_of s.bank c) (machine_of x c) → r ≡ turn_of (machine w c) (machine (happens S w (Turns c)) c)
+    turn_says x leaves r says = says ∙ (λ i. turn_of (machine_same c i) (get_or (bank_machines (Turns c) tt x leaves i) c no_machine)) ∙ ap (λ (u : World). turn_of (machine w c) (machine u c)) turned_to
 
-      turn_is : r ≡ turn_of (machine w c) (machine (happens S w (Turns c)) c)
-      turn_is = says ∙ (λ i. turn_of (machine_same c i) (get_or (bank_machines (Turns c) tt x leaves i) c no_machine)) ∙ ap (λ (u : World). turn_of (machine w c) (machine u c)) now_is
+    -- the outcomes behind it
+    pub turn_ends : outcomes S (opening_for p) (es ++ Turns c ∷ []) c ≡ outcomes S (opening_for p) es c ++ outcome_of (turn_of (machine w c) (machine (happens S w (Turns c)) c))
+    turn_ends =
+        let told : List Outcome = outcome_of (turn_of (machine w c) (machine (happens S w (Turns c)) c)) in
+        outcomes_append S (opening_for p) es (Turns c ∷ []) c ∙ ap (λ (os : List Outcome). outcomes S (opening_for p) es c ++ (os ++ [])) (only_same c told)
+        ∙ ap (λ (os : List Outcome). outcomes S (opening_for p) es c ++ os) (append-nil told)
 
-      stood : t.standings.items ≡ map standing_of (moment_after p (es ++ Turns c ∷ [])).machines
-      stood =
-          let d : Standing = standing_of (machine w c) in
-          notes.standings d ∙ (λ i. set (st.standings i) c (standing_after (turn_is i) (standing_at c d h i)))
-          ∙ ap (set (map standing_of w.machines) c) (sym (stands_turned p plan w good c h) ∙ ap standing_of (turned p plan w good c h))
-          ∙ sym (map-set standing_of w.machines c _) ∙ ap (λ (u : World). map standing_of u.machines) (sym now_is)
+    turn_ends_not : (i : ℕ) → (i ≡ c → ⊥) → outcomes S (opening_for p) (es ++ Turns c ∷ []) i ≡ outcomes S (opening_for p) es i
+    turn_ends_not i n =
+        let told : List Outcome = outcome_of (turn_of (machine w c) (machine (happens S w (Turns c)) c)) in
+        outcomes_append S (opening_for p) es (Turns c ∷ []) i ∙ ap (λ (os : List Outcome). outcomes S (opening_for p) es i ++ (os ++ [])) (only_other i c told n) ∙ append-nil _
 
-      answered : (i : ℕ) → i < p.callers → (i ≡ c) ⊎ (i ≡ c → ⊥) → AreAnswers (outcomes S (opening_for p) (es ++ Turns c ∷ []) i) (answers_in t i)
-      answered i l (inr n) =
-          let told : List Outcome = outcome_of (turn_of (machine w c) (machine (happens S w (Turns c)) c)) in
-          subst (λ (os : List Outcome). AreAnswers os (answers_in t i))
-          (sym (outcomes_append S (opening_for p) es (Turns c ∷ []) i ∙ ap (λ (os : List Outcome). outcomes S (opening_for p) es i ++ (os ++ [])) (only_other i c told n) ∙ append-nil _))
-          (subst (AreAnswers (outcomes S (opening_for p) es i)) (sym (notes.others i n)) (st.told i l))
-      answered i l (inl q) = subst (λ (k : ℕ). AreAnswers (outcomes S (opening_for p) (es ++ Turns c ∷ []) k) (answers_in t k)) (sym q)
-          (let told : List Outcome = outcome_of (turn_of (machine w c) (machine (happens S w (Turns c)) c)) in
-          subst (λ (os : List Outcome). AreAnswers os (answers_in t c))
-          (ap (λ (u : Turn). outcomes S (opening_for p) es c ++ outcome_of u) turn_is
-          ∙ ap (λ (os : List Outcome). outcomes S (opening_for p) es c ++ os) (sym (append-nil told))
-          ∙ ap (λ (os : List Outcome). outcomes S (opening_for p) es c ++ (os ++ [])) (sym (only_same c told))
-          ∙ sym (outcomes_append S (opening_for p) es (Turns c ∷ []) c))
-          (notes.told (outcomes S (opening_for p) es c) (st.told c h)))
+    pub turn_stands : (x : Bench Scripts) → x ≡ after scripts_meaning (Turns c ∷ []) s.bank → (r : Turn) → r ≡ turn_of (machine_of s.bank c) (machine_of x c)
+        → (t : Playing) → Notes c r (record s { bank = x }) t → StandsAfter p (es ++ Turns c ∷ []) t
+    turn_stands x leaves r says t notes = record {
+      follows = turn_follows p plan es st.follows c h;
+      callers = ap (λ (b : Bench Scripts). b.callers) notes.bank ∙ bank_callers (Turns c) tt x leaves;
+      table = ap (table scripts_meaning) notes.bank ∙ bank_table (Turns c) tt x leaves;
+      words = ap (λ (b : Bench Scripts). b.words) notes.bank ∙ bank_words (Turns c) tt x leaves;
+      machines = ap (λ (b : Bench Scripts). b.machines) notes.bank ∙ bank_machines (Turns c) tt x leaves;
+      standings = stood;
+      answers = notes.answers ∙ st.answers;
+      told = λ i l. answered i l (cases_eq i c);
+    }
+      where
+        stood : t.standings.items ≡ map standing_of (moment_after p (es ++ Turns c ∷ [])).machines
+        stood =
+            let d : Standing = standing_of (machine w c) in
+            notes.standings d ∙ (λ i. set (st.standings i) c (standing_after (turn_says x leaves r says i) (standing_at c d h i)))
+            ∙ ap (set (map standing_of w.machines) c) (sym (stands_turned p plan w good c h) ∙ ap standing_of (turned p plan w good c h))
+            ∙ sym (map-set standing_of w.machines c _) ∙ ap (λ (u : World). map standing_of u.machines) (sym turned_to)
+
+        answered : (i : ℕ) → i < p.callers → (i ≡ c) ⊎ (i ≡ c → ⊥) → AreAnswers (outcomes S (opening_for p) (es ++ Turns c ∷ []) i) (answers_in t i)
+        answered i l (inr n) = subst (λ (os : List Outcome). AreAnswers os (answers_in t i)) (sym (turn_ends_not i n)) (subst (AreAnswers (outcomes S (opening_for p) es i)) (sym (notes.others i n)) (st.told i l))
+        answered i l (inl q) = subst (λ (k : ℕ). AreAnswers (outcomes S (opening_for p) (es ++ Turns c ∷ []) k) (answers_in t k)) (sym q)
+            (subst (λ (os : List Outcome). AreAnswers os (answers_in t c)) (ap (λ (u : Turn). outcomes S (opening_for p) es c ++ outcome_of u) (turn_says x leaves r says) ∙ sym turn_ends)
+            (notes.told (outcomes S (opening_for p) es c) (st.told c h)))
 
 -- where a caller begins no call
 pub next_none : (p : Plan) (c : ℕ) (m : Data) → begins_call m (length (scripts_of p c)) ≡ false → next_call p c m ≡ []

@@ -83,10 +83,15 @@ abbrev pub HasTime : Turn → Standing → Type 0
 HasTime Open s = s.steps + 1 < 18446744073709551616
 HasTime r s = Unit {0}
 
--- the raw reply of a turn that has answered a call is that of some reply
-abbrev pub HasReply : Turn → Type 0
-HasReply (Ended (Answered s announced raw steps)) = (r : Reply) × IsHeldBy raw r
-HasReply r = Unit {0}
+-- the raw reply of an answered call is that of some reply
+abbrev pub HoldsReply : Outcome → Type 0
+HoldsReply (Answered s announced raw steps) = (r : Reply) × IsHeldBy raw r
+HoldsReply (Spent s) = Unit {0}
+
+abbrev pub IsReplied : Turn → Type 0
+IsReplied Idle = Unit {0}
+IsReplied Open = Unit {0}
+IsReplied (Ended o) = HoldsReply o
 
 -- what a turn has said of a caller is noted
 pub record Notes (c : ℕ) (turn : Turn) (before now : Playing) : Type 0 where

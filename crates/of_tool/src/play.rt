@@ -49,7 +49,7 @@ impl Playing {
     ghost use Rattle.of_plan.specs.Ended.{run_of};
     ghost use Rattle.of_core.specs.Events.{Turns};
     ghost use Rattle.of_tool.specs.Play.{moves_in};
-    ghost use Rattle.of_tool.specs.Playing.{StandsAfter, IsPlaying, GoesOn, Begins, HasTime, Notes, NotesEnd, idle_standing, EndsAs, LeavesAs};
+    ghost use Rattle.of_tool.specs.Playing.{StandsAfter, IsPlaying, GoesOn, Begins, HasTime, HoldsReply, IsReplied, Notes, NotesEnd, idle_standing, EndsAs, LeavesAs};
 
     /// The run before the first step.
     fn new(alloc: Global, plan: &Plan) -> Result<Self, AllocError>
@@ -103,6 +103,7 @@ impl Playing {
     fn note_end(&mut self, caller: u32, outcome: Outcome) -> Result<(), AllocError>
         requires answers { caller < length self.old.answers.items }
         requires standings { caller < length self.old.standings.items }
+        requires reply { HoldsReply outcome }
         ensures { OnOk result (NotesEnd caller outcome self.old self.new) }
     {
         let place = caller as usize;
@@ -125,7 +126,7 @@ impl Playing {
                     steps: 0,
                 };
                 let Some(reply) = reply_of(&raw) else {
-                    return Err(AllocError);
+                    unreachable!()
                 };
                 self.answers[place].push(Answer {
                     seq,
@@ -143,6 +144,7 @@ impl Playing {
         requires answers { caller < length self.old.answers.items }
         requires standings { caller < length self.old.standings.items }
         requires time { HasTime turn (slice_index_or self.old.standings.items caller idle_standing) }
+        requires reply { IsReplied turn }
         ensures { OnOk result (Notes caller turn self.old self.new) }
     {
         match turn {

@@ -5,6 +5,7 @@ use Rattle.of_tool.specs.Play.{next_call}
 use Rattle.of_tool.specs.Playing.{moment_after, idle_standing}
 use Rattle.of_tool.specs.declared.play.Standing.{Standing}
 use Rattle.of_tool.proofs.PlaysStand.{length_standings, standing_at, time_left, has_time, turn_goes_on}
+use Rattle.of_tool.proofs.PlaysReplies.{turn_replied}
 use Rattle.of_tool.proofs.play.Playing.turn.Goals as goal
 
 pub note-requires : goal.note-requires
@@ -18,6 +19,7 @@ note-requires c =
       answers = omega (arith, st.answers, c.requires.caller);
       standings = omega (arith, length_standings p r.plan es s st, c.requires.caller);
       time = has_time c.turn-turn.result _ (omega (arith, ap (λ (t : Standing). t.steps) (standing_at p r.plan es s st c.args.caller idle_standing c.requires.caller), time_left p r.plan es s st c.args.caller c.requires.caller));
+      reply = turn_replied p r.plan es s st c.args.caller c.requires.caller c.turn-turn.new.self c.turn-turn.ensures.after c.turn-turn.result c.turn-turn.ensures.turn;
     }
 
 pub returns : goal.returns
