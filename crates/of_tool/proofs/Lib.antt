@@ -27,3 +27,5 @@ pub mod PlaysReplies
 pub mod PlaysNotes
 pub mod PlaysMoves
 pub mod PlaysEnds
+pub mod PlaysSchedule
+pub mod PlaysBusy

@@ -44,7 +44,7 @@ take_zero (x ∷ xs) = refl
 take_none : {A : Type 0} (n : ℕ) (xs : List A) → n ≡ 0 → take n xs ≡ []
 take_none n xs e = ap (λ (k : ℕ). take k xs) e ∙ take_zero xs
 
-starts : (p : Plan) → Follows p []
+pub starts : (p : Plan) → Follows p []
 starts p = record {
   schedule = tt;
   made = λ c h. omega (arith, none_made (setup_for p) 0 p.callers c);

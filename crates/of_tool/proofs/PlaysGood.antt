@@ -85,7 +85,7 @@ module _ (p : Plan) (plan : IsPlan p) where
     pub turned : machine v c ≡ d
     turned = get_or-set_same w.machines c d no_machine (here w g c h)
 
-    rests : m.place ≡ Idle → d ≡ m
+    pub rests : m.place ≡ Idle → d ≡ m
     unfolding took
     rests e = ap (took_at S m (finds S w.words m)) e
 

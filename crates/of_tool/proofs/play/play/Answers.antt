@@ -1,3 +1,5 @@
+use Rattle.of_tool.proofs.PlaysSchedule.{play_turns}
+use Rattle.of_tool.proofs.PlaysBusy.{stopped_never_idle}
 use Rattle.std.proofs.Common.{◌<◌, ◌≤◌, List, length, arith, subst, ap}
 use Rattle.std.proofs.lemmas.Result.{IfOk-weaker}
 use Rattle.of_core.specs.Events.{Event}
