@@ -1,5 +1,3 @@
-use Rattle.of_tool.proofs.PlaysSchedule.{play_turns}
-use Rattle.of_tool.proofs.PlaysBusy.{stopped_never_idle}
 use Rattle.std.proofs.Common.{◌<◌, ◌≤◌, List, length, arith, subst, ap}
 use Rattle.std.proofs.lemmas.Result.{IfOk-weaker}
 use Rattle.of_core.specs.Events.{Event}
@@ -17,8 +15,8 @@ loop-item-preserved c = items_more c.args.plan.now c.schedule-item-items.result.
 pub end-requires : goal.end-requires
 end-requires c = record { plan = c.new.ensures.plan; events = _; stands = c.loop-item.invariant }
 
-pub returns : goal.returns
-returns c =
+pub returns-clause-played : goal.returns-clause-played
+returns-clause-played c =
     let p = c.args.plan.now in
     let all = items_all p c.schedule-item-items.result.now c.schedule-item-items.ensures.value c.loop-item.item-index c.loop-item-test.false in
     IfOk-weaker c.end.result _ _ (λ ended leaves. subst (λ (es : List Event). IsLeftBy p es (run_of ended)) (ap (events_from p (opening_for p)) all) (leaves _ c.loop-item.invariant)) c.end.ensures
