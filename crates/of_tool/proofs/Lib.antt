@@ -19,3 +19,14 @@ pub mod StoresLeast
 pub mod KnownCells
 pub mod HeldReplies
 pub mod Cases
+pub mod PlaysEvents
+pub mod PlaysGood
+pub mod PlaysFollow
+pub mod PlaysStand
+pub mod PlaysReplies
+pub mod PlaysNotes
+pub mod PlaysMoves
+pub mod PlaysEnds
+pub mod PlaysSchedule
+pub mod PlaysBusy
+pub mod PlayedReports

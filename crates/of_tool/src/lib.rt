@@ -2,6 +2,7 @@
 #![tactic(auto)]
 
 mod command;
+mod play;
 mod played;
 mod replay;
 pub mod status;

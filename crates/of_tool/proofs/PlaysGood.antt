@@ -1,0 +1,127 @@
+-- Each moment of a plan meets the core's invariant, and what a turn leaves of its caller's machine there.
+use Rattle.std.proofs.Common.{◌≡◌, ℕ, zero, suc, ◌+◌, ◌*◌, ◌-◌, ◌<◌, ◌≤◌, ◌⊎◌, inl, inr, List, [], ◌∷◌, length, get_or, set, refl, sym, ◌∙◌, ap, subst, arith, Option, Some, None, Bool, true, false}
+use Rattle.std.proofs.lemmas.List.{get_or-set_same, get_or-set_other, get_or_default, length-set}
+use Rattle.of_mem.specs.Meaning.{Sound}
+use Rattle.of_eval.specs.declared.scripts.Scripts.{Scripts}
+use Rattle.of_eval.specs.Scripts.{LawfulCells, scripts_meaning}
+use Rattle.of_eval.specs.SoundScripts.{scripts_sound}
+use Rattle.of_plan.specs.Plan.{Plan, IsPlan}
+use Rattle.of_core.specs.declared.place.Place.{Place}
+use Rattle.of_core.specs.declared.place.Place.TheVariants.{Idle}
+use Rattle.of_core.specs.declared.place.Outcome.{Outcome}
+use Rattle.of_core.specs.declared.bank.Turn.{Turn}
+use Rattle.of_core.specs.declared.bank.Turn.TheVariants.{Idle as NoCall, Open, Ended}
+use Rattle.of_core.specs.Table.{Setup, base, size}
+use Rattle.of_core.specs.Machine.{Data, IsOpen, is_idle, no_machine}
+use Rattle.of_core.specs.Steps.{took, took_at, finds}
+use Rattle.of_core.specs.World.{World, added}
+use Rattle.of_core.specs.Facts.{Step}
+use Rattle.of_core.specs.Invariant.{Good}
+use Rattle.of_core.specs.Bound.{bound}
+use Rattle.of_core.specs.Seen.{ended, ended_at}
+use Rattle.of_core.specs.Turn.{told, turn_from, turn_of}
+use Rattle.of_core.specs.Moment.{table_words}
+use Rattle.of_core.specs.Events.{Event, Turns, machine, happens, run, IsSchedule, opening, zeros}
+use Rattle.of_core.proofs.Moments.{run_good}
+use Rattle.of_core.proofs.Openings.{start_good}
+use Rattle.of_core.proofs.Happenings.{event_good}
+use Rattle.of_core.proofs.Found.{found_now}
+use Rattle.of_core.proofs.StepTaken.{step_taken}
+use Rattle.of_core.proofs.Ordering.{idle_is}
+use Rattle.of_tool.specs.Play.{setup_for, opening_for}
+use Rattle.of_tool.specs.Playing.{moment_after, standing_of, standing_after, spent_at}
+
+-- what a turn says of a machine that wasn't idle
+pub turn_open : (p : Place) (d : Data) → is_idle p ≡ false → turn_from p d ≡ told (ended d)
+turn_open Idle d e = cc
+turn_open p d e = refl
+
+pub none_ended : (d : Data) (p : Place) → is_idle p ≡ false → ended_at p d ≡ None
+none_ended d Idle e = cc
+none_ended d p e = refl
+
+module _ (p : Plan) (plan : IsPlan p) where
+  abbrev S : Setup
+  S = setup_for p
+
+  -- the work of the plan
+  abbrev pub scripts_for : Scripts
+  scripts_for = record { callers = p.callers; blocks = p.blocks; some_callers = plan.some_callers; few_callers = plan.few_callers; few_blocks = plan.few_blocks }
+
+  pub lawful_sound : Sound S.meaning (LawfulCells scripts_for) (base S) S.cells
+  lawful_sound = scripts_sound scripts_for
+
+  abbrev pub IsGood : World → Type 0
+  IsGood w = Good S (LawfulCells scripts_for) (zeros S) w
+
+  pub good_at : (es : List Event) → IsSchedule S (opening_for p) es → IsGood (moment_after p es)
+  good_at es s = run_good S (LawfulCells scripts_for) lawful_sound plan.some_callers (omega (arith, plan.few_callers)) (omega arith) (table_words S) (omega arith) (omega arith) (omega (arith, plan.few_callers, plan.few_blocks)) es (opening_for p)
+      (start_good S (LawfulCells scripts_for) lawful_sound plan.some_callers (omega (arith, plan.few_callers)) (omega arith) (table_words S) (omega arith) (omega arith) (omega (arith, plan.few_callers, plan.few_blocks))) s
+
+  module _ (w : World) (g : IsGood w) (c : ℕ) (h : c < p.callers) where
+    pub here : c < length w.machines
+    here = omega (arith, h, g.core.members)
+
+    pub own : get_or w.machines c (machine w c) ≡ machine w c
+    own = get_or_default w.machines c (machine w c) no_machine here
+
+    -- an idle machine has made no step of an open call
+    pub idle_steps : (machine w c).place ≡ Idle → (machine w c).steps ≡ 0
+    idle_steps e = (g.late c (machine w c) h own).rests e
+
+    pub few_steps : (machine w c).steps + 1 < 18446744073709551616
+    few_steps = omega (arith, (g.within c (machine w c) h own).steps, plan.few_callers, plan.few_blocks)
+
+  module _ (w : World) (g : IsGood w) (c : ℕ) (h : c < p.callers) where
+    abbrev m : Data
+    m = machine w c
+
+    abbrev d : Data
+    d = took S m (finds S w.words m)
+
+    abbrev v : World
+    v = happens S w (Turns c)
+
+    pub turned : machine v c ≡ d
+    turned = get_or-set_same w.machines c d no_machine (here w g c h)
+
+    pub rests : m.place ≡ Idle → d ≡ m
+    unfolding took
+    rests e = ap (took_at S m (finds S w.words m)) e
+
+    taken : IsOpen m.place → Step S (zeros S) w m (finds S w.words m) d (added S w.words m (finds S w.words m))
+    taken e = step_taken S (LawfulCells scripts_for) (zeros S) w g c m h (own w g c h) e (finds S w.words m) (found_now S w.words m)
+
+    pub turned_good : IsGood v
+    turned_good = event_good S (LawfulCells scripts_for) (zeros S) w g lawful_sound (Turns c) h
+
+    no_steps : d.place ≡ Idle → d.steps ≡ 0
+    no_steps e = ap (λ (x : Data). x.steps) (sym turned) ∙ idle_steps v turned_good c h (ap (λ (x : Data). x.place) turned ∙ e)
+
+    -- how the caller stands after its turn
+    pub stands_turned : standing_of (machine v c) ≡ standing_after (turn_of m (machine v c)) (standing_of m)
+    stands_turned = ap standing_of turned ∙ by_place (is_idle m.place) refl ∙ sym (ap (λ (x : Data). standing_after (turn_of m x) (standing_of m)) turned)
+      where
+        by_end : (b : Bool) → IsOpen m.place → is_idle d.place ≡ b → standing_of d ≡ standing_after (told (ended d)) (standing_of m)
+        by_end true o e =
+            let q = idle_is d.place e in
+            let t = (taken o).ends q in
+            let now : ended d ≡ Some t.0 = ap (λ (x : Place). ended_at x d) q ∙ t.1 in
+            let none = no_steps q in
+            (λ i. record { spent = spent_at (t.1 i); steps = none i }) ∙ ap (λ (x : Option Outcome). standing_after (told x) (standing_of m)) (sym now)
+        by_end false o e =
+            let t = (taken o).goes_on e in
+            (λ i. record { spent = spent_at (t.1 i); steps = t.0 i }) ∙ ap (λ (x : Option Outcome). standing_after (told x) (standing_of m)) (sym (none_ended d d.place e))
+
+        by_place : (b : Bool) → is_idle m.place ≡ b → standing_of d ≡ standing_after (turn_of m d) (standing_of m)
+        by_place true e =
+            let q = idle_is m.place e in
+            ap standing_of (rests q) ∙ ap (λ (x : Place). standing_after (turn_from x d) (standing_of m)) (sym q)
+        by_place false e = by_end (is_idle d.place) e refl ∙ ap (λ (x : Turn). standing_after x (standing_of m)) (sym (turn_open m.place d e))
+
+    pub made_turned : (machine v c).made ≡ m.made
+    made_turned = ap (λ (x : Data). x.made) turned ∙ go (is_idle m.place) refl
+      where
+        go : (b : Bool) → is_idle m.place ≡ b → d.made ≡ m.made
+        go true e = ap (λ (x : Data). x.made) (rests (idle_is m.place e))
+        go false e = (taken e).made

@@ -1,0 +1,18 @@
+use Rattle.std.proofs.Common.{◌≡◌, ◌<◌, ◌+◌, ℕ, List, [], ◌∷◌, length, get_or, arith, ap, sym, ◌∙◌, refl, length-append}
+use Rattle.of_plan.specs.declared.answer.Ending.{Ending}
+use Rattle.of_plan.specs.declared.answer.Ending.TheVariants.{Done}
+use Rattle.of_tool.specs.Playing.{EndsAs}
+use Rattle.of_tool.proofs.PlaysEnds.{leaves_as, each_pushed}
+use Rattle.of_tool.proofs.play.Playing.end.Goals as goal
+
+pub loop-caller-preserved : goal.loop-caller-preserved
+loop-caller-preserved c =
+    let l = c.loop-caller in
+    let pushed = c.in_ok-push.ensures.items in
+    record {
+      count = omega (arith, ap length pushed, length-append l.endings.items (c.ending.result ∷ []), l.invariant.count);
+      each = each_pushed (λ i ending. EndsAs c.args.plan.now i c.args.self ending) l.endings.items c.push.new.self.items c.ending.result l.caller pushed l.invariant.count l.invariant.each c.ending.ensures;
+    }
+
+pub returns : goal.returns
+returns c = leaves_as c.args.plan.now c.args.self _ refl c.words.ensures (omega (arith, c.loop-caller.invariant.count)) (λ i h. c.loop-caller.invariant.each i (omega arith))

@@ -1,0 +1,12 @@
+use Rattle.std.proofs.Common.{◌≡◌, ℕ, List, [], length, map, replicate, get_or}
+use Rattle.of_plan.specs.declared.answer.Answer.{Answer}
+use Rattle.of_tool.specs.Playing.{idle_standing}
+use Rattle.of_tool.proofs.play.Playing.new.Given as goal
+
+-- so many callers have no answer, and stand idle
+abbrev pub invariant-loop : goal.invariant-loop
+invariant-loop l = record {
+  answers : length l.answers.items ≡ l.counter;
+  none : (c : ℕ) → get_or (map (λ v. v.items) l.answers.items) c [] ≡ [];
+  standings : l.standings.items ≡ replicate l.counter idle_standing;
+}
