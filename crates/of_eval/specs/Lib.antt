@@ -14,3 +14,5 @@ pub mod SoundScripts
 pub mod Means
 pub mod Lawful
 pub mod Record
+pub mod Faults
+pub mod Walking

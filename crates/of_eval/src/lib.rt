@@ -1,15 +1,15 @@
 //! Scripts over cells.
 #![tactic(auto)]
 
+mod lawful_cells;
 pub mod laws;
 mod reply;
 mod scripts;
-mod standing;
 mod step;
 #[cfg(test)]
 mod tests;
 mod walk;
 
+pub use lawful_cells::{LawErr, lawful};
 pub use reply::{reply_cells, reply_of};
 pub use scripts::Scripts;
-pub use standing::{LawErr, lawful};

@@ -22,7 +22,7 @@ answers_of e c = slice_index_or e.answers c []
 abbrev pub ending_of : Run → ℕ → Ending
 ending_of e c = slice_index_or e.endings c Done
 
--- the greatest steps of these answers, 0 where there is none
+-- the most steps that an answer tells, 0 where there is none
 abbrev pub longest : List Answer → ℕ
 longest [] = 0
-longest (a ∷ others) = max a.steps (longest others)
+longest (answer ∷ others) = max answer.steps (longest others)

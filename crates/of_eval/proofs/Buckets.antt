@@ -1,0 +1,118 @@
+-- A block of a bucket: its key and its value, and the faults of them.
+use Rattle.std.proofs.Common.{◌≡◌, ℕ, ◌+◌, ◌%◌, ◌<◌, ◌≤◌, ◌≢◌, ◌⊎◌, inl, inr, Bool, true, false, cond, eqb, List, [], ◌∷◌, ◌++◌, length, Option, Some, None, is_some, refl, sym, ◌∙◌, ap, subst, arith}
+use Rattle.std.specs.List.{AllByRecursion as Each}
+use Rattle.std.specs.FinMap as fin
+use Rattle.std.proofs.lemmas.Bool.{eqb-true, false≢true}
+use Rattle.of_mem.specs.declared.plot.Plot.{Plot}
+use Rattle.of_mem.specs.Places.{fresh_at}
+use Rattle.of_mem.specs.Plots.{base}
+use Rattle.of_mem.specs.ProgramWork.{memory}
+use Rattle.of_mem.specs.Stores.{IsNumber, IsBucket, front_at, first_at, second_at, cell_after, value_in, total}
+use Rattle.of_mem.proofs.Frames.{none_value}
+use Rattle.of_script.specs.Language.{greatest}
+use Rattle.of_store.specs.State.{State, kept, with_key}
+use Rattle.of_eval.specs.Faults.{Has, IsNoKey, LeadsOn, IsFirstFault, here}
+use Rattle.of_eval.specs.Faults.ChainFault.{Key, Value}
+use Rattle.of_eval.specs.Walking.{Walked, Kept, Before, Stepped}
+use Rattle.of_eval.proofs.Paths.{has_each}
+use Rattle.of_eval.proofs.Paintings.{room_left}
+use Rattle.of_eval.proofs.Passing.{Fits, with_block, counted_few, leads_on, walked_step, walked_on, chain_fault}
+use Rattle.of_eval.proofs.Filling.{bucket_push, bucket_kept, kept_blocks}
+
+-- before a chain's first block the pointer cell is its front
+pub here_start : (o n : ℕ) (chains : ℕ → List ℕ) → chains n ≡ [] → here o n chains ≡ front_at o n
+here_start o n chains e = ap (cell_after o (front_at o n)) e
+
+value_case : (o : ℕ) (m : ℕ → ℕ) (key v b : ℕ) (l : List ℕ) → (value_in o m key l ≡ Some v → (x : ℕ) × Has l x × (m (first_at o x) ≡ key))
+    → (t : Bool) → eqb (m (first_at o b)) key ≡ t → cond t (Some (m (second_at o b))) (value_in o m key l) ≡ Some v → (x : ℕ) × Has (b ∷ l) x × (m (first_at o x) ≡ key)
+value_case o m key v b l rest true q e = (b, inl refl, eqb-true (m (first_at o b)) key q)
+value_case o m key v b l rest false q e = let r = rest e in (r.0, inr r.1, r.2)
+
+-- a key with a value stands in a block
+value_has : (o : ℕ) (m : ℕ → ℕ) (key v : ℕ) (l : List ℕ) → value_in o m key l ≡ Some v → (x : ℕ) × Has l x × (m (first_at o x) ≡ key)
+value_has o m key v [] e = absurd (false≢true (ap is_some e))
+value_has o m key v (b ∷ l) e = value_case o m key v b l (value_has o m key v l) (eqb (m (first_at o b)) key) refl e
+
+some_is : (x : Option ℕ) → is_some x ≡ true → (v : ℕ) × (x ≡ Some v)
+some_is None e = absurd (false≢true e)
+some_is (Some v) e = (v, refl)
+
+pub none_is : (x : Option ℕ) → is_some x ≡ false → x ≡ None
+none_is None e = refl
+none_is (Some v) e = absurd (false≢true (sym e))
+
+module _ (p : Plot) (cells : List ℕ) (k : ℕ) (chains : ℕ → List ℕ) (owners : List ℕ) (s : State) (k_in : k < 32) (w : Walked p cells (1 + k) 0 chains owners) (h : Kept p cells chains s) where
+  -- a key that the store has was met in its bucket
+  pub met_key : (key : ℕ) → key % 32 ≡ k → is_some (fin.get s.keys key) ≡ true → IsNoKey (base p) (memory cells) k (chains (1 + k)) key
+  met_key key e there =
+      let v = some_is (fin.get s.keys key) there in
+      inr (inr (value_has (base p) (memory cells) key v.0 (chains (1 + k)) (ap (λ c. value_in (base p) (memory cells) key (chains (1 + c))) (sym e) ∙ sym (h.values key) ∙ v.1)))
+
+  module _ (cell b : ℕ) (after : List ℕ) (is : cell ≡ here (base p) (1 + k) chains) (st : Stepped cells cell (1 + k) owners after (Some b)) where
+    leads : LeadsOn (base p) (memory cells) (1 + k) chains b
+    leads = leads_on p cells (1 + k) 0 chains owners w cell (1 + k) b after is st
+
+    pub key_fault : (first : ℕ) → first ≡ first_at (base p) b → IsNoKey (base p) (memory cells) k (chains (1 + k)) (memory cells first) → IsFirstFault p.callers p.instrs p.blocks (memory cells) first
+    key_fault first e bad = chain_fault p cells (1 + k) 0 chains owners w first (counted_few (base p) (memory cells) (1 + k) chains (omega arith))
+        (Key k b k_in refl leads (subst (λ a. IsNoKey (base p) (memory cells) k (chains (1 + k)) (memory cells a)) e bad) e)
+
+    pub room : kept s < s.room
+    room =
+        let r = room_left (memory cells (fresh_at (base p))) chains owners w.painted (1 + k) b (omega arith) st.1 st.2 in
+        omega (arith, r, kept_blocks p cells chains s h, w.begun.few, h.room)
+
+    module _ (good : memory cells (first_at (base p) b) ≤ greatest) (mine : memory cells (first_at (base p) b) % 32 ≡ k) (absent : fin.get s.keys (memory cells (first_at (base p) b)) ≡ None) where
+      apart : Each (λ x. memory cells (first_at (base p) x) ≢ memory cells (first_at (base p) b)) (chains (1 + k))
+      apart =
+          let at : 1 + memory cells (first_at (base p) b) % 32 ≡ 1 + k = omega (arith, mine) in
+          subst (λ c. Each (λ x. memory cells (first_at (base p) x) ≢ memory cells (first_at (base p) b)) (chains c)) at
+          (none_value (base p) (memory cells) (memory cells (first_at (base p) b)) (chains (1 + memory cells (first_at (base p) b) % 32)) (sym (h.values (memory cells (first_at (base p) b))) ∙ absent))
+
+      pub value_fault : (second : ℕ) → second ≡ second_at (base p) b → greatest < memory cells second → IsFirstFault p.callers p.instrs p.blocks (memory cells) second
+      value_fault second e bad = chain_fault p cells (1 + k) 0 chains owners w second (counted_few (base p) (memory cells) (1 + k) chains (omega arith))
+          (Value k b k_in refl leads is_key (λ n. let great : greatest < memory cells (second_at (base p) b) = subst (λ a. greatest < memory cells a) e bad in omega (arith, n, great)) e)
+        where
+          is_key : IsNoKey (base p) (memory cells) k (chains (1 + k)) (memory cells (first_at (base p) b)) → ⊥
+          is_key (inl n) = n (omega (arith, good))
+          is_key (inr (inl n)) = n mine
+          is_key (inr (inr x)) = has_each (λ y. memory cells (first_at (base p) y) ≢ memory cells (first_at (base p) b)) (chains (1 + k)) x.0 apart x.1 x.2
+
+      pub met_block : (value : memory cells (second_at (base p) b) ≤ greatest) → Walked p cells (1 + k) 0 (with_block chains (1 + k) b) after × Kept p cells (with_block chains (1 + k) b) (with_key s (memory cells (first_at (base p) b)) (memory cells (second_at (base p) b)))
+      met_block value = (walked_step p cells (1 + k) 0 chains owners w (1 + k) b after refl (omega arith) (omega arith) st.1 st.2 st.3 leads fits, bucket_kept p cells chains s h (1 + k) k b k_in refl mine good value absent room)
+        where
+          fits : Fits (base p) (memory cells) (1 + k) chains b
+          fits = record {
+            bucket = λ j j_in e. let same : k ≡ j = omega (arith, e) in
+                bucket_push (base p) (memory cells) j b (chains (1 + k)) (subst (λ i. IsBucket (base p) (memory cells) i (chains (1 + k))) same (w.passed.buckets k k_in)) (mine ∙ same) (omega (arith, good)) (omega (arith, value)) apart;
+            item = λ q q_in e. absurd (omega (arith, e, k_in));
+          }
+
+    module _ (first second : ℕ) (first_is : first ≡ first_at (base p) b) (second_is : second ≡ second_at (base p) b) (good : memory cells first ≤ greatest) (mine : memory cells first % 32 ≡ k) (absent : fin.get s.keys (memory cells first) ≡ None) where
+      good' : memory cells (first_at (base p) b) ≤ greatest
+      good' = subst (λ a. memory cells a ≤ greatest) first_is good
+
+      mine' : memory cells (first_at (base p) b) % 32 ≡ k
+      mine' = subst (λ a. memory cells a % 32 ≡ k) first_is mine
+
+      absent' : fin.get s.keys (memory cells (first_at (base p) b)) ≡ None
+      absent' = subst (λ a. fin.get s.keys (memory cells a) ≡ None) first_is absent
+
+      pub second_fault : greatest < memory cells second → IsFirstFault p.callers p.instrs p.blocks (memory cells) second
+      second_fault bad = value_fault good' mine' absent' second second_is bad
+
+      pub met_entry : (t : State) → memory cells second ≤ greatest → t ≡ with_key s (memory cells first) (memory cells second) → Walked p cells (1 + k) 0 (with_block chains (1 + k) b) after × Kept p cells (with_block chains (1 + k) b) t
+      met_entry t value t_is =
+          let m = met_block good' mine' absent' (subst (λ a. memory cells a ≤ greatest) second_is value) in (
+            m.0,
+            subst (λ (x : State). Kept p cells (with_block chains (1 + k) b) x)
+                (sym (t_is ∙ ap (λ a. with_key s (memory cells a) (memory cells second)) first_is ∙ ap (λ a. with_key s (memory cells (first_at (base p) b)) (memory cells a)) second_is)) m.1,
+          )
+
+  -- the bucket ends
+  pub bucket_ends : (cell : ℕ) (after : List ℕ) → cell ≡ here (base p) (1 + k) chains → memory cells cell ≡ 0 → after ≡ owners → Before p cells (2 + k) 0 after s
+  bucket_ends cell after is z same = subst (λ (x : List ℕ). Before p cells (2 + k) 0 x s) (sym same) (record {
+    chains = chains;
+    walked = walked_on p cells (1 + k) 0 chains owners w (2 + k) cell (omega arith) is z;
+    kept = h;
+    start = w.passed.others (2 + k) (omega arith);
+  })

@@ -1,0 +1,9 @@
+use Rattle.std.proofs.Common.{ℕ, ◌<◌}
+use Rattle.of_mem.specs.Places.{reply_at}
+use Rattle.of_mem.specs.ProgramWork.{memory}
+use Rattle.of_mem.specs.Stores.{IsNumber}
+use Rattle.of_eval.specs.Faults.{HasNumber}
+use Rattle.of_eval.proofs.lawful_cells.own.numbers.Given as goal
+
+abbrev pub invariant-loop-j : goal.invariant-loop-j
+invariant-loop-j l = (i : ℕ) → i < l.j → HasNumber l.reply i → IsNumber (memory l.cells (reply_at l.plot.instrs l.caller i))

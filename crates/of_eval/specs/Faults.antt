@@ -1,0 +1,137 @@
+-- The first of the data cells, in the order in which they are looked at, for which they stand for no store.
+use Rattle.std.specs.Prelude.{◌≡◌, ◌≢◌, ◌⊎◌, ℕ, ◌+◌, ◌%◌, ◌<◌, ◌≤◌, Bool, true, is_some, Option, None, List, [], ◌∷◌, ◌++◌, length, replicate, slice_index_or}
+use Rattle.std.specs.List.{AllByRecursion as Each, AllPairs}
+use Rattle.of_script.specs.declared.instr.Reply.{Reply}
+use Rattle.of_script.specs.declared.instr.TheConstants.{MOST_INSTRS}
+use Rattle.of_mem.specs.declared.work.RawReply.{RawReply}
+use Rattle.of_mem.specs.Places.{base_of, ticket_at, shape_at, reply_at, register_at, fresh_at, keys_at, tail_at, length_at}
+use Rattle.of_mem.specs.Stores.{IsChain, IsBucket, IsNumber, front_at, first_at, second_at, link_at, cell_after, last_pointer, total}
+use Rattle.of_eval.specs.declared.lawful_cells.LawErr.{LawErr}
+use Rattle.of_eval.specs.declared.lawful_cells.LawErr.TheVariants.{Memory, Unlawful}
+use Rattle.of_eval.specs.Shapes.{IsHeldBy}
+use Rattle.of_store.specs.State.{State}
+use Rattle.of_eval.specs.Lawful.{OwnStand, StandsFor}
+
+-- ---- the cells of a caller
+
+-- cells of this shape whose numbers are all 0
+abbrev pub bare : ℕ → RawReply
+bare shape = record { shape = shape; values = replicate MOST_INSTRS 0 }
+
+-- the shape is that of this reply, to a script of at most so many instructions; which numbers it has is not asked
+pub record IsShapeOf (instrs shape : ℕ) (r : Reply) : Type 0 where
+  pub held : IsHeldBy (bare shape) r
+  pub few : r.len ≤ instrs
+
+-- the reply has a number at this place
+abbrev pub HasNumber : Reply → ℕ → Type 0
+HasNumber r j = is_some (slice_index_or r.values j None) ≡ true
+
+-- the first fault of a caller's own cells
+pub data OwnFault (instrs : ℕ) (m : ℕ → ℕ) (caller cell : ℕ) : Type 0 where
+  -- there was no call, and there is a shape
+  Left : m (ticket_at instrs caller) ≡ 0 → m (shape_at instrs caller) ≢ 0 → cell ≡ shape_at instrs caller → OwnFault instrs m caller cell
+  -- there was a call, and the shape is that of no reply
+  NoShape : m (ticket_at instrs caller) ≢ 0 → ((r : Reply) → IsShapeOf instrs (m (shape_at instrs caller)) r → ⊥) → cell ≡ shape_at instrs caller → OwnFault instrs m caller cell
+  -- the first number of the reply that is too great
+  GreatReply : m (ticket_at instrs caller) ≢ 0 → (r : Reply) → IsShapeOf instrs (m (shape_at instrs caller)) r
+      → (j : ℕ) → j < r.len → HasNumber r j → ((i : ℕ) → i < j → HasNumber r i → IsNumber (m (reply_at instrs caller i))) → (IsNumber (m (reply_at instrs caller j)) → ⊥)
+      → cell ≡ reply_at instrs caller j → OwnFault instrs m caller cell
+
+-- what is looked at before the chains is sound
+pub record Begun (callers instrs blocks : ℕ) (m : ℕ → ℕ) : Type 0 where
+  pub own : (c : ℕ) → c < callers → OwnStand instrs m c
+  pub registers : (r : ℕ) → r < 16 → IsNumber (m (register_at (base_of callers instrs) r))
+  pub few : m (fresh_at (base_of callers instrs)) ≤ blocks
+
+-- ---- the chains
+
+-- the pointers from this cell on lead through these blocks
+abbrev pub IsPath : ℕ → (ℕ → ℕ) → ℕ → List ℕ → Type 0
+IsPath o m cell [] = Unit {0}
+IsPath o m cell (b ∷ bs) = (m cell ≡ b + 1) × IsPath o m (link_at o b) bs
+
+-- the list has this number
+abbrev pub Has : List ℕ → ℕ → Type 0
+Has [] x = ⊥
+Has (a ∷ l) x = (x ≡ a) ⊎ Has l x
+
+-- The blocks that were met: all of the chains before chain n, and those of chain n from its front up to here. Each is below fresh and
+-- stands in one chain, and once in it, and what stands in the blocks is sound.
+pub record Passed (o : ℕ) (m : ℕ → ℕ) (n : ℕ) (chains : ℕ → List ℕ) : Type 0 where
+  pub linked : (c : ℕ) → c < n → IsChain o m (front_at o c) (chains c)
+  pub path : IsPath o m (front_at o n) (chains n)
+  pub others : (c : ℕ) → n < c → chains c ≡ []
+  pub owner : ℕ → ℕ
+  pub owned : (c : ℕ) → Each (λ b. (b < m (fresh_at o)) × (owner b ≡ c)) (chains c)
+  pub once : AllPairs (λ x y. x ≢ y) (chains n)
+  pub buckets : (k : ℕ) → k < 32 → IsBucket o m k (chains (1 + k))
+  pub items : (q : ℕ) → q < 4 → Each (λ b. IsNumber (m (first_at o b))) (chains (33 + q))
+
+-- what is counted behind the chains before chain n is right: keys behind the buckets, and behind each queue its tail and its length
+pub record Counted (o : ℕ) (m : ℕ → ℕ) (n : ℕ) (chains : ℕ → List ℕ) : Type 0 where
+  pub keys : 33 ≤ n → m (keys_at o) + length (chains 0) ≡ total chains 33
+  pub tails : (q : ℕ) → 33 + q < n → m (tail_at o q) ≡ last_pointer 0 (chains (33 + q))
+  pub lengths : (q : ℕ) → 33 + q < n → m (length_at o q) ≡ length (chains (33 + q))
+
+-- the pointer cell behind the blocks of chain n that were met
+abbrev pub here : ℕ → ℕ → (ℕ → List ℕ) → ℕ
+here o n chains = cell_after o (front_at o n) (chains n)
+
+-- the block was met
+abbrev pub IsMet : (ℕ → List ℕ) → ℕ → Type 0
+IsMet chains b = (c : ℕ) × Has (chains c) b
+
+-- the pointer leads to a block that was not met yet
+pub record LeadsOn (o : ℕ) (m : ℕ → ℕ) (n : ℕ) (chains : ℕ → List ℕ) (b : ℕ) : Type 0 where
+  pub pointer : m (here o n chains) ≡ b + 1
+  pub below : b < m (fresh_at o)
+  pub unmet : IsMet chains b → ⊥
+
+-- a key is none: too great, of another bucket, or met in its bucket before
+abbrev pub IsNoKey : ℕ → (ℕ → ℕ) → ℕ → List ℕ → ℕ → Type 0
+IsNoKey o m k bucket key = (IsNumber key → ⊥) ⊎ ((key % 32 ≢ k) ⊎ ((x : ℕ) × Has bucket x × (m (first_at o x) ≡ key)))
+
+-- the first fault, where these blocks were met
+pub data ChainFault (o : ℕ) (m : ℕ → ℕ) (n : ℕ) (chains : ℕ → List ℕ) (cell : ℕ) : Type 0 where
+  -- the pointer leads to a block that is not below fresh or was met
+  Pointer : n < 37 → (b : ℕ) → m (here o n chains) ≡ b + 1 → (m (fresh_at o) ≤ b) ⊎ IsMet chains b → cell ≡ here o n chains → ChainFault o m n chains cell
+  Key : (k b : ℕ) → k < 32 → n ≡ 1 + k → LeadsOn o m n chains b → IsNoKey o m k (chains n) (m (first_at o b)) → cell ≡ first_at o b → ChainFault o m n chains cell
+  Value : (k b : ℕ) → k < 32 → n ≡ 1 + k → LeadsOn o m n chains b → (IsNoKey o m k (chains n) (m (first_at o b)) → ⊥) → (IsNumber (m (second_at o b)) → ⊥) → cell ≡ second_at o b → ChainFault o m n chains cell
+  Item : (q b : ℕ) → q < 4 → n ≡ 33 + q → LeadsOn o m n chains b → (IsNumber (m (first_at o b)) → ⊥) → cell ≡ first_at o b → ChainFault o m n chains cell
+
+-- the first fault of what is counted behind the chains before chain n
+pub data CountFault (o : ℕ) (m : ℕ → ℕ) (n : ℕ) (chains : ℕ → List ℕ) (cell : ℕ) : Type 0 where
+  Keys : n ≡ 33 → m (keys_at o) + length (chains 0) ≢ total chains 33 → cell ≡ keys_at o → CountFault o m n chains cell
+  Tail : (q : ℕ) → q < 4 → n ≡ 34 + q → m (tail_at o q) ≢ last_pointer 0 (chains (33 + q)) → cell ≡ tail_at o q → CountFault o m n chains cell
+  Length : (q : ℕ) → q < 4 → n ≡ 34 + q → m (tail_at o q) ≡ last_pointer 0 (chains (33 + q)) → m (length_at o q) ≢ length (chains (33 + q)) → cell ≡ length_at o q → CountFault o m n chains cell
+
+-- The first cell at fault. What is looked at before it is sound.
+pub data IsFirstFault (callers instrs blocks : ℕ) (m : ℕ → ℕ) (cell : ℕ) : Type 0 where
+  Own : (c : ℕ) → c < callers → ((d : ℕ) → d < c → OwnStand instrs m d) → OwnFault instrs m c cell → IsFirstFault callers instrs blocks m cell
+  Register : ((c : ℕ) → c < callers → OwnStand instrs m c) → (r : ℕ) → r < 16 → ((q : ℕ) → q < r → IsNumber (m (register_at (base_of callers instrs) q)))
+      → (IsNumber (m (register_at (base_of callers instrs) r)) → ⊥) → cell ≡ register_at (base_of callers instrs) r → IsFirstFault callers instrs blocks m cell
+  -- more blocks were taken than there are
+  Fresh : ((c : ℕ) → c < callers → OwnStand instrs m c) → ((r : ℕ) → r < 16 → IsNumber (m (register_at (base_of callers instrs) r)))
+      → blocks < m (fresh_at (base_of callers instrs)) → cell ≡ fresh_at (base_of callers instrs) → IsFirstFault callers instrs blocks m cell
+  Chain : Begun callers instrs blocks m → (n : ℕ) (chains : ℕ → List ℕ) → Passed (base_of callers instrs) m n chains → Counted (base_of callers instrs) m n chains
+      → ChainFault (base_of callers instrs) m n chains cell → IsFirstFault callers instrs blocks m cell
+  -- the chains before chain n are sound, and what is counted behind all of them but the last
+  Count : Begun callers instrs blocks m → (n : ℕ) (chains : ℕ → List ℕ) → Passed (base_of callers instrs) m (1 + n) chains → Counted (base_of callers instrs) m n chains → chains (1 + n) ≡ []
+      → CountFault (base_of callers instrs) m (1 + n) chains cell → IsFirstFault callers instrs blocks m cell
+  -- a block below fresh was not met
+  Lost : Begun callers instrs blocks m → (chains : ℕ → List ℕ) → Passed (base_of callers instrs) m 37 chains → Counted (base_of callers instrs) m 37 chains → chains 37 ≡ []
+      → total chains 37 ≢ m (fresh_at (base_of callers instrs)) → cell ≡ fresh_at (base_of callers instrs) → IsFirstFault callers instrs blocks m cell
+
+-- an error that names a cell says this of it
+abbrev pub AtCell : (ℕ → Type 0) → LawErr → Type 0
+AtCell P Memory = Unit {0}
+AtCell P (Unlawful cell) = P cell
+
+-- cells with a first fault stand for no store
+abbrev pub FaultsExclude : Type 0
+FaultsExclude = (callers instrs blocks : ℕ) (m : ℕ → ℕ) (s : State) (cell : ℕ) → StandsFor callers instrs blocks m s → IsFirstFault callers instrs blocks m cell → ⊥
+
+-- the first cell at fault is one
+abbrev pub OneFirstFault : Type 0
+OneFirstFault = (callers instrs blocks : ℕ) (m : ℕ → ℕ) (a b : ℕ) → IsFirstFault callers instrs blocks m a → IsFirstFault callers instrs blocks m b → a ≡ b

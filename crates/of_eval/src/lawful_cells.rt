@@ -1,0 +1,82 @@
+//! The store for which data cells stand.
+
+ghost use Rattle.std.specs.Prelude.{◌≡◌, IfOk, IfErr, MatchResult, length};
+ghost use Rattle.of_mem.specs.Plots.{size};
+ghost use Rattle.of_mem.specs.ProgramWork.{memory};
+ghost use Rattle.of_eval.specs.Lawful.{StandsFor};
+ghost use Rattle.of_store.specs.State.{State};
+ghost use Rattle.of_eval.specs.Walking.{NamesFault};
+ghost use Rattle.of_eval.specs.declared.lawful_cells.LawErr.TheVariants.{Memory};
+
+mod fill;
+mod own;
+#[cfg(test)]
+mod tests;
+mod walk;
+
+use crate::lawful_cells::fill::begun_store;
+use crate::lawful_cells::own::callers;
+use crate::lawful_cells::walk::{all_met, bucket, free_list, fresh, keys, queue, registers};
+use of_mem::Plot;
+use of_script::QUEUES;
+use of_store::Store;
+use std::alloc::{AllocError, Global};
+
+/// Why cells are answered with no store: there is no memory, or they stand for none, and this is the first cell at fault.
+#[derive(Clone, Copy, Debug, PartialEq, Eq)]
+pub enum LawErr {
+    Memory,
+    Unlawful { cell: u32 },
+}
+
+impl From<AllocError> for LawErr {
+    ghost use Rattle.std.specs.Prelude.{◌≡◌};
+    ghost use Rattle.of_eval.specs.declared.lawful_cells.LawErr.TheVariants.{Memory};
+
+    ghost from_gives = { λ _ e. e ≡ Memory };
+
+    fn from(_e: AllocError) -> LawErr {
+        LawErr::Memory
+    }
+}
+
+/// How many buckets there are.
+const BUCKETS: u32 = 32;
+
+/// Looks at the cells in their order, and makes the store that they stand for.
+fn looked_at(alloc: Global, plot: &Plot, cells: &[u32]) -> Result<Store, LawErr>
+    requires { length cells.now ≡ size plot.now }
+    ensures ok { IfOk result (λ s. StandsFor plot.now.callers plot.now.instrs plot.now.blocks (memory cells.now) s) }
+    ensures unlawful { IfErr result (NamesFault plot.now cells.now) }
+{
+    callers(plot, cells)?;
+    registers(plot, cells)?;
+    let fresh = fresh(plot, cells)?;
+    let mut owners = vec![in alloc; 0; fresh as usize]?;
+    free_list(plot, cells, &mut owners)?;
+    let mut store = begun_store(alloc, plot, cells)?;
+    for b in 0..BUCKETS {
+        bucket(plot, cells, b, &mut owners, &mut store)?;
+    }
+    keys(plot, cells, &store)?;
+    for q in 0..QUEUES {
+        queue(plot, cells, q as u32, &mut owners, &mut store)?;
+    }
+    all_met(plot, cells, &owners)?;
+    Ok(store)
+}
+
+/// The store for which the data cells stand, each caller's own cells included. An error that names a cell says that they stand for no
+/// store; the cell is the first at fault: the callers' own cells are looked at first, then registers, the free list, buckets and
+/// queues.
+pub fn lawful(alloc: Global, plot: &Plot, cells: &[u32]) -> Result<Store, LawErr>
+    requires { length cells.now ≡ size plot.now }
+    // What is answered is what the cells stand for.
+    ensures ok { IfOk result (λ s. StandsFor plot.now.callers plot.now.instrs plot.now.blocks (memory cells.now) s) }
+    // A cell that is named is the first at fault.
+    ensures unlawful { IfErr result (NamesFault plot.now cells.now) }
+    // Cells that stand for a store are answered by it, unless memory runs out.
+    ensures only { (s : State) → StandsFor plot.now.callers plot.now.instrs plot.now.blocks (memory cells.now) s → MatchResult result (λ t. t ≡ s) (λ e. e ≡ Memory) }
+{
+    looked_at(alloc, plot, cells)
+}

@@ -1,0 +1,73 @@
+//! The cells of callers.
+
+ghost use Rattle.std.specs.Prelude.{◌≡◌, ◌≢◌, ◌≤◌, ◌<◌, ℕ, length, IfErr, OnOk};
+ghost use Rattle.of_mem.specs.Plots.{size};
+ghost use Rattle.of_mem.specs.Places.{ticket_at, shape_at};
+ghost use Rattle.of_mem.specs.ProgramWork.{memory};
+ghost use Rattle.of_eval.specs.Lawful.{OwnStand};
+ghost use Rattle.of_eval.specs.Faults.{IsShapeOf, OwnFault, AtCell};
+ghost use Rattle.of_eval.specs.Walking.{NamesFault};
+
+use crate::lawful_cells::LawErr;
+use crate::reply::reply_of;
+use of_mem::{Plot, RawReply};
+use of_script::{GREATEST, MOST_INSTRS, Reply};
+
+/// Looks at the own cells of all callers, in order.
+pub(crate) fn callers(plot: &Plot, cells: &[u32]) -> Result<(), LawErr>
+    requires { length cells.now ≡ size plot.now }
+    ensures ok { OnOk result ((c : ℕ) → c < plot.now.callers → OwnStand plot.now.instrs (memory cells.now) c) }
+    ensures err { IfErr result (NamesFault plot.now cells.now) }
+{
+    for caller in 0..plot.callers {
+        own(plot, cells, caller)?;
+    }
+    Ok(())
+}
+
+/// Looks at a caller's own cells: with no ticket there is no shape, and else they hold a reply.
+fn own(plot: &Plot, cells: &[u32], caller: u32) -> Result<(), LawErr>
+    requires sized { length cells.now ≡ size plot.now }
+    requires caller { caller < plot.now.callers }
+    ensures ok { OnOk result (OwnStand plot.now.instrs (memory cells.now) caller) }
+    ensures err { IfErr result (AtCell (OwnFault plot.now.instrs (memory cells.now) caller)) }
+{
+    let ticket = cells[plot.ticket(caller) as usize];
+    let cell = plot.shape(caller);
+    let shape = cells[cell as usize];
+    if ticket == 0 {
+        if shape != 0 {
+            return Err(LawErr::Unlawful { cell });
+        }
+        return Ok(());
+    }
+    let bare = RawReply {
+        shape,
+        values: [0; MOST_INSTRS],
+    };
+    let Some(reply) = reply_of(&bare) else {
+        return Err(LawErr::Unlawful { cell });
+    };
+    if u32::from(reply.len) > plot.instrs {
+        return Err(LawErr::Unlawful { cell });
+    }
+    numbers(plot, cells, caller, &reply)
+}
+
+/// Looks at the numbers of a caller's reply, in order.
+fn numbers(plot: &Plot, cells: &[u32], caller: u32, reply: &Reply) -> Result<(), LawErr>
+    requires sized { length cells.now ≡ size plot.now }
+    requires caller { caller < plot.now.callers }
+    requires called { memory cells.now (ticket_at plot.now.instrs caller) ≢ 0 }
+    requires shape { IsShapeOf plot.now.instrs (memory cells.now (shape_at plot.now.instrs caller)) reply.now }
+    ensures ok { OnOk result (OwnStand plot.now.instrs (memory cells.now) caller) }
+    ensures err { IfErr result (AtCell (OwnFault plot.now.instrs (memory cells.now) caller)) }
+{
+    for j in 0..u32::from(reply.len) {
+        let cell = plot.reply(caller, j);
+        if reply.values[j as usize].is_some() && cells[cell as usize] > GREATEST {
+            return Err(LawErr::Unlawful { cell });
+        }
+    }
+    Ok(())
+}

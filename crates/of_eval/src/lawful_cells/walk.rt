@@ -1,0 +1,195 @@
+//! The walk through the chains.
+
+ghost use Rattle.std.specs.Prelude.{◌≡◌, ◌≢◌, ◌≤◌, ◌<◌, ◌+◌, ◌⊎◌, ◌↔◌, IsTrue, EachIndex, slice_index, ℕ, List, Some, None, length, IfOk, IfErr, OnOk, All};
+ghost use Rattle.of_mem.specs.Plots.{base, size};
+ghost use Rattle.of_mem.specs.Places.{register_at, fresh_at};
+ghost use Rattle.of_mem.specs.ProgramWork.{memory};
+ghost use Rattle.of_mem.specs.Stores.{IsNumber, first_at, second_at};
+ghost use Rattle.of_store.specs.State.{State};
+ghost use Rattle.of_eval.specs.Lawful.{OwnStand, StandsFor};
+ghost use Rattle.of_eval.specs.Walking.{NamesFault, HasBegun, Freed, Before, Stepped, StoppedAt};
+
+use crate::lawful_cells::fill::{push, put};
+use crate::lawful_cells::{BUCKETS, LawErr};
+use of_mem::Plot;
+use of_script::{GREATEST, REGISTERS};
+use of_store::Store;
+
+// The chains in order: the free list, the buckets, the queues.
+const FREE_LIST: u8 = 0;
+
+const FIRST_BUCKET: u8 = 1;
+
+const FIRST_QUEUE: u8 = 33;
+
+/// Looks at the registers.
+pub(crate) fn registers(plot: &Plot, cells: &[u32]) -> Result<(), LawErr>
+    requires sized { length cells.now ≡ size plot.now }
+    requires own { (c : ℕ) → c < plot.now.callers → OwnStand plot.now.instrs (memory cells.now) c }
+    ensures ok { OnOk result ((r : ℕ) → r < 16 → IsNumber (memory cells.now (register_at (base plot.now) r))) }
+    ensures err { IfErr result (NamesFault plot.now cells.now) }
+{
+    for r in 0..REGISTERS {
+        let cell = plot.register(r as u32);
+        if cells[cell as usize] > GREATEST {
+            return Err(LawErr::Unlawful { cell });
+        }
+    }
+    Ok(())
+}
+
+/// How many blocks were taken.
+pub(crate) fn fresh(plot: &Plot, cells: &[u32]) -> Result<u32, LawErr>
+    requires sized { length cells.now ≡ size plot.now }
+    requires own { (c : ℕ) → c < plot.now.callers → OwnStand plot.now.instrs (memory cells.now) c }
+    requires registers { (r : ℕ) → r < 16 → IsNumber (memory cells.now (register_at (base plot.now) r)) }
+    ensures begun { OnOk result (HasBegun plot.now cells.now) }
+    ensures value { IfOk result (λ n. n ≡ memory cells.now (fresh_at (base plot.now))) }
+    ensures err { IfErr result (NamesFault plot.now cells.now) }
+{
+    let cell = plot.fresh();
+    let fresh = cells[cell as usize];
+    if fresh > plot.blocks {
+        return Err(LawErr::Unlawful { cell });
+    }
+    Ok(fresh)
+}
+
+/// The block to which a pointer cell leads, None at a chain's end. The block becomes its chain's; a block that has a chain already, or
+/// is beyond the table, is a fault of the pointer.
+fn next(cells: &[u32], cell: u32, chain: u8, owners: &mut [u8]) -> Result<Option<u32>, LawErr>
+    requires cell { cell < length cells.now }
+    requires chain { chain < 255 }
+    ensures ok { IfOk result (Stepped cells.now cell chain owners.old owners.new) }
+    ensures err { IfErr result (StoppedAt cells.now cell owners.old) }
+{
+    let pointer = cells[cell as usize];
+    if pointer == 0 {
+        return Ok(None);
+    }
+    let block = pointer - 1;
+    if block as usize >= owners.len() {
+        return Err(LawErr::Unlawful { cell });
+    }
+    if owners[block as usize] != 0 {
+        return Err(LawErr::Unlawful { cell });
+    }
+    owners[block as usize] = chain + 1;
+    Ok(Some(block))
+}
+
+/// Walks the free list, the first chain.
+pub(crate) fn free_list(plot: &Plot, cells: &[u32], owners: &mut [u8]) -> Result<(), LawErr>
+    requires sized { length cells.now ≡ size plot.now }
+    requires begun { HasBegun plot.now cells.now }
+    requires fresh { length owners.old ≡ memory cells.now (fresh_at (base plot.now)) }
+    requires unmet { All (λ (x : ℕ). x ≡ 0) owners.old }
+    ensures ok { OnOk result (Freed plot.now cells.now owners.new) }
+    ensures err { IfErr result (NamesFault plot.now cells.now) }
+{
+    let mut cell = plot.free();
+    while let Some(block) = next(cells, cell, FREE_LIST, owners)? {
+        cell = plot.block(block, 2);
+    }
+    Ok(())
+}
+
+/// Walks a bucket and puts its keys into the store.
+pub(crate) fn bucket(
+    plot: &Plot,
+    cells: &[u32],
+    b: u32,
+    owners: &mut [u8],
+    store: &mut Store,
+) -> Result<(), LawErr>
+    requires sized { length cells.now ≡ size plot.now }
+    requires b { b < 32 }
+    requires before { Before plot.now cells.now (1 + b) 0 owners.old store.old }
+    ensures ok { OnOk result (Before plot.now cells.now (2 + b) 0 owners.new store.new) }
+    ensures err { IfErr result (NamesFault plot.now cells.now) }
+{
+    let mut cell = plot.bucket(b);
+    while let Some(block) = next(cells, cell, FIRST_BUCKET + b as u8, owners)? {
+        let first = plot.block(block, 0);
+        let second = plot.block(block, 1);
+        let key = cells[first as usize];
+        let value = cells[second as usize];
+        if key > GREATEST || key % BUCKETS != b || store.key(key).is_some() {
+            return Err(LawErr::Unlawful { cell: first });
+        }
+        if value > GREATEST {
+            return Err(LawErr::Unlawful { cell: second });
+        }
+        put(store, key, value)?;
+        cell = plot.block(block, 2);
+    }
+    Ok(())
+}
+
+/// Compares the count of keys with the keys that were met.
+pub(crate) fn keys(plot: &Plot, cells: &[u32], store: &Store) -> Result<(), LawErr>
+    requires sized { length cells.now ≡ size plot.now }
+    ensures ok { OnOk result ((owners : List ℕ) → Before plot.now cells.now 33 0 owners store.now → Before plot.now cells.now 33 33 owners store.now) }
+    ensures err { IfErr result (λ e. (owners : List ℕ) → Before plot.now cells.now 33 0 owners store.now → NamesFault plot.now cells.now e) }
+{
+    let cell = plot.keys();
+    if cells[cell as usize] != store.keys() {
+        return Err(LawErr::Unlawful { cell });
+    }
+    Ok(())
+}
+
+/// Walks a queue and puts its items into the store, and compares its tail and its length with what was met.
+pub(crate) fn queue(
+    plot: &Plot,
+    cells: &[u32],
+    q: u32,
+    owners: &mut [u8],
+    store: &mut Store,
+) -> Result<(), LawErr>
+    requires sized { length cells.now ≡ size plot.now }
+    requires q { q < 4 }
+    requires before { Before plot.now cells.now (33 + q) (33 + q) owners.old store.old }
+    ensures ok { OnOk result (Before plot.now cells.now (34 + q) (34 + q) owners.new store.new) }
+    ensures err { IfErr result (NamesFault plot.now cells.now) }
+{
+    let mut cell = plot.head(q);
+    let mut last = 0;
+    while let Some(block) = next(cells, cell, FIRST_QUEUE + q as u8, owners)? {
+        let first = plot.block(block, 0);
+        let item = cells[first as usize];
+        if item > GREATEST {
+            return Err(LawErr::Unlawful { cell: first });
+        }
+        push(store, q, item)?;
+        last = block + 1;
+        cell = plot.block(block, 2);
+    }
+    let tail = plot.tail(q);
+    if cells[tail as usize] != last {
+        return Err(LawErr::Unlawful { cell: tail });
+    }
+    let length = plot.length(q);
+    if cells[length as usize] as usize != store.queue(q).len() {
+        return Err(LawErr::Unlawful { cell: length });
+    }
+    Ok(())
+}
+
+/// Looks for a block that is in no chain.
+pub(crate) fn all_met(plot: &Plot, cells: &[u32], owners: &[u8]) -> Result<(), LawErr>
+    ensures ok { OnOk result ((s : State) → Before plot.now cells.now 37 37 owners.now s → StandsFor plot.now.callers plot.now.instrs plot.now.blocks (memory cells.now) s) }
+    ensures err { IfErr result (λ e. (s : State) → Before plot.now cells.now 37 37 owners.now s → NamesFault plot.now cells.now e) }
+{
+    if all_owned(owners) {
+        return Ok(());
+    }
+    Err(LawErr::Unlawful { cell: plot.fresh() })
+}
+
+/// Whether each block of the table has an owner.
+fn all_owned(owners: &[u8]) -> bool
+    ensures { IsTrue result ↔ EachIndex owners.now (λ k. slice_index owners.now k ≢ 0) }
+{
+    owners.iter().all(|owner| *owner != 0)
+}
