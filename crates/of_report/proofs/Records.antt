@@ -21,7 +21,7 @@ use Rattle.of_report.specs.declared.report.Entry.{Entry}
 use Rattle.of_report.specs.declared.make.TheConstants.{SPAN}
 use Rattle.of_report.specs.Report.{entry_of}
 use Rattle.of_report.specs.declared.found.Found.{Found}
-use Rattle.of_report.specs.Found.{Finds, IsWhole, number_of}
+use Rattle.of_report.specs.Found.{Finds, IsComplete, number_of}
 use Rattle.of_report.specs.Order.{rank_of}
 use Rattle.of_report.proofs.Cells.{stands_for_same}
 use Rattle.of_report.proofs.Entries.{length-answer_entries, none_done, own_is}
@@ -54,7 +54,7 @@ module _ (p : Plan) (plan : IsPlan p) (e : Run) (r : Report) (h : IsLawful p (em
       let parts = ap length (own_is p e c (entries_of r c) own) ∙ length-append (answer_entries c 0 (answers_of e c)) own.extra in
       omega (arith, parts, length-answer_entries c 0 (answers_of e c), few_entries c l)
 
-  pub whole : IsWhole p e
+  pub whole : IsComplete p e
   whole = record { answers = h.answers; endings = h.endings; few = few_answers; words = h.words }
 
   -- the entries, one caller after the other

@@ -11,7 +11,7 @@ ghost use Rattle.of_eval.specs.Record.{recovered_number, BeyondAnswers, OpenCall
 ghost use Rattle.of_mem.specs.Places.{ticket_at};
 ghost use Rattle.of_script.specs.declared.instr.TheConstants.{MOST_INSTRS};
 ghost use Rattle.of_report.specs.Report.{entry_of, line_of, report_of};
-ghost use Rattle.of_report.specs.Found.{Finds, IsWhole, AreOwn};
+ghost use Rattle.of_report.specs.Found.{Finds, IsComplete, AreOwn};
 ghost use Rattle.of_report.specs.Order.{rank_of};
 
 use crate::found::Found;
@@ -149,7 +149,7 @@ fn gather(
     ended: &Ended,
     found: &Found,
 ) -> Result<(Vec<Entry>, Vec<Line>), AllocError>
-    requires whole { IsWhole plan.now (run_of ended.now) }
+    requires whole { IsComplete plan.now (run_of ended.now) }
     requires found { Finds plan.now (run_of ended.now) found.now }
     ensures entries { IfOk result (λ told. (own : ℕ → List CallEntry) → AreOwn plan.now (run_of ended.now) own → map entry_of told.0.items ≡ flat_map own (range_with_len 0 plan.now.callers)) }
     ensures callers { IfOk result (λ told. (own : ℕ → List CallEntry) → AreOwn plan.now (run_of ended.now) own → map line_of told.1.items ≡ map (λ c. line_for (run_of ended.now) c (length (own c))) (range_with_len 0 plan.now.callers)) }
@@ -166,7 +166,7 @@ fn gather(
 
 impl Report {
     /// The report that the record of a run is: the entries of the answers and of the open calls that recovery finds, in order, how
-    /// each caller ended, and the sequence and the store that recovery finds.
+    /// each caller ended, and the sequence and the store that recovery finds. The error is want of memory.
     pub fn make(alloc: Global, plan: &Plan, ended: &Ended) -> Result<Report, AllocError>
         // The record is lawful.
         requires { (r : PlainReport) × IsLawful plan.now (empty_start plan.now) (run_of ended.now) r }
