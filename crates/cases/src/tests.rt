@@ -96,7 +96,7 @@ const PLANS: [(&str, &str, u8, &str); 13] = [
 ];
 
 // Runs the top call over a source of whole reads and a sink of 16 bytes a write, and compares its status and its text.
-fn expect(
+pub fn expect(
     rt: &(impl Abort + AllocGlobal),
     case: &str,
     words: &[&str],

@@ -88,5 +88,6 @@ module _ (S : Setup) (Lawful : List ℕ → Type 0) (B : Start) (w : World) (g :
       each = λ j n l q. at_stable S Lawful B (j + 1) w.words w.batches vs w.batches (moves_of S Lawful B (j + 1) w.words vs w.batches (touches (j + 1)) g.core.shared) g.core.shared j l (λ z. omega arith) n n.place (g.core.each j n l q);
     };
     within = g.within;
+    late = g.late;
     order = order_same S B w vs g.order (ap seq current_same) (omega (arith, ap seq (below (durable_at S 0) (omega arith))));
   }

@@ -1,5 +1,5 @@
 -- Whatever meets the invariant meets what every moment claims.
-use Rattle.std.proofs.Common.{◌≡◌, ℕ, ◌+◌, ◌-◌, ◌<◌, ◌≤◌, ◌⊎◌, inl, inr, List, length, get_or, take, sym, ◌∙◌, ap, subst, arith, Option, Some, None, map, true, false}
+use Rattle.std.proofs.Common.{◌≡◌, ℕ, ◌+◌, ◌-◌, ◌<◌, ◌≤◌, ◌⊎◌, inl, inr, List, length, get_or, take, refl, sym, ◌∙◌, ap, subst, arith, Option, Some, None, map, true, false}
 use Rattle.std.proofs.lemmas.List.{take_all, length-map, get_or_default}
 use Rattle.of_cell.specs.Words.{pay}
 use Rattle.of_mem.specs.Meaning.{Sound, SameFrom}
@@ -17,11 +17,12 @@ use Rattle.of_core.specs.Bound.{bound, Within, Told_within}
 use Rattle.of_core.specs.Events.{machine}
 use Rattle.of_core.specs.World.{Read}
 use Rattle.of_core.specs.Order.{IsRead, Order}
-use Rattle.of_core.specs.Claim.{ReadMeets, UsesOne, IsTold, IsSound}
+use Rattle.of_core.specs.Claim.{ReadMeets, UsesOne, IsTold, IsBegun, IsSound}
 use Rattle.of_core.proofs.States.{state_length}
 use Rattle.of_core.proofs.Assembling.{logs_of}
 use Rattle.of_core.proofs.Recovery.{claim}
-use Rattle.of_core.proofs.Tickets.{ticket_upto}
+use Rattle.of_core.proofs.Tickets.{ticket_upto, tickets_grow, tickets_rise}
+use Rattle.of_core.proofs.OpenCalls.{upto_at, mine_at}
 use Rattle.of_core.proofs.Replays.{upto, replay_length}
 
 module _ (S : Setup) (Lawful : List ℕ → Type 0) (sound : Sound S.meaning Lawful (base S) S.cells) (B : Start) where
@@ -44,18 +45,18 @@ module _ (S : Setup) (Lawful : List ℕ → Type 0) (sound : Sound S.meaning Law
 
     pub is_sound : ((i : ℕ) (m : Data) → i < S.callers → get_or w.machines i m ≡ m → Within S m m.place) → Order S B w → IsSound S B w
     is_sound within order =
-        let p = upto S Lawful sound B w g (length w.batches) (omega arith) in
         let t : take (length w.batches) w.batches ≡ w.batches = take_all (length w.batches) w.batches (omega arith) in
         record {
-          legal = rw t at p.1;
-          state = rw t at p.0;
+          legal = rw t at (upto S Lawful sound B w g (length w.batches) (omega arith)).1;
+          state = λ k l. (upto S Lawful sound B w g k l).0;
+          begun = begun;
           recovers = claim S Lawful B w g;
           reaches = reach g.shared.durable.step;
           some = g.shared.stands.some;
           rising = g.shared.stands.ordered;
           order = order.ordered;
           reads = λ k d l. read_meets (get_or w.reads k d) (order.ordered.reads k d l) (reach g.shared.durable.step);
-          tickets = λ j k l u m y c v z d x q. rise j k l u m y c v z d x q;
+          tickets = tickets_rise S Lawful B w.batches g.shared.stands;
           own = λ i h. g.shared.stands.last (risen S w.words) i g.shared.durable.from (reach g.shared.durable.step) h;
           one = λ i h. uses i (machine w i) (machine w i).place (g.each i (machine w i) h (own i h));
           within = λ i h. let t = within i (machine w i) h (own i h) in less (machine w i).steps _ (bound S) t.steps;
@@ -68,15 +69,6 @@ module _ (S : Setup) (Lawful : List ℕ → Type 0) (sound : Sound S.meaning Law
 
         own : (i : ℕ) → i < S.callers → get_or w.machines i (machine w i) ≡ machine w i
         own i h = get_or_default w.machines i (machine w i) no_machine (omega (arith, g.members))
-
-        -- each caller's tickets rise from batch to batch
-        rise : (j k : ℕ) → B.seq < j → j < k → k ≤ B.seq + length w.batches → (y : ℕ) (c : Call) → y < length (batch B w.batches j).calls → (z : ℕ) (d : Call) → z < length (batch B w.batches k).calls
-            → (get_or (batch B w.batches k).calls z d).caller ≡ (get_or (batch B w.batches j).calls y c).caller → (get_or (batch B w.batches j).calls y c).ticket < (get_or (batch B w.batches k).calls z d).ticket
-        rise j k l u m y c v z d x q =
-            let e : k - 1 + 1 ≡ k = omega arith in
-            let a : (get_or (batch B w.batches j).calls y c).ticket ≤ ticket_in S B w.batches (k - 1) (get_or (batch B w.batches j).calls y c).caller = ticket_upto S Lawful B w.batches g.shared.stands j (k - 1) l (omega arith) (omega arith) y c v in
-            let b : ticket_in S B w.batches (k - 1) (get_or (batch B w.batches k).calls z d).caller < (get_or (batch B w.batches k).calls z d).ticket = (rw e at (g.shared.stands.rises (k - 1) (omega arith) (omega arith))) z d x in
-            omega (arith, a, b, ap (ticket_in S B w.batches (k - 1)) q)
 
         at_idle : (i : ℕ) (h : i < S.callers) → (machine w i).place ≡ Idle → Rests S B w.words w.batches i (machine w i)
         at_idle i h q = subst (λ (p : Place). At S B w.words w.batches i (machine w i) p) q (g.each i (machine w i) h (own i h))
@@ -94,7 +86,32 @@ module _ (S : Setup) (Lawful : List ℕ → Type 0) (sound : Sound S.meaning Law
           λ k l u y d v q. let p : (get_or (batch B w.batches k).calls y d).ticket ≤ ticket_in S B w.batches (last w.words) (get_or (batch B w.batches k).calls y d).caller =
               ticket_upto S Lawful B w.batches g.shared.stands k (last w.words) l (omega (arith, t.2)) (omega (arith, g.shared.counted.count)) y d v in
               omega (arith, p, t.0, ap (ticket_in S B w.batches (last w.words)) q),
+          t.3,
         )
+
+        -- a call in a batch is no newer than what its caller has begun
+        begun : (k : ℕ) → B.seq < k → k ≤ B.seq + length w.batches → (y : ℕ) (d : Call) → y < length (batch B w.batches k).calls → IsBegun S B w (get_or (batch B w.batches k).calls y d)
+        begun k l u y d v = (
+          h,
+          omega (arith, before, tickets_grow S Lawful B w.batches g.shared.stands B.seq (k - 1) c.caller (omega arith) (omega arith) (omega arith) h),
+          omega (arith, ticket_upto S Lawful B w.batches g.shared.stands k (last w.words) l (omega (arith, g.shared.counted.count)) (omega (arith, g.shared.counted.count)) y d v, upto_at S Lawful B w g c.caller m h m.place a),
+          λ o q. mine_at S Lawful B w g c.caller m h m.place o a k l (omega (arith, g.shared.counted.count)) y d v refl q,
+        )
+          where
+            c : Call
+            c = get_or (batch B w.batches k).calls y d
+
+            h : c.caller < S.callers
+            h = (g.shared.stands.now k l u y d v).0
+
+            m : Data
+            m = machine w c.caller
+
+            a : At S B w.words w.batches c.caller m m.place
+            a = g.each c.caller m h (own c.caller h)
+
+            before : ticket_in S B w.batches (k - 1) c.caller < c.ticket
+            before = let e : k - 1 + 1 ≡ k = omega arith in (rw e at (g.shared.stands.rises (k - 1) (omega arith) (omega arith))) y d v
 
         uses : (i : ℕ) (m : Data) (p : Place) → At S B w.words w.batches i m p → UsesOne B w m p
         uses i m Idle a = tt

@@ -14,6 +14,7 @@ use Rattle.of_core.specs.Shared.{IsRequest, IsLogWord}
 use Rattle.of_core.specs.Rounds.{Fresh}
 use Rattle.of_core.specs.Invariant.{Good, Core, At, Rests, IsLoaded}
 use Rattle.of_core.specs.Bound.{Within}
+use Rattle.of_core.specs.Least.{Late}
 use Rattle.of_core.specs.Order.{Order, IsTrying, IsOlder}
 use Rattle.of_core.specs.Steps.{finds}
 use Rattle.of_core.specs.Facts.{rests, rests_at}
@@ -23,6 +24,7 @@ use Rattle.of_core.proofs.Found.{found_now}
 use Rattle.of_core.specs.Events.{Event, Begins, Turns, Loads, Evicts, Raises, begun, evicted, machine, happens, MayHappen}
 use Rattle.of_core.proofs.Assembling.{assemble, moves_not}
 use Rattle.of_core.proofs.StepBound.{opened_within}
+use Rattle.of_core.proofs.Least.{opened_late}
 use Rattle.of_core.proofs.StepKept.{step_kept}
 use Rattle.of_core.proofs.RaiseSteps.{raise_kept, loaded_raise}
 use Rattle.of_core.proofs.Touches.{held_now}
@@ -60,7 +62,7 @@ module _ (S : Setup) (Lawful : List ℕ → Type 0) (B : Start) (w : World) (g :
         (order_after S Lawful B w g.core g.order i m (opened S m op) h own w.words w.batches [] (moves_not S Lawful B i w.words w.batches g.core.shared) g.core.shared begun_orderly)
 
     pub begin_kept : Good S Lawful B (begun S i m op w)
-    begin_kept = record { core = begun_core; order = begun_order; within = λ j n l q. go j n l q (cases_eq j i) }
+    begin_kept = record { core = begun_core; order = begun_order; within = λ j n l q. go j n l q (cases_eq j i); late = λ j n l q. late_go j n l q (cases_eq j i) }
       where
         go : (j : ℕ) (n : Data) → j < S.callers → get_or (set w.machines i (opened S m op)) j n ≡ n → (j ≡ i) ⊎ (j ≡ i → ⊥) → Within S n n.place
         go j n l q (inl r) =
@@ -68,6 +70,13 @@ module _ (S : Setup) (Lawful : List ℕ → Type 0) (B : Start) (w : World) (g :
             let same : opened S m op ≡ n = sym (get_or-set_same w.machines i (opened S m op) n i_in) ∙ (rw r at q) in
             subst (λ (x : Data). Within S x x.place) same (opened_within S m op)
         go j n l q (inr r) = g.within j n l (sym (get_or-set_other w.machines i j (opened S m op) n r) ∙ q)
+
+        late_go : (j : ℕ) (n : Data) → j < S.callers → get_or (set w.machines i (opened S m op)) j n ≡ n → (j ≡ i) ⊎ (j ≡ i → ⊥) → Late S n n.place
+        late_go j n l q (inl r) =
+            let i_in : i < length w.machines = omega (arith, g.core.members) in
+            let same : opened S m op ≡ n = sym (get_or-set_same w.machines i (opened S m op) n i_in) ∙ (rw r at q) in
+            subst (λ (x : Data). Late S x x.place) same (opened_late S m op)
+        late_go j n l q (inr r) = g.late j n l (sym (get_or-set_other w.machines i j (opened S m op) n r) ∙ q)
 
     pub rests_not : rests (opened S m op) ≡ 0
     unfolding rests
@@ -94,6 +103,7 @@ module _ (S : Setup) (Lawful : List ℕ → Type 0) (B : Start) (w : World) (g :
     evict_kept = record {
       core = raise_kept S Lawful B w g.core e.0 e.1 h;
       within = g.within;
+      late = g.late;
       order = order_same S B w (evicted S w e).words g.order (ap seq (current_same S Lawful B w.words w.batches g.core.shared e.0 e.1 h)) (seq_mono (durable_word S w.words 0) (durable_word S (evicted S w e).words 0) (rises S Lawful B w.words w.batches g.core.shared e.0 e.1 h 0));
     }
 
@@ -110,6 +120,7 @@ module _ (S : Setup) (Lawful : List ℕ → Type 0) (B : Start) (w : World) (g :
       loaded = All-append (IsLoaded S B w.words w.batches) w.loaded ((c, get_or w.words c 0) ∷ []) g.core.loaded (λ k d l. one k d l);
     };
     within = g.within;
+    late = g.late;
     order = record { ordered = g.order.ordered; behind = g.order.behind };
   }
     where

@@ -1,7 +1,6 @@
 -- A call that stays open has made fewer steps than the bound.
-use Rattle.std.proofs.Common.{◌≡◌, ℕ, ◌+◌, ◌<◌, ◌≤◌, ◌⊎◌, ◌==◌, inl, inr, List, [], ◌∷◌, get_or, refl, sym, ◌∙◌, ap, subst, arith, Bool, true, false}
+use Rattle.std.proofs.Common.{◌≡◌, ℕ, ◌+◌, ◌<◌, ◌≤◌, ◌⊎◌, ◌==◌, inl, inr, List, [], ◌∷◌, get_or, refl, sym, ◌∙◌, ap, subst, arith, true, false}
 use Rattle.std.proofs.lemmas.Bool.{cases_eq}
-use Rattle.std.proofs.lemmas.Bool.Decides.{nat_tests}
 use Rattle.std.proofs.lemmas.List.{get_or-set_same, get_or-set_other, get_or_default}
 use Rattle.of_mem.specs.Meaning.{Sound}
 use Rattle.of_core.specs.declared.place.Place.{Place}
@@ -17,22 +16,9 @@ use Rattle.of_core.proofs.Happenings.{event_good}
 use Rattle.of_core.proofs.StepTaken.{step_taken}
 use Rattle.of_core.proofs.Found.{found_now}
 use Rattle.of_core.proofs.StepBound.{n_cells}
+use Rattle.of_core.proofs.Tests.{same_number, other_number}
 
 module _ (S : Setup) (Lawful : List ℕ → Type 0) (sound : Sound S.meaning Lawful (base S) S.cells) (B : Start) where
-  turned_not : (i j : ℕ) → (j ≡ i → ⊥) → counted (i == j) ≡ 0
-  turned_not i j n = go (i == j) refl
-    where
-      go : (b : Bool) → (i == j) ≡ b → counted b ≡ 0
-      go true e = let z : j ≡ i = grind (arith, nat_tests) in absurd (n z)
-      go false e = refl
-
-  turned_once : (i : ℕ) → counted (i == i) ≡ 1
-  turned_once i = go (i == i) refl
-    where
-      go : (b : Bool) → (i == i) ≡ b → counted b ≡ 1
-      go true e = refl
-      go false e = let z : i ≡ i → ⊥ = grind (arith, nat_tests) in absurd (z refl)
-
   module _ (i : ℕ) (h : i < S.callers) where
     of_machine : (w : World) → Good S Lawful B w → get_or w.machines i (machine w i) ≡ machine w i
     of_machine w g = get_or_default w.machines i (machine w i) no_machine (omega (arith, g.core.members))
@@ -42,7 +28,7 @@ module _ (S : Setup) (Lawful : List ℕ → Type 0) (sound : Sound S.meaning Law
         let x : machine (happens S w (Turns i)) i ≡ took S (machine w i) (finds S w.words (machine w i)) = get_or-set_same w.machines i _ no_machine (omega (arith, g.core.members)) in
         let now : IsOpen (took S (machine w i) (finds S w.words (machine w i))).place = subst (λ (d : Data). IsOpen d.place) x q in
         let t = step_taken S Lawful B w g i (machine w i) h (of_machine w g) o (finds S w.words (machine w i)) (found_now S w.words (machine w i)) in
-        ap (λ (d : Data). d.steps) x ∙ (t.goes_on now).0 ∙ ap (λ (k : ℕ). (machine w i).steps + k) (sym (turned_once i))
+        ap (λ (d : Data). d.steps) x ∙ (t.goes_on now).0 ∙ ap (λ (k : ℕ). (machine w i).steps + k) (sym (ap counted (same_number i)))
 
     -- each turn of the caller is a step of its open call, and no other event changes its machine
     steps_rise : (w : World) (g : Good S Lawful B w) (e : Event) → MayHappen S w e → IsOpen (machine w i).place → IsOpen (machine (happens S w e) i).place → (machine (happens S w e) i).steps ≡ (machine w i).steps + one_turn i e
@@ -60,7 +46,7 @@ module _ (S : Setup) (Lawful : List ℕ → Type 0) (sound : Sound S.meaning Law
     steps_rise w g (Turns j) m o q = go (cases_eq j i)
       where
         go : (j ≡ i) ⊎ (j ≡ i → ⊥) → (machine (happens S w (Turns j)) i).steps ≡ (machine w i).steps + counted (i == j)
-        go (inr n) = ap (λ (d : Data). d.steps) (get_or-set_other w.machines j i _ no_machine (λ e. n (sym e))) ∙ plus_none (machine w i).steps (counted (i == j)) (turned_not i j n)
+        go (inr n) = ap (λ (d : Data). d.steps) (get_or-set_other w.machines j i _ no_machine (λ e. n (sym e))) ∙ plus_none (machine w i).steps (counted (i == j)) (ap counted (other_number i j n))
           where
             plus_none : (x y : ℕ) → y ≡ 0 → x ≡ x + y
             plus_none x y e = omega arith

@@ -12,8 +12,10 @@ use Rattle.of_core.specs.Order.{Order, Behind}
 use Rattle.of_core.specs.Facts.{rests}
 use Rattle.of_core.specs.Invariant.{Good, Core, At}
 use Rattle.of_core.specs.Bound.{Within}
+use Rattle.of_core.specs.Least.{Late}
 use Rattle.of_core.specs.Events.{idles, zeros, opening}
 use Rattle.of_core.proofs.States.{state_start}
+use Rattle.of_core.proofs.Least.{idle_late}
 
 pub idle_rests : (S : Setup) (i made : ℕ) → rests (idle S i made) ≡ 0
 unfolding rests
@@ -25,7 +27,7 @@ module _ (S : Setup) (Lawful : List ℕ → Type 0) (sound : Sound S.meaning Law
   idles_length i zero = refl
   idles_length i (suc n) = ap suc (idles_length (suc i) n)
 
-  idles_at : (j n i : ℕ) (d : Data) → i < n → get_or (idles S j n) i d ≡ idle S (j + i) 0
+  pub idles_at : (j n i : ℕ) (d : Data) → i < n → get_or (idles S j n) i d ≡ idle S (j + i) 0
   idles_at j zero i d h = absurd (omega arith)
   idles_at j (suc n) zero d h = ap (λ (k : ℕ). idle S k 0) (omega arith)
   idles_at j (suc n) (suc i) d h = idles_at (suc j) n i d (omega arith) ∙ ap (λ (k : ℕ). idle S k 0) (omega arith)
@@ -148,7 +150,15 @@ module _ (S : Setup) (Lawful : List ℕ → Type 0) (sound : Sound S.meaning Law
       plus_zero i = omega arith
 
   pub start_good : Good S Lawful (zeros S) (opening S total)
-  start_good = record { core = good_start; order = start_order; within = λ i m h e. let q : idle S i 0 ≡ m = ap (λ (k : ℕ). idle S k 0) (zero_plus i) ∙ sym (idles_at 0 S.callers i m h) ∙ e in subst (λ (x : Data). Within S x x.place) q (record { steps = omega arith; told = λ r. tt }) }
+  start_good = record {
+    core = good_start;
+    order = start_order;
+    within = λ i m h e. subst (λ (x : Data). Within S x x.place) (is_idle i m h e) (record { steps = omega arith; told = λ r. tt });
+    late = λ i m h e. subst (λ (x : Data). Late S x x.place) (is_idle i m h e) (idle_late S i 0);
+  }
     where
       zero_plus : (i : ℕ) → i ≡ 0 + i
       zero_plus i = omega arith
+
+      is_idle : (i : ℕ) (m : Data) → i < S.callers → get_or (opening S total).machines i m ≡ m → idle S i 0 ≡ m
+      is_idle i m h e = ap (λ (k : ℕ). idle S k 0) (zero_plus i) ∙ sym (idles_at 0 S.callers i m h) ∙ e

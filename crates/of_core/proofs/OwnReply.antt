@@ -214,7 +214,7 @@ module _ (S : Setup) (Lawful : List ℕ → Type 0) (B : Start) where
           quieted = inr (omega (arith, at_limit, a.0.round.upto, g.shared.counted.limit));
           upto = a.0.round.begun.upto;
           older = omega (arith, own_seq S Lawful B w g i m h m a.0.round.begun);
-          told = (omega (arith, differ (pay found) m.made ec, ap pay (is (not_newer m.seq (seq found) eb)), ap (λ (k : ℕ). ticket_in S B w.batches k i) at_last, a.0.round.begun.upto), at_limit, sym at_last);
+          told = (omega (arith, differ (pay found) m.made ec, ap pay (is (not_newer m.seq (seq found) eb)), ap (λ (k : ℕ). ticket_in S B w.batches k i) at_last, a.0.round.begun.upto), at_limit, sym at_last, round_risen S Lawful B w g i m h m a.0);
         }
           where
             at_limit : m.seq ≡ S.limit

@@ -483,7 +483,7 @@ module _ (S : Setup) (Lawful : List ℕ → Type 0) (B : Start) (i : ℕ) (ws : 
     told_stable m (Some (Answered s true raw steps)) a h = (h.0, omega (arith, h.1, risen_up), omega (arith, h.2, grows), rw (v.batches s h.0 h.2) h.3)
     told_stable m (Some (Spent s)) a h =
         let e : last vs ≡ last ws = omega (arith, h.1, h.2, v.limit, grows) in
-        (rw (ap (λ (k : ℕ). ticket_in S B cs k j) e, tick_same (last ws) j from_start (omega arith)) h.0, h.1, e ∙ h.2)
+        (rw (ap (λ (k : ℕ). ticket_in S B cs k j) e, tick_same (last ws) j from_start (omega arith)) h.0, h.1, e ∙ h.2, omega (arith, h.3, risen_up))
 
     -- a request that waits for its exchange isn't closed by another
     waits : (m : Data) → Round S B ws bs j m → request_of ws j ≡ word (m.seq + 1) 0 → request_of vs j ≡ request_of ws j

@@ -12,8 +12,10 @@ use Rattle.of_core.specs.World.{World, Start, stepped, stepped_at, answers_at, c
 use Rattle.of_core.specs.Invariant.{Good, Core, At, IsLoaded}
 use Rattle.of_core.specs.Moves.{Goes, Moves}
 use Rattle.of_core.specs.Bound.{Within}
+use Rattle.of_core.specs.Least.{Late}
 use Rattle.of_core.specs.Machine.{is_idle}
 use Rattle.of_core.proofs.StepBound.{within}
+use Rattle.of_core.proofs.Least.{late}
 use Rattle.of_core.proofs.StepFacts.{step_facts}
 use Rattle.of_core.proofs.Ordering.{Orderly, idle_is, orderly, orderly_idle, order_after}
 use Rattle.of_core.proofs.Stability.{loaded_stable}
@@ -82,6 +84,16 @@ module _ (S : Setup) (Lawful : List ℕ → Type 0) (sound : Sound S.meaning Law
       subst (λ (x : Data). Within S x x.place) same own_within
   within_after j n l q (inr r) = g.within j n l (sym (get_or-set_other w.machines i j new n r) ∙ q)
 
+  own_late : Late S (took_at S m (get_or w.words (word_of (want_at S m m.place)) 0) m.place) (took_at S m (get_or w.words (word_of (want_at S m m.place)) 0) m.place).place
+  own_late = late S B w.words w.batches i m (get_or w.words (word_of (want_at S m m.place)) 0) m.place (g.core.each i m h own) (g.late i m h own) refl
+
+  late_after : (j : ℕ) (n : Data) → j < S.callers → get_or (set w.machines i new) j n ≡ n → (j ≡ i) ⊎ (j ≡ i → ⊥) → Late S n n.place
+  late_after j n l q (inl r) =
+      let i_in : i < length w.machines = omega (arith, g.core.members) in
+      let same : new ≡ n = sym (get_or-set_same w.machines i new n i_in) ∙ (rw r at q) in
+      subst (λ (x : Data). Late S x x.place) same own_late
+  late_after j n l q (inr r) = g.late j n l (sym (get_or-set_other w.machines i j new n r) ∙ q)
+
   new_at : At S B (stepped_at S i m m.place w).words (stepped_at S i m m.place w).batches i (took_at S m (get_or w.words (word_of (want_at S m m.place)) 0) m.place) (took_at S m (get_or w.words (word_of (want_at S m m.place)) 0) m.place).place
   new_at = goes.core.each i new h (get_or-set_same w.machines i new new (omega (arith, g.core.members)))
 
@@ -94,6 +106,7 @@ module _ (S : Setup) (Lawful : List ℕ → Type 0) (sound : Sound S.meaning Law
   good_after = record {
     core = goes.core;
     within = λ j n l q. within_after j n l q (cases_eq j i);
+    late = λ j n l q. late_after j n l q (cases_eq j i);
     order = order_after S Lawful B w g.core g.order i m new h own (stepped_at S i m m.place w).words (stepped_at S i m m.place w).batches (answers_at new m.place) goes.moves goes.core.shared (orderly_step (is_idle m.place) refl);
   }
 

@@ -1,5 +1,5 @@
 -- Tickets rise, and the own cells of a caller with no newer call are old.
-use Rattle.std.proofs.Common.{◌≡◌, ℕ, zero, suc, ◌+◌, ◌-◌, ◌<◌, ◌≤◌, ◌⊎◌, inl, inr, List, length, get_or, arith}
+use Rattle.std.proofs.Common.{◌≡◌, ℕ, zero, suc, ◌+◌, ◌-◌, ◌<◌, ◌≤◌, ◌⊎◌, inl, inr, List, length, get_or, ap, arith}
 use Rattle.std.specs.List.{All}
 use Rattle.std.proofs.lemmas.Bool.{cases_lt}
 use Rattle.of_cell.specs.Words.{seq}
@@ -27,6 +27,15 @@ module _ (S : Setup) (Lawful : List ℕ → Type 0) (B : Start) (bs : List Batch
       let c : Call = get_or (batch B bs k).calls x d in
       let p = st.now k l (omega arith) x d y in
       omega (arith, p.1, tickets_grow k n c.caller (omega arith) u m p.0)
+
+  -- each caller's tickets rise from batch to batch
+  pub tickets_rise : (j k : ℕ) → B.seq < j → j < k → k ≤ B.seq + length bs
+      → All (λ (c : Call). All (λ (d : Call). d.caller ≡ c.caller → c.ticket < d.ticket) (batch B bs k).calls) (batch B bs j).calls
+  tickets_rise j k l u m y c v z d x q =
+      let e : k - 1 + 1 ≡ k = omega arith in
+      let a : (get_or (batch B bs j).calls y c).ticket ≤ ticket_in S B bs (k - 1) (get_or (batch B bs j).calls y c).caller = ticket_upto j (k - 1) l (omega arith) (omega arith) y c v in
+      let b : ticket_in S B bs (k - 1) (get_or (batch B bs k).calls z d).caller < (get_or (batch B bs k).calls z d).ticket = (rw e at (st.rises (k - 1) (omega arith) (omega arith))) z d x in
+      omega (arith, a, b, ap (ticket_in S B bs (k - 1)) q)
 
   module _ (start : IsStart S B) (logs : (k : ℕ) → B.seq < k → k ≤ B.seq + length bs → IsLog S (batch B bs k).log) (own_in : base S ≤ S.cells) where
     -- the last call of caller i up to k is in a batch of at most s, where its ticket cell hasn't changed since

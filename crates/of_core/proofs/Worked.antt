@@ -7,8 +7,10 @@ use Rattle.of_core.specs.declared.place.Outcome.TheVariants.{Answered}
 use Rattle.of_core.specs.Table.{current_word}
 use Rattle.of_core.specs.Steps.{want, took}
 use Rattle.of_core.specs.World.{added, answered}
-use Rattle.of_core.specs.Events.{machine}
-use Rattle.of_core.specs.Worked.{registers, first_key, alone, overtaken, reply_with}
+use Rattle.of_core.specs.Events.{machine, turns}
+use Rattle.of_core.specs.Calls.{operations, steps_told}
+use Rattle.of_core.specs.Least.{least_read, least_call}
+use Rattle.of_core.specs.Worked.{registers, first_key, table_with, alone, overtaken, read_and_store, two_calls, reply_with}
 
 -- one caller that stores to one register exchanges the current-transaction word at step 29, and is answered at step 48
 store_exchanges : (current_word (alone 1 registers (7 ∷ []) 28).words ≡ 0) × (current_word (alone 1 registers (7 ∷ []) 29).words ≡ word 1 0)
@@ -50,3 +52,12 @@ fourth_try = (refl, refl, refl)
 overtaken_ends : (machine (overtaken 55) 0).answer ≡ Some (Answered 5 true (reply_with (0 ∷ 4 ∷ [])) 70)
 unfolding want took added answered word seq pay marked
 overtaken_ends = refl
+
+-- two calls after each other tell 3 and 48 steps, which are all their turns
+calls_end : (operations read_and_store 0 ≡ (0 ∷ []) ∷ (7 ∷ []) ∷ []) × (two_calls ≡ Answered 0 false (reply_with (0 ∷ [])) 3 ∷ Answered 1 true (reply_with (0 ∷ [])) 48 ∷ []) × (steps_told two_calls ≡ turns 0 read_and_store)
+unfolding want took added answered word seq pay marked
+calls_end = (refl, refl, refl)
+
+-- the read needs a cell, and made as few steps as it may; the store made more than the fewest
+least_steps : (least_read (table_with 1 registers) (0 ∷ []) ≡ 3) × (least_read (table_with 1 registers) (7 ∷ []) ≡ 2) × (least_call (7 ∷ []) ≡ 6)
+least_steps = (refl, refl, refl)

@@ -10,10 +10,10 @@ use Rattle.of_core.specs.declared.place.Outcome.{Outcome}
 use Rattle.of_core.specs.declared.place.Outcome.TheVariants.{Answered, Spent}
 use Rattle.std.specs.List.{All}
 use Rattle.of_core.specs.Table.{Setup, base, durable_word, risen}
-use Rattle.of_core.specs.Machine.{Call, Data}
+use Rattle.of_core.specs.Machine.{Call, Data, IsOpen}
 use Rattle.of_core.specs.World.{World, Start, Batch, Read}
 use Rattle.of_core.specs.Order.{Ordered}
-use Rattle.of_core.specs.History.{batch, at, numbers, replay, Legal, Last, Rising, HasCall}
+use Rattle.of_core.specs.History.{batch, at, numbers, replay, ticket_in, Legal, Last, Rising, HasCall}
 use Rattle.of_core.specs.Bound.{bound}
 use Rattle.of_core.specs.Events.{machine}
 
@@ -59,15 +59,22 @@ abbrev pub IsTold : Setup → Start → World → ℕ → Data → Option Outcom
 IsTold S B w i m None = Unit {0}
 IsTold S B w i m (Some (Answered s false raw steps)) = (steps ≤ bound S) × (B.seq ≤ s) × (s ≤ risen S w.words) × (S.meaning.reply (numbers B w.batches s) m.op ≡ raw) × (S.meaning.reads_only m.op ≡ true)
 IsTold S B w i m (Some (Answered s true raw steps)) = (steps ≤ bound S) × (B.seq < s) × (s ≤ risen S w.words) × HasCall S (batch B w.batches s).calls i m.made m.op raw
-IsTold S B w i m (Some (Spent s)) = (s ≡ S.limit) × (B.seq + length w.batches ≡ s) × ((k : ℕ) → B.seq < k → k ≤ s → All (λ (c : Call). c.caller ≡ i → c.ticket < m.made) (batch B w.batches k).calls)
+IsTold S B w i m (Some (Spent s)) = (s ≡ S.limit) × (B.seq + length w.batches ≡ s) × ((k : ℕ) → B.seq < k → k ≤ s → All (λ (c : Call). c.caller ≡ i → c.ticket < m.made) (batch B w.batches k).calls) × (s ≤ risen S w.words)
+
+-- a call in a batch is one that its caller has begun; where it is the caller's open call, it is there with that call's words
+abbrev pub IsBegun : Setup → Start → World → Call → Type 0
+IsBegun S B w c = (c.caller < S.callers) × (ticket_in S B w.batches B.seq c.caller < c.ticket) × (c.ticket ≤ (machine w c.caller).made)
+    × (IsOpen (machine w c.caller).place → c.ticket ≡ (machine w c.caller).made → c.op ≡ (machine w c.caller).op)
 
 -- what is claimed of a moment
 pub record IsSound (S : Setup) (B : Start) (w : World) : Type 0 where
   -- the history is legal: the calls of the batches, in order, have the replies that they meet, and the reads theirs
   pub legal : Legal S.meaning (map pay B.cells) w.batches
   pub reads : All (ReadMeets S B w.batches) w.reads
-  -- apart from the callers' own cells the state behind the batches is what the calls lead to
-  pub state : SameFrom (base S) (numbers B w.batches (B.seq + length w.batches)) (replay S.meaning (map pay B.cells) w.batches)
+  -- apart from the callers' own cells the state behind each batch is what the calls up to it lead to
+  pub state : (k : ℕ) → k ≤ length w.batches → SameFrom (base S) (numbers B w.batches (B.seq + k)) (replay S.meaning (map pay B.cells) (take k w.batches))
+  -- each call in a batch was begun by its caller
+  pub begun : (k : ℕ) → B.seq < k → k ≤ B.seq + length w.batches → All (IsBegun S B w) (batch B w.batches k).calls
   -- no batch is empty, a batch's calls stand by caller, and each caller's tickets rise
   pub some : (k : ℕ) → B.seq < k → k ≤ B.seq + length w.batches → 0 < length (batch B w.batches k).calls
   pub rising : (k : ℕ) → B.seq < k → k ≤ B.seq + length w.batches → Rising (batch B w.batches k).calls

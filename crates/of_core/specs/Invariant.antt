@@ -17,13 +17,14 @@ use Rattle.of_core.specs.Scan.{Over, Hears, Reads, Scans}
 use Rattle.of_core.specs.Transaction.{Applies, Copies, Stored, Logs}
 use Rattle.of_core.specs.Order.{Order}
 use Rattle.of_core.specs.Bound.{Within}
+use Rattle.of_core.specs.Least.{Late}
 
 -- what the last answer says
 abbrev pub Told : Setup → Start → List ℕ → List Batch → ℕ → Data → Option Outcome → Type 0
 Told S B ws bs i m None = Unit {0}
 Told S B ws bs i m (Some (Answered s false raw steps)) = (B.seq ≤ s) × (s ≤ risen S ws) × (s ≤ last ws) × (S.meaning.reply (numbers B bs s) m.op ≡ raw) × (S.meaning.reads_only m.op ≡ true)
 Told S B ws bs i m (Some (Answered s true raw steps)) = (B.seq < s) × (s ≤ risen S ws) × (s ≤ last ws) × HasCall S (batch B bs s).calls i m.made m.op raw
-Told S B ws bs i m (Some (Spent s)) = (ticket_in S B bs (last ws) i < m.made) × (s ≡ S.limit) × (last ws ≡ s)
+Told S B ws bs i m (Some (Spent s)) = (ticket_in S B bs (last ws) i < m.made) × (s ≡ S.limit) × (last ws ≡ s) × (s ≤ risen S ws)
 
 -- an idle machine: nothing of it is under way, and its last answer is in the history
 pub record Rests (S : Setup) (B : Start) (ws : List ℕ) (bs : List Batch) (i : ℕ) (m : Data) : Type 0 where
@@ -89,8 +90,9 @@ pub record Core (S : Setup) (Lawful : List ℕ → Type 0) (B : Start) (w : Worl
   pub loaded : All (IsLoaded S B w.words w.batches) w.loaded
   pub each : (i : ℕ) (m : Data) → i < S.callers → get_or w.machines i m ≡ m → At S B w.words w.batches i m m.place
 
--- the invariant: the core, that no call makes more steps than the bound, and that each caller's calls stand in the order in which it made them
+-- the invariant: the core, that no call makes more steps than the bound or fewer than its least, and that each caller's calls stand in the order in which it made them
 pub record Good (S : Setup) (Lawful : List ℕ → Type 0) (B : Start) (w : World) : Type 0 where
   pub core : Core S Lawful B w
   pub order : Order S B w
   pub within : (i : ℕ) (m : Data) → i < S.callers → get_or w.machines i m ≡ m → Within S m m.place
+  pub late : (i : ℕ) (m : Data) → i < S.callers → get_or w.machines i m ≡ m → Late S m m.place

@@ -1,7 +1,8 @@
 -- The laws of all steps and all schedules.
-use Rattle.std.specs.Prelude.{ℕ, ◌+◌, List, length, ◌≡◌, ◌≤◌, ◌<◌}
+use Rattle.std.specs.Prelude.{ℕ, ◌+◌, List, ◌++◌, length, ◌≡◌, ◌≤◌, ◌<◌}
 use Rattle.std.proofs.Common.{get_or, set}
 use Rattle.of_core.specs.declared.place.Place.TheVariants.{Idle, LoadCurrent}
+use Rattle.of_core.specs.declared.place.Outcome.{Outcome}
 use Rattle.of_core.specs.Table.{Setup, size, table_size}
 use Rattle.of_core.specs.Machine.{Data, IsOpen, idle, opened}
 use Rattle.of_core.specs.Steps.{want, took, FoundBy}
@@ -9,9 +10,10 @@ use Rattle.of_core.specs.World.{World, Start, added, stepped}
 use Rattle.of_core.specs.Facts.{Step, rests}
 use Rattle.of_core.specs.Invariant.{Good, IsLoaded}
 use Rattle.of_core.specs.Moves.{Moves}
-use Rattle.of_core.specs.Events.{Event, begun, evicted, run, turns, IsSchedule, StaysOpen, machine, zeros, opening}
+use Rattle.of_core.specs.Events.{Event, MayHappen, begun, happens, evicted, run, turns, IsSchedule, StaysOpen, machine, zeros, opening}
 use Rattle.of_core.specs.Bound.{bound}
 use Rattle.of_core.specs.Claim.{IsSound}
+use Rattle.of_core.specs.Calls.{Calls, TurnsTold, begun_by, ended_by, operations, outcomes}
 
 -- each step of each machine keeps the invariant
 abbrev pub StepKept : Setup → (List ℕ → Type 0) → Type 0
@@ -71,6 +73,22 @@ GoodIsSound S Lawful = (B : Start) (w : World) → Good S Lawful B w → IsSound
 -- so does every moment of every schedule
 abbrev pub EveryMoment : Setup → Type 0
 EveryMoment S = (n : ℕ) → table_size S ≤ n → (es : List Event) → IsSchedule S (opening S n) es → IsSound S (zeros S) (run S (opening S n) es)
+
+-- every schedule leaves each caller's calls as its events begin and end them
+abbrev pub EveryCall : Setup → Type 0
+EveryCall S =
+    (n : ℕ) → table_size S ≤ n → (es : List Event) → IsSchedule S (opening S n) es → (i : ℕ) → i < S.callers
+    → Calls S (run S (opening S n) es) i (operations es i) (outcomes S (opening S n) es i)
+
+-- each event leads from the calls before it to those after it
+abbrev pub CallsKept : Setup → (List ℕ → Type 0) → Type 0
+CallsKept S Lawful =
+    (w : World) → Good S Lawful (zeros S) w → (i : ℕ) → i < S.callers → (ops : List (List ℕ)) (outs : List Outcome) → Calls S w i ops outs
+    → (e : Event) → MayHappen S w e → Calls S (happens S w e) i (ops ++ begun_by e i) (outs ++ ended_by S w e i)
+
+-- in every schedule the turns of a caller are the steps of its calls
+abbrev pub EveryTurn : Setup → Type 0
+EveryTurn S = (n : ℕ) → table_size S ≤ n → (es : List Event) → IsSchedule S (opening S n) es → (i : ℕ) → i < S.callers → TurnsTold S (opening S n) es i
 
 -- a call that stays open has made fewer steps than the bound, so its last one comes in time; and it never begins a fourth round
 abbrev pub EndsInTime : Setup → (List ℕ → Type 0) → Type 0

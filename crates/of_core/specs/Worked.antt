@@ -5,7 +5,9 @@ use Rattle.of_mem.specs.declared.work.RawReply.{RawReply}
 use Rattle.of_mem.specs.Meaning.{Meaning, Walked, Needs, Gives, written}
 use Rattle.of_core.specs.Table.{Setup, setup_of, table_size}
 use Rattle.of_core.specs.World.{World}
+use Rattle.of_core.specs.declared.place.Outcome.{Outcome}
 use Rattle.of_core.specs.Events.{Event, Begins, Turns, run, opening}
+use Rattle.of_core.specs.Calls.{outcomes}
 
 -- a reply whose numbers are these, each marked at its place
 abbrev pub reply_with : List ℕ → RawReply
@@ -77,3 +79,11 @@ stores v = Begins 1 (v ∷ []) ∷ replicate 50 (Turns 1)
 abbrev pub overtaken : (turns : ℕ) → World
 overtaken k = run (table_with 2 registers) (opening (table_with 2 registers) (table_size (table_with 2 registers)))
     (Begins 0 (0 ∷ 0 ∷ []) ∷ replicate 3 (Turns 0) ++ stores 1 ++ replicate 4 (Turns 0) ++ stores 2 ++ replicate 4 (Turns 0) ++ stores 3 ++ replicate 4 (Turns 0) ++ stores 4 ++ replicate k (Turns 0))
+
+-- caller 0 reads one register, and then stores to one
+abbrev pub read_and_store : List Event
+read_and_store = Begins 0 (0 ∷ []) ∷ replicate 3 (Turns 0) ++ Begins 0 (7 ∷ []) ∷ replicate 48 (Turns 0)
+
+-- and how its calls end, from zeros
+abbrev pub two_calls : List Outcome
+two_calls = outcomes (table_with 1 registers) (opening (table_with 1 registers) (table_size (table_with 1 registers))) read_and_store 0

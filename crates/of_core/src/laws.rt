@@ -1,7 +1,7 @@
 //! The laws of all steps and all schedules: functions that do nothing, whose contracts are the theorems.
 
 ghost use Rattle.of_core.specs.Table.{setup_of};
-ghost use Rattle.of_core.specs.Laws.{StepKept, StepMoves, StepTaken, BeginKept, LoadKept, LoadedStays, RaiseKept, BesideKept, StartKept, GoodIsSound, EveryMoment, EndsInTime};
+ghost use Rattle.of_core.specs.Laws.{StepKept, StepMoves, StepTaken, BeginKept, LoadKept, LoadedStays, RaiseKept, BesideKept, StartKept, GoodIsSound, EveryMoment, EveryCall, EveryTurn, CallsKept, EndsInTime};
 
 use of_mem::Work;
 
@@ -23,6 +23,14 @@ pub fn step_kept<W: Work>(limit: u32, work: W)
 /// Every schedule leaves a moment with a legal history, of which recovery gives the state that its durable words name.
 pub fn every_moment<W: Work>(limit: u32, work: W)
     ensures sound { EveryMoment (setup_of (W.many work) (W.size work) limit (W.meaning work)) }
+{}
+
+/// Of every schedule the calls of each caller are those that its events begin. Each ends with an outcome that is in the history,
+/// and each turn of an open call is a step of it.
+pub fn every_call<W: Work>(limit: u32, work: W)
+    ensures calls { EveryCall (setup_of (W.many work) (W.size work) limit (W.meaning work)) }
+    ensures turns { EveryTurn (setup_of (W.many work) (W.size work) limit (W.meaning work)) }
+    ensures kept { CallsKept (setup_of (W.many work) (W.size work) limit (W.meaning work)) (W.lawful work) }
 {}
 
 /// Every call is answered or spent within the step bound of its own steps, in three rounds at most.

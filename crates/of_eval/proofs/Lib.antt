@@ -5,6 +5,7 @@ pub mod Walks
 pub mod Overlay
 pub mod ReadsOnly
 pub mod Starts
+pub mod OneStore
 pub mod Paths
 pub mod Paintings
 pub mod Passing
@@ -20,3 +21,4 @@ pub mod ChainFaults
 pub mod FaultLaws
 pub mod Zeros
 pub mod OneFault
+pub mod Exact

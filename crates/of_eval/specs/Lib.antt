@@ -13,5 +13,6 @@ pub mod Staying
 pub mod SoundScripts
 pub mod Means
 pub mod Lawful
+pub mod Record
 pub mod Faults
 pub mod Walking

@@ -1,10 +1,12 @@
 //! The store for which data cells stand.
 
-ghost use Rattle.std.specs.Prelude.{◌≡◌, IfOk, IfErr, length};
+ghost use Rattle.std.specs.Prelude.{◌≡◌, IfOk, IfErr, MatchResult, length};
 ghost use Rattle.of_mem.specs.Plots.{size};
 ghost use Rattle.of_mem.specs.ProgramWork.{memory};
 ghost use Rattle.of_eval.specs.Lawful.{StandsFor};
+ghost use Rattle.of_store.specs.State.{State};
 ghost use Rattle.of_eval.specs.Walking.{NamesFault};
+ghost use Rattle.of_eval.specs.declared.lawful_cells.LawErr.TheVariants.{Memory};
 
 mod fill;
 mod own;
@@ -41,10 +43,8 @@ impl From<AllocError> for LawErr {
 /// How many buckets there are.
 const BUCKETS: u32 = 32;
 
-/// The store for which the data cells stand, each caller's own cells included. An error that names a cell says that they stand for no
-/// store; the cell is the first at fault: the callers' own cells are looked at first, then registers, the free list, buckets and
-/// queues.
-pub fn lawful(alloc: Global, plot: &Plot, cells: &[u32]) -> Result<Store, LawErr>
+/// Looks at the cells in their order, and makes the store that they stand for.
+fn looked_at(alloc: Global, plot: &Plot, cells: &[u32]) -> Result<Store, LawErr>
     requires { length cells.now ≡ size plot.now }
     ensures ok { IfOk result (λ s. StandsFor plot.now.callers plot.now.instrs plot.now.blocks (memory cells.now) s) }
     ensures unlawful { IfErr result (NamesFault plot.now cells.now) }
@@ -64,4 +64,19 @@ pub fn lawful(alloc: Global, plot: &Plot, cells: &[u32]) -> Result<Store, LawErr
     }
     all_met(plot, cells, &owners)?;
     Ok(store)
+}
+
+/// The store for which the data cells stand, each caller's own cells included. An error that names a cell says that they stand for no
+/// store; the cell is the first at fault: the callers' own cells are looked at first, then registers, the free list, buckets and
+/// queues.
+pub fn lawful(alloc: Global, plot: &Plot, cells: &[u32]) -> Result<Store, LawErr>
+    requires { length cells.now ≡ size plot.now }
+    // What is answered is what the cells stand for.
+    ensures ok { IfOk result (λ s. StandsFor plot.now.callers plot.now.instrs plot.now.blocks (memory cells.now) s) }
+    // A cell that is named is the first at fault.
+    ensures unlawful { IfErr result (NamesFault plot.now cells.now) }
+    // Cells that stand for a store are answered by it, unless memory runs out.
+    ensures only { (s : State) → StandsFor plot.now.callers plot.now.instrs plot.now.blocks (memory cells.now) s → MatchResult result (λ t. t ≡ s) (λ e. e ≡ Memory) }
+{
+    looked_at(alloc, plot, cells)
 }

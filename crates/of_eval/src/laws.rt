@@ -1,7 +1,10 @@
 //! What operations mean.
 
+ghost use Rattle.std.specs.Prelude.{◌≡◌, ℕ};
+ghost use Rattle.of_store.specs.State.{State};
 ghost use Rattle.of_eval.specs.Faults.{FaultsExclude, OneFirstFault};
 ghost use Rattle.of_eval.specs.Means.{MeansWords, WordsMeanScript};
+ghost use Rattle.of_eval.specs.Stored.{IsStored};
 
 use crate::scripts::Scripts;
 
@@ -14,6 +17,11 @@ pub fn operations_mean_words(work: Scripts)
 /// The words of a script do to a store what the script does.
 pub fn words_mean_script()
     ensures { WordsMeanScript }
+{}
+
+/// Cells stand for one store at most.
+pub fn one_store()
+    ensures { (o blocks : ℕ) (m : ℕ → ℕ) (s t : State) → IsStored o blocks m s → IsStored o blocks m t → s ≡ t }
 {}
 
 /// Cells with a first fault stand for no store: so `lawful` names a cell exactly where they stand for none.

@@ -1,3 +1,12 @@
 pub mod Lines
 pub mod Keys
 pub mod Computes
+pub mod Sorted
+pub mod Gathers
+pub mod Ranks
+pub mod Entries
+pub mod Recovery
+pub mod Cells
+pub mod OpenCalls
+pub mod Records
+pub mod Worked

@@ -1,7 +1,9 @@
 //! Reports of runs and their texts.
 #![tactic(auto)]
 
+mod found;
 pub mod laws;
+mod make;
 mod printing;
 mod report;
 pub mod store;

@@ -3,7 +3,8 @@
 ghost use Rattle.std.specs.Prelude.{◌≡◌, ◌++◌, IfOk, OnOk, flat_map, map, take, string_bytes};
 ghost use Rattle.std.specs.List.{enumerate_from};
 ghost use Rattle.of_store.specs.Replies.{response_of};
-ghost use Rattle.of_report.specs.Report.{entry_of, line_of, state_of, report_of};
+ghost use Rattle.of_eval.specs.Record.{state_of};
+ghost use Rattle.of_report.specs.Report.{entry_of, line_of, report_of};
 ghost use Rattle.of_report.specs.ReportText.{value_text, cause_text, reply_text, kind_text, entry_line, state_text, caller_line, seq_line, report_text};
 
 use crate::report::{Entry, Line, Report};

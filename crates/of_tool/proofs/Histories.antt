@@ -10,7 +10,7 @@ use Rattle.of_plan.specs.Plan.{Plan, scripts_of}
 use Rattle.of_plan.specs.Report.{CallEntry}
 use Rattle.of_plan.specs.Serial.{Call, called_script, calls_of, serial_calls, serial_entry, serial_line, serial_report}
 use Rattle.of_plan.proofs.SerialEntries.{length-replies}
-use Rattle.of_tool.specs.Replay.{History, history_of, after_call, history_after}
+use Rattle.of_tool.specs.Replay.{Has, after_call, history_after}
 use Rattle.of_tool.specs.declared.replay.Replay.{Replay}
 use Rattle.of_report.specs.declared.report.Entry.{Entry}
 use Rattle.of_report.specs.declared.report.Report.{Report}
@@ -122,9 +122,9 @@ reply_each : (p : Plan) (calls : List Call) → length (replies (empty_store p.b
 reply_each p calls = length-replies (empty_store p.blocks) (map (called_script p) calls) ∙ length-map calls (called_script p)
 
 -- each call has an entry
-pub entry_each : (p : Plan) (calls : List Call) (replay : Replay) → history_of replay ≡ history_after p calls → length replay.entries.items ≡ replay.seq
-entry_each p calls replay is =
-    sym (length-map replay.entries.items entry_of) ∙ ap (λ (h : History). length h.entries) is ∙ entries_length 1 calls _ (reply_each p calls) ∙ sym (ap (λ (h : History). h.seq) is)
+pub entry_each : (p : Plan) (calls : List Call) (replay : Replay) → Has replay (history_after p calls) → length replay.entries.items ≡ replay.seq
+entry_each p calls replay has =
+    sym (length-map replay.entries.items entry_of) ∙ ap length has.entries ∙ entries_length 1 calls _ (reply_each p calls) ∙ sym has.seq
 
 counted_entries : (c : ℕ) (es : List Entry) → count_by (λ (e : Entry). eqb e.caller c) es ≡ count_by (λ (e : CallEntry). eqb e.caller c) (map entry_of es)
 counted_entries c [] = refl
@@ -143,18 +143,17 @@ counted_calls c n (call ∷ cs) (r ∷ rs) same =
     ∙ sym (sum_by-cons (λ (call : Call). cond (eqb call.0 c) 1 0) call cs)
 
 -- a caller has as many entries as calls
-pub entries_of_caller : (p : Plan) (calls : List Call) (replay : Replay) (c : ℕ) → history_of replay ≡ history_after p calls
+pub entries_of_caller : (p : Plan) (calls : List Call) (replay : Replay) (c : ℕ) → Has replay (history_after p calls)
     → count_by (λ (e : Entry). eqb e.caller c) replay.entries.items ≡ count_by (λ (call : Call). eqb call.0 c) calls
-entries_of_caller p calls replay c is =
-    counted_entries c replay.entries.items ∙ ap (λ (h : History). count_by (λ (e : CallEntry). eqb e.caller c) h.entries) is ∙ counted_calls c 1 calls _ (reply_each p calls)
+entries_of_caller p calls replay c has =
+    counted_entries c replay.entries.items ∙ ap (count_by (λ (e : CallEntry). eqb e.caller c)) has.entries ∙ counted_calls c 1 calls _ (reply_each p calls)
 
 -- what was made caller by caller is the report
-pub report_made : (p : Plan) (replay : Replay) (report : Report) → history_of replay ≡ history_after p (serial_calls p)
+pub report_made : (p : Plan) (replay : Replay) (report : Report) → Has replay (history_after p (serial_calls p))
     → map line_of report.callers.items ≡ map (λ c. serial_line (count_by (λ (e : Entry). eqb e.caller c) replay.entries.items) (length (scripts_of p c))) (range_with_len 0 p.callers)
-    → report.entries.items ≡ replay.entries.items → report.seq ≡ replay.seq → report.store ≡ replay.store → report_of report ≡ serial_report p
-report_made p replay report is lines same_entries same_seq same_store =
-    let entries = ap (map entry_of) same_entries ∙ ap (λ (h : History). h.entries) is in
-    let callers = lines ∙ (λ i. map (λ c. serial_line (entries_of_caller p (serial_calls p) replay c is i) (length (scripts_of p c))) (range_with_len 0 p.callers)) in
-    let seq = same_seq ∙ ap (λ (h : History). h.seq) is in
-    let store = same_store ∙ ap (λ (h : History). h.store) is in
+    → report.entries.items ≡ replay.entries.items → report.seq ≡ replay.seq → report.store ≡ (history_after p (serial_calls p)).store → report_of report ≡ serial_report p
+report_made p replay report has lines same_entries same_seq store =
+    let entries = ap (map entry_of) same_entries ∙ has.entries in
+    let callers = lines ∙ (λ i. map (λ c. serial_line (entries_of_caller p (serial_calls p) replay c has i) (length (scripts_of p c))) (range_with_len 0 p.callers)) in
+    let seq = same_seq ∙ has.seq in
     λ i. record { entries = entries i; callers = callers i; seq = seq i; store = store i }

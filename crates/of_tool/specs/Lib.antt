@@ -2,3 +2,5 @@ pub mod Commands
 pub mod Verdicts
 pub mod Answer
 pub mod Replay
+pub mod Play
+pub mod Moments

@@ -1,24 +1,36 @@
 -- What the top call answers: a verdict has a status, a text and a cause, and the causes exclude each other.
-use Rattle.std.specs.Prelude.{◌≡◌, ℕ, ◌≤◌, ◌⊎◌, Bool, IsTrue, List, ◌++◌, length, codes, decimal, Option, Some}
+use Rattle.std.specs.Prelude.{◌≡◌, ℕ, ◌≤◌, ◌<◌, ◌⊎◌, Bool, IsTrue, List, ◌++◌, length, codes, decimal, Option, Some}
 use Rattle.std.specs.Io.KnownBytes.{Appends, Consumes, IsAtEnd}
 use Rattle.of_io.specs.Faults.{Rose, AppendsFront, TakesMoreThan}
 use Rattle.of_plan.specs.Plan.{Plan}
+use Rattle.of_plan.specs.Ended.{Run}
 use Rattle.of_plan.specs.Grammar.{SpellsPlan, IsBadLine}
-use Rattle.of_plan.specs.Report.{empty_start}
+use Rattle.of_plan.specs.Report.{Report, empty_start}
 use Rattle.of_plan.specs.Legal.{IsLegal}
 use Rattle.of_plan.specs.Serial.{serial_report}
+use Rattle.of_plan.specs.Allowance.{KeepsAllowance, turns_for}
+use Rattle.of_eval.specs.Record.{IsLawful}
 use Rattle.of_report.specs.ReportText.{report_text}
 use Rattle.of_tool.specs.declared.command.Command.{Command}
-use Rattle.of_tool.specs.declared.command.Command.TheVariants.{Serial, Help, Version}
+use Rattle.of_tool.specs.declared.command.Command.TheVariants.{Serial, Play, Help, Version}
 use Rattle.of_tool.specs.declared.command.TheConstants.{HELP, VERSION}
 use Rattle.of_tool.specs.declared.status.TheConstants.{DONE, OUT_OF_MEMORY, USAGE, READ_FAULT, WRITE_FAULT, BAD_PLAN, TOO_LONG}
 use Rattle.of_tool.specs.declared.top.TheConstants.{MOST_INPUT}
 use Rattle.of_tool.specs.Commands.{words_of, IsNoCommand}
+use Rattle.of_tool.specs.Play.{IsPlayed}
+
+-- the report of what a plan's schedule leaves: its sequence, its store and the recovered calls are what recovery finds in the table, it is one legal history, and each caller keeps to its turns
+pub record IsPlayedReport (p : Plan) (r : Report) : Type 0 where
+  pub run : Run
+  pub played : IsPlayed p run
+  pub lawful : IsLawful p (empty_start p) run r
+  pub allowance : (c : ℕ) → c < p.callers → KeepsAllowance p r c (Some (turns_for p c))
 
 pub data Verdict : Type 0 where
   Helped : Verdict
   Named : Verdict
   Replayed : Plan → Verdict
+  Played : Plan → Report → Verdict
   NoCommand : Verdict
   ReadFault : Verdict
   TooLong : Verdict
@@ -28,6 +40,7 @@ abbrev pub status_of : Verdict → ℕ
 status_of Helped = DONE
 status_of Named = DONE
 status_of (Replayed plan) = DONE
+status_of (Played plan report) = DONE
 status_of NoCommand = USAGE
 status_of ReadFault = READ_FAULT
 status_of TooLong = TOO_LONG
@@ -38,6 +51,7 @@ abbrev pub text_of : Verdict → List ℕ
 text_of Helped = HELP.now
 text_of Named = VERSION.now
 text_of (Replayed plan) = report_text (serial_report plan)
+text_of (Played plan report) = report_text report
 text_of NoCommand = codes "error: usage\n"
 text_of ReadFault = codes "error: read fault\n"
 text_of TooLong = codes "error: input too long\n"
@@ -81,13 +95,14 @@ pub record ReadsNoPlan (before after : SourceState) (line : ℕ) : Type 0 where
 
 -- the words are those of a command that reads a plan
 abbrev pub AskForPlan : List (List ℕ) → Type 0
-AskForPlan words = words ≡ words_of Serial
+AskForPlan words = (words ≡ words_of Serial) ⊎ (words ≡ words_of Play)
 
 -- why a verdict comes
 abbrev pub HasCause : List (List ℕ) → SourceState → SourceState → Verdict → Type 0
 HasCause words before after Helped = words ≡ words_of Help
 HasCause words before after Named = words ≡ words_of Version
 HasCause words before after (Replayed plan) = (words ≡ words_of Serial) × ReadsPlan before after plan
+HasCause words before after (Played plan report) = (words ≡ words_of Play) × ReadsPlan before after plan × IsPlayedReport plan report
 HasCause words before after NoCommand = IsNoCommand words
 HasCause words before after ReadFault = AskForPlan words × Rose before.faults after.faults
 HasCause words before after TooLong = AskForPlan words × TakesMoreThan MOST_INPUT before.left after.left
@@ -137,14 +152,27 @@ pub record IsReplayed (before after : SourceState) (old new : SinkState) : Type 
   pub legal : IsLegal plan (empty_start plan) (serial_report plan)
   pub written : IsWritten old new (report_text (serial_report plan))
 
+-- the whole input is a plan's text, and the report of what its schedule leaves was written
+pub record PlaysPlan (before after : SourceState) (old new : SinkState) : Type 0 where
+  pub plan : Plan
+  pub read : ReadsPlan before after plan
+  pub report : Report
+  pub played : IsPlayedReport plan report
+  pub written : IsWritten old new (report_text report)
+
 -- a call that is to write this text wrote it, or a front of it where writing failed, or nothing where memory ran out
 abbrev pub Prints : List ℕ → SinkState → SinkState → ℕ → Type 0
 Prints text old new status =
     ((status ≡ DONE) × IsWritten old new text)
     ⊎ (((status ≡ WRITE_FAULT) × Rose old.faults new.faults × AppendsFront old.bytes new.bytes text) ⊎ IsOutOfMemory old new status)
 
--- the input of a command is within the limit, and is what the command reads
+-- the bytes that are left are a plan's text within the limit
+abbrev pub IsPlanInput : Option (List ℕ) → Type 0
+IsPlanInput left = (bytes : List ℕ) × (plan : Plan) × (left ≡ Some bytes) × (length bytes ≤ MOST_INPUT) × SpellsPlan bytes plan
+
+-- the input of a command is what the command reads
 abbrev pub IsValidInput : Command → Option (List ℕ) → Type 0
-IsValidInput Serial left = (bytes : List ℕ) × (plan : Plan) × (left ≡ Some bytes) × (length bytes ≤ MOST_INPUT) × SpellsPlan bytes plan
+IsValidInput Serial left = IsPlanInput left
+IsValidInput Play left = IsPlanInput left
 IsValidInput Help left = Unit {0}
 IsValidInput Version left = Unit {0}

@@ -9,6 +9,7 @@ pub const HELP: &str = "usage: onefile COMMAND
 Runs scripts of transactions on a store of registers, keys and queues.
 
 serial      reads a plan, runs its scripts one after another, prints the report
+play        reads a plan, runs its schedule step by step, prints the report
 --help      reads nothing, prints this text
 --version   reads nothing, prints the name and the version
 
@@ -24,6 +25,8 @@ pub const VERSION: &str = "onefile 0.1.0\n";
 pub enum Command {
     /// Reads a plan, runs its scripts one after another, and prints the report.
     Serial,
+    /// Reads a plan, runs its schedule step by step, and prints the report of what it leaves.
+    Play,
     /// Prints how the program is used.
     Help,
     /// Prints the name and the version.
@@ -38,6 +41,7 @@ impl Command {
         match words {
             [word] => match word.as_str() {
                 "serial" => Some(Command::Serial),
+                "play" => Some(Command::Play),
                 "--help" => Some(Command::Help),
                 "--version" => Some(Command::Version),
                 _ => None,

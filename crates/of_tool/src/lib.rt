@@ -2,10 +2,12 @@
 #![tactic(auto)]
 
 mod command;
+mod played;
 mod replay;
 pub mod status;
 mod top;
 
 pub use command::{Command, HELP, VERSION};
+pub use played::play_report;
 pub use replay::serial;
 pub use top::{MOST_INPUT, tool};

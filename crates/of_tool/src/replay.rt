@@ -5,10 +5,12 @@ ghost use Rattle.of_plan.specs.Plan.{Plan};
 ghost use Rattle.of_plan.specs.Serial.{Call, calls_of, serial_calls, serial_line, serial_report};
 ghost use Rattle.of_report.specs.Report.{line_of, report_of};
 
+mod cells;
+
+use cells::Cells;
 use of_plan::{Ending, Plan};
 use of_report::{Entry, Line, Report};
 use of_script::Script;
-use of_store::Store;
 use std::alloc::{AllocError, Global};
 
 // The calls that have run one after another, and what they left.
@@ -16,21 +18,22 @@ use std::alloc::{AllocError, Global};
 struct Replay {
     entries: Vec<Entry>,
     seq: u32,
-    store: Store,
+    cells: Cells,
 }
 
 impl Replay {
     ghost use Rattle.std.specs.Prelude.{◌≡◌, ◌+◌, ◌-◌, ◌^◌, ◌<◌, ◌≤◌, ◌++◌, List, length, take, OnOk};
     ghost use Rattle.of_plan.specs.Plan.{Plan};
     ghost use Rattle.of_plan.specs.Serial.{Call, calls_of};
-    ghost use Rattle.of_tool.specs.Replay.{history_of, history_after, after_call};
+    ghost use Rattle.of_tool.specs.Replay.{History, Has, after_call, history_after};
 
     // Runs the next script of a caller.
     fn run_call(&mut self, caller: u32, index: u32, script: &Script) -> Result<(), AllocError>
-        requires { self.old.seq < 2 ^ 32 - 1 }
-        ensures { OnOk result (history_of self.new ≡ after_call (history_of self.old) (caller, index) script.now) }
+        requires room { self.old.seq < 2 ^ 32 - 1 }
+        requires has { (history : History) × Has self.old history }
+        ensures { OnOk result ((history : History) → Has self.old history → Has self.new (after_call history (caller, index) script.now)) }
     {
-        let reply = self.store.run(script)?;
+        let reply = self.cells.run(script);
         self.seq += 1;
         self.entries.push(Entry {
             seq: self.seq,
@@ -46,9 +49,10 @@ impl Replay {
     fn run_caller(&mut self, plan: &Plan, caller: u32) -> Result<(), AllocError>
         requires caller { caller < plan.now.callers }
         requires within { self.old.seq ≤ plan.now.limit }
+        requires has { (calls : List Call) × Has self.old (history_after plan.now calls) }
         ensures within { OnOk result (self.new.seq ≤ plan.now.limit) }
-        ensures runs { OnOk result ((calls : List Call) → history_of self.old ≡ history_after plan.now calls
-            → history_of self.new ≡ history_after plan.now (calls ++ take (plan.now.limit - self.old.seq) (calls_of plan.now caller))) }
+        ensures runs { OnOk result ((calls : List Call) → Has self.old (history_after plan.now calls)
+            → Has self.new (history_after plan.now (calls ++ take (plan.now.limit - self.old.seq) (calls_of plan.now caller)))) }
     {
         let scripts = plan.scripts(caller);
         let left = (plan.limit() - self.seq) as usize;
@@ -82,15 +86,15 @@ fn line(entries: &[Entry], seq: u32, caller: u32, scripts: usize) -> Line
     }
 }
 
-/// The report of a plan whose scripts run one after another: those of caller 0 first, then those of caller 1, and so on,
-/// up to the limit.
+/// The report of a plan whose scripts run one after another, on cells: those of caller 0 first, then those of caller 1, and
+/// so on, up to the limit. The error is that there is no memory.
 pub fn serial(alloc: Global, plan: &Plan) -> Result<Report, AllocError>
     ensures { IfOk result (λ report. report_of report ≡ serial_report plan.now) }
 {
     let mut replay = Replay {
         entries: Vec::new(alloc),
         seq: 0,
-        store: Store::new(alloc, plan.blocks())?,
+        cells: Cells::new(alloc, plan.callers(), plan.blocks())?,
     };
     for caller in 0..plan.callers() {
         replay.run_caller(plan, caller)?;
@@ -98,7 +102,7 @@ pub fn serial(alloc: Global, plan: &Plan) -> Result<Report, AllocError>
     let Replay {
         entries,
         seq,
-        store,
+        cells,
     } = replay;
     let mut callers = Vec::new(alloc);
     for caller in 0..plan.callers() {
@@ -108,6 +112,6 @@ pub fn serial(alloc: Global, plan: &Plan) -> Result<Report, AllocError>
         entries,
         callers,
         seq,
-        store,
+        store: cells.store(alloc)?,
     })
 }

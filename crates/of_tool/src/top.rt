@@ -1,19 +1,20 @@
 //! The top call.
 
-ghost use Rattle.std.specs.Prelude.{◌≡◌, ◌⊎◌, IfOk, codes, decimal, ◌++◌};
+ghost use Rattle.std.specs.Prelude.{◌≡◌, ◌⊎◌, IfOk, MatchResult, codes, decimal, ◌++◌};
 ghost use Rattle.of_io.specs.Faults.{Rose};
 ghost use Rattle.of_tool.specs.declared.command.Command.{Command};
-ghost use Rattle.of_tool.specs.declared.command.Command.TheVariants.{Serial, Help, Version};
+ghost use Rattle.of_tool.specs.declared.command.Command.TheVariants.{Serial, Play, Help, Version};
 ghost use Rattle.of_tool.specs.declared.status.TheConstants.{DONE, OUT_OF_MEMORY};
 ghost use Rattle.of_tool.specs.Commands.{texts, words_of};
-ghost use Rattle.of_tool.specs.Verdicts.{source_state, sink_state, Answers, AskForPlan, IsReplayed, Prints, IsValidInput};
-ghost use Rattle.of_tool.specs.Answer.{Answered};
+ghost use Rattle.of_tool.specs.Verdicts.{source_state, sink_state, Answers, AskForPlan, ReadsPlan, IsReplayed, PlaysPlan, Prints, IsValidInput};
+ghost use Rattle.of_tool.specs.Answer.{Answered, Refuses};
 
 use crate::command::{Command, HELP, VERSION};
+use crate::played::play_report;
 use crate::replay::serial;
 use crate::status;
 use of_io::{ReadErr, Sink, Source, read_all, write_all};
-use of_plan::{PlanErr, parse};
+use of_plan::{Plan, PlanErr, parse};
 use std::alloc::{AllocError, Global};
 
 /// The most bytes that a command reads.
@@ -34,38 +35,65 @@ fn bad_plan(alloc: Global, line: u64) -> Result<Vec<u8>, AllocError>
     Ok(text.into_bytes())
 }
 
+// The plan that the whole input spells, or the answer that says why there is none.
+fn read_plan<S: Source>(alloc: Global, source: &mut S) -> Result<Result<Plan, Answer>, AllocError>
+    ensures { IfOk result (λ read. MatchResult read
+        (ReadsPlan (source_state (S.remaining source.old) (S.faults source.old)) (source_state (S.remaining source.new) (S.faults source.new)))
+        (Refuses (source_state (S.remaining source.old) (S.faults source.old)) (source_state (S.remaining source.new) (S.faults source.new)))) }
+{
+    let bytes = match read_all(alloc, source, MOST_INPUT) {
+        Ok(bytes) => bytes,
+        Err(ReadErr::Memory) => return Err(AllocError),
+        Err(ReadErr::Fault) => {
+            return Ok(Err(Answer {
+                status: status::READ_FAULT,
+                text: Vec::from_slice(alloc, b"error: read fault\n")?,
+            }));
+        }
+        Err(ReadErr::TooLong) => {
+            return Ok(Err(Answer {
+                status: status::TOO_LONG,
+                text: Vec::from_slice(alloc, b"error: input too long\n")?,
+            }));
+        }
+    };
+    match parse(alloc, &bytes) {
+        Ok(plan) => Ok(Ok(plan)),
+        Err(PlanErr::Memory) => Err(AllocError),
+        Err(PlanErr::Bad { line }) => Ok(Err(Answer {
+            status: status::BAD_PLAN,
+            text: bad_plan(alloc, line)?,
+        })),
+    }
+}
+
 // What `serial` answers.
 fn serial_answer<S: Source>(alloc: Global, source: &mut S) -> Result<Answer, AllocError>
     ensures { IfOk result (Answered (words_of Serial)
         (source_state (S.remaining source.old) (S.faults source.old))
         (source_state (S.remaining source.new) (S.faults source.new))) }
 {
-    let bytes = match read_all(alloc, source, MOST_INPUT) {
-        Ok(bytes) => bytes,
-        Err(ReadErr::Memory) => return Err(AllocError),
-        Err(ReadErr::Fault) => {
-            return Ok(Answer {
-                status: status::READ_FAULT,
-                text: Vec::from_slice(alloc, b"error: read fault\n")?,
-            });
-        }
-        Err(ReadErr::TooLong) => {
-            return Ok(Answer {
-                status: status::TOO_LONG,
-                text: Vec::from_slice(alloc, b"error: input too long\n")?,
-            });
-        }
-    };
-    match parse(alloc, &bytes) {
+    match read_plan(alloc, source)? {
         Ok(plan) => Ok(Answer {
             status: status::DONE,
             text: serial(alloc, &plan)?.print(alloc)?,
         }),
-        Err(PlanErr::Memory) => Err(AllocError),
-        Err(PlanErr::Bad { line }) => Ok(Answer {
-            status: status::BAD_PLAN,
-            text: bad_plan(alloc, line)?,
+        Err(answer) => Ok(answer),
+    }
+}
+
+// What `play` answers.
+fn play_answer<S: Source>(alloc: Global, source: &mut S) -> Result<Answer, AllocError>
+    ensures { IfOk result (Answered (words_of Play)
+        (source_state (S.remaining source.old) (S.faults source.old))
+        (source_state (S.remaining source.new) (S.faults source.new))) }
+{
+    match read_plan(alloc, source)? {
+        Ok(plan) => Ok(Answer {
+            status: status::DONE,
+            text: play_report(alloc, &plan)?.print(alloc)?,
         }),
+        Err(answer) => Ok(answer),
     }
 }
 
@@ -78,6 +106,7 @@ fn decide<S: Source>(alloc: Global, words: &[String], source: &mut S) -> Result<
 {
     match Command::from_words(words) {
         Some(Command::Serial) => serial_answer(alloc, source),
+        Some(Command::Play) => play_answer(alloc, source),
         Some(Command::Help) => Ok(Answer {
             status: status::DONE,
             text: Vec::from_slice(alloc, HELP.as_bytes())?,
@@ -106,6 +135,13 @@ pub fn tool<S: Source, K: Sink>(alloc: Global, words: &[String], source: &mut S,
 
     // With status 0 of `serial` the report of the plan that the whole input spells was written.
     ensures serial { texts words.now ≡ words_of Serial → result ≡ DONE → IsReplayed
+        (source_state (S.remaining source.old) (S.faults source.old))
+        (source_state (S.remaining source.new) (S.faults source.new))
+        (sink_state (K.written sink.old) (K.finished sink.old) (K.faults sink.old))
+        (sink_state (K.written sink.new) (K.finished sink.new) (K.faults sink.new)) }
+
+    // With status 0 of `play` the report of what the schedule of the plan that the whole input spells leaves was written.
+    ensures play { texts words.now ≡ words_of Play → result ≡ DONE → PlaysPlan
         (source_state (S.remaining source.old) (S.faults source.old))
         (source_state (S.remaining source.new) (S.faults source.new))
         (sink_state (K.written sink.old) (K.finished sink.old) (K.faults sink.old))

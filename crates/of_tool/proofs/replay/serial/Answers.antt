@@ -1,14 +1,14 @@
-use Rattle.std.proofs.Common.{◌≡◌, ◌-◌, ◌++◌, List, ℕ, [], ◌∷◌, length, take, map, eqb, sym, ap, ◌∙◌, refl, zero-add, arith}
+use Rattle.std.proofs.Common.{◌≡◌, ◌-◌, ◌++◌, List, ℕ, [], ◌∷◌, length, take, map, eqb, sym, ap, subst, ◌∙◌, refl, zero-add, arith}
 use Rattle.std.specs.Prelude.{count_by}
 use Rattle.std.specs.List.{range_with_len}
 use Rattle.std.proofs.lemmas.List.{map-append}
 use Rattle.std.proofs.lemmas.List.FromFn.{map-range_with_len_more}
 use Rattle.of_plan.specs.Plan.{scripts_of}
-use Rattle.of_plan.specs.Serial.{calls_of, serial_line}
+use Rattle.of_plan.specs.Serial.{calls_of, serial_calls, serial_line}
 use Rattle.of_report.specs.Report.{line_of}
 use Rattle.of_report.specs.declared.report.Entry.{Entry}
 use Rattle.of_script.specs.declared.instr.Instr.{Instr}
-use Rattle.of_tool.specs.Replay.{History, history_after}
+use Rattle.of_tool.specs.Replay.{Has, history_after}
 use Rattle.of_tool.proofs.Histories.{calls_below, one_more_caller, entry_each, report_made}
 use Rattle.of_tool.proofs.replay.serial.Goals as goal
 
@@ -16,13 +16,12 @@ pub loop-caller-preserved : goal.loop-caller-preserved
 loop-caller-preserved c =
     let p = c.args.plan.now in
     let calls = take p.limit (calls_below p c.loop-caller.caller) in
-    let seq : c.loop-caller.replay.seq ≡ length calls = ap (λ (h : History). h.seq) c.loop-caller.invariant.runs in
+    let seq : c.loop-caller.replay.seq ≡ length calls = c.loop-caller.invariant.runs.seq in
     record {
       within = c.in_ok-run_caller.ensures.within;
-      runs =
-          c.in_ok-run_caller.ensures.runs calls c.loop-caller.invariant.runs
-          ∙ ap (λ (n : ℕ). history_after p (calls ++ take (p.limit - n) (calls_of p c.loop-caller.caller))) seq
-          ∙ ap (history_after p) (one_more_caller p c.loop-caller.caller);
+      runs = subst (Has c.run_caller.new.self)
+          (ap (λ (n : ℕ). history_after p (calls ++ take (p.limit - n) (calls_of p c.loop-caller.caller))) seq ∙ ap (history_after p) (one_more_caller p c.loop-caller.caller))
+          (c.in_ok-run_caller.ensures.runs calls c.loop-caller.invariant.runs);
     }
 
 pub line-requires : goal.line-requires
@@ -48,8 +47,9 @@ returns c =
     let all : c.loop-caller.caller ≡ p.callers = omega arith in
     let lines : c.loop-caller-2.caller ≡ p.callers = omega arith in
     let before : map line_of c.loop-caller-2.callers.items ≡ map (λ d. serial_line (count_by (λ (e : Entry). eqb e.caller d) entries) (length (scripts_of p d))) (range_with_len 0 c.loop-caller-2.caller) = c.loop-caller-2.invariant in
+    let all_ran : Has c.loop-caller.replay (history_after p (serial_calls p)) = subst (λ (n : ℕ). Has c.loop-caller.replay (history_after p (take p.limit (calls_below p n)))) all c.loop-caller.invariant.runs in
     report_made p c.loop-caller.replay
-    (record { entries = c.loop-caller.replay.entries; callers = c.loop-caller-2.callers; seq = c.loop-caller.replay.seq; store = c.loop-caller.replay.store })
-    (c.loop-caller.invariant.runs ∙ ap (λ (n : ℕ). history_after p (take p.limit (calls_below p n))) all)
+    (record { entries = c.loop-caller.replay.entries; callers = c.loop-caller-2.callers; seq = c.loop-caller.replay.seq; store = c.in_ok-store.field-0 })
+    all_ran
     (before ∙ ap (λ (n : ℕ). map (λ d. serial_line (count_by (λ (e : Entry). eqb e.caller d) entries) (length (scripts_of p d))) (range_with_len 0 n)) lines)
-    refl refl refl
+    refl refl (c.in_ok-store.ensures _ all_ran.store)

@@ -4,7 +4,7 @@ use Rattle.std.specs.List.{range_with_len}
 use Rattle.of_plan.specs.Plan.{scripts_of}
 use Rattle.of_plan.specs.Serial.{serial_line}
 use Rattle.of_report.specs.Report.{line_of}
-use Rattle.of_tool.specs.Replay.{history_of, history_after}
+use Rattle.of_tool.specs.Replay.{Has, history_after}
 use Rattle.of_tool.proofs.Histories.{calls_below}
 use Rattle.of_tool.proofs.replay.serial.Given as goal
 
@@ -12,7 +12,7 @@ use Rattle.of_tool.proofs.replay.serial.Given as goal
 abbrev pub invariant-loop-caller : goal.invariant-loop-caller
 invariant-loop-caller l = record {
   within : l.replay.seq ≤ l.plan.limit;
-  runs : history_of l.replay ≡ history_after l.plan (take l.plan.limit (calls_below l.plan l.caller));
+  runs : Has l.replay (history_after l.plan (take l.plan.limit (calls_below l.plan l.caller)));
 }
 
 -- the lines of the callers so far

@@ -1,12 +1,15 @@
-use Rattle.std.proofs.Common.{◌≡◌, ◌-◌, ◌++◌, List, [], length, take, get_or, map, ap, ◌∙◌, arith}
+use Rattle.std.proofs.Common.{◌≡◌, ◌-◌, ◌++◌, List, [], length, take, get_or, map, ap, subst, ◌∙◌, arith}
 use Rattle.std.specs.List.{range_with_len}
 use Rattle.std.proofs.lemmas.List.{length-take}
 use Rattle.of_plan.specs.Plan.{scripts_of}
 use Rattle.of_script.specs.declared.instr.Instr.{Instr}
 use Rattle.of_plan.specs.Serial.{Call, called_script, calls_of}
-use Rattle.of_tool.specs.Replay.{History, history_after, after_call}
+use Rattle.of_tool.specs.Replay.{History, Has, history_after, after_call}
 use Rattle.of_tool.proofs.Histories.{one_more_call, next_call, first_calls, read_in_front, take_at_most, length-calls_of}
 use Rattle.of_tool.proofs.replay.Replay.run_caller.Goals as goal
+
+pub run_call-requires-clause-has : goal.run_call-requires-clause-has
+run_call-requires-clause-has c = (_, c.loop-index.invariant.runs c.requires.has.0 c.requires.has.1)
 
 pub loop-index-preserved : goal.loop-index-preserved
 loop-index-preserved c =
@@ -17,12 +20,15 @@ loop-index-preserved c =
     (omega (arith, length-take c.min.result c.scripts-scripts.result.now)) (omega (arith, length-take c.min.result c.scripts-scripts.result.now))
     ∙ ap (λ (xs : List (List Instr)). get_or xs c.loop-index.index []) c.scripts-scripts.ensures.value in
     record {
-      seq = omega (arith, ap (λ (h : History). h.seq) c.in_ok-run_call.ensures, c.loop-index.invariant.seq);
-      runs = λ calls same.
-          c.in_ok-run_call.ensures ∙ ap (λ (h : History). after_call h call c.index-scripts-index.result) (c.loop-index.invariant.runs calls same)
-          ∙ ap (λ (s : List Instr). after_call (history_after p (calls ++ map (λ j. (c.args.caller, j)) (range_with_len 0 c.loop-index.index))) call s) script
-          ∙ one_more_call p (calls ++ map (λ j. (c.args.caller, j)) (range_with_len 0 c.loop-index.index)) call
-          ∙ next_call p calls c.args.caller c.loop-index.index;
+      seq =
+          let now = c.loop-index.invariant.runs c.requires.has.0 c.requires.has.1 in
+          omega (arith, (c.in_ok-run_call.ensures _ now).seq, now.seq, c.loop-index.invariant.seq);
+      runs = λ calls has.
+          let before = calls ++ map (λ j. (c.args.caller, j)) (range_with_len 0 c.loop-index.index) in
+          let now = c.loop-index.invariant.runs calls has in
+          subst (λ (h : History). Has c.run_call.new.self h)
+          (ap (λ (s : List Instr). after_call (history_after p before) call s) script ∙ one_more_call p before call ∙ next_call p calls c.args.caller c.loop-index.index)
+          (c.in_ok-run_call.ensures (history_after p before) now);
     }
 
 front : (c : goal.After-loop-index) → map (λ i. (c.args.caller, i)) (range_with_len 0 c.loop-index.index) ≡ take (c.args.plan.now.limit - c.args.self.now.seq) (calls_of c.args.plan.now c.args.caller)
@@ -34,4 +40,4 @@ front c =
     ∙ take_at_most (calls_of c.args.plan.now c.args.caller) (c.args.plan.now.limit - c.args.self.now.seq) c.loop-index.index (omega (arith, length-calls_of c.args.plan.now c.args.caller))
 
 pub returns-clause-runs : goal.returns-clause-runs
-returns-clause-runs c = λ calls same. c.loop-index.invariant.runs calls same ∙ ap (λ (t : List Call). history_after c.args.plan.now (calls ++ t)) (front c)
+returns-clause-runs c = λ calls has. subst (λ (t : List Call). Has c.loop-index.self (history_after c.args.plan.now (calls ++ t))) (front c) (c.loop-index.invariant.runs calls has)

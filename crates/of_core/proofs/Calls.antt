@@ -1,0 +1,159 @@
+-- What each event leaves of the calls of one caller.
+use Rattle.std.proofs.Common.{◌≡◌, ℕ, zero, suc, ◌+◌, ◌-◌, ◌<◌, ◌≤◌, ◌⊎◌, inl, inr, List, [], ◌∷◌, ◌++◌, length, get_or, refl, sym, ◌∙◌, ap, subst, arith, Option, Some, None, Bool, true, false}
+use Rattle.std.specs.List.{All}
+use Rattle.std.proofs.lemmas.Bool.{cases_lt}
+use Rattle.std.proofs.lemmas.List.{append-nil, length-append, get_or_push, get_or_append_left}
+use Rattle.std.proofs.lemmas.List.Elements.{All-append}
+use Rattle.of_core.specs.declared.place.Place.{Place}
+use Rattle.of_core.specs.declared.place.Place.TheVariants.{Idle}
+use Rattle.of_core.specs.declared.place.Outcome.{Outcome}
+use Rattle.of_core.specs.declared.place.Outcome.TheVariants.{Answered, Spent}
+use Rattle.of_core.specs.Table.{Setup, risen}
+use Rattle.of_core.specs.Machine.{Call, Data, IsOpen, is_idle, opened, first_place}
+use Rattle.of_core.specs.World.{World, Batch, Read}
+use Rattle.of_core.specs.History.{batch}
+use Rattle.of_core.specs.Order.{no_read}
+use Rattle.of_core.specs.Seen.{ended_at}
+use Rattle.of_core.specs.Events.{machine, zeros}
+use Rattle.of_core.specs.Calls.{no_outcome, last_from, Stood, Calls}
+use Rattle.of_core.proofs.Ordering.{idle_is}
+
+-- the second list begins with the first
+abbrev pub Extends : {X : Type 0} → List X → List X → Type 0
+Extends {X} xs ys = (length xs ≤ length ys) × ((x : ℕ) (d : X) → x < length xs → get_or ys x d ≡ get_or xs x d)
+
+extends_self : {X : Type 0} (xs : List X) → Extends xs xs
+extends_self xs = (omega arith, λ x d l. refl)
+
+extends_push : {X : Type 0} (xs : List X) (y : X) → Extends xs (xs ++ y ∷ [])
+extends_push xs y = (omega (arith, length-append xs (y ∷ [])), λ x d l. get_or_append_left xs (y ∷ []) d x l)
+
+pub all_one : {X : Type 0} (P : X → Type 0) (x : X) → P x → All P (x ∷ [])
+all_one P x h zero d l = h
+all_one P x h (suc k) d l = absurd (omega arith)
+
+last_push : (os : List Outcome) (before : Option Outcome) (o : Outcome) → last_from before (os ++ o ∷ []) ≡ Some o
+last_push [] before o = refl
+last_push (p ∷ os) before o = last_push os (Some p) o
+
+-- a machine in a call hasn't ended it
+pub none_ended : (d : Data) (p : Place) → IsOpen p → ended_at p d ≡ None
+none_ended d Idle o = cc
+none_ended d p o = refl
+
+-- a read is an outcome of its caller
+abbrev pub Among : ℕ → List (List ℕ) → List Outcome → Read → Type 0
+Among i ops outs r = r.caller ≡ i → (x : ℕ) × (steps : ℕ) × (x < length outs) × (r.ticket ≡ x + 1) × (r.op ≡ get_or ops x []) × (get_or outs x no_outcome ≡ Answered r.seq false r.raw steps)
+
+-- a call of a batch is one that its caller has begun, with its words
+abbrev pub Words : ℕ → List (List ℕ) → Call → Type 0
+Words i ops c = c.caller ≡ i → (0 < c.ticket) × (c.ticket ≤ length ops) × (c.op ≡ get_or ops (c.ticket - 1) [])
+
+module _ (S : Setup) where
+  -- the history of the first moment stands in the second
+  pub record Grows (w v : World) : Type 0 where
+    pub reach : risen S w.words ≤ length w.batches
+    pub rise : risen S w.words ≤ risen S v.words
+    pub limit : risen S v.words ≤ S.limit
+    pub batches : (k : ℕ) → 0 < k → k ≤ length w.batches → batch (zeros S) v.batches k ≡ batch (zeros S) w.batches k
+    pub reads : Extends w.reads v.reads
+
+  stood_grows : (w v : World) → Grows w v → (i t : ℕ) (op : List ℕ) (o : Outcome) → Stood S w i t op o → Stood S v i t op o
+  stood_grows w v f i t op (Answered s true raw steps) h = (h.0, omega (arith, h.1, f.rise), rw (f.batches s h.0 (omega (arith, h.1, f.reach))) h.2, h.3, h.4)
+  stood_grows w v f i t op (Answered s false raw steps) h = (omega (arith, h.0, f.rise), (h.1.0, omega (arith, h.1.1, f.reads.0), f.reads.1 h.1.0 no_read h.1.1 ∙ h.1.2), h.2, h.3, h.4)
+  stood_grows w v f i t op (Spent s) h = (h.0, omega (arith, h.0, h.1, f.rise, f.limit))
+
+  -- what stays of the calls of caller i
+  module _ (w : World) (i : ℕ) (ops : List (List ℕ)) (outs : List Outcome) (c : Calls S w i ops outs) where
+    pub fewer_outs : length outs ≤ length ops
+    fewer_outs = go (is_idle (machine w i).place) refl
+      where
+        go : (b : Bool) → is_idle (machine w i).place ≡ b → length outs ≤ length ops
+        go true e = omega (arith, c.idle (idle_is (machine w i).place e))
+        go false e = omega (arith, (c.open_call e).0)
+
+    module _ (v : World) (f : Grows w v) (now : List (List ℕ)) (ends : List Outcome) (a : Extends ops now) (b : Extends outs ends) where
+      each_stays : (x : ℕ) → x < length outs → Stood S v i (x + 1) (get_or now x []) (get_or ends x no_outcome)
+      each_stays x l =
+          subst (λ (o : Outcome). Stood S v i (x + 1) (get_or now x []) o) (sym (b.1 x no_outcome l))
+          (subst (λ (op : List ℕ). Stood S v i (x + 1) op (get_or outs x no_outcome)) (sym (a.1 x [] (omega (arith, l, fewer_outs))))
+          (stood_grows w v f i (x + 1) (get_or ops x []) (get_or outs x no_outcome) (c.each x l)))
+
+      among_stays : (r : Read) → Among i ops outs r → Among i now ends r
+      among_stays r h q = let p = h q in (p.0, p.1, omega (arith, p.2, b.0), p.3, p.4 ∙ sym (a.1 p.0 [] (omega (arith, p.2, fewer_outs))), b.1 p.0 no_outcome p.2 ∙ p.5)
+
+      reads_stay : (rs : List Read) → v.reads ≡ w.reads ++ rs → All (Among i now ends) rs → All (Among i now ends) v.reads
+      reads_stay rs e h = subst (λ (xs : List Read). All (Among i now ends) xs) (sym e) (All-append (Among i now ends) w.reads rs (λ k d l. among_stays (get_or w.reads k d) (c.reads k d l)) h)
+
+      words_stay : (x : Call) → Words i ops x → Words i now x
+      words_stay x h q = let p = h q in (p.0, omega (arith, p.1, a.0), p.2 ∙ sym (a.1 (x.ticket - 1) [] (omega (arith, p.0, p.1))))
+
+      calls_stay : ((k : ℕ) → length w.batches < k → k ≤ length v.batches → All (Words i ops) (batch (zeros S) v.batches k).calls) → (k : ℕ) → 0 < k → k ≤ length v.batches → All (Words i now) (batch (zeros S) v.batches k).calls
+      calls_stay new k l u y d z = words_stay (get_or (batch (zeros S) v.batches k).calls y d) (go (cases_lt (length w.batches) k))
+        where
+          go : (length w.batches < k) ⊎ (k ≤ length w.batches) → Words i ops (get_or (batch (zeros S) v.batches k).calls y d)
+          go (inl t) = new k t u y d z
+          go (inr t) = (subst (λ (x : Batch). All (Words i ops) x.calls) (sym (f.batches k l t)) (c.calls k l t)) y d z
+
+    -- where none of the caller's calls has begun or ended
+    pub stays : (v : World) → Grows w v → (rs : List Read) → v.reads ≡ w.reads ++ rs → All (Among i ops outs) rs → ((k : ℕ) → length w.batches < k → k ≤ length v.batches → All (Words i ops) (batch (zeros S) v.batches k).calls)
+        → (d : Data) → machine v i ≡ d → d.made ≡ (machine w i).made → (d.place ≡ Idle → ((machine w i).place ≡ Idle) × (d.answer ≡ (machine w i).answer)) → (IsOpen d.place → IsOpen (machine w i).place × (d.op ≡ (machine w i).op))
+        → Calls S v i ops outs
+    stays v f rs e all new d x made idle live = record {
+      made = ap (λ (n : Data). n.made) x ∙ made ∙ c.made;
+      idle = λ q. c.idle (idle (ap (λ (n : Data). n.place) (sym x) ∙ q)).0;
+      open_call = λ q. let o = live (subst (λ (n : Data). IsOpen n.place) x q) in ((c.open_call o.0).0, ap (λ (n : Data). n.op) x ∙ o.1 ∙ (c.open_call o.0).1);
+      last = λ q. let o = idle (ap (λ (n : Data). n.place) (sym x) ∙ q) in ap (λ (n : Data). n.answer) x ∙ o.1 ∙ c.last o.0;
+      each = each_stays v f ops outs (extends_self ops) (extends_self outs);
+      reads = reads_stay v f ops outs (extends_self ops) (extends_self outs) rs e all;
+      calls = calls_stay v f ops outs (extends_self ops) (extends_self outs) new;
+    }
+
+    -- the caller begins a call
+    pub begins : (v : World) → Grows w v → v.reads ≡ w.reads → v.batches ≡ w.batches → (m : Data) (op : List ℕ) → machine w i ≡ m → m.place ≡ Idle → machine v i ≡ opened S m op → Calls S v i (ops ++ op ∷ []) outs
+    begins v f e t m op own rest x = record {
+      made = ap (λ (n : Data). n.made) x ∙ omega (arith, sym (ap (λ (n : Data). n.made) own) ∙ c.made, length-append ops (op ∷ []));
+      idle = λ q. absurd (closed (S.meaning.reads_only op) (ap (λ (n : Data). n.place) (sym x) ∙ q));
+      open_call = λ q. (omega (arith, length-append ops (op ∷ []), all_ended), ap (λ (n : Data). n.op) x ∙ sym (get_or_push ops op [] (length outs) (sym all_ended)));
+      last = λ q. absurd (closed (S.meaning.reads_only op) (ap (λ (n : Data). n.place) (sym x) ∙ q));
+      each = each_stays v f (ops ++ op ∷ []) outs (extends_push ops op) (extends_self outs);
+      reads = reads_stay v f (ops ++ op ∷ []) outs (extends_push ops op) (extends_self outs) [] (e ∙ sym (append-nil w.reads)) (λ k d l. absurd (omega arith));
+      calls = calls_stay v f (ops ++ op ∷ []) outs (extends_push ops op) (extends_self outs) (λ k l u. absurd (omega (arith, ap length t)));
+    }
+      where
+        all_ended : length outs ≡ length ops
+        all_ended = c.idle (ap (λ (n : Data). n.place) own ∙ rest)
+
+        closed : (b : Bool) → first_place b ≡ Idle → ⊥
+        closed true q = cc
+        closed false q = cc
+
+    -- a call of the caller ends
+    pub ends_one : (v : World) → Grows w v → (rs : List Read) → v.reads ≡ w.reads ++ rs → ((k : ℕ) → length w.batches < k → k ≤ length v.batches → All (Words i ops) (batch (zeros S) v.batches k).calls)
+        → IsOpen (machine w i).place → (d : Data) → machine v i ≡ d → d.made ≡ (machine w i).made → d.op ≡ (machine w i).op → d.place ≡ Idle → (o : Outcome) → d.answer ≡ Some o → Stood S v i d.made d.op o
+        → All (λ (r : Read). (r.ticket ≡ d.made) × (r.op ≡ d.op) × ((steps : ℕ) × (o ≡ Answered r.seq false r.raw steps))) rs → Calls S v i ops (outs ++ o ∷ [])
+    ends_one v f rs e new live d x made op rest o answer stood all = record {
+      made = ap (λ (n : Data). n.made) x ∙ made ∙ c.made;
+      idle = λ q. omega (arith, length-append outs (o ∷ []), (c.open_call live).0);
+      open_call = λ q. let z : true ≡ false = sym (ap is_idle (ap (λ (n : Data). n.place) x ∙ rest)) ∙ q in cc;
+      last = λ q. ap (λ (n : Data). n.answer) x ∙ answer ∙ sym (last_push outs None o);
+      each = λ y l. at_each y l (cases_lt y (length outs));
+      reads = reads_stay v f ops (outs ++ o ∷ []) (extends_self ops) (extends_push outs o) rs e (λ k r l q. let a = all k r l in
+          (length outs, a.2.0, omega (arith, length-append outs (o ∷ [])), a.0 ∙ number, a.1 ∙ words, get_or_push outs o no_outcome (length outs) refl ∙ a.2.1));
+      calls = calls_stay v f ops (outs ++ o ∷ []) (extends_self ops) (extends_push outs o) new;
+    }
+      where
+        number : d.made ≡ length outs + 1
+        number = made ∙ c.made ∙ (c.open_call live).0
+
+        words : d.op ≡ get_or ops (length outs) []
+        words = op ∙ (c.open_call live).1
+
+        at_each : (y : ℕ) → y < length (outs ++ o ∷ []) → (y < length outs) ⊎ (length outs ≤ y) → Stood S v i (y + 1) (get_or ops y []) (get_or (outs ++ o ∷ []) y no_outcome)
+        at_each y l (inl u) = each_stays v f ops (outs ++ o ∷ []) (extends_self ops) (extends_push outs o) y u
+        at_each y l (inr u) =
+            let z : length outs ≡ y = omega (arith, l, u, length-append outs (o ∷ [])) in
+            subst (λ (n : ℕ). Stood S v i (n + 1) (get_or ops n []) (get_or (outs ++ o ∷ []) n no_outcome)) z
+            (subst (λ (p : Outcome). Stood S v i (length outs + 1) (get_or ops (length outs) []) p) (sym (get_or_push outs o no_outcome (length outs) refl))
+            (subst (λ (n : ℕ). Stood S v i n (get_or ops (length outs) []) o) number
+            (subst (λ (p : List ℕ). Stood S v i d.made p o) words stood)))

@@ -1,0 +1,132 @@
+-- All calls of a schedule: which were begun, how they have ended, and how many steps they have made.
+use Rattle.std.specs.Prelude.{◌==◌, Bool, true, false, Option, Some, None, ℕ, ◌+◌, ◌-◌, List, [], ◌∷◌, ◌++◌, length, ◌≡◌, ◌≤◌, ◌<◌}
+use Rattle.std.specs.List.{All}
+use Rattle.std.proofs.Common.{get_or}
+use Rattle.of_core.specs.declared.bank.Turn.{Turn}
+use Rattle.of_core.specs.declared.bank.Turn.TheVariants.{Idle as NoCall, Open, Ended}
+use Rattle.of_core.specs.declared.place.Outcome.{Outcome}
+use Rattle.of_core.specs.declared.place.Outcome.TheVariants.{Answered, Spent}
+use Rattle.of_core.specs.Table.{Setup, risen}
+use Rattle.of_core.specs.Machine.{Call, IsOpen}
+use Rattle.of_core.specs.World.{World, Read}
+use Rattle.of_core.specs.History.{batch, HasCall}
+use Rattle.of_core.specs.Order.{no_read}
+use Rattle.of_core.specs.Bound.{bound}
+pub use Rattle.of_core.specs.Least.{least_read}
+use Rattle.of_core.specs.Least.{least_call}
+use Rattle.of_core.specs.Events.{Event, Begins, Turns, Loads, Evicts, Raises, machine, happens, run, turns, zeros}
+use Rattle.of_core.specs.Turn.{turn_of, IsIdle}
+
+-- these where it is so, and else none
+abbrev pub only : {A : Type 0} → Bool → List A → List A
+only true xs = xs
+only false xs = []
+
+-- the operation that caller i begins by an event
+abbrev pub begun_by : Event → ℕ → List (List ℕ)
+begun_by (Begins j op) i = only (i == j) (op ∷ [])
+begun_by (Turns j) i = []
+begun_by (Loads c) i = []
+begun_by (Evicts k) i = []
+begun_by (Raises c) i = []
+
+-- the operations of the calls that caller i has begun, in order
+abbrev pub operations : List Event → ℕ → List (List ℕ)
+operations [] i = []
+operations (e ∷ es) i = begun_by e i ++ operations es i
+
+-- how a turn has ended its call
+abbrev pub outcome_of : Turn → List Outcome
+outcome_of NoCall = []
+outcome_of Open = []
+outcome_of (Ended o) = o ∷ []
+
+-- how an event has ended a call of caller i
+abbrev pub ended_by : Setup → World → Event → ℕ → List Outcome
+ended_by S w (Begins j op) i = []
+ended_by S w (Turns j) i = only (i == j) (outcome_of (turn_of (machine w j) (machine (happens S w (Turns j)) j)))
+ended_by S w (Loads c) i = []
+ended_by S w (Evicts k) i = []
+ended_by S w (Raises c) i = []
+
+-- how the calls of caller i have ended, in order
+abbrev pub outcomes : Setup → World → List Event → ℕ → List Outcome
+outcomes S w [] i = []
+outcomes S w (e ∷ es) i = ended_by S w e i ++ outcomes S (happens S w e) es i
+
+-- where the event is a turn of caller i, a call of it is open
+abbrev pub ComesOpen : World → Event → ℕ → Type 0
+ComesOpen w (Begins j op) i = Unit {0}
+ComesOpen w (Turns j) i = i ≡ j → IsOpen (machine w i).place
+ComesOpen w (Loads c) i = Unit {0}
+ComesOpen w (Evicts k) i = Unit {0}
+ComesOpen w (Raises c) i = Unit {0}
+
+-- every turn of caller i comes while a call of it is open
+abbrev pub NeverIdle : Setup → World → List Event → ℕ → Type 0
+NeverIdle S w [] i = Unit {0}
+NeverIdle S w (e ∷ es) i = ComesOpen w e i × NeverIdle S (happens S w e) es i
+
+-- the steps that an outcome tells; a spent one tells none
+abbrev pub steps_of : Outcome → ℕ
+steps_of (Answered s announced raw steps) = steps
+steps_of (Spent s) = 0
+
+-- the steps that the outcomes tell, added up
+abbrev pub steps_told : List Outcome → ℕ
+steps_told [] = 0
+steps_told (o ∷ os) = steps_of o + steps_told os
+
+abbrev pub IsAnswered : Outcome → Type 0
+IsAnswered (Answered s announced raw steps) = Unit {0}
+IsAnswered (Spent s) = ⊥
+
+-- none of them is spent
+abbrev pub NoneSpent : List Outcome → Type 0
+NoneSpent [] = Unit {0}
+NoneSpent (o ∷ os) = IsAnswered o × NoneSpent os
+
+-- no call has ended so
+abbrev pub no_outcome : Outcome
+no_outcome = Spent 0
+
+-- the last of the outcomes, or this where there is none
+abbrev pub last_from : Option Outcome → List Outcome → Option Outcome
+last_from before [] = before
+last_from before (o ∷ os) = last_from (Some o) os
+
+abbrev pub last_of : List Outcome → Option Outcome
+last_of os = last_from None os
+
+-- what a moment says of the outcome of the call of caller i with this ticket and operation: a batch, or a read, has it, and it has made as many steps as such a call makes; or the sequence is spent
+abbrev pub Stood : Setup → World → (i ticket : ℕ) → (op : List ℕ) → Outcome → Type 0
+Stood S w i ticket op (Answered s true raw steps) = (0 < s) × (s ≤ risen S w.words) × HasCall S (batch (zeros S) w.batches s).calls i ticket op raw × (least_call op ≤ steps) × (steps ≤ bound S)
+Stood S w i ticket op (Answered s false raw steps) = (s ≤ risen S w.words) × ((k : ℕ) × (k < length w.reads) × (get_or w.reads k no_read ≡ record { caller = i; ticket = ticket; op = op; raw = raw; seq = s }))
+    × (S.meaning.reads_only op ≡ true) × (least_read S op ≤ steps) × (steps ≤ bound S)
+Stood S w i ticket op (Spent s) = (s ≡ S.limit) × (risen S w.words ≡ s)
+
+-- the calls of caller i, where it has begun these and these have ended
+pub record Calls (S : Setup) (w : World) (i : ℕ) (ops : List (List ℕ)) (outs : List Outcome) : Type 0 where
+  -- the machine counts what was begun
+  pub made : (machine w i).made ≡ length ops
+  -- with no call open all have ended
+  pub idle : IsIdle (machine w i) → length outs ≡ length ops
+  -- an open call is the last one begun
+  pub open_call : IsOpen (machine w i).place → (length ops ≡ length outs + 1) × ((machine w i).op ≡ get_or ops (length outs) [])
+  -- the machine holds the last outcome
+  pub last : IsIdle (machine w i) → (machine w i).answer ≡ last_of outs
+  -- each outcome is in the history
+  pub each : (x : ℕ) → x < length outs → Stood S w i (x + 1) (get_or ops x []) (get_or outs x no_outcome)
+  -- each of the caller's reads in the history is an outcome
+  pub reads : All (λ (r : Read). r.caller ≡ i → (x : ℕ) × (steps : ℕ) × (x < length outs) × (r.ticket ≡ x + 1) × (r.op ≡ get_or ops x []) × (get_or outs x no_outcome ≡ Answered r.seq false r.raw steps)) w.reads
+  -- each of its calls in a batch was begun, with these words
+  pub calls : (k : ℕ) → 0 < k → k ≤ length w.batches → All (λ (c : Call). c.caller ≡ i → (0 < c.ticket) × (c.ticket ≤ length ops) × (c.op ≡ get_or ops (c.ticket - 1) [])) (batch (zeros S) w.batches k).calls
+
+-- the turns of caller i among the events are the steps of its calls
+pub record TurnsTold (S : Setup) (w : World) (es : List Event) (i : ℕ) : Type 0 where
+  -- no call tells a step that was no turn
+  pub few : steps_told (outcomes S w es i) + (machine (run S w es) i).steps ≤ turns i es
+  -- and each turn of an open call is told
+  pub exact : NeverIdle S w es i → NoneSpent (outcomes S w es i) → steps_told (outcomes S w es i) + (machine (run S w es) i).steps ≡ turns i es
+  -- an open call has a step left
+  pub within : IsOpen (machine (run S w es) i).place → (machine (run S w es) i).steps < bound S

@@ -1,0 +1,96 @@
+-- The record of a run: what its answers and the cells that recovery finds say of the history, and when the record is lawful.
+use Rattle.std.specs.Prelude.{◌≡◌, ℕ, ◌+◌, ◌==◌, ◌<◌, true, false, Bool, List, [], ◌∷◌, ◌++◌, length}
+use Rattle.std.proofs.Common.{get_or}
+use Rattle.of_cell.specs.Words.{seq, pay}
+use Rattle.of_cell.specs.Cells.{durable_place, table_words}
+use Rattle.of_recover.specs.Row.{current_seq}
+use Rattle.of_recover.specs.Recovered.{recovered_data}
+use Rattle.of_mem.specs.Places.{ticket_at}
+use Rattle.of_script.specs.declared.instr.Reply.{Reply}
+use Rattle.of_script.specs.declared.instr.TheConstants.{MOST_INSTRS}
+use Rattle.of_store.specs.Replies.{response_of}
+use Rattle.of_plan.specs.declared.answer.Answer.{Answer}
+use Rattle.of_plan.specs.declared.answer.Ending.{Ending}
+use Rattle.of_plan.specs.declared.answer.Ending.TheVariants.{Done, Stopped, Spent}
+use Rattle.of_plan.specs.Plan.{Plan, data_cells}
+use Rattle.of_plan.specs.Ended.{Run, answers_of, ending_of, longest}
+use Rattle.of_plan.specs.Report as plain
+use Rattle.of_plan.specs.Report.{CallEntry, EndState, Start, entries_of, line_of, finished_of}
+use Rattle.of_plan.specs.Legal.{IsLegal}
+use Rattle.of_eval.specs.Shapes.{IsHeldBy}
+use Rattle.of_eval.specs.Lawful.{reply_in, StandsFor}
+
+-- how many data cells a plan has
+abbrev pub cells_in : Plan → ℕ
+cells_in p = data_cells p.callers p.blocks
+
+-- the durable words that a run leaves
+abbrev pub durable_of : Plan → Run → ℕ → ℕ
+durable_of p e c = get_or e.words (durable_place p.callers (cells_in p) c) 0
+
+-- the sequence that recovery finds
+abbrev pub recovered_seq : Plan → Run → ℕ
+recovered_seq p e = current_seq (durable_of p e)
+
+-- the word of a data cell that recovery finds, and its number
+abbrev pub recovered_word : Plan → Run → ℕ → ℕ
+recovered_word p e a = recovered_data p.callers (cells_in p) (durable_of p e) a
+
+abbrev pub recovered_number : Plan → Run → ℕ → ℕ
+recovered_number p e a = pay (recovered_word p e a)
+
+-- the entry of a caller's answer
+abbrev pub answer_entry : (caller index : ℕ) → Answer → CallEntry
+answer_entry c x a = record { seq = a.seq; caller = c; index = x; announced = a.announced; reply = response_of a.reply }
+
+-- the entries of answers from this index on
+abbrev pub answer_entries : (caller index : ℕ) → List Answer → List CallEntry
+answer_entries c x [] = []
+answer_entries c x (a ∷ others) = answer_entry c x a ∷ answer_entries c (x + 1) others
+
+-- a caller's open call, by what its own cells hold
+abbrev pub open_entry : Plan → Run → (caller index : ℕ) → Reply → CallEntry
+open_entry p e c x r = record { seq = seq (recovered_word p e (ticket_at MOST_INSTRS c)); caller = c; index = x; announced = true; reply = response_of r }
+
+-- an open call is an entry where the caller's recovered ticket cell holds its ticket, with the reply that the other own cells hold
+abbrev pub OpenCall : Plan → Run → (caller index : ℕ) → (recovered : Bool) → List CallEntry → Type 0
+OpenCall p e c x true extra = (r : Reply) × IsHeldBy (reply_in MOST_INSTRS (recovered_number p e) c) r × (extra ≡ open_entry p e c x r ∷ [])
+OpenCall p e c x false extra = extra ≡ []
+
+-- what a caller has beyond its answers: a stopped one may have its open call
+abbrev pub BeyondAnswers : Plan → Run → (caller index : ℕ) → Ending → List CallEntry → Type 0
+BeyondAnswers p e c x Done extra = extra ≡ []
+BeyondAnswers p e c x (Stopped asked) extra = OpenCall p e c x (recovered_number p e (ticket_at MOST_INSTRS c) == x + 1) extra
+BeyondAnswers p e c x (Spent s) extra = extra ≡ []
+
+-- the entries of a caller in the record: its answers, and what is beyond them
+pub record OwnEntries (p : Plan) (s : Start) (e : Run) (c : ℕ) (es : List CallEntry) : Type 0 where
+  pub extra : List CallEntry
+  pub beyond : BeyondAnswers p e c (finished_of s c + length (answers_of e c)) (ending_of e c) extra
+  pub own : es ≡ answer_entries c (finished_of s c) (answers_of e c) ++ extra
+
+-- what was asked and the sequence that was met are not told
+abbrev pub state_of : Ending → EndState
+state_of Done = plain.done
+state_of (Stopped asked) = plain.stopped
+state_of (Spent seq) = plain.spent
+
+-- the line of a caller with so many entries
+abbrev pub line_for : Run → (caller entries : ℕ) → plain.CallerLine
+line_for e c n = record { state = state_of (ending_of e c); answered = length (answers_of e c); entries = n; longest = longest (answers_of e c) }
+
+-- the report that a record is: its entries, endings and steps, and the sequence and the store that recovery finds
+pub record IsRecord (p : Plan) (s : Start) (e : Run) (r : plain.Report) : Type 0 where
+  pub entries : (c : ℕ) → c < p.callers → OwnEntries p s e c (entries_of r c)
+  pub each_caller : length r.callers ≡ p.callers
+  pub callers : (c : ℕ) → c < p.callers → line_of r c ≡ line_for e c (length (entries_of r c))
+  pub seq : r.seq ≡ recovered_seq p e
+  pub store : StandsFor p.callers MOST_INSTRS p.blocks (recovered_number p e) r.store
+
+-- what a run leaves is a record of the plan from the start, whose report is this one and is legal
+pub record IsLawful (p : Plan) (s : Start) (e : Run) (r : plain.Report) : Type 0 where
+  pub answers : length e.answers ≡ p.callers
+  pub endings : length e.endings ≡ p.callers
+  pub words : length e.words ≡ table_words p.callers MOST_INSTRS (cells_in p)
+  pub report : IsRecord p s e r
+  pub legal : IsLegal p s r

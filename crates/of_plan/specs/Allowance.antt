@@ -1,0 +1,34 @@
+-- How many steps a caller may make, and what a report tells of keeping to it.
+use Rattle.std.specs.Prelude.{◌≡◌, ℕ, ◌+◌, ◌*◌, ◌≤◌, ◌<◌, List, length, take, sum_by, IfSome, Option, Some, All, ◌==◌, if◌then◌else◌}
+use Rattle.of_plan.specs.declared.plan.Item.{Item}
+use Rattle.of_plan.specs.declared.plan.Item.TheVariants.{Turns, Evict}
+use Rattle.of_plan.specs.Plan.{Plan, bound_of}
+use Rattle.of_plan.specs.Report.{CallEntry, stopped, Report, entries_of, line_of}
+use Rattle.of_plan.specs.Legal.{script_of}
+
+-- the least steps of an answered call: an announced one stores its words and the announcement, and makes four loads at least; a read makes three
+abbrev pub least_steps : Plan → CallEntry → ℕ
+least_steps p e = if e.announced then length (script_of p e) + 5 else 3
+
+-- the entries of a caller's answered calls
+abbrev pub answered_of : Report → ℕ → List CallEntry
+answered_of r c = take (line_of r c).answered (entries_of r c)
+
+-- a caller's answered calls can be made with so many steps; None is without end
+pub record KeepsAllowance (p : Plan) (r : Report) (c : ℕ) (allowance : Option ℕ) : Type 0 where
+  -- the least steps of its answered calls add up to no more
+  pub adds_up : IfSome allowance (λ n. sum_by (least_steps p) (answered_of r c) ≤ n)
+  -- its longest call made no more, and no fewer than the least steps of each
+  pub upto : IfSome allowance (λ n. (line_of r c).longest ≤ n)
+  pub least : All (λ e. least_steps p e ≤ (line_of r c).longest) (answered_of r c)
+  -- where it is stopped, its answered calls and one that stays open have used the allowance up
+  pub used_up : (line_of r c).state ≡ stopped → (n : ℕ) × (allowance ≡ Some n) × (n < (line_of r c).answered * (line_of r c).longest + bound_of p)
+
+-- the turns of a caller in an item
+abbrev pub turns_in : ℕ → Item → ℕ
+turns_in c (Turns d x) = if d == c then x else 0
+turns_in c (Evict a) = 0
+
+-- the turns of a caller in a plan's schedule
+abbrev pub turns_for : Plan → ℕ → ℕ
+turns_for p c = sum_by (turns_in c) p.schedule
