@@ -1,92 +1,77 @@
--- Two lists with the same elements that stand in the same order are one list.
-use Rattle.std.proofs.Common.{◌≡◌, ℕ, suc, ◌<◌, ◌≤◌, ◌⊎◌, inl, inr, cond, eqb, true, false, List, [], ◌∷◌, length, map, get_or, refl, sym, ◌∙◌, ap, arith}
-use Rattle.std.specs.Prelude.{sum_by, AllPairs}
-use Rattle.std.specs.List.Sorted.{IsPermutation, IsNonDecreasingBy}
-use Rattle.std.proofs.lemmas.Bool.{cases_lt}
-use Rattle.std.proofs.lemmas.Bool.Decides.{nat_tests}
+-- A list in order that has the elements of one whose elements stand each before the next is that one.
+use Rattle.std.proofs.Common.{◌≡◌, ℕ, zero, suc, ◌<◌, ◌≤◌, Bool, true, false, not, cond, List, [], ◌∷◌, length, get_or, sym, ◌∙◌, ap, arith}
+use Rattle.std.specs.Prelude.{count_by, AllPairs}
+use Rattle.std.specs.Cmp.{IsStrictWeakOrder}
+use Rattle.std.specs.List.Sorted.{IsPermutation, IsSortedBy}
 use Rattle.std.proofs.lemmas.List.{get_or_default, same_lists}
 use Rattle.std.proofs.lemmas.List.Elements.{Contains-get_or}
-use Rattle.std.proofs.lemmas.List.Sorted.{length_permutation, Contains-permutation, sum_by-IsPermutation}
+use Rattle.std.proofs.lemmas.List.Sorted.{length_permutation, Contains-permutation, sum_by-IsPermutation, sorted_far}
 use Rattle.std.proofs.lemmas.List.Sums.{sum_by-cons}
-use Rattle.std.proofs.Math.ListN.{get_or-map}
 
--- 1 at the number
-abbrev counts : ℕ → ℕ → ℕ
-counts n k = cond (eqb k n) 1 0
+-- 1 for what passes
+abbrev counted : Bool → ℕ
+counted b = cond b 1 0
 
-module _ {X : Type 0} (rank : X → ℕ) where
-  at_least : (x : X) (xs : List X) → IsNonDecreasingBy rank (x ∷ xs) → (j : ℕ) (d : X) → j < length xs → rank x ≤ rank (get_or xs j d)
-  at_least x xs up j d l = up 0 (suc j) d (omega arith) (omega arith)
+module _ {X : Type 0} (p : X → Bool) (d : X) where
+  -- where the first n pass, n pass at least
+  at_least : (xs : List X) (n : ℕ) → n ≤ length xs → ((i : ℕ) → i < n → p (get_or xs i d) ≡ true) → n ≤ count_by p xs
+  at_least xs zero l each = omega arith
+  at_least [] (suc n) l each = omega arith
+  at_least (x ∷ xs) (suc n) l each =
+      let here : counted (p x) ≡ 1 = ap counted (each 0 (omega arith)) in
+      let others = at_least xs n (omega arith) (λ i m. each (suc i) (omega arith)) in
+      omega (arith, sum_by-cons (λ y. counted (p y)) x xs, here, others)
 
-  rest : (x : X) (xs : List X) → IsNonDecreasingBy rank (x ∷ xs) → IsNonDecreasingBy rank xs
-  rest x xs up i j d l m = up (suc i) (suc j) d (omega arith) (omega arith)
+  one : (b : Bool) → counted b ≤ 1
+  one true = omega arith
+  one false = omega arith
 
-  -- a number below the first rank is no rank
-  none_below : (n : ℕ) (xs : List X) → ((j : ℕ) (d : X) → j < length xs → n < rank (get_or xs j d)) → sum_by (λ x. counts n (rank x)) xs ≡ 0
-  none_below n [] above = refl
-  none_below n (x ∷ xs) above =
-      let first : n < rank x = above 0 x (omega arith) in
-      let apart : eqb (rank x) n ≡ false = grind (arith, nat_tests) in
-      let here : counts n (rank x) ≡ 0 = rw apart in
-      let others : sum_by (λ y. counts n (rank y)) xs ≡ 0 = none_below n xs (λ j d l. above (suc j) d (omega arith)) in
-      omega (arith, sum_by-cons (λ y. counts n (rank y)) x xs, here, others)
+  -- where those from n on don't, n pass at most
+  at_most : (xs : List X) (n : ℕ) → ((i : ℕ) → n ≤ i → i < length xs → p (get_or xs i d) ≡ false) → count_by p xs ≤ n
+  at_most [] n none = omega arith
+  at_most (x ∷ xs) zero none =
+      let here : counted (p x) ≡ 0 = ap counted (none 0 (omega arith) (omega arith)) in
+      let others = at_most xs zero (λ i l m. none (suc i) (omega arith) (omega arith)) in
+      omega (arith, sum_by-cons (λ y. counted (p y)) x xs, here, others)
+  at_most (x ∷ xs) (suc n) none =
+      let others = at_most xs n (λ i l m. none (suc i) (omega arith) (omega arith)) in
+      omega (arith, sum_by-cons (λ y. counted (p y)) x xs, one (p x), others)
 
-  -- the first rank is met
-  first_met : (x : X) (xs : List X) → 1 ≤ sum_by (λ y. counts (rank x) (rank y)) (x ∷ xs)
-  first_met x xs =
-      let same : eqb (rank x) (rank x) ≡ true = grind (arith, nat_tests) in
-      let here : counts (rank x) (rank x) ≡ 1 = rw same in
-      omega (arith, sum_by-cons (λ y. counts (rank x) (rank y)) x xs, here)
+module _ {X : Type 0} (lt : X → X → Bool) (order : IsStrictWeakOrder lt) (xs ys : List X) (up : IsSortedBy lt xs) (apart : AllPairs (λ x y. lt x y ≡ true) ys) (moved : IsPermutation xs ys) where
+  long : length ys ≡ length xs
+  long = length_permutation xs ys moved
 
-  -- the first of one list is no earlier than that of the other
-  no_earlier : (x y : X) (xs ys : List X) → IsNonDecreasingBy rank (y ∷ ys) → ((f : ℕ → ℕ) → sum_by (λ z. f (rank z)) (x ∷ xs) ≡ sum_by (λ z. f (rank z)) (y ∷ ys)) → rank x < rank y → ⊥
-  no_earlier x y xs ys up same l =
-      let none : sum_by (λ z. counts (rank x) (rank z)) (y ∷ ys) ≡ 0 = none_below (rank x) (y ∷ ys) (λ j d m. let k : rank y ≤ rank (get_or (y ∷ ys) j d) = up 0 j d (omega arith) m in omega arith) in
-      let some = first_met x xs in
-      omega (arith, none, some, same (counts (rank x)))
+  -- as many pass in the one as in the other
+  as_many : (p : X → Bool) → count_by p ys ≡ count_by p xs
+  as_many p = sum_by-IsPermutation (λ x. counted (p x)) xs ys moved
 
-  -- lists in order with the same ranks have them in the same places
-  same_ranks : (xs ys : List X) → IsNonDecreasingBy rank xs → IsNonDecreasingBy rank ys → ((f : ℕ → ℕ) → sum_by (λ x. f (rank x)) xs ≡ sum_by (λ x. f (rank x)) ys) → map rank xs ≡ map rank ys
-  same_ranks [] [] up vp same = refl
-  same_ranks [] (y ∷ ys) up vp same = absurd (omega (arith, same (λ _. 1), sum_by-cons (λ (z : X). 1) y ys))
-  same_ranks (x ∷ xs) [] up vp same = absurd (omega (arith, same (λ _. 1), sum_by-cons (λ (z : X). 1) x xs))
-  same_ranks (x ∷ xs) (y ∷ ys) up vp same =
-      let first : rank x ≡ rank y = omega (arith, no_earlier x y xs ys vp same, no_earlier y x ys xs up (λ f. sym (same f))) in
-      let others = same_ranks xs ys (rest x xs up) (rest y ys vp) (λ f. let e = ap f first in omega (arith, same f, sum_by-cons (λ z. f (rank z)) x xs, sum_by-cons (λ z. f (rank z)) y ys, e)) in
-      ap (λ (n : ℕ). n ∷ map rank xs) first ∙ ap (λ (l : List ℕ). rank y ∷ l) others
+  -- an element of both has as many below it, and as many that aren't above it, in the one as in the other: so it has one place
+  module _ (k m : ℕ) (d : X) (l : k < length xs) (within : m < length ys) (same : get_or ys m d ≡ get_or xs k d) where
+    below : X → Bool
+    below y = lt y (get_or xs k d)
 
-  not_falling : (ys : List X) → AllPairs (λ x y. rank x < rank y) ys → IsNonDecreasingBy rank ys
-  not_falling ys apart i j d l m = by_cases (cases_lt i j)
-    where
-      by_cases : (i < j) ⊎ (j ≤ i) → rank (get_or ys i d) ≤ rank (get_or ys j d)
-      by_cases (inl k) = let h = apart i j d k m in omega (arith, h)
-      by_cases (inr k) = let e : i ≡ j = omega arith in let s = ap (λ (n : ℕ). rank (get_or ys n d)) e in omega (arith, s)
+    not_above : X → Bool
+    not_above y = not (lt (get_or xs k d) y)
 
-  -- a list in order that has the elements of one with rising ranks is that one
-  pub one_order : (xs ys : List X) → IsNonDecreasingBy rank xs → AllPairs (λ x y. rank x < rank y) ys → IsPermutation xs ys → xs ≡ ys
-  one_order xs ys up apart moved = same_lists xs ys (sym long) each
-    where
-      long : length ys ≡ length xs
-      long = length_permutation xs ys moved
+    no_later : m ≤ k
+    unfolding below
+    no_later =
+        let those = at_least below d ys m (omega arith) (λ i q. ap (λ (x : X). lt (get_or ys i d) x) (sym same) ∙ apart i m d q within) in
+        let only = at_most below d xs k (λ i q r. sorted_far lt order xs up k i d q r) in
+        omega (arith, those, only, as_many below)
 
-      ranks : map rank xs ≡ map rank ys
-      ranks = same_ranks xs ys up (not_falling ys apart) (λ f. sym (sum_by-IsPermutation (λ x. f (rank x)) xs ys moved))
+    no_earlier : k ≤ m
+    unfolding not_above
+    no_earlier =
+        let those = at_least not_above d xs (suc k) (omega arith) (λ i q. ap not (sorted_far lt order xs up i k d (omega arith) l)) in
+        let only = at_most not_above d ys (suc m) (λ i q r. ap not (ap (λ (x : X). lt x (get_or ys i d)) (sym same) ∙ apart m i d (omega arith) r)) in
+        omega (arith, those, only, as_many not_above)
 
-      rank_at : (k : ℕ) (d : X) → rank (get_or xs k d) ≡ rank (get_or ys k d)
-      rank_at k d = sym (get_or-map rank xs k d) ∙ ap (λ (l : List ℕ). get_or l k (rank d)) ranks ∙ get_or-map rank ys k d
+    one_place : m ≡ k
+    one_place = omega (arith, no_later, no_earlier)
 
-      each : (k : ℕ) (d : X) → k < length xs → get_or xs k d ≡ get_or ys k d
-      each k d l =
-          let met = Contains-permutation xs ys (get_or xs k d) moved (Contains-get_or xs k d l) in
-          let at : get_or ys met.0 d ≡ get_or xs k d = get_or_default ys met.0 d (get_or xs k d) met.1 ∙ met.2 in
-          let level : rank (get_or ys met.0 d) ≡ rank (get_or ys k d) = ap rank at ∙ rank_at k d in
-          let place : met.0 ≡ k = same_place met.0 k d met.1 (omega (arith, long)) level in
-          sym at ∙ ap (λ (n : ℕ). get_or ys n d) place
-        where
-          same_place : (i j : ℕ) (d : X) → i < length ys → j < length ys → rank (get_or ys i d) ≡ rank (get_or ys j d) → i ≡ j
-          same_place i j d l m e = by_cases (cases_lt i j) (cases_lt j i)
-            where
-              by_cases : (i < j) ⊎ (j ≤ i) → (j < i) ⊎ (i ≤ j) → i ≡ j
-              by_cases (inl k) q = absurd (let h = apart i j d k m in omega (arith, h, e))
-              by_cases (inr k) (inl q) = absurd (let h = apart j i d q l in omega (arith, h, e))
-              by_cases (inr k) (inr q) = omega arith
+  pub one_order : xs ≡ ys
+  one_order = same_lists xs ys (sym long) (λ k d l.
+      let met = Contains-permutation xs ys (get_or xs k d) moved (Contains-get_or xs k d l) in
+      let at : get_or ys met.0 d ≡ get_or xs k d = get_or_default ys met.0 d (get_or xs k d) met.1 ∙ met.2 in
+      sym at ∙ ap (λ (n : ℕ). get_or ys n d) (one_place k met.0 d l met.1 at))
