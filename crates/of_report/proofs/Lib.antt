@@ -3,7 +3,7 @@ pub mod Keys
 pub mod Computes
 pub mod Sorted
 pub mod Gathers
-pub mod Ranks
+pub mod Places
 pub mod Entries
 pub mod Recovery
 pub mod Cells
