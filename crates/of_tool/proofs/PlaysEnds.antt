@@ -134,10 +134,10 @@ items_more p items same k d s t l f st =
     subst (λ (es : List Event). StandsAfter p es t)
     (sym (events_append p (opening_for p) ms (moves_in item))
     ∙ ap (events_from p (opening_for p))
-      (ap (λ (ns : List Event). ms ++ ns) (sym (append-nil (moves_in item)))
-      ∙ sym (flat_map-append moves_in (take k p.schedule) (item ∷ []))
-      ∙ ap (λ (xs : List Item). flat_map moves_in (take k p.schedule ++ get_or xs k d ∷ [])) same
-      ∙ ap (flat_map moves_in) (sym (take_more p.schedule k d (omega (arith, l, ap length same))))))
+    (ap (λ (ns : List Event). ms ++ ns) (sym (append-nil (moves_in item)))
+    ∙ sym (flat_map-append moves_in (take k p.schedule) (item ∷ []))
+    ∙ ap (λ (xs : List Item). flat_map moves_in (take k p.schedule ++ get_or xs k d ∷ [])) same
+    ∙ ap (flat_map moves_in) (sym (take_more p.schedule k d (omega (arith, l, ap length same))))))
     (f (events_from p (opening_for p) ms) st)
 
 -- all items

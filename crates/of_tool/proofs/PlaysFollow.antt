@@ -71,7 +71,7 @@ module _ (p : Plan) (plan : IsPlan p) where
     -- after one more event, which counts and begins so many calls of each caller
     grown : (e : Event) → MayHappen S w e
         → ((c : ℕ) → c < p.callers → ((machine (happens S w e) c).made ≤ length (scripts_of p c))
-            × (map words_of (take (machine w c).made (scripts_of p c)) ++ begun_by e c ≡ map words_of (take (machine (happens S w e) c).made (scripts_of p c))))
+        × (map words_of (take (machine w c).made (scripts_of p c)) ++ begun_by e c ≡ map words_of (take (machine (happens S w e) c).made (scripts_of p c))))
         → Follows p (es ++ e ∷ [])
     grown e may each =
         let now : moment_after p (es ++ e ∷ []) ≡ happens S w e = run_append S (opening_for p) es (e ∷ []) in
@@ -138,9 +138,10 @@ module _ (p : Plan) (plan : IsPlan p) where
               (k.0, ap (λ (os : List (List ℕ)). map words_of (take (machine w i).made (scripts_of p i)) ++ os) (only_other i c _ n) ∙ k.1)
           each i l (inl q) = subst (λ (k : ℕ). ((machine (happens S w e) k).made ≤ length (scripts_of p k))
               × (map words_of (take (machine w k).made (scripts_of p k)) ++ only (k == c) (words_of script ∷ []) ≡ map words_of (take (machine (happens S w e) k).made (scripts_of p k)))) (sym q)
-              (let made : (machine (happens S w e) c).made ≡ (machine w c).made + 1 = ap (λ (d : Data). d.made) opens in
-              (omega (arith, made, begins_left),
-              ap (λ (os : List (List ℕ)). map words_of (take (machine w c).made (scripts_of p c)) ++ os) (only_same c _)
-              ∙ sym (map-append words_of (take (machine w c).made (scripts_of p c)) (script ∷ []))
-              ∙ ap (map words_of) (sym (take_more (scripts_of p c) (machine w c).made [] begins_left))
-              ∙ ap (λ (n : ℕ). map words_of (take n (scripts_of p c))) (sym made)))
+              (let made : (machine (happens S w e) c).made ≡ (machine w c).made + 1 = ap (λ (d : Data). d.made) opens in (
+                omega (arith, made, begins_left),
+                ap (λ (os : List (List ℕ)). map words_of (take (machine w c).made (scripts_of p c)) ++ os) (only_same c _)
+                    ∙ sym (map-append words_of (take (machine w c).made (scripts_of p c)) (script ∷ []))
+                    ∙ ap (map words_of) (sym (take_more (scripts_of p c) (machine w c).made [] begins_left))
+                    ∙ ap (λ (n : ℕ). map words_of (take n (scripts_of p c))) (sym made),
+              ))

@@ -13,6 +13,9 @@ use of_plan::{Answer, Ended, Ending, Item, Plan};
 use of_script::{MOST_INSTRS, to_words};
 use std::alloc::{AllocError, Global};
 
+#[cfg(test)]
+mod tests;
+
 /// How a caller stands between its turns.
 #[derive(Clone, Copy)]
 struct Standing {
