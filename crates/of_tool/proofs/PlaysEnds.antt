@@ -5,7 +5,6 @@ use Rattle.std.proofs.lemmas.Bool.Decides.{nat_tests}
 use Rattle.std.proofs.lemmas.List.{length-map, append-nil, get_or-map, get_or_append_left, get_or_push, take_more, take_all}
 use Rattle.std.specs.List.{flat_map}
 use Rattle.std.proofs.lemmas.Grind.{flat_map-append}
-use Rattle.of_eval.specs.declared.scripts.Scripts.{Scripts}
 use Rattle.of_eval.specs.Scripts.{scripts_meaning}
 use Rattle.of_plan.specs.declared.answer.Answer.{Answer}
 use Rattle.of_plan.specs.declared.answer.Ending.{Ending}
@@ -17,7 +16,7 @@ use Rattle.of_core.specs.declared.place.Outcome.{Outcome}
 use Rattle.of_core.specs.declared.place.Outcome.TheVariants.{Answered, Spent}
 use Rattle.of_core.specs.Table.{Setup}
 use Rattle.of_core.specs.Machine.{Data, no_machine}
-use Rattle.of_core.specs.Moment.{Bench, table, table_words}
+use Rattle.of_core.specs.Moment.{table, table_words}
 use Rattle.of_core.specs.Events.{Event, machine, opening, idles}
 use Rattle.of_core.specs.Calls.{outcomes}
 use Rattle.of_tool.specs.Play.{setup_for, opening_for, words_of, moves_in, moves_for, events_from, AreAnswers, halted, ending_at}

@@ -1,27 +1,25 @@
 -- Each moment of a plan meets the core's invariant, and what a turn leaves of its caller's machine there.
-use Rattle.std.proofs.Common.{◌≡◌, ℕ, zero, suc, ◌+◌, ◌*◌, ◌-◌, ◌<◌, ◌≤◌, ◌⊎◌, inl, inr, List, [], ◌∷◌, length, get_or, set, refl, sym, ◌∙◌, ap, subst, arith, Option, Some, None, Bool, true, false}
-use Rattle.std.proofs.lemmas.List.{get_or-set_same, get_or-set_other, get_or_default, length-set}
+use Rattle.std.proofs.Common.{◌≡◌, ℕ, ◌+◌, ◌<◌, List, length, get_or, refl, sym, ◌∙◌, ap, arith, Option, Some, None, Bool, true, false}
+use Rattle.std.proofs.lemmas.List.{get_or-set_same, get_or_default}
 use Rattle.of_mem.specs.Meaning.{Sound}
 use Rattle.of_eval.specs.declared.scripts.Scripts.{Scripts}
-use Rattle.of_eval.specs.Scripts.{LawfulCells, scripts_meaning}
+use Rattle.of_eval.specs.Scripts.{LawfulCells}
 use Rattle.of_eval.specs.SoundScripts.{scripts_sound}
 use Rattle.of_plan.specs.Plan.{Plan, IsPlan}
 use Rattle.of_core.specs.declared.place.Place.{Place}
 use Rattle.of_core.specs.declared.place.Place.TheVariants.{Idle}
 use Rattle.of_core.specs.declared.place.Outcome.{Outcome}
 use Rattle.of_core.specs.declared.bank.Turn.{Turn}
-use Rattle.of_core.specs.declared.bank.Turn.TheVariants.{Idle as NoCall, Open, Ended}
-use Rattle.of_core.specs.Table.{Setup, base, size}
+use Rattle.of_core.specs.Table.{Setup, base}
 use Rattle.of_core.specs.Machine.{Data, IsOpen, is_idle, no_machine}
 use Rattle.of_core.specs.Steps.{took, took_at, finds}
 use Rattle.of_core.specs.World.{World, added}
 use Rattle.of_core.specs.Facts.{Step}
 use Rattle.of_core.specs.Invariant.{Good}
-use Rattle.of_core.specs.Bound.{bound}
 use Rattle.of_core.specs.Seen.{ended, ended_at}
 use Rattle.of_core.specs.Turn.{told, turn_from, turn_of}
 use Rattle.of_core.specs.Moment.{table_words}
-use Rattle.of_core.specs.Events.{Event, Turns, machine, happens, run, IsSchedule, opening, zeros}
+use Rattle.of_core.specs.Events.{Event, Turns, machine, happens, IsSchedule, zeros}
 use Rattle.of_core.proofs.Moments.{run_good}
 use Rattle.of_core.proofs.Openings.{start_good}
 use Rattle.of_core.proofs.Happenings.{event_good}

@@ -1,15 +1,14 @@
 -- The code stands as the events leave a plan's table: after the begin of a call, a turn and an eviction.
-use Rattle.std.proofs.Common.{◌≡◌, ℕ, zero, suc, ◌+◌, ◌<◌, ◌≤◌, ◌⊎◌, ◌==◌, ◌&&◌, not, nat_lt, if◌then◌else◌, inl, inr, List, [], ◌∷◌, ◌++◌, length, get_or, set, map, take, refl, sym, ◌∙◌, ap, subst, arith, Option, Some, None, Bool, true, false}
+use Rattle.std.proofs.Common.{◌≡◌, ℕ, ◌+◌, ◌<◌, ◌⊎◌, ◌&&◌, not, nat_lt, if◌then◌else◌, inl, inr, List, [], ◌∷◌, ◌++◌, length, get_or, set, map, take, refl, sym, ◌∙◌, ap, subst, arith, Option, Some, None, Bool, true, false}
 use Rattle.std.proofs.lemmas.Bool.{cases_eq}
 use Rattle.std.proofs.lemmas.Bool.Decides.{nat_tests}
-use Rattle.std.proofs.lemmas.List.{append_assoc, append-nil, length-map, map-set, set-get_or, get_or-map, get_or-set_other, get_or_default}
+use Rattle.std.proofs.lemmas.List.{append_assoc, append-nil, length-map, map-set, set-get_or, get_or-map, get_or_default}
 use Rattle.std.proofs.Math.Seq.{take-append_seam}
 use Rattle.std.specs.Option.{is_some}
 use Rattle.of_script.specs.declared.instr.Instr.{Instr}
 use Rattle.of_script.specs.Language.{instr_word}
 use Rattle.of_eval.specs.declared.scripts.Scripts.{Scripts}
 use Rattle.of_eval.specs.Scripts.{scripts_meaning}
-use Rattle.of_plan.specs.declared.answer.Answer.{Answer}
 use Rattle.of_plan.specs.Plan.{Plan, IsPlan, scripts_of}
 use Rattle.of_core.specs.declared.bank.Turn.{Turn}
 use Rattle.of_core.specs.declared.bank.Turn.TheVariants.{Idle as NoCall, Open, Ended}
@@ -21,8 +20,8 @@ use Rattle.of_core.specs.Machine.{Data, is_idle, no_machine, opened}
 use Rattle.of_core.specs.World.{World}
 use Rattle.of_core.specs.Turn.{turn_of}
 use Rattle.of_core.specs.Moment.{Bench, table, after, machine_of}
-use Rattle.of_core.specs.Events.{Event, Begins, Turns, Loads, Evicts, Raises, machine, happens, run}
-use Rattle.of_core.specs.Calls.{outcomes, outcome_of, ended_by, only}
+use Rattle.of_core.specs.Events.{Event, Begins, Turns, Loads, Evicts, Raises, machine, happens}
+use Rattle.of_core.specs.Calls.{outcomes, outcome_of, ended_by}
 use Rattle.of_tool.specs.Play.{setup_for, opening_for, words_of, is_spent, begins_call, next_call, AreAnswers}
 use Rattle.of_tool.specs.Playing.{moment_after, Follows, spent_at, standing_of, standing_after, answers_in, HasTime, StandsAfter, Notes, GoesOn, Begins as BeginsNext}
 use Rattle.of_tool.specs.declared.play.Playing.{Playing}

@@ -1,5 +1,5 @@
 -- How the code that plays a plan stands between two events.
-use Rattle.std.specs.Prelude.{◌≡◌, ◌≢◌, ℕ, ◌+◌, ◌≤◌, ◌<◌, List, [], ◌∷◌, ◌++◌, length, map, take, slice_index_or, slice_set, Option, Some, None}
+use Rattle.std.specs.Prelude.{◌≡◌, ◌≢◌, ℕ, ◌+◌, ◌≤◌, ◌<◌, List, [], ◌++◌, length, map, take, slice_index_or, slice_set, Option, Some, None}
 use Rattle.of_eval.specs.Scripts.{scripts_meaning}
 use Rattle.of_eval.specs.Shapes.{IsHeldBy}
 use Rattle.of_script.specs.declared.instr.Reply.{Reply}
@@ -14,7 +14,7 @@ use Rattle.of_core.specs.declared.place.Outcome.TheVariants.{Answered, Spent}
 use Rattle.of_core.specs.Machine.{Data}
 use Rattle.of_core.specs.World.{World}
 use Rattle.of_core.specs.Moment.{table}
-use Rattle.of_core.specs.Events.{Event, Turns, machine, run, IsSchedule}
+use Rattle.of_core.specs.Events.{Event, machine, run, IsSchedule}
 use Rattle.of_core.specs.Calls.{operations, outcomes, outcome_of}
 use Rattle.of_tool.specs.Play.{setup_for, opening_for, words_of, events_from, next_call, AreAnswers, IsLeftBy, ending_at}
 use Rattle.of_tool.specs.declared.play.Playing.{Playing}

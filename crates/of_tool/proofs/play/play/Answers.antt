@@ -1,6 +1,4 @@
-use Rattle.of_tool.proofs.PlaysSchedule.{play_turns}
-use Rattle.of_tool.proofs.PlaysBusy.{stopped_never_idle}
-use Rattle.std.proofs.Common.{◌<◌, ◌≤◌, List, length, arith, subst, ap}
+use Rattle.std.proofs.Common.{List, arith, subst, ap}
 use Rattle.std.proofs.lemmas.Result.{IfOk-weaker}
 use Rattle.of_core.specs.Events.{Event}
 use Rattle.of_plan.specs.Ended.{run_of}
