@@ -29,3 +29,4 @@ pub mod PlaysMoves
 pub mod PlaysEnds
 pub mod PlaysSchedule
 pub mod PlaysBusy
+pub mod Plays
