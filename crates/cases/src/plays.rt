@@ -69,7 +69,7 @@ const PLAYS: [(&str, &str, u8, &str); 20] = [
         "order_and_fulfil_play",
         "onefile plan 1\ncallers 2\nblocks 4\nscript 0 put 1001 5; push 0 1001; add 0 1\nscript 1 pop 0; need 1001 5; put 1001 4; sub 0 1; count; len 0\nturns 0 5000\nturns 1 5000\nend\n",
         0,
-        "onefile report 1\nentry 1 0 0 run none none 1\nentry 2 1 0 run 1001 none 5 0 1 0\ncaller 0 done 1 1 *\ncaller 1 done 1 1 *\nseq 2\nkey 1001 4\nend\n",
+        "onefile report 1\nentry 1 0 0 run none none 1\nentry 2 1 0 run 1001 none 5 0 1 0\ncaller 0 done 1 1 165\ncaller 1 done 1 1 158\nseq 2\nkey 1001 4\nend\n",
     ),
     (
         "overwritten_log",

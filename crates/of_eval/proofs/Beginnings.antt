@@ -1,19 +1,19 @@
 -- The walk begins with no block met, and its pointer cell is a cell.
-use Rattle.std.proofs.Common.{◌≡◌, ℕ, zero, suc, ◌+◌, ◌<◌, ◌≤◌, ◌≢◌, ◌%◌, ◌∙◌, List, [], ◌∷◌, length, map, get_or, set, Option, Some, None, ap, refl, sym, subst, inl, inr, arith}
+use Rattle.std.proofs.Common.{◌≡◌, ℕ, zero, suc, ◌+◌, ◌<◌, ◌≤◌, ◌%◌, ◌∙◌, List, [], ◌∷◌, length, map, get_or, set, Option, Some, None, ap, refl, sym, subst, inl, inr, arith}
 use Rattle.std.specs.FinMap as fin
 use Rattle.std.specs.Ordering.{nat_cmp}
-use Rattle.std.specs.List.{All, AllByRecursion as Each}
+use Rattle.std.specs.List.{All}
 use Rattle.std.proofs.lemmas.Bool.{cases_lt}
 use Rattle.std.proofs.lemmas.List.{get_or_past}
 use Rattle.of_mem.specs.declared.plot.Plot.{Plot}
-use Rattle.of_mem.specs.Places.{fresh_at, cells_at}
+use Rattle.of_mem.specs.Places.{fresh_at}
 use Rattle.of_mem.specs.Plots.{base, size}
 use Rattle.of_mem.specs.ProgramWork.{memory}
 use Rattle.of_mem.specs.Stores.{front_at, link_at, first_at, value_in, total}
 use Rattle.of_store.specs.State.{State}
 use Rattle.of_mem.proofs.Heaps.{front_below, each_weaker, cell_in}
 use Rattle.of_eval.specs.Faults.{here}
-use Rattle.of_eval.specs.Walking.{HasBegun, Painted, Walked, Stepped, Freed, Before, HasRegisters, unmet}
+use Rattle.of_eval.specs.Walking.{HasBegun, Walked, Stepped, Freed, Before, HasRegisters, unmet}
 use Rattle.of_eval.proofs.Paintings.{unmet_set}
 use Rattle.of_eval.proofs.Passing.{Fits, counted_few, walked_on}
 

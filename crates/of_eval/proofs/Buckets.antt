@@ -1,5 +1,5 @@
 -- A block of a bucket: its key and its value, and the faults of them.
-use Rattle.std.proofs.Common.{◌≡◌, ℕ, ◌+◌, ◌%◌, ◌<◌, ◌≤◌, ◌≢◌, ◌⊎◌, inl, inr, Bool, true, false, cond, eqb, List, [], ◌∷◌, ◌++◌, length, Option, Some, None, is_some, refl, sym, ◌∙◌, ap, subst, arith}
+use Rattle.std.proofs.Common.{◌≡◌, ℕ, ◌+◌, ◌%◌, ◌<◌, ◌≤◌, ◌≢◌, inl, inr, Bool, true, false, cond, eqb, List, [], ◌∷◌, Option, Some, None, is_some, refl, sym, ◌∙◌, ap, subst, arith}
 use Rattle.std.specs.List.{AllByRecursion as Each}
 use Rattle.std.specs.FinMap as fin
 use Rattle.std.proofs.lemmas.Bool.{eqb-true, false≢true}
@@ -7,7 +7,7 @@ use Rattle.of_mem.specs.declared.plot.Plot.{Plot}
 use Rattle.of_mem.specs.Places.{fresh_at}
 use Rattle.of_mem.specs.Plots.{base}
 use Rattle.of_mem.specs.ProgramWork.{memory}
-use Rattle.of_mem.specs.Stores.{IsNumber, IsBucket, front_at, first_at, second_at, cell_after, value_in, total}
+use Rattle.of_mem.specs.Stores.{IsBucket, front_at, first_at, second_at, cell_after, value_in}
 use Rattle.of_mem.proofs.Frames.{none_value}
 use Rattle.of_script.specs.Language.{greatest}
 use Rattle.of_store.specs.State.{State, kept, with_key}

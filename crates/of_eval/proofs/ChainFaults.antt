@@ -1,12 +1,12 @@
 -- Where a fault of a chain or of a count is named, the chains cannot go on to be sound.
-use Rattle.std.proofs.Common.{◌≡◌, ℕ, zero, suc, ◌+◌, ◌%◌, ◌<◌, ◌≤◌, ◌≢◌, ◌⊎◌, inl, inr, List, [], ◌∷◌, ◌++◌, length, map, refl, sym, ◌∙◌, ap, subst, arith}
+use Rattle.std.proofs.Common.{◌≡◌, ℕ, zero, suc, ◌+◌, ◌%◌, ◌<◌, ◌≤◌, ◌≢◌, ◌⊎◌, inl, inr, List, [], ◌∷◌, ◌++◌, length, refl, sym, ◌∙◌, ap, subst, arith}
 use Rattle.std.specs.List.{AllByRecursion as Each}
 use Rattle.std.proofs.lemmas.Bool.{cases_eq, cases_lt}
-use Rattle.of_mem.specs.Places.{fresh_at, keys_at, tail_at, length_at}
-use Rattle.of_mem.specs.Stores.{IsChain, IsBucket, IsNumber, front_at, first_at, second_at, link_at, cell_after, last_pointer, total}
+use Rattle.of_mem.specs.Places.{fresh_at, keys_at}
+use Rattle.of_mem.specs.Stores.{IsChain, IsBucket, IsNumber, front_at, first_at, second_at, last_pointer, total}
 use Rattle.of_mem.proofs.Heaps.{each_left, each_right, chain_apart, same_chain}
 use Rattle.of_mem.proofs.Frames.{bucket_split}
-use Rattle.of_eval.specs.Faults.{Has, IsMet, IsNoKey, LeadsOn, Passed, Counted, ChainFault, CountFault, here}
+use Rattle.of_eval.specs.Faults.{Has, IsMet, IsNoKey, Passed, Counted, ChainFault, CountFault, here}
 use Rattle.of_eval.specs.Faults.ChainFault.{Pointer, Key, Value, Item}
 use Rattle.of_eval.specs.Faults.CountFault.{Keys, Tail, Length}
 use Rattle.of_eval.proofs.Paths.{has_each, path_front}

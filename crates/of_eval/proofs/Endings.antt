@@ -1,17 +1,17 @@
 -- The walk compares the count of keys, and at its end looks for a block that was not met.
-use Rattle.std.proofs.Common.{◌≡◌, ℕ, zero, suc, ◌+◌, ◌<◌, ◌≤◌, ◌≢◌, List, [], ◌∷◌, length, map, get_or, refl, sym, ◌∙◌, ap, subst, arith, inl, inr, Bool, true, false, cond, eqb}
+use Rattle.std.proofs.Common.{◌≡◌, ℕ, zero, suc, ◌+◌, ◌<◌, ◌≢◌, List, [], ◌∷◌, length, map, get_or, refl, sym, ◌∙◌, ap, subst, arith, Bool, true, false, cond, eqb}
 use Rattle.std.specs.List.{AllByRecursion as Each}
 use Rattle.std.specs.FinMap as fin
-use Rattle.std.proofs.lemmas.Bool.{ne_eqb, eqb-true, eqb-false}
+use Rattle.std.proofs.lemmas.Bool.{ne_eqb, eqb-false}
 use Rattle.of_mem.specs.declared.plot.Plot.{Plot}
 use Rattle.of_mem.specs.Places.{fresh_at, keys_at}
 use Rattle.of_mem.specs.Plots.{base}
 use Rattle.of_mem.specs.ProgramWork.{memory}
 use Rattle.of_mem.specs.Stores.{IsNumber, Stands, first_at, total}
-use Rattle.of_store.specs.State.{State, queue}
+use Rattle.of_store.specs.State.{State}
 use Rattle.of_eval.specs.Stored.{plain}
 use Rattle.of_eval.specs.Lawful.{StandsFor}
-use Rattle.of_eval.specs.Faults.{Counted, IsFirstFault}
+use Rattle.of_eval.specs.Faults.{IsFirstFault}
 use Rattle.of_eval.specs.Faults.CountFault.{Keys}
 use Rattle.of_eval.specs.Faults.IsFirstFault.{Count, Lost}
 use Rattle.of_eval.specs.Walking.{Before, unmet}

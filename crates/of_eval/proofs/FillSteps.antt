@@ -1,5 +1,5 @@
 -- What is done to the store while it is filled.
-use Rattle.std.proofs.Common.{◌≡◌, ℕ, zero, suc, ◌+◌, ◌*◌, ◌^◌, ◌<◌, ◌≤◌, Bool, true, false, leb, inl, inr, List, [], ◌∷◌, ◌++◌, length, map, get_or, set, replicate, refl, sym, ◌∙◌, ap, subst, arith, Option, Some, None, Ok, Err}
+use Rattle.std.proofs.Common.{◌≡◌, ℕ, zero, suc, ◌+◌, ◌<◌, ◌≤◌, false, leb, inl, inr, List, [], ◌∷◌, ◌++◌, get_or, set, replicate, refl, sym, ◌∙◌, ap, arith, Option, None, Ok}
 use Rattle.std.specs.FinMap as fin
 use Rattle.std.proofs.lemmas.Bool.{cases_eq}
 use Rattle.std.proofs.lemmas.Bool.Decides.{leb_tells}
@@ -10,7 +10,7 @@ use Rattle.of_mem.specs.Plots.{base}
 use Rattle.of_mem.specs.ProgramWork.{memory}
 use Rattle.of_script.specs.declared.instr.Instr.{Instr}
 use Rattle.of_script.specs.declared.instr.Instr.TheVariants.{Store, Put, Push}
-use Rattle.of_script.specs.Language.{IsScript, InRange, instr_word, greatest}
+use Rattle.of_script.specs.Language.{IsScript, InRange, greatest}
 use Rattle.of_store.specs.State.{State, Effect, effect, then_on, settled, run, kept, queue, with_key, with_queue, with_register, empty_store}
 use Rattle.of_store.proofs.Effects.{put_new}
 use Rattle.of_store.proofs.Keeps.{register_keeps, empty_is}

@@ -1,28 +1,23 @@
 -- The store while it is filled with what the blocks hold that are met.
-use Rattle.std.proofs.Common.{◌≡◌, ℕ, ◌+◌, ◌-◌, ◌%◌, ◌<◌, ◌≤◌, ◌≢◌, inl, inr, Bool, true, false, cond, eqb, eq-eqb, List, [], ◌∷◌, ◌++◌, length, map, get_or, set, refl, sym, ◌∙◌, ap, subst, arith, Some, None, length-append}
-use Rattle.std.specs.Prelude.{sum_by}
+use Rattle.std.proofs.Common.{◌≡◌, ℕ, ◌+◌, ◌%◌, ◌<◌, ◌≤◌, ◌≢◌, inl, inr, Bool, cond, eqb, eq-eqb, List, [], ◌∷◌, ◌++◌, length, map, refl, sym, ◌∙◌, ap, subst, arith, Some, None, length-append}
 use Rattle.std.specs.List.{AllByRecursion as Each}
 use Rattle.std.specs.FinMap as fin
-use Rattle.std.specs.Ordering.{nat_cmp, eq_by_cmp}
 use Rattle.std.specs.Cmp.{nat_cmp_total}
 use Rattle.std.proofs.lemmas.Bool.{cases_eq, ne_eqb}
 use Rattle.std.proofs.lemmas.List.{append-nil, length-map, map-append, get_or-set_same, get_or-set_other}
 use Rattle.of_mem.specs.declared.plot.Plot.{Plot}
 use Rattle.of_mem.specs.Plots.{base}
 use Rattle.of_mem.specs.ProgramWork.{memory}
-use Rattle.of_mem.specs.Programs.{changed}
-use Rattle.of_mem.specs.Stores.{IsBucket, IsNumber, first_at, second_at, value_in, total, things}
+use Rattle.of_mem.specs.Stores.{IsBucket, IsNumber, first_at, second_at, value_in, total}
 use Rattle.of_mem.proofs.Changes.{changed_same, changed_other, changed_cases, total_changed, total_changed_past}
-use Rattle.of_mem.proofs.Counts.{all_chains}
 use Rattle.of_mem.proofs.Frames.{none_value, value_without}
 use Rattle.of_mem.proofs.Heaps.{each_append}
 use Rattle.of_map.proofs.News.{keys_tie}
 use Rattle.of_script.specs.Language.{greatest}
-use Rattle.of_store.specs.State.{State, IsState, kept, queue, with_key, with_queue}
+use Rattle.of_store.specs.State.{State, kept, queue, with_key, with_queue}
 use Rattle.of_store.proofs.Kept.{kept_put}
 use Rattle.of_store.proofs.Keeps.{put_keeps, queue_keeps, small_pushed}
 use Rattle.of_eval.specs.Instructions.{things_kept}
-use Rattle.of_eval.specs.Stored.{plain}
 use Rattle.of_eval.specs.Walking.{Kept}
 use Rattle.of_eval.proofs.Passing.{with_block}
 

@@ -1,9 +1,8 @@
 -- The first cell at fault is one: two walks that stop at a fault stop at the same.
-use Rattle.std.proofs.Common.{◌≡◌, ℕ, zero, suc, ◌+◌, ◌%◌, ◌<◌, ◌≤◌, ◌≢◌, ◌⊎◌, inl, inr, List, [], ◌∷◌, ◌++◌, length, get_or, refl, sym, ◌∙◌, ap, subst, arith}
+use Rattle.std.proofs.Common.{◌≡◌, ℕ, suc, ◌+◌, ◌<◌, ◌≤◌, ◌≢◌, ◌⊎◌, inl, inr, List, [], ◌∷◌, ◌++◌, length, get_or, refl, sym, ◌∙◌, ap, subst, arith}
 use Rattle.std.specs.List.{AllByRecursion as Each, AllPairs}
 use Rattle.std.proofs.lemmas.Bool.{cases_eq, cases_lt}
-use Rattle.std.proofs.lemmas.List.{append-nil}
-use Rattle.of_mem.specs.Places.{base_of, shape_at, register_at, fresh_at, tail_at, length_at}
+use Rattle.of_mem.specs.Places.{base_of, register_at, fresh_at, tail_at, length_at}
 use Rattle.of_mem.specs.Stores.{IsBucket, IsNumber, front_at, first_at, second_at, link_at, cell_after, last_pointer}
 use Rattle.of_mem.proofs.Heaps.{each_right}
 use Rattle.of_eval.specs.Lawful.{OwnStand}
@@ -13,7 +12,7 @@ use Rattle.of_eval.specs.Faults.CountFault.{Keys, Tail, Length}
 use Rattle.of_eval.specs.Faults.IsFirstFault.{Own, Register, Fresh, Chain, Count, Lost}
 use Rattle.of_eval.proofs.Paths.{has_each}
 use Rattle.of_eval.proofs.OwnFaults.{own_excludes, own_same}
-use Rattle.of_eval.proofs.ChainFaults.{GoesOn, same_block, no_fault, fault_block, same_chains, chain_excludes, count_in, count_excludes, all_same, whole_passed, total_passed}
+use Rattle.of_eval.proofs.ChainFaults.{GoesOn, same_block, no_fault, fault_block, same_chains, chain_excludes, count_in, count_excludes, all_same, whole_passed}
 
 -- ---- two paths from one cell
 

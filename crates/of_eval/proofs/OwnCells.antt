@@ -1,9 +1,9 @@
 -- The reply that a caller's own cells hold, by its shape and its numbers.
-use Rattle.std.proofs.Common.{◌≡◌, ℕ, zero, suc, ◌+◌, ◌*◌, ◌^◌, ◌<◌, ◌≤◌, ◌≢◌, inl, inr, Bool, true, false, List, [], ◌∷◌, length, map, get_or, replicate, refl, sym, ◌∙◌, ap, subst, arith, Option, Some, None, IfSome, is_some, if◌then◌else◌, nat_lt}
+use Rattle.std.proofs.Common.{◌≡◌, ℕ, zero, suc, ◌+◌, ◌*◌, ◌^◌, ◌<◌, ◌≤◌, inl, inr, Bool, List, [], ◌∷◌, length, map, get_or, refl, sym, ◌∙◌, ap, subst, arith, Option, Some, None, IfSome, is_some, if◌then◌else◌}
 use Rattle.std.specs.List.{range_with_len}
 use Rattle.std.proofs.lemmas.Bool.{cases_lt, lt-ltb, false≢true}
 use Rattle.std.proofs.lemmas.List.FromFn.{get_or-map-range_with_len}
-use Rattle.of_mem.specs.Places.{ticket_at, shape_at, reply_at}
+use Rattle.of_mem.specs.Places.{shape_at, reply_at}
 use Rattle.of_mem.specs.declared.plot.Plot.{Plot}
 use Rattle.of_mem.specs.ProgramWork.{memory}
 use Rattle.of_mem.specs.Stores.{IsNumber}
@@ -14,10 +14,10 @@ use Rattle.of_eval.specs.Faults.IsFirstFault.{Own}
 use Rattle.of_script.specs.Language.{greatest}
 use Rattle.of_script.specs.declared.instr.Reply.{Reply}
 use Rattle.of_script.specs.declared.instr.Abort.{Abort}
-use Rattle.of_store.specs.Replies.{IsReply, IsSmall}
-use Rattle.of_eval.specs.Shapes.{IsWhole, IsLaidOut, IsHeldBy, mark, mask_of, shape_of, abort_part}
-use Rattle.of_eval.specs.Lawful.{reply_number, reply_in, HoldsReply, OwnStand}
-use Rattle.of_eval.specs.Faults.{IsShapeOf, HasNumber, OwnFault, AtCell, bare}
+use Rattle.of_store.specs.Replies.{IsSmall}
+use Rattle.of_eval.specs.Shapes.{IsWhole, mask_of, shape_of, abort_part}
+use Rattle.of_eval.specs.Lawful.{reply_number, HoldsReply, OwnStand}
+use Rattle.of_eval.specs.Faults.{IsShapeOf, HasNumber, OwnFault, AtCell}
 
 -- another number at a place that has one
 abbrev pub renumbered : Option ℕ → ℕ → Option ℕ

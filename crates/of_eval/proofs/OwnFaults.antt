@@ -1,19 +1,17 @@
 -- A caller's own cells with a fault hold no reply, and their first fault is one.
-use Rattle.std.proofs.Common.{◌≡◌, ℕ, zero, suc, ◌+◌, ◌%◌, ◌^◌, ◌<◌, ◌≤◌, ◌≢◌, inl, inr, true, false, List, [], ◌∷◌, length, map, get_or, replicate, refl, sym, ◌∙◌, ap, subst, arith, Option, Some, None, is_some}
-use Rattle.std.proofs.lemmas.Bool.{cases_eq, cases_lt, false≢true}
+use Rattle.std.proofs.Common.{◌≡◌, ℕ, zero, suc, ◌<◌, ◌≤◌, inl, inr, true, List, get_or, replicate, refl, sym, ◌∙◌, ap, subst, arith, Option, Some, None, is_some}
+use Rattle.std.proofs.lemmas.Bool.{cases_lt, false≢true}
 use Rattle.std.proofs.lemmas.List.{length-replicate}
 use Rattle.of_mem.specs.Places.{shape_at, reply_at}
 use Rattle.of_mem.specs.Stores.{IsNumber}
 use Rattle.of_script.specs.Language.{greatest}
 use Rattle.of_script.specs.declared.instr.Reply.{Reply}
 use Rattle.of_store.specs.Replies.{IsSmall}
-use Rattle.of_eval.specs.Shapes.{IsHeldBy}
-use Rattle.of_eval.specs.Reading.{marked_in}
 use Rattle.of_eval.specs.Lawful.{HoldsReply, OwnStand}
 use Rattle.of_eval.specs.Faults.{IsShapeOf, HasNumber, OwnFault, bare}
 use Rattle.of_eval.specs.Faults.OwnFault.{Left, NoShape, GreatReply}
 use Rattle.of_eval.proofs.Unpacked.{len_is, values_are}
-use Rattle.of_eval.proofs.OwnCells.{filled, filled_at, filled_marks, renumbered, with_numbers, whole_with, shape_with, number_at}
+use Rattle.of_eval.proofs.OwnCells.{filled_at, filled_marks, renumbered, with_numbers, whole_with, shape_with, number_at}
 
 zero_at : (n i : ℕ) → get_or {A = ℕ} (replicate n 0) i 0 ≡ 0
 zero_at zero i = refl

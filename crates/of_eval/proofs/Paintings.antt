@@ -1,13 +1,12 @@
 -- The owners table while blocks are met.
-use Rattle.std.proofs.Common.{◌≡◌, ℕ, zero, suc, ◌+◌, ◌-◌, ◌<◌, ◌≤◌, ◌≢◌, ◌⊎◌, inl, inr, List, [], ◌∷◌, ◌++◌, length, get_or, set, refl, sym, ◌∙◌, ap, subst, arith, Bool, true, false, cond, eqb, length-set, length-append}
-use Rattle.std.specs.List.{All, AllByRecursion as Each}
+use Rattle.std.proofs.Common.{◌≡◌, ℕ, zero, suc, ◌+◌, ◌-◌, ◌<◌, ◌≤◌, ◌≢◌, inl, inr, List, [], ◌∷◌, ◌++◌, length, get_or, set, sym, ◌∙◌, ap, subst, arith, Bool, true, false, cond, eqb, length-set, length-append}
+use Rattle.std.specs.List.{AllByRecursion as Each}
 use Rattle.std.proofs.lemmas.Bool.{cases_eq, ne_eqb}
-use Rattle.std.proofs.lemmas.List.{get_or-set_same, get_or-set_other, get_or_past}
-use Rattle.of_mem.specs.Places.{fresh_at}
+use Rattle.std.proofs.lemmas.List.{get_or-set_same, get_or-set_other}
 use Rattle.of_mem.specs.Programs.{changed}
 use Rattle.of_mem.specs.Stores.{total}
 use Rattle.of_mem.proofs.Changes.{changed_same, changed_other, total_changed}
-use Rattle.of_eval.specs.Faults.{Has, IsMet, LeadsOn, here}
+use Rattle.of_eval.specs.Faults.{Has, IsMet}
 use Rattle.of_eval.specs.Walking.{Painted, unmet}
 use Rattle.of_eval.proofs.Paths.{has_last, has_more, has_before, each_has}
 

@@ -1,18 +1,18 @@
 -- The walk meets one block more, ends a chain, or stops at a fault.
-use Rattle.std.proofs.Common.{◌≡◌, ℕ, ◌+◌, ◌-◌, ◌%◌, ◌<◌, ◌≤◌, ◌≢◌, ◌⊎◌, inl, inr, List, [], ◌∷◌, ◌++◌, length, get_or, set, refl, sym, ◌∙◌, ap, subst, arith, Some, None}
-use Rattle.std.specs.List.{All, AllByRecursion as Each, AllPairs}
-use Rattle.std.proofs.lemmas.Bool.{cases_eq, cases_lt}
+use Rattle.std.proofs.Common.{◌≡◌, ℕ, ◌+◌, ◌-◌, ◌<◌, ◌≤◌, ◌≢◌, ◌⊎◌, inl, inr, List, [], ◌∷◌, ◌++◌, length, get_or, set, sym, ◌∙◌, ap, subst, arith, Some}
+use Rattle.std.specs.List.{AllByRecursion as Each, AllPairs}
+use Rattle.std.proofs.lemmas.Bool.{cases_eq}
 use Rattle.of_mem.specs.declared.plot.Plot.{Plot}
 use Rattle.of_mem.specs.Places.{fresh_at, keys_at}
 use Rattle.of_mem.specs.Plots.{base}
 use Rattle.of_mem.specs.ProgramWork.{memory}
 use Rattle.of_mem.specs.Programs.{changed}
-use Rattle.of_mem.specs.Stores.{IsChain, IsBucket, IsNumber, front_at, first_at, second_at, link_at, cell_after, total}
+use Rattle.of_mem.specs.Stores.{IsChain, IsBucket, IsNumber, front_at, first_at, link_at, cell_after}
 use Rattle.of_mem.proofs.Changes.{changed_same, changed_other, changed_cases, total_changed_past}
 use Rattle.of_mem.proofs.Heaps.{each_append}
 use Rattle.of_eval.specs.declared.lawful_cells.LawErr.{LawErr}
 use Rattle.of_eval.specs.declared.lawful_cells.LawErr.TheVariants.{Memory, Unlawful}
-use Rattle.of_eval.specs.Faults.{Has, IsPath, IsMet, LeadsOn, Passed, Counted, ChainFault, IsFirstFault, here}
+use Rattle.of_eval.specs.Faults.{IsPath, IsMet, LeadsOn, Passed, Counted, ChainFault, IsFirstFault, here}
 use Rattle.of_eval.specs.Faults.ChainFault.{Pointer}
 use Rattle.of_eval.specs.Faults.IsFirstFault.{Chain}
 use Rattle.of_eval.specs.Walking.{Painted, Walked, Stepped, StoppedAt, NamesFault}

@@ -1,11 +1,11 @@
 -- A block of a queue and what is counted behind the queue, and the faults of them.
-use Rattle.std.proofs.Common.{◌≡◌, ℕ, ◌+◌, ◌<◌, ◌≤◌, ◌≢◌, inl, inr, List, [], ◌∷◌, ◌++◌, length, Option, Some, refl, sym, ◌∙◌, ap, subst, arith}
+use Rattle.std.proofs.Common.{◌≡◌, ℕ, ◌+◌, ◌<◌, ◌≤◌, ◌≢◌, inl, inr, List, [], ◌∷◌, ◌++◌, length, Some, refl, sym, ◌∙◌, ap, subst, arith}
 use Rattle.std.proofs.lemmas.Bool.{cases_eq}
 use Rattle.of_mem.specs.declared.plot.Plot.{Plot}
 use Rattle.of_mem.specs.Places.{fresh_at, tail_at, length_at}
 use Rattle.of_mem.specs.Plots.{base}
 use Rattle.of_mem.specs.ProgramWork.{memory}
-use Rattle.of_mem.specs.Stores.{IsNumber, first_at, last_pointer, total}
+use Rattle.of_mem.specs.Stores.{first_at, last_pointer}
 use Rattle.of_mem.proofs.Changes.{changed_same}
 use Rattle.of_queue.proofs.Pushes.{last_pointer-append}
 use Rattle.of_script.specs.Language.{greatest}

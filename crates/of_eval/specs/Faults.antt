@@ -1,8 +1,8 @@
 -- The first of the data cells, in the order in which they are looked at, for which they stand for no store.
-use Rattle.std.specs.Prelude.{◌≡◌, ◌≢◌, ◌⊎◌, ℕ, ◌+◌, ◌%◌, ◌<◌, ◌≤◌, Bool, true, is_some, Option, None, List, [], ◌∷◌, ◌++◌, length, replicate, slice_index_or}
+use Rattle.std.specs.Prelude.{◌≡◌, ◌≢◌, ◌⊎◌, ℕ, ◌+◌, ◌%◌, ◌<◌, ◌≤◌, true, is_some, None, List, [], ◌∷◌, length, replicate, slice_index_or}
 use Rattle.std.specs.List.{AllByRecursion as Each, AllPairs}
 use Rattle.of_script.specs.declared.instr.Reply.{Reply}
-use Rattle.of_script.specs.declared.instr.TheConstants.{MOST_INSTRS}
+use Rattle.of_script.specs.declared.instr.TheConstants.{MOST_INSTRS, REGISTERS}
 use Rattle.of_mem.specs.declared.work.RawReply.{RawReply}
 use Rattle.of_mem.specs.Places.{base_of, ticket_at, shape_at, reply_at, register_at, fresh_at, keys_at, tail_at, length_at}
 use Rattle.of_mem.specs.Stores.{IsChain, IsBucket, IsNumber, front_at, first_at, second_at, link_at, cell_after, last_pointer, total}
@@ -38,10 +38,20 @@ pub data OwnFault (instrs : ℕ) (m : ℕ → ℕ) (caller cell : ℕ) : Type 0 
       → (j : ℕ) → j < r.len → HasNumber r j → ((i : ℕ) → i < j → HasNumber r i → IsNumber (m (reply_at instrs caller i))) → (IsNumber (m (reply_at instrs caller j)) → ⊥)
       → cell ≡ reply_at instrs caller j → OwnFault instrs m caller cell
 
--- what is looked at before the chains is sound
+-- ---- what is looked at before the chains
+
+-- the own cells of the first so many callers are sound
+abbrev pub OwnsStand : ℕ → (ℕ → ℕ) → ℕ → Type 0
+OwnsStand instrs m n = (c : ℕ) → c < n → OwnStand instrs m c
+
+-- the first so many registers are numbers
+abbrev pub AreNumbers : ℕ → (ℕ → ℕ) → ℕ → Type 0
+AreNumbers o m n = (r : ℕ) → r < n → IsNumber (m (register_at o r))
+
+-- the callers' own cells and the registers are sound, and no more blocks were taken than there are
 pub record Begun (callers instrs blocks : ℕ) (m : ℕ → ℕ) : Type 0 where
-  pub own : (c : ℕ) → c < callers → OwnStand instrs m c
-  pub registers : (r : ℕ) → r < 16 → IsNumber (m (register_at (base_of callers instrs) r))
+  pub own : OwnsStand instrs m callers
+  pub registers : AreNumbers (base_of callers instrs) m REGISTERS
   pub few : m (fresh_at (base_of callers instrs)) ≤ blocks
 
 -- ---- the chains
@@ -96,27 +106,36 @@ IsNoKey o m k bucket key = (IsNumber key → ⊥) ⊎ ((key % 32 ≢ k) ⊎ ((x 
 pub data ChainFault (o : ℕ) (m : ℕ → ℕ) (n : ℕ) (chains : ℕ → List ℕ) (cell : ℕ) : Type 0 where
   -- the pointer leads to a block that is not below fresh or was met
   Pointer : n < 37 → (b : ℕ) → m (here o n chains) ≡ b + 1 → (m (fresh_at o) ≤ b) ⊎ IsMet chains b → cell ≡ here o n chains → ChainFault o m n chains cell
+  -- the key is none of this bucket
   Key : (k b : ℕ) → k < 32 → n ≡ 1 + k → LeadsOn o m n chains b → IsNoKey o m k (chains n) (m (first_at o b)) → cell ≡ first_at o b → ChainFault o m n chains cell
+  -- the value beside a key is too great
   Value : (k b : ℕ) → k < 32 → n ≡ 1 + k → LeadsOn o m n chains b → (IsNoKey o m k (chains n) (m (first_at o b)) → ⊥) → (IsNumber (m (second_at o b)) → ⊥) → cell ≡ second_at o b → ChainFault o m n chains cell
+  -- the item is too great
   Item : (q b : ℕ) → q < 4 → n ≡ 33 + q → LeadsOn o m n chains b → (IsNumber (m (first_at o b)) → ⊥) → cell ≡ first_at o b → ChainFault o m n chains cell
 
 -- the first fault of what is counted behind the chains before chain n
 pub data CountFault (o : ℕ) (m : ℕ → ℕ) (n : ℕ) (chains : ℕ → List ℕ) (cell : ℕ) : Type 0 where
+  -- there are not so many keys in the buckets
   Keys : n ≡ 33 → m (keys_at o) + length (chains 0) ≢ total chains 33 → cell ≡ keys_at o → CountFault o m n chains cell
+  -- the tail does not point to the last block
   Tail : (q : ℕ) → q < 4 → n ≡ 34 + q → m (tail_at o q) ≢ last_pointer 0 (chains (33 + q)) → cell ≡ tail_at o q → CountFault o m n chains cell
+  -- there are not so many items
   Length : (q : ℕ) → q < 4 → n ≡ 34 + q → m (tail_at o q) ≡ last_pointer 0 (chains (33 + q)) → m (length_at o q) ≢ length (chains (33 + q)) → cell ≡ length_at o q → CountFault o m n chains cell
 
 -- The first cell at fault. What is looked at before it is sound.
 pub data IsFirstFault (callers instrs blocks : ℕ) (m : ℕ → ℕ) (cell : ℕ) : Type 0 where
-  Own : (c : ℕ) → c < callers → ((d : ℕ) → d < c → OwnStand instrs m d) → OwnFault instrs m c cell → IsFirstFault callers instrs blocks m cell
-  Register : ((c : ℕ) → c < callers → OwnStand instrs m c) → (r : ℕ) → r < 16 → ((q : ℕ) → q < r → IsNumber (m (register_at (base_of callers instrs) q)))
-      → (IsNumber (m (register_at (base_of callers instrs) r)) → ⊥) → cell ≡ register_at (base_of callers instrs) r → IsFirstFault callers instrs blocks m cell
+  -- a caller's own cells
+  Own : (c : ℕ) → c < callers → OwnsStand instrs m c → OwnFault instrs m c cell → IsFirstFault callers instrs blocks m cell
+  -- a register that is too great
+  Register : OwnsStand instrs m callers → (r : ℕ) → r < REGISTERS → AreNumbers (base_of callers instrs) m r → (IsNumber (m (register_at (base_of callers instrs) r)) → ⊥)
+      → cell ≡ register_at (base_of callers instrs) r → IsFirstFault callers instrs blocks m cell
   -- more blocks were taken than there are
-  Fresh : ((c : ℕ) → c < callers → OwnStand instrs m c) → ((r : ℕ) → r < 16 → IsNumber (m (register_at (base_of callers instrs) r)))
-      → blocks < m (fresh_at (base_of callers instrs)) → cell ≡ fresh_at (base_of callers instrs) → IsFirstFault callers instrs blocks m cell
+  Fresh : OwnsStand instrs m callers → AreNumbers (base_of callers instrs) m REGISTERS → blocks < m (fresh_at (base_of callers instrs))
+      → cell ≡ fresh_at (base_of callers instrs) → IsFirstFault callers instrs blocks m cell
+  -- a pointer of a chain, or what stands in a block
   Chain : Begun callers instrs blocks m → (n : ℕ) (chains : ℕ → List ℕ) → Passed (base_of callers instrs) m n chains → Counted (base_of callers instrs) m n chains
       → ChainFault (base_of callers instrs) m n chains cell → IsFirstFault callers instrs blocks m cell
-  -- the chains before chain n are sound, and what is counted behind all of them but the last
+  -- what is counted behind the chains up to chain n; what is counted behind those before it is right
   Count : Begun callers instrs blocks m → (n : ℕ) (chains : ℕ → List ℕ) → Passed (base_of callers instrs) m (1 + n) chains → Counted (base_of callers instrs) m n chains → chains (1 + n) ≡ []
       → CountFault (base_of callers instrs) m (1 + n) chains cell → IsFirstFault callers instrs blocks m cell
   -- a block below fresh was not met

@@ -9,3 +9,4 @@ pub mod Recovery
 pub mod Cells
 pub mod OpenCalls
 pub mod Records
+pub mod Worked

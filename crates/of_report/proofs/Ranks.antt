@@ -1,6 +1,5 @@
 -- Entries that stand in order have rising ranks.
-use Rattle.std.proofs.Common.{◌≡◌, ℕ, ◌+◌, ◌*◌, ◌<◌, ◌≤◌, ◌⊎◌, inl, inr, Bool, true, false, refl, ap, arith}
-use Rattle.std.proofs.Math.Nat.{mul-le-mul_right}
+use Rattle.std.proofs.Common.{◌≡◌, ℕ, ◌+◌, ◌*◌, ◌<◌, ◌≤◌, ◌⊎◌, inl, inr, Bool, true, false, ap, arith}
 use Rattle.of_plan.specs.Report.{CallEntry}
 use Rattle.of_plan.specs.Legal.{StandsBefore, StandsBeforeWithin}
 use Rattle.of_report.specs.Order.{kind_rank, rank_of}

@@ -29,4 +29,4 @@ pub mod PlaysMoves
 pub mod PlaysEnds
 pub mod PlaysSchedule
 pub mod PlaysBusy
-pub mod Plays
+pub mod PlayedReports

@@ -2,6 +2,7 @@
 
 ghost use Rattle.std.specs.Prelude.{◌≡◌, IfOk};
 ghost use Rattle.of_mem.specs.Plots.{size};
+ghost use Rattle.of_plan.specs.Plan.{IsPlan};
 ghost use Rattle.of_plan.specs.Ended.{run_of};
 ghost use Rattle.of_tool.specs.Play.{IsPlayed};
 
@@ -236,7 +237,8 @@ impl Playing {
 /// Runs a plan's schedule step by step on a bank: at each turn of a caller its open call makes a step, or it begins its next script and
 /// makes the first one. A caller that is done or spent makes none.
 pub fn play(alloc: Global, plan: &Plan) -> Result<Ended, AllocError>
-    ensures { IfOk result (λ ended. IsPlayed plan.now (run_of ended)) }
+    ensures plan { IsPlan plan.now }
+    ensures played { IfOk result (λ ended. IsPlayed plan.now (run_of ended)) }
 {
     let mut playing = Playing::new(alloc, plan)?;
     for item in plan.schedule() {

@@ -1,14 +1,13 @@
 //! A store is filled with what cells hold.
 
-ghost use Rattle.std.specs.Prelude.{◌≡◌, ◌≤◌, ◌<◌, ◌+◌, ◌*◌, ◌^◌, ℕ, None, [], ◌∷◌, ◌++◌, length, IfOk, OnOk};
+ghost use Rattle.std.specs.Prelude.{◌≡◌, ◌≤◌, ◌<◌, ◌+◌, ◌*◌, ◌^◌, None, [], ◌∷◌, ◌++◌, length, IfOk, OnOk};
 ghost use Rattle.std.specs.FinMap as fm;
 ghost use Rattle.of_mem.specs.Plots.{base, size};
-ghost use Rattle.of_mem.specs.Places.{register_at};
 ghost use Rattle.of_mem.specs.ProgramWork.{memory};
-ghost use Rattle.of_mem.specs.Stores.{IsNumber};
 ghost use Rattle.of_script.specs.declared.instr.Instr.{Instr};
 ghost use Rattle.of_script.specs.Language.{InRange, greatest, instr_word};
-ghost use Rattle.of_store.specs.State.{IsState, run, kept, queue, empty_store, with_key, with_queue};
+ghost use Rattle.of_store.specs.State.{run, kept, queue, with_key, with_queue};
+ghost use Rattle.of_eval.specs.Faults.{AreNumbers};
 ghost use Rattle.of_eval.specs.Walking.{HasRegisters};
 
 use of_mem::Plot;
@@ -67,8 +66,8 @@ pub(crate) fn push(store: &mut Store, q: u32, item: u32) -> Result<(), AllocErro
 /// The store with these registers and nothing else.
 pub(crate) fn begun_store(alloc: Global, plot: &Plot, cells: &[u32]) -> Result<Store, AllocError>
     requires sized { length cells.now ≡ size plot.now }
-    requires numbers { (r : ℕ) → r < 16 → IsNumber (memory cells.now (register_at (base plot.now) r)) }
-    ensures { IfOk result (HasRegisters plot.now cells.now 16) }
+    requires numbers { AreNumbers (base plot.now) (memory cells.now) REGISTERS }
+    ensures { IfOk result (HasRegisters plot.now cells.now REGISTERS) }
 {
     let mut store = Store::new(alloc, plot.blocks)?;
     for r in 0..REGISTERS {

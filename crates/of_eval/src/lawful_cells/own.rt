@@ -1,11 +1,11 @@
 //! The cells of callers.
 
-ghost use Rattle.std.specs.Prelude.{◌≡◌, ◌≢◌, ◌≤◌, ◌<◌, ℕ, length, IfErr, OnOk};
+ghost use Rattle.std.specs.Prelude.{◌≡◌, ◌≢◌, ◌<◌, length, IfErr, OnOk};
 ghost use Rattle.of_mem.specs.Plots.{size};
 ghost use Rattle.of_mem.specs.Places.{ticket_at, shape_at};
 ghost use Rattle.of_mem.specs.ProgramWork.{memory};
 ghost use Rattle.of_eval.specs.Lawful.{OwnStand};
-ghost use Rattle.of_eval.specs.Faults.{IsShapeOf, OwnFault, AtCell};
+ghost use Rattle.of_eval.specs.Faults.{OwnsStand, IsShapeOf, OwnFault, AtCell};
 ghost use Rattle.of_eval.specs.Walking.{NamesFault};
 
 use crate::lawful_cells::LawErr;
@@ -16,7 +16,7 @@ use of_script::{GREATEST, MOST_INSTRS, Reply};
 /// Looks at the own cells of all callers, in order.
 pub(crate) fn callers(plot: &Plot, cells: &[u32]) -> Result<(), LawErr>
     requires { length cells.now ≡ size plot.now }
-    ensures ok { OnOk result ((c : ℕ) → c < plot.now.callers → OwnStand plot.now.instrs (memory cells.now) c) }
+    ensures ok { OnOk result (OwnsStand plot.now.instrs (memory cells.now) plot.now.callers) }
     ensures err { IfErr result (NamesFault plot.now cells.now) }
 {
     for caller in 0..plot.callers {

@@ -1,12 +1,12 @@
 //! The walk through the chains.
 
-ghost use Rattle.std.specs.Prelude.{◌≡◌, ◌≢◌, ◌≤◌, ◌<◌, ◌+◌, ◌⊎◌, ◌↔◌, IsTrue, EachIndex, slice_index, ℕ, List, Some, None, length, IfOk, IfErr, OnOk, All};
+ghost use Rattle.std.specs.Prelude.{◌≡◌, ◌≢◌, ◌<◌, ◌+◌, ◌↔◌, IsTrue, EachIndex, slice_index, ℕ, List, length, IfOk, IfErr, OnOk, All};
 ghost use Rattle.of_mem.specs.Plots.{base, size};
-ghost use Rattle.of_mem.specs.Places.{register_at, fresh_at};
+ghost use Rattle.of_mem.specs.Places.{fresh_at};
 ghost use Rattle.of_mem.specs.ProgramWork.{memory};
-ghost use Rattle.of_mem.specs.Stores.{IsNumber, first_at, second_at};
 ghost use Rattle.of_store.specs.State.{State};
-ghost use Rattle.of_eval.specs.Lawful.{OwnStand, StandsFor};
+ghost use Rattle.of_eval.specs.Lawful.{StandsFor};
+ghost use Rattle.of_eval.specs.Faults.{OwnsStand, AreNumbers};
 ghost use Rattle.of_eval.specs.Walking.{NamesFault, HasBegun, Freed, Before, Stepped, StoppedAt};
 
 use crate::lawful_cells::fill::{push, put};
@@ -25,8 +25,8 @@ const FIRST_QUEUE: u8 = 33;
 /// Looks at the registers.
 pub(crate) fn registers(plot: &Plot, cells: &[u32]) -> Result<(), LawErr>
     requires sized { length cells.now ≡ size plot.now }
-    requires own { (c : ℕ) → c < plot.now.callers → OwnStand plot.now.instrs (memory cells.now) c }
-    ensures ok { OnOk result ((r : ℕ) → r < 16 → IsNumber (memory cells.now (register_at (base plot.now) r))) }
+    requires own { OwnsStand plot.now.instrs (memory cells.now) plot.now.callers }
+    ensures ok { OnOk result (AreNumbers (base plot.now) (memory cells.now) REGISTERS) }
     ensures err { IfErr result (NamesFault plot.now cells.now) }
 {
     for r in 0..REGISTERS {
@@ -41,8 +41,8 @@ pub(crate) fn registers(plot: &Plot, cells: &[u32]) -> Result<(), LawErr>
 /// How many blocks were taken.
 pub(crate) fn fresh(plot: &Plot, cells: &[u32]) -> Result<u32, LawErr>
     requires sized { length cells.now ≡ size plot.now }
-    requires own { (c : ℕ) → c < plot.now.callers → OwnStand plot.now.instrs (memory cells.now) c }
-    requires registers { (r : ℕ) → r < 16 → IsNumber (memory cells.now (register_at (base plot.now) r)) }
+    requires own { OwnsStand plot.now.instrs (memory cells.now) plot.now.callers }
+    requires registers { AreNumbers (base plot.now) (memory cells.now) REGISTERS }
     ensures begun { OnOk result (HasBegun plot.now cells.now) }
     ensures value { IfOk result (λ n. n ≡ memory cells.now (fresh_at (base plot.now))) }
     ensures err { IfErr result (NamesFault plot.now cells.now) }

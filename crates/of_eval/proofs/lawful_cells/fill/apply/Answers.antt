@@ -1,6 +1,5 @@
-use Rattle.std.proofs.Common.{◌≡◌, List, [], ◌∷◌, Some, refl, sym, ◌∙◌, ap, arith}
+use Rattle.std.proofs.Common.{◌≡◌, List, [], ◌∷◌, Some, sym, ◌∙◌, ap}
 use Rattle.of_script.specs.declared.instr.Instr.{Instr}
-use Rattle.of_script.specs.Language.{instr_word}
 use Rattle.of_store.specs.State.{run}
 use Rattle.of_eval.proofs.FillSteps.{one}
 use Rattle.of_eval.proofs.lawful_cells.fill.apply.Goals as goal

@@ -1,10 +1,10 @@
-use Rattle.std.proofs.Common.{ℕ, ◌≡◌, ◌≤◌, ◌<◌, ◌+◌, get_or, refl, sym, ◌∙◌, arith, ap, subst}
+use Rattle.std.proofs.Common.{ℕ, ◌≡◌, ◌<◌, ◌+◌, get_or, sym, arith, ap, subst}
 use Rattle.of_mem.specs.ProgramWork.{memory}
 use Rattle.of_mem.specs.Stores.{IsNumber}
 use Rattle.of_script.specs.declared.instr.Instr.TheVariants.{Store}
 use Rattle.of_store.specs.State.{State}
 use Rattle.of_eval.specs.Walking.{HasRegisters}
-use Rattle.of_eval.proofs.FillSteps.{store_run, registers_none, registers_more}
+use Rattle.of_eval.proofs.FillSteps.{registers_none, registers_more}
 use Rattle.of_eval.proofs.lawful_cells.fill.begun_store.Goals as goal
 
 pub loop-r-init : goal.loop-r-init

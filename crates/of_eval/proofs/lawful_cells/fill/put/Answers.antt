@@ -1,4 +1,4 @@
-use Rattle.std.proofs.Common.{refl, ◌∙◌, arith, ap}
+use Rattle.std.proofs.Common.{◌∙◌, arith}
 use Rattle.std.proofs.lemmas.Result.{on_ok_weaker}
 use Rattle.of_script.specs.declared.instr.Instr.TheVariants.{Put}
 use Rattle.of_eval.proofs.FillSteps.{put_run}

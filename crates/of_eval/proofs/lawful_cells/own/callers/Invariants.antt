@@ -1,7 +1,6 @@
-use Rattle.std.proofs.Common.{ℕ, ◌<◌}
 use Rattle.of_mem.specs.ProgramWork.{memory}
-use Rattle.of_eval.specs.Lawful.{OwnStand}
+use Rattle.of_eval.specs.Faults.{OwnsStand}
 use Rattle.of_eval.proofs.lawful_cells.own.callers.Given as goal
 
 abbrev pub invariant-loop-caller : goal.invariant-loop-caller
-invariant-loop-caller l = (c : ℕ) → c < l.caller → OwnStand l.plot.instrs (memory l.cells) c
+invariant-loop-caller l = OwnsStand l.plot.instrs (memory l.cells) l.caller

@@ -1,7 +1,6 @@
-use Rattle.std.proofs.Common.{ℕ, ◌<◌, ◌≡◌, true, get_or, arith, sym, subst, ◌∙◌}
+use Rattle.std.proofs.Common.{ℕ, arith, sym, subst, ◌∙◌}
 use Rattle.of_mem.specs.Stores.{IsNumber}
 use Rattle.of_mem.specs.ProgramWork.{memory}
-use Rattle.of_eval.specs.Faults.{HasNumber}
 use Rattle.of_eval.specs.Faults.OwnFault.{GreatReply}
 use Rattle.of_eval.proofs.OwnCells.{numbers_hold}
 use Rattle.of_eval.proofs.lawful_cells.own.numbers.Goals as goal

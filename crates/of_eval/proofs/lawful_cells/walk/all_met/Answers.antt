@@ -1,4 +1,4 @@
-use Rattle.std.proofs.Common.{sym, ◌∙◌, arith}
+use Rattle.std.proofs.Common.{sym, ◌∙◌}
 use Rattle.std.proofs.lemmas.Bool.{false≢true}
 use Rattle.of_eval.proofs.Endings.{lost, stand_for, unmet_none, none_unmet}
 use Rattle.of_eval.proofs.lawful_cells.walk.all_met.Goals as goal

@@ -1,14 +1,10 @@
-use Rattle.std.proofs.Common.{ℕ, ◌≡◌, ◌+◌, ◌%◌, ◌<◌, ◌≤◌, ◌∙◌, List, [], Option, Some, None, inl, inr, is_some, true, false, refl, sym, ap, subst, arith}
+use Rattle.std.proofs.Common.{ℕ, ◌≡◌, ◌+◌, ◌∙◌, Option, None, inl, inr, is_some, sym, ap, subst, arith}
 use Rattle.std.specs.FinMap as fin
 use Rattle.std.proofs.lemmas.Result.{err_from_is_err_and}
 use Rattle.of_mem.specs.ProgramWork.{memory}
 use Rattle.of_mem.specs.Plots.{base}
-use Rattle.of_mem.specs.Stores.{first_at, second_at, IsNumber}
 use Rattle.of_mem.proofs.Heaps.{front_bucket}
-use Rattle.of_script.specs.Language.{greatest}
-use Rattle.of_store.specs.State.{State, with_key}
-use Rattle.of_eval.specs.Faults.{here}
-use Rattle.of_eval.specs.Walking.{Stepped, Walked, Kept}
+use Rattle.of_eval.specs.Walking.{Stepped}
 use Rattle.of_eval.proofs.Beginnings.{here_below, stepped_smaller, stepped_end}
 use Rattle.of_eval.proofs.Passing.{counted_few, pointer_fault, here_push, with_block}
 use Rattle.of_eval.proofs.Buckets.{here_start, none_is, met_key, key_fault, second_fault, room, met_entry, bucket_ends}
@@ -39,7 +35,7 @@ returns-then-key-gt-GREATEST-clause-err c =
     let fault = key_fault c.args.plot.now c.args.cells.now c.args.b i.0 c.loop-block.owners c.loop-block.store c.requires.b i.1 i.2 c.loop-block.cell c.in-Some.block c.next.new.owners i.3 s c.block-first.result c.block-first.ensures in
     elim c.then-key-gt-GREATEST.branch [
       | then-key-gt-GREATEST-via-then-key-gt-GREATEST w ↦ fault (inl (λ n. omega (arith, n, w.if-key-gt-GREATEST.true)))
-      | then-key-gt-GREATEST-via-else-key-gt-GREATEST+then-key-b w ↦ fault (inr (inl w.if-key-b.true))
+      | then-key-gt-GREATEST-via-else-key-gt-GREATEST+then-key-b w ↦ fault (inr (inl (λ e. omega (arith, e, w.if-key-b.true))))
       | then-key-gt-GREATEST-via-else-key-gt-GREATEST+else-key-b+then-is_some w ↦ fault (met_key c.args.plot.now c.args.cells.now c.args.b i.0 c.loop-block.owners c.loop-block.store c.requires.b i.1 i.2 (memory c.args.cells.now c.block-first.result) (omega (arith, w.if-key-b.false)) (sym (w.is_some.ensures ∙ ap is_some w.key.ensures.value) ∙ w.if-is_some.true))
     ]
 

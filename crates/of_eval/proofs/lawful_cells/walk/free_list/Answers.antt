@@ -1,10 +1,9 @@
-use Rattle.std.proofs.Common.{ℕ, ◌≡◌, ◌∙◌, List, [], Option, Some, refl, sym, subst, arith}
+use Rattle.std.proofs.Common.{ℕ, ◌∙◌, [], Option, refl, sym, subst, arith}
 use Rattle.std.proofs.lemmas.Result.{err_from_is_err_and}
 use Rattle.of_mem.specs.ProgramWork.{memory}
 use Rattle.of_mem.specs.Plots.{base}
 use Rattle.of_mem.proofs.Heaps.{front_free}
-use Rattle.of_eval.specs.Faults.{here}
-use Rattle.of_eval.specs.Walking.{Stepped, Walked}
+use Rattle.of_eval.specs.Walking.{Stepped}
 use Rattle.of_eval.proofs.Beginnings.{here_below, walked_none, stepped_smaller, stepped_end, fits_free, freed}
 use Rattle.of_eval.proofs.Passing.{counted_few, leads_on, walked_step, pointer_fault, here_push, with_block}
 use Rattle.of_eval.proofs.lawful_cells.walk.free_list.Goals as goal

@@ -1,5 +1,4 @@
 use Rattle.std.proofs.Common.{◌-◌, get_or, arith, refl, inl}
-use Rattle.of_eval.proofs.Filling.{queue_kept}
 use Rattle.of_eval.proofs.lawful_cells.walk.next.Goals as goal
 
 pub returns-then-block-owners-clause-err : goal.returns-then-block-owners-clause-err

@@ -1,10 +1,9 @@
-use Rattle.std.proofs.Common.{ℕ, ◌≡◌, ◌+◌, ◌<◌, ◌≤◌, ◌∙◌, List, [], length, Option, Some, None, refl, sym, ap, subst, arith}
+use Rattle.std.proofs.Common.{ℕ, ◌+◌, ◌∙◌, length, Option, sym, ap, subst, arith}
 use Rattle.std.proofs.lemmas.Result.{err_from_is_err_and}
-use Rattle.of_mem.specs.ProgramWork.{memory}
 use Rattle.of_mem.specs.Plots.{base}
 use Rattle.of_mem.specs.Stores.{last_pointer}
 use Rattle.of_mem.proofs.Heaps.{front_head}
-use Rattle.of_eval.specs.Walking.{Stepped, Walked, Kept}
+use Rattle.of_eval.specs.Walking.{Stepped}
 use Rattle.of_eval.proofs.Beginnings.{here_below, stepped_smaller, stepped_end}
 use Rattle.of_eval.proofs.Passing.{pointer_fault, here_push, with_block}
 use Rattle.of_eval.proofs.Buckets.{here_start}
@@ -62,13 +61,13 @@ pub returns-then-cells-tail-clause-err : goal.returns-then-cells-tail-clause-err
 returns-then-cells-tail-clause-err c =
     let i = c.loop-block.invariant in
     let s = stepped_end c.args.cells.now c.loop-block.cell (33 + c.args.q) c.loop-block.owners c.next.new.owners c.in_ok-block.field-0 c.in_default.not-Some c.in_ok-block.ensures.ok in
-    tail_fault c.args.plot.now c.args.cells.now c.args.q i.0 c.loop-block.owners c.loop-block.store c.requires.q i.1 i.2 c.loop-block.cell c.next.new.owners i.3 s.0 s.1 c.tail-tail.result c.loop-block.last c.tail-tail.ensures i.4 c.if-cells-tail.true
+    tail_fault c.args.plot.now c.args.cells.now c.args.q i.0 c.loop-block.owners c.loop-block.store c.requires.q i.1 i.2 c.loop-block.cell c.next.new.owners i.3 s.0 s.1 c.tail-tail.result c.loop-block.last c.tail-tail.ensures i.4 (λ e. omega (arith, e, c.if-cells-tail.true))
 
 pub returns-then-cells-length-clause-err : goal.returns-then-cells-length-clause-err
 returns-then-cells-length-clause-err c =
     let i = c.loop-block.invariant in
     let s = stepped_end c.args.cells.now c.loop-block.cell (33 + c.args.q) c.loop-block.owners c.next.new.owners c.in_ok-block.field-0 c.in_default.not-Some c.in_ok-block.ensures.ok in
-    length_fault c.args.plot.now c.args.cells.now c.args.q i.0 c.loop-block.owners c.loop-block.store c.requires.q i.1 i.2 c.loop-block.cell c.next.new.owners i.3 s.0 s.1 c.tail-tail.result c.loop-block.last c.tail-tail.ensures i.4 (omega (arith, c.if-cells-tail.false)) c.length-length.result c.length-length.ensures (λ e. let ok = c.queue.result.now.ok in let l = ap length c.queue.ensures in c.if-cells-length.true (omega (arith, e, ok, c.len.ensures, l)))
+    length_fault c.args.plot.now c.args.cells.now c.args.q i.0 c.loop-block.owners c.loop-block.store c.requires.q i.1 i.2 c.loop-block.cell c.next.new.owners i.3 s.0 s.1 c.tail-tail.result c.loop-block.last c.tail-tail.ensures i.4 (omega (arith, c.if-cells-tail.false)) c.length-length.result c.length-length.ensures (λ e. let ok = c.queue.result.now.ok in let l = ap length c.queue.ensures in omega (arith, e, ok, c.len.ensures, l, c.if-cells-length.true))
 
 pub returns-clause-ok : goal.returns-clause-ok
 returns-clause-ok c =
