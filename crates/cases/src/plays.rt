@@ -141,11 +141,22 @@ fn plays(rt: HostRuntime) -> Result<(), Fail> {
 #[test]
 fn stopped_after_each_step(rt: HostRuntime) -> Result<(), Fail> {
     let before = "onefile report 1\ncaller 0 stopped 0 0 0\nseq 0\nend\n";
-    let behind = "onefile report 1\nentry 1 0 0 run none\ncaller 0 stopped 0 1 0\nseq 1\nregister 3 7\nend\n";
+    let behind =
+        "onefile report 1\nentry 1 0 0 run none\ncaller 0 stopped 0 1 0\nseq 1\nregister 3 7\nend\n";
     for turns in 1..48 {
-        let plan = format!(in rt.alloc(); "onefile plan 1\ncallers 1\nblocks 0\nscript 0 store 3 7\nturns 0 {turns}\nevict 0\nend\n")?;
+        let plan = format!(in rt.alloc();
+            "onefile plan 1\ncallers 1\nblocks 0\nscript 0 store 3 7\nturns 0 {turns}\nevict 0\nend\n"
+        )?;
         let text = if turns < 29 { before } else { behind };
-        expect(&rt, "stopped", &["play"], plan.into_bytes(), (&[], &[]), 0, text)?;
+        expect(
+            &rt,
+            "stopped",
+            &["play"],
+            plan.into_bytes(),
+            (&[], &[]),
+            0,
+            text,
+        )?;
     }
     Ok(())
 }
