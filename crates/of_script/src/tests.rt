@@ -1,6 +1,6 @@
 ghost use Rattle.std.specs.Prelude.{◌≡◌, IfOk, Ok};
 
-use crate::{MOST_INSTRS, Script, ScriptErr, from_words, parse, print, to_words};
+use crate::{Instr, MOST_INSTRS, Script, ScriptErr, from_words, parse, print, to_words};
 use std::alloc::{AllocError, Global};
 use std::test::Fail;
 
@@ -83,6 +83,8 @@ fn writes_and_reads_words(rt: HostRuntime) -> Result<(), Fail> {
     for word in [0, 343597383681, 34359738369, 13835058055282163712] {
         assert_eq!(rt; from_words(&[word]), None, "{word}");
     }
+    let script = Script::new(&[Instr::Store { reg: 3, value: 7 }, Instr::Count]);
+    assert_eq!(rt; parse(b"store 3 7; count"), Ok(script));
     assert_eq!(rt; from_words(&[]), None);
     assert_eq!(rt; from_words(&[343597383680; 9]), None);
     Ok(())

@@ -1,7 +1,6 @@
 use Rattle.std.proofs.Common.{ℕ, ◌≡◌, ◌<◌, ◌+◌, get_or, sym, arith, ap, subst}
 use Rattle.of_mem.specs.ProgramWork.{memory}
 use Rattle.of_mem.specs.Stores.{IsNumber}
-use Rattle.of_script.specs.declared.instr.Instr.TheVariants.{Store}
 use Rattle.of_store.specs.State.{State}
 use Rattle.of_eval.specs.Walking.{HasRegisters}
 use Rattle.of_eval.proofs.FillSteps.{registers_none, registers_more}
@@ -12,16 +11,14 @@ loop-r-init c = subst (λ (s : State). HasRegisters c.args.plot.now c.args.cells
 
 pub apply-requires : goal.apply-requires
 apply-requires c =
-    let number : ℕ = get_or c.args.cells.now c.register.result 0 in
     let small : IsNumber (memory c.args.cells.now c.register.result) = subst (λ (a : ℕ). IsNumber (memory c.args.cells.now a)) (sym c.register.ensures) (c.requires.numbers c.loop-r.r (omega (arith, c.loop-r-test.true))) in
-    (Store c.loop-r.r (get_or c.args.cells.now c.register.result 0), (omega (arith, c.loop-r-test.true), omega (arith, small)), omega (arith, c.word.ensures))
+    (omega (arith, c.loop-r-test.true), omega (arith, small))
 
 pub loop-r-preserved : goal.loop-r-preserved
 loop-r-preserved c =
     let r_in : c.loop-r.r < 16 = omega (arith, c.loop-r-test.true) in
     let small : IsNumber (memory c.args.cells.now c.register.result) = subst (λ (a : ℕ). IsNumber (memory c.args.cells.now a)) (sym c.register.ensures) (c.requires.numbers c.loop-r.r r_in) in
-    let is = c.in_ok-apply.ensures (Store c.loop-r.r (get_or c.args.cells.now c.register.result 0)) (r_in, omega (arith, small)) (omega (arith, c.word.ensures)) in
-    subst (λ (s : State). HasRegisters c.args.plot.now c.args.cells.now (c.loop-r.r + 1) s) (sym is)
+    subst (λ (s : State). HasRegisters c.args.plot.now c.args.cells.now (c.loop-r.r + 1) s) (sym c.in_ok-apply.ensures)
     (registers_more c.args.plot.now c.args.cells.now c.loop-r.r (get_or c.args.cells.now c.register.result 0) c.loop-r.store r_in (ap (memory c.args.cells.now) c.register.ensures) (omega (arith, small)) c.loop-r.invariant)
 
 pub returns : goal.returns
