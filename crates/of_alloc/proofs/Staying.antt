@@ -1,5 +1,5 @@
 -- Taking and giving a block read and write nothing before the first cell of the store.
-use Rattle.std.proofs.Common.{ℕ, zero, suc, ◌≤◌, Bool, true, false, ltb, arith}
+use Rattle.std.proofs.Common.{ℕ, zero, suc, Bool, true, false, ltb, arith}
 use Rattle.of_mem.specs.Programs.{StaysFrom}
 use Rattle.of_alloc.specs.BlockPrograms.{take_program, take_fresh, with_free, give_program}
 

@@ -1,5 +1,5 @@
 -- The calls of the map read and write nothing before the first cell of the store; get and count write nothing.
-use Rattle.std.proofs.Common.{ℕ, ◌+◌, ◌%◌, ◌≤◌, Option, Some, None, arith}
+use Rattle.std.proofs.Common.{ℕ, ◌+◌, ◌%◌, Option, Some, None, arith}
 use Rattle.of_mem.specs.Places.{bucket_at}
 use Rattle.of_mem.specs.Programs.{StaysFrom, OnlyReads}
 use Rattle.of_mem.proofs.Runs.{stays_then, stays_after, reads_then}

@@ -1,4 +1,7 @@
 -- The grammar of plans: which texts are in it, the plan of each, and the bad line of every other text.
+use Rattle.of_cell.specs.declared.shape.TheConstants.{MOST_CALLERS}
+use Rattle.of_store.specs.declared.store.TheConstants.{MOST_BLOCKS}
+use Rattle.of_plan.specs.declared.plan.TheConstants.{GREATEST_LIMIT, MOST_SCRIPTS, MOST_TURNS}
 use Rattle.std.specs.Prelude.{◌≡◌, ℕ, ◌≤◌, ◌<◌, ◌⊎◌, List, [], ◌∷◌, ◌++◌, length, take, map, sum_by, filter_map, if◌then◌else◌, ◌==◌, Option, Some, None, IfSome}
 use Rattle.std.specs.Option.{unwrap_or}
 use Rattle.std.specs.List.{AllByRecursion, range_with_len}
@@ -33,9 +36,9 @@ plan_lines h entries = heading_lines h ++ (map Body entries ++ End ∷ [])
 
 pub record IsHeading (h : Heading) : Type 0 where
   pub some_callers : 1 ≤ h.callers
-  pub few_callers : h.callers ≤ 16
-  pub few_blocks : h.blocks ≤ 512
-  pub limit_range : IfSome h.limit (λ x. (1 ≤ x) × (x ≤ 4294967294))
+  pub few_callers : h.callers ≤ MOST_CALLERS
+  pub few_blocks : h.blocks ≤ MOST_BLOCKS
+  pub limit_range : IfSome h.limit (λ x. (1 ≤ x) × (x ≤ GREATEST_LIMIT))
 
 -- scripts, stops and turns are of a caller of the heading, and evictions of a cell that has a durable word; the bound on all turns bounds each
 abbrev pub InRange : Heading → Entry → Type 0
@@ -68,8 +71,8 @@ is_script _ = 0
 -- at most 20,000 scripts, 10,000,000 turns in all, and one stop a caller
 pub record AreEntries (h : Heading) (entries : List Entry) : Type 0 where
   pub in_range : AllByRecursion (InRange h) entries
-  pub few_scripts : sum_by is_script entries ≤ 20000
-  pub few_turns : sum_by turns_of (filter_map item_of entries) ≤ 10000000
+  pub few_scripts : sum_by is_script entries ≤ MOST_SCRIPTS
+  pub few_turns : sum_by turns_of (filter_map item_of entries) ≤ MOST_TURNS
   pub one_stop : (c : ℕ) → length (filter_map (stop_at c) entries) ≤ 1
 
 abbrev pub first_of : List ℕ → Option ℕ
@@ -88,7 +91,7 @@ abbrev pub plan_of : Heading → List Entry → Plan
 plan_of h entries = record {
   callers = h.callers;
   blocks = h.blocks;
-  limit = unwrap_or h.limit 4294967294;
+  limit = unwrap_or h.limit GREATEST_LIMIT;
   scripts = map (scripts_in entries) (range_with_len 0 h.callers);
   stops = map (stop_in entries) (range_with_len 0 h.callers);
   schedule = filter_map item_of entries;

@@ -1,4 +1,7 @@
 -- How the code reads a line: the ranges of its numbers, and what its words say.
+use Rattle.of_cell.specs.declared.shape.TheConstants.{MOST_CALLERS}
+use Rattle.of_store.specs.declared.store.TheConstants.{MOST_BLOCKS}
+use Rattle.of_plan.specs.declared.plan.TheConstants.{GREATEST_LIMIT, MOST_TURNS}
 use Rattle.std.specs.Prelude.{◌≡◌, ℕ, ◌≤◌, false, ◌&&◌, List, [], ◌∷◌, if◌then◌else◌, codes, decimal, Option, None}
 use Rattle.std.specs.Str.{bytes_eq}
 use Rattle.of_script.specs.declared.instr.Instr.{Instr}
@@ -13,12 +16,12 @@ use Rattle.of_plan.specs.Lines.{is_skipped, line_words}
 -- the ranges of a line's numbers, whatever lines stand before it
 abbrev pub LineInRange : Line → Type 0
 LineInRange Title = Unit {0}
-LineInRange (Callers n) = n ≤ 16
-LineInRange (Blocks n) = n ≤ 512
-LineInRange (Limit x) = x ≤ 4294967294
+LineInRange (Callers n) = n ≤ MOST_CALLERS
+LineInRange (Blocks n) = n ≤ MOST_BLOCKS
+LineInRange (Limit x) = x ≤ GREATEST_LIMIT
 LineInRange (Body (Script c script)) = (c ≤ 15) × IsScript script
 LineInRange (Body (Stop c x)) = (c ≤ 15) × (x ≤ 4294967295)
-LineInRange (Body (Turns c x)) = (c ≤ 15) × (x ≤ 10000000)
+LineInRange (Body (Turns c x)) = (c ≤ 15) × (x ≤ MOST_TURNS)
 LineInRange (Body (Evict a)) = a ≤ 4294967295
 LineInRange End = Unit {0}
 

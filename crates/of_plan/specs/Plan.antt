@@ -1,4 +1,7 @@
 -- Plans: for each caller its scripts and its stop, and the schedule.
+use Rattle.of_cell.specs.declared.shape.TheConstants.{MOST_CALLERS}
+use Rattle.of_store.specs.declared.store.TheConstants.{MOST_BLOCKS}
+use Rattle.of_plan.specs.declared.plan.TheConstants.{GREATEST_LIMIT, MOST_SCRIPTS, MOST_TURNS}
 use Rattle.std.specs.Prelude.{◌≡◌, ℕ, ◌+◌, ◌*◌, ◌≤◌, ◌<◌, List, [], length, sum_by, slice_index_or, IfSome, Option, None}
 use Rattle.std.specs.List.{AllByRecursion}
 use Rattle.of_cell.specs.Cells.{durable_cells, step_bound}
@@ -48,14 +51,14 @@ IsItem p (Evict a) = a < cells_of p
 -- the ranges of a plan
 pub record IsPlan (p : Plan) : Type 0 where
   pub some_callers : 1 ≤ p.callers
-  pub few_callers : p.callers ≤ 16
-  pub few_blocks : p.blocks ≤ 512
+  pub few_callers : p.callers ≤ MOST_CALLERS
+  pub few_blocks : p.blocks ≤ MOST_BLOCKS
   pub some_limit : 1 ≤ p.limit
-  pub limit_range : p.limit ≤ 4294967294
+  pub limit_range : p.limit ≤ GREATEST_LIMIT
   pub each_caller : length p.scripts ≡ p.callers
   pub each_script : AllByRecursion (AllByRecursion IsScript) p.scripts
-  pub few_scripts : sum_by length p.scripts ≤ 20000
+  pub few_scripts : sum_by length p.scripts ≤ MOST_SCRIPTS
   pub each_stop : length p.stops ≡ p.callers
   pub stop_range : AllByRecursion (λ o. IfSome o (λ x. x ≤ 4294967295)) p.stops
   pub each_item : AllByRecursion (IsItem p) p.schedule
-  pub few_turns : sum_by turns_of p.schedule ≤ 10000000
+  pub few_turns : sum_by turns_of p.schedule ≤ MOST_TURNS
