@@ -1,5 +1,5 @@
 pub mod CommandLemmas
-pub mod Histories
+pub mod Courses
 pub mod RecordsLists
 pub mod RecordsCalls
 pub mod RecordsFacts
