@@ -1,5 +1,5 @@
 -- A caller stores its script words and its announcement.
-use Rattle.std.proofs.Common.{◌≡◌, ℕ, zero, suc, ◌+◌, ◌*◌, ◌-◌, ◌<◌, ◌≤◌, ◌⊎◌, inl, inr, List, [], ◌∷◌, ◌++◌, length, get_or, set, take, refl, sym, ◌∙◌, ap, subst, arith, length-set, Bool, true, false, nat_lt}
+use Rattle.std.proofs.Common.{◌≡◌, ℕ, zero, suc, ◌+◌, ◌*◌, ◌-◌, ◌<◌, ◌≤◌, ◌⊎◌, inl, inr, List, [], ◌∷◌, ◌++◌, length, get_or, set, take, refl, sym, ◌∙◌, ap, subst, arith, length-set, Bool, true, false, nat_lt, max}
 use Rattle.std.proofs.lemmas.Bool.{cases_eq}
 use Rattle.std.proofs.lemmas.Bool.Decides.{nat_tests}
 use Rattle.std.proofs.lemmas.List.{append-nil, take_more, take_all, get_or-set_same, get_or-set_other}
@@ -264,7 +264,7 @@ module _ (S : Setup) (Lawful : List ℕ → Type 0) (B : Start) (w : World) (g :
         counts = λ c l. rw (log_same ci S.instrs v x_in f.quieted c 0 l (omega arith)) (g.shared.heard.counts c l);
       }
         where
-          reached_at : (c : ℕ) → c < S.callers → (c ≡ i) ⊎ (c ≡ i → ⊥) → ticket_in S B w.batches (last w.words) c ≤ seq (announcement_of S us c)
+          reached_at : (c : ℕ) → c < S.callers → (c ≡ i) ⊎ (c ≡ i → ⊥) → ticket_in S B w.batches (last w.words) c ≤ max (ticket_in S B w.batches B.seq c) (seq (announcement_of S us c))
           reached_at c l (inl q) = rw q (omega (arith, now_seq, f.above))
           reached_at c l (inr q) = rw (ann_other c q) (g.shared.heard.reached c l)
 

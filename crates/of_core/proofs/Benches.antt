@@ -10,9 +10,11 @@ use Rattle.of_core.specs.declared.bank.Turn.{Turn}
 use Rattle.of_core.specs.Table.{Setup, base, size, durable_at}
 use Rattle.of_core.specs.Machine.{Data, no_machine, idle, opened}
 use Rattle.of_core.specs.Steps.{want, want_at, took, took_at, word_of, words_after, finds}
-use Rattle.of_core.specs.World.{World}
+use Rattle.of_core.specs.World.{World, Start}
+use Rattle.of_core.specs.Shared.{MayStart}
 use Rattle.of_core.specs.Invariant.{Good}
-use Rattle.of_core.specs.Events.{Event, Begins, Turns, Raises, machine, happens, MayHappen, run, IsSchedule, opening, zeros, idles}
+use Rattle.of_core.specs.Events.{Event, Begins, Turns, Raises, machine, happens, MayHappen, run, IsSchedule, start_ticket, opening, idles}
+use Rattle.of_core.specs.Starts.{first_words}
 use Rattle.of_core.specs.Seen.{Seen, ended}
 use Rattle.of_core.specs.Meets.{Meets}
 use Rattle.of_core.specs.Turn.{told, turn_from}
@@ -29,47 +31,49 @@ schedule_push : (S : Setup) (w : World) (es : List Event) (e : Event) → IsSche
 schedule_push S w [] e s m = (m, tt)
 schedule_push S w (d ∷ es) e s m = (s.0, schedule_push S (happens S w d) es e s.1 m)
 
-abbrev end : (S : Setup) (ws : List ℕ) (ms : List Data) → Reached S ws ms → World
-end S ws ms r = run S (opening S (table_words S)) r.events
+abbrev end : (S : Setup) (Lawful : List ℕ → Type 0) (ws : List ℕ) (ms : List Data) → Reached S Lawful ws ms → World
+end S Lawful ws ms r = run S (opening S r.start (table_words S)) r.events
 
-pub start : (S : Setup) → Reached S (replicate (table_words S) 0) (idles S 0 S.callers)
-start S = record { events = []; schedule = tt; words = refl; machines = refl }
+pub begun_at : (S : Setup) (Lawful : List ℕ → Type 0) (B : Start) → MayStart S Lawful B → Reached S Lawful (first_words S.callers S.cells B (table_words S)) (idles S (start_ticket S B) 0 S.callers)
+begun_at S Lawful B may = record { start = B; may_start = may; events = []; schedule = tt; words = refl; machines = refl }
 
-module _ (S : Setup) (ws : List ℕ) (ms : List Data) (r : Reached S ws ms) where
-  further : (e : Event) → MayHappen S (end S ws ms r) e → Reached S (happens S (end S ws ms r) e).words (happens S (end S ws ms r) e).machines
+module _ (S : Setup) (Lawful : List ℕ → Type 0) (ws : List ℕ) (ms : List Data) (r : Reached S Lawful ws ms) where
+  further : (e : Event) → MayHappen S (end S Lawful ws ms r) e → Reached S Lawful (happens S (end S Lawful ws ms r) e).words (happens S (end S Lawful ws ms r) e).machines
   further e m = record {
+    start = r.start;
+    may_start = r.may_start;
     events = r.events ++ e ∷ [];
-    schedule = schedule_push S (opening S (table_words S)) r.events e r.schedule m;
-    words = ap (λ (w : World). w.words) (run_push S (opening S (table_words S)) r.events e);
-    machines = ap (λ (w : World). w.machines) (run_push S (opening S (table_words S)) r.events e);
+    schedule = schedule_push S (opening S r.start (table_words S)) r.events e r.schedule m;
+    words = ap (λ (w : World). w.words) (run_push S (opening S r.start (table_words S)) r.events e);
+    machines = ap (λ (w : World). w.machines) (run_push S (opening S r.start (table_words S)) r.events e);
   }
 
-  is_machine : (i : ℕ) → machine (end S ws ms r) i ≡ get_or ms i no_machine
+  is_machine : (i : ℕ) → machine (end S Lawful ws ms r) i ≡ get_or ms i no_machine
   is_machine i = ap (λ (xs : List Data). get_or xs i no_machine) r.machines
 
-  pub begins : (i : ℕ) (op : List ℕ) (m : Data) → get_or ms i no_machine ≡ m → i < S.callers → m.place ≡ Idle → 1 ≤ length op → length op ≤ S.instrs → m.made + 1 < 4294967296 → Reached S ws (set ms i (opened S m op))
+  pub begins : (i : ℕ) (op : List ℕ) (m : Data) → get_or ms i no_machine ≡ m → i < S.callers → m.place ≡ Idle → 1 ≤ length op → length op ≤ S.instrs → m.made + 1 < 4294967296 → Reached S Lawful ws (set ms i (opened S m op))
   begins i op m e h p l k t = rw (← r.words, ← r.machines, ← (is_machine i ∙ e)) (further (Begins i op) (h, rw (is_machine i ∙ e) p, l, k, rw (is_machine i ∙ e) t))
 
-  pub turns : (i : ℕ) (m : Data) → get_or ms i no_machine ≡ m → i < S.callers → Reached S (words_after (want S m) ws) (set ms i (took S m (finds S ws m)))
+  pub turns : (i : ℕ) (m : Data) → get_or ms i no_machine ≡ m → i < S.callers → Reached S Lawful (words_after (want S m) ws) (set ms i (took S m (finds S ws m)))
   turns i m e h = rw (← r.words, ← r.machines, ← (is_machine i ∙ e)) (further (Turns i) h)
 
-  pub raises : (c : ℕ) → c < size S → Reached S (set ws (durable_at S c) (max (get_or ws (durable_at S c) 0) (get_or ws c 0))) ms
+  pub raises : (c : ℕ) → c < size S → Reached S Lawful (set ws (durable_at S c) (max (get_or ws (durable_at S c) 0) (get_or ws c 0))) ms
   raises c h = rw (← r.words, ← r.machines) (further (Raises c) h)
 
 -- the machine of a bank meets the word that its wanted step finds
-module _ (S : Setup) (Lawful : List ℕ → Type 0) (sound : Sound S.meaning Lawful (base S) S.cells) (some : 0 < S.callers) (few : S.callers < 4294967296) (own_in : base S ≤ S.cells) (narrow : S.instrs ≤ 16) (little : S.cells < 4294967296) (ws : List ℕ) (ms : List Data) (r : Reached S ws ms) where
-  good : Good S Lawful (zeros S) (end S ws ms r)
-  good = run_good S Lawful sound some few own_in (table_words S) (omega arith) narrow little r.events (opening S (table_words S)) (start_good S Lawful sound some few own_in (table_words S) (omega arith) narrow little) r.schedule
+module _ (S : Setup) (Lawful : List ℕ → Type 0) (sound : Sound S.meaning Lawful (base S) S.cells) (some : 0 < S.callers) (few : S.callers < 4294967296) (own_in : base S ≤ S.cells) (narrow : S.instrs ≤ 16) (little : S.cells < 4294967296) (ws : List ℕ) (ms : List Data) (r : Reached S Lawful ws ms) where
+  good : Good S Lawful r.start (end S Lawful ws ms r)
+  good = run_good S Lawful sound r.start r.events (opening S r.start (table_words S)) (start_good S Lawful sound r.start r.may_start some few own_in (table_words S) (omega arith) narrow little) r.schedule
 
   pub meets : (i : ℕ) (m : Data) → i < S.callers → i < length ms → get_or ms i no_machine ≡ m → Meets S Lawful m (finds S ws m)
   meets i m h l e = record {
-    start = zeros S;
-    world = end S ws ms r;
+    start = r.start;
+    world = end S Lawful ws ms r;
     good = good;
     caller = i;
     in_range = h;
     here = rw r.machines (get_or_default ms i m no_machine l ∙ e);
-    finds = rw (← r.words) (found_now S (end S ws ms r).words m);
+    finds = rw (← r.words) (found_now S (end S Lawful ws ms r).words m);
   }
 
 -- the machines of a bank
@@ -119,12 +123,12 @@ module _ {X : Type 0} (work : X) (callers cells limit : ℕ) where
     pub held_now : (i : ℕ) (t : Seen X) → i < length ms → get_or (held (set ms i t)) i no_machine ≡ t.call
     held_now i t l = get_or-map (λ (m : Seen X). m.call) (set ms i t) i t no_machine (omega (arith, length-set ms i t)) ∙ ap (λ (x : Seen X). x.call) (get_or-set_same ms i t t l)
 
-    pub held_push : (S : Setup) (s : Seen X) (n : ℕ) → held ms ≡ idles S 0 n → s.call ≡ idle S n 0 → held (ms ++ s ∷ []) ≡ idles S 0 (n + 1)
-    held_push S s n p q = map-append (λ (m : Seen X). m.call) ms (s ∷ []) ∙ rw (p, q) (idles_push 0 n n (omega arith) ∙ ap (idles S 0) (let z : suc n ≡ n + 1 = omega arith in z))
+    pub held_push : (S : Setup) (made : ℕ → ℕ) (s : Seen X) (n : ℕ) → held ms ≡ idles S made 0 n → s.call ≡ idle S n (made n) → held (ms ++ s ∷ []) ≡ idles S made 0 (n + 1)
+    held_push S made s n p q = map-append (λ (m : Seen X). m.call) ms (s ∷ []) ∙ rw (p, q) (idles_push 0 n n (omega arith) ∙ ap (idles S made 0) (let z : suc n ≡ n + 1 = omega arith in z))
       where
-        idles_push : (i n k : ℕ) → i + n ≡ k → idles S i n ++ idle S k 0 ∷ [] ≡ idles S i (suc n)
+        idles_push : (i n k : ℕ) → i + n ≡ k → idles S made i n ++ idle S k (made k) ∷ [] ≡ idles S made i (suc n)
         idles_push i zero k e = let z : k ≡ i = omega arith in rw z refl
-        idles_push i (suc n) k e = ap (λ (xs : List Data). idle S i 0 ∷ xs) (idles_push (suc i) n k (omega arith))
+        idles_push i (suc n) k e = ap (λ (xs : List Data). idle S i (made i) ∷ xs) (idles_push (suc i) n k (omega arith))
 
 -- where a count has come to its end
 pub at_end : (i n : ℕ) → i ≤ n → n ≤ i → i ≡ n

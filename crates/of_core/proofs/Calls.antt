@@ -10,11 +10,11 @@ use Rattle.of_core.specs.declared.place.Outcome.{Outcome}
 use Rattle.of_core.specs.declared.place.Outcome.TheVariants.{Answered, Spent}
 use Rattle.of_core.specs.Table.{Setup, risen}
 use Rattle.of_core.specs.Machine.{Call, Data, IsOpen, is_idle, opened, first_place}
-use Rattle.of_core.specs.World.{World, Batch, Read}
+use Rattle.of_core.specs.World.{World, Start, Batch, Read}
 use Rattle.of_core.specs.History.{batch}
 use Rattle.of_core.specs.Order.{no_read}
 use Rattle.of_core.specs.Seen.{ended_at}
-use Rattle.of_core.specs.Events.{machine, zeros}
+use Rattle.of_core.specs.Events.{machine}
 use Rattle.of_core.specs.Calls.{no_outcome, last_from, Stood, Calls}
 use Rattle.of_core.proofs.Ordering.{idle_is}
 
@@ -42,29 +42,29 @@ none_ended d Idle o = cc
 none_ended d p o = refl
 
 -- a read is an outcome of its caller
-abbrev pub Among : ℕ → List (List ℕ) → List Outcome → Read → Type 0
-Among i ops outs r = r.caller ≡ i → (x : ℕ) × (steps : ℕ) × (x < length outs) × (r.ticket ≡ x + 1) × (r.op ≡ get_or ops x []) × (get_or outs x no_outcome ≡ Answered r.seq false r.raw steps)
+abbrev pub Among : ℕ → ℕ → List (List ℕ) → List Outcome → Read → Type 0
+Among before i ops outs r = r.caller ≡ i → (x : ℕ) × (steps : ℕ) × (x < length outs) × (r.ticket ≡ before + x + 1) × (r.op ≡ get_or ops x []) × (get_or outs x no_outcome ≡ Answered r.seq false r.raw steps)
 
 -- a call of a batch is one that its caller has begun, with its words
-abbrev pub Words : ℕ → List (List ℕ) → Call → Type 0
-Words i ops c = c.caller ≡ i → (0 < c.ticket) × (c.ticket ≤ length ops) × (c.op ≡ get_or ops (c.ticket - 1) [])
+abbrev pub Words : ℕ → ℕ → List (List ℕ) → Call → Type 0
+Words before i ops c = c.caller ≡ i → (before < c.ticket) × (c.ticket ≤ before + length ops) × (c.op ≡ get_or ops (c.ticket - before - 1) [])
 
-module _ (S : Setup) where
+module _ (S : Setup) (B : Start) where
   -- the history of the first moment stands in the second
   pub record Grows (w v : World) : Type 0 where
-    pub reach : risen S w.words ≤ length w.batches
+    pub reach : risen S w.words ≤ B.seq + length w.batches
     pub rise : risen S w.words ≤ risen S v.words
     pub limit : risen S v.words ≤ S.limit
-    pub batches : (k : ℕ) → 0 < k → k ≤ length w.batches → batch (zeros S) v.batches k ≡ batch (zeros S) w.batches k
+    pub batches : (k : ℕ) → B.seq < k → k ≤ B.seq + length w.batches → batch B v.batches k ≡ batch B w.batches k
     pub reads : Extends w.reads v.reads
 
-  stood_grows : (w v : World) → Grows w v → (i t : ℕ) (op : List ℕ) (o : Outcome) → Stood S w i t op o → Stood S v i t op o
+  stood_grows : (w v : World) → Grows w v → (i t : ℕ) (op : List ℕ) (o : Outcome) → Stood S B w i t op o → Stood S B v i t op o
   stood_grows w v f i t op (Answered s true raw steps) h = (h.0, omega (arith, h.1, f.rise), rw (f.batches s h.0 (omega (arith, h.1, f.reach))) h.2, h.3, h.4)
   stood_grows w v f i t op (Answered s false raw steps) h = (omega (arith, h.0, f.rise), (h.1.0, omega (arith, h.1.1, f.reads.0), f.reads.1 h.1.0 no_read h.1.1 ∙ h.1.2), h.2, h.3, h.4)
   stood_grows w v f i t op (Spent s) h = (h.0, omega (arith, h.0, h.1, f.rise, f.limit))
 
   -- what stays of the calls of caller i
-  module _ (w : World) (i : ℕ) (ops : List (List ℕ)) (outs : List Outcome) (c : Calls S w i ops outs) where
+  module _ (before : ℕ) (w : World) (i : ℕ) (ops : List (List ℕ)) (outs : List Outcome) (c : Calls S B before w i ops outs) where
     pub fewer_outs : length outs ≤ length ops
     fewer_outs = go (is_idle (machine w i).place) refl
       where
@@ -73,32 +73,32 @@ module _ (S : Setup) where
         go false e = omega (arith, (c.open_call e).0)
 
     module _ (v : World) (f : Grows w v) (now : List (List ℕ)) (ends : List Outcome) (a : Extends ops now) (b : Extends outs ends) where
-      each_stays : (x : ℕ) → x < length outs → Stood S v i (x + 1) (get_or now x []) (get_or ends x no_outcome)
+      each_stays : (x : ℕ) → x < length outs → Stood S B v i (before + x + 1) (get_or now x []) (get_or ends x no_outcome)
       each_stays x l =
-          subst (λ (o : Outcome). Stood S v i (x + 1) (get_or now x []) o) (sym (b.1 x no_outcome l))
-          (subst (λ (op : List ℕ). Stood S v i (x + 1) op (get_or outs x no_outcome)) (sym (a.1 x [] (omega (arith, l, fewer_outs))))
-          (stood_grows w v f i (x + 1) (get_or ops x []) (get_or outs x no_outcome) (c.each x l)))
+          subst (λ (o : Outcome). Stood S B v i (before + x + 1) (get_or now x []) o) (sym (b.1 x no_outcome l))
+          (subst (λ (op : List ℕ). Stood S B v i (before + x + 1) op (get_or outs x no_outcome)) (sym (a.1 x [] (omega (arith, l, fewer_outs))))
+          (stood_grows w v f i (before + x + 1) (get_or ops x []) (get_or outs x no_outcome) (c.each x l)))
 
-      among_stays : (r : Read) → Among i ops outs r → Among i now ends r
+      among_stays : (r : Read) → Among before i ops outs r → Among before i now ends r
       among_stays r h q = let p = h q in (p.0, p.1, omega (arith, p.2, b.0), p.3, p.4 ∙ sym (a.1 p.0 [] (omega (arith, p.2, fewer_outs))), b.1 p.0 no_outcome p.2 ∙ p.5)
 
-      reads_stay : (rs : List Read) → v.reads ≡ w.reads ++ rs → All (Among i now ends) rs → All (Among i now ends) v.reads
-      reads_stay rs e h = subst (λ (xs : List Read). All (Among i now ends) xs) (sym e) (All-append (Among i now ends) w.reads rs (λ k d l. among_stays (get_or w.reads k d) (c.reads k d l)) h)
+      reads_stay : (rs : List Read) → v.reads ≡ w.reads ++ rs → All (Among before i now ends) rs → All (Among before i now ends) v.reads
+      reads_stay rs e h = subst (λ (xs : List Read). All (Among before i now ends) xs) (sym e) (All-append (Among before i now ends) w.reads rs (λ k d l. among_stays (get_or w.reads k d) (c.reads k d l)) h)
 
-      words_stay : (x : Call) → Words i ops x → Words i now x
-      words_stay x h q = let p = h q in (p.0, omega (arith, p.1, a.0), p.2 ∙ sym (a.1 (x.ticket - 1) [] (omega (arith, p.0, p.1))))
+      words_stay : (x : Call) → Words before i ops x → Words before i now x
+      words_stay x h q = let p = h q in (p.0, omega (arith, p.1, a.0), p.2 ∙ sym (a.1 (x.ticket - before - 1) [] (omega (arith, p.0, p.1))))
 
-      calls_stay : ((k : ℕ) → length w.batches < k → k ≤ length v.batches → All (Words i ops) (batch (zeros S) v.batches k).calls) → (k : ℕ) → 0 < k → k ≤ length v.batches → All (Words i now) (batch (zeros S) v.batches k).calls
-      calls_stay new k l u y d z = words_stay (get_or (batch (zeros S) v.batches k).calls y d) (go (cases_lt (length w.batches) k))
+      calls_stay : ((k : ℕ) → B.seq + length w.batches < k → k ≤ B.seq + length v.batches → All (Words before i ops) (batch B v.batches k).calls) → (k : ℕ) → B.seq < k → k ≤ B.seq + length v.batches → All (Words before i now) (batch B v.batches k).calls
+      calls_stay new k l u y d z = words_stay (get_or (batch B v.batches k).calls y d) (go (cases_lt (B.seq + length w.batches) k))
         where
-          go : (length w.batches < k) ⊎ (k ≤ length w.batches) → Words i ops (get_or (batch (zeros S) v.batches k).calls y d)
+          go : (B.seq + length w.batches < k) ⊎ (k ≤ B.seq + length w.batches) → Words before i ops (get_or (batch B v.batches k).calls y d)
           go (inl t) = new k t u y d z
-          go (inr t) = (subst (λ (x : Batch). All (Words i ops) x.calls) (sym (f.batches k l t)) (c.calls k l t)) y d z
+          go (inr t) = (subst (λ (x : Batch). All (Words before i ops) x.calls) (sym (f.batches k l t)) (c.calls k l t)) y d z
 
     -- where none of the caller's calls has begun or ended
-    pub stays : (v : World) → Grows w v → (rs : List Read) → v.reads ≡ w.reads ++ rs → All (Among i ops outs) rs → ((k : ℕ) → length w.batches < k → k ≤ length v.batches → All (Words i ops) (batch (zeros S) v.batches k).calls)
+    pub stays : (v : World) → Grows w v → (rs : List Read) → v.reads ≡ w.reads ++ rs → All (Among before i ops outs) rs → ((k : ℕ) → B.seq + length w.batches < k → k ≤ B.seq + length v.batches → All (Words before i ops) (batch B v.batches k).calls)
         → (d : Data) → machine v i ≡ d → d.made ≡ (machine w i).made → (d.place ≡ Idle → ((machine w i).place ≡ Idle) × (d.answer ≡ (machine w i).answer)) → (IsOpen d.place → IsOpen (machine w i).place × (d.op ≡ (machine w i).op))
-        → Calls S v i ops outs
+        → Calls S B before v i ops outs
     stays v f rs e all new d x made idle live = record {
       made = ap (λ (n : Data). n.made) x ∙ made ∙ c.made;
       idle = λ q. c.idle (idle (ap (λ (n : Data). n.place) (sym x) ∙ q)).0;
@@ -110,7 +110,7 @@ module _ (S : Setup) where
     }
 
     -- the caller begins a call
-    pub begins : (v : World) → Grows w v → v.reads ≡ w.reads → v.batches ≡ w.batches → (m : Data) (op : List ℕ) → machine w i ≡ m → m.place ≡ Idle → machine v i ≡ opened S m op → Calls S v i (ops ++ op ∷ []) outs
+    pub begins : (v : World) → Grows w v → v.reads ≡ w.reads → v.batches ≡ w.batches → (m : Data) (op : List ℕ) → machine w i ≡ m → m.place ≡ Idle → machine v i ≡ opened S m op → Calls S B before v i (ops ++ op ∷ []) outs
     begins v f e t m op own rest x = record {
       made = ap (λ (n : Data). n.made) x ∙ omega (arith, sym (ap (λ (n : Data). n.made) own) ∙ c.made, length-append ops (op ∷ []));
       idle = λ q. absurd (closed (S.meaning.reads_only op) (ap (λ (n : Data). n.place) (sym x) ∙ q));
@@ -129,9 +129,9 @@ module _ (S : Setup) where
         closed false q = cc
 
     -- a call of the caller ends
-    pub ends_one : (v : World) → Grows w v → (rs : List Read) → v.reads ≡ w.reads ++ rs → ((k : ℕ) → length w.batches < k → k ≤ length v.batches → All (Words i ops) (batch (zeros S) v.batches k).calls)
-        → IsOpen (machine w i).place → (d : Data) → machine v i ≡ d → d.made ≡ (machine w i).made → d.op ≡ (machine w i).op → d.place ≡ Idle → (o : Outcome) → d.answer ≡ Some o → Stood S v i d.made d.op o
-        → All (λ (r : Read). (r.ticket ≡ d.made) × (r.op ≡ d.op) × ((steps : ℕ) × (o ≡ Answered r.seq false r.raw steps))) rs → Calls S v i ops (outs ++ o ∷ [])
+    pub ends_one : (v : World) → Grows w v → (rs : List Read) → v.reads ≡ w.reads ++ rs → ((k : ℕ) → B.seq + length w.batches < k → k ≤ B.seq + length v.batches → All (Words before i ops) (batch B v.batches k).calls)
+        → IsOpen (machine w i).place → (d : Data) → machine v i ≡ d → d.made ≡ (machine w i).made → d.op ≡ (machine w i).op → d.place ≡ Idle → (o : Outcome) → d.answer ≡ Some o → Stood S B v i d.made d.op o
+        → All (λ (r : Read). (r.ticket ≡ d.made) × (r.op ≡ d.op) × ((steps : ℕ) × (o ≡ Answered r.seq false r.raw steps))) rs → Calls S B before v i ops (outs ++ o ∷ [])
     ends_one v f rs e new live d x made op rest o answer stood all = record {
       made = ap (λ (n : Data). n.made) x ∙ made ∙ c.made;
       idle = λ q. omega (arith, length-append outs (o ∷ []), (c.open_call live).0);
@@ -143,17 +143,17 @@ module _ (S : Setup) where
       calls = calls_stay v f ops (outs ++ o ∷ []) (extends_self ops) (extends_push outs o) new;
     }
       where
-        number : d.made ≡ length outs + 1
-        number = made ∙ c.made ∙ (c.open_call live).0
+        number : d.made ≡ before + length outs + 1
+        number = let p = made ∙ c.made in omega (arith, p, (c.open_call live).0)
 
         words : d.op ≡ get_or ops (length outs) []
         words = op ∙ (c.open_call live).1
 
-        at_each : (y : ℕ) → y < length (outs ++ o ∷ []) → (y < length outs) ⊎ (length outs ≤ y) → Stood S v i (y + 1) (get_or ops y []) (get_or (outs ++ o ∷ []) y no_outcome)
+        at_each : (y : ℕ) → y < length (outs ++ o ∷ []) → (y < length outs) ⊎ (length outs ≤ y) → Stood S B v i (before + y + 1) (get_or ops y []) (get_or (outs ++ o ∷ []) y no_outcome)
         at_each y l (inl u) = each_stays v f ops (outs ++ o ∷ []) (extends_self ops) (extends_push outs o) y u
         at_each y l (inr u) =
             let z : length outs ≡ y = omega (arith, l, u, length-append outs (o ∷ [])) in
-            subst (λ (n : ℕ). Stood S v i (n + 1) (get_or ops n []) (get_or (outs ++ o ∷ []) n no_outcome)) z
-            (subst (λ (p : Outcome). Stood S v i (length outs + 1) (get_or ops (length outs) []) p) (sym (get_or_push outs o no_outcome (length outs) refl))
-            (subst (λ (n : ℕ). Stood S v i n (get_or ops (length outs) []) o) number
-            (subst (λ (p : List ℕ). Stood S v i d.made p o) words stood)))
+            subst (λ (n : ℕ). Stood S B v i (before + n + 1) (get_or ops n []) (get_or (outs ++ o ∷ []) n no_outcome)) z
+            (subst (λ (p : Outcome). Stood S B v i (before + length outs + 1) (get_or ops (length outs) []) p) (sym (get_or_push outs o no_outcome (length outs) refl))
+            (subst (λ (n : ℕ). Stood S B v i n (get_or ops (length outs) []) o) number
+            (subst (λ (p : List ℕ). Stood S B v i d.made p o) words stood)))

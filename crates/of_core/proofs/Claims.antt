@@ -51,6 +51,7 @@ module _ (S : Setup) (Lawful : List ℕ → Type 0) (sound : Sound S.meaning Law
           state = λ k l. (upto S Lawful sound B w g k l).0;
           begun = begun;
           recovers = claim S Lawful B w g;
+          from = g.shared.durable.from;
           reaches = reach g.shared.durable.step;
           some = g.shared.stands.some;
           rising = g.shared.stands.ordered;

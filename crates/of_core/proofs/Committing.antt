@@ -1,5 +1,5 @@
 -- The current-transaction word is exchanged: a batch is committed, or the round was lost.
-use Rattle.std.proofs.Common.{◌≡◌, ℕ, ◌+◌, ◌*◌, ◌-◌, ◌<◌, ◌≤◌, ◌⊎◌, ◌==◌, inl, inr, List, [], ◌∷◌, ◌++◌, length, get_or, set, refl, sym, ◌∙◌, ap, subst, arith, length-set, length-append, Bool, true, false, if◌then◌else◌}
+use Rattle.std.proofs.Common.{◌≡◌, ℕ, ◌+◌, ◌*◌, ◌-◌, ◌<◌, ◌≤◌, ◌⊎◌, ◌==◌, inl, inr, List, [], ◌∷◌, ◌++◌, length, get_or, set, refl, sym, ◌∙◌, ap, subst, arith, length-set, length-append, Bool, true, false, if◌then◌else◌, max}
 use Rattle.std.specs.List.{All}
 use Rattle.std.proofs.lemmas.Bool.{cases_eq, cases_lt}
 use Rattle.std.proofs.lemmas.List.{append-nil, set-get_or, get_or-set_same, get_or-set_other}
@@ -7,7 +7,7 @@ use Rattle.of_cell.specs.Words.{word, seq, pay}
 use Rattle.of_cell.proofs.Order.{seq_mono, seq_less, seq_word, pay_word, word_eta}
 use Rattle.of_mem.specs.Meaning.{Sound}
 use Rattle.of_core.specs.declared.place.Place.TheVariants.{ExchangeCurrent}
-use Rattle.of_core.specs.Table.{Setup, script_at, size, durable_at, request_at, data_at, base, log_at, announcement_of, script_word, current_word, request_of, cell, log_word, durable_word, durable_request, durable_cell, durable_log, last, holder, risen}
+use Rattle.of_core.specs.Table.{Setup, script_at, size, durable_at, request_at, data_at, base, log_at, ticket_cell, announcement_of, script_word, current_word, request_of, cell, log_word, durable_word, durable_request, durable_cell, durable_log, last, holder, risen}
 use Rattle.of_core.specs.Machine.{Data, Call, log_words, no_call}
 use Rattle.of_core.specs.Steps.{after_exchange, next_round}
 use Rattle.of_core.specs.World.{Read, World, Batch, Start, stepped_at, one_batch}
@@ -18,7 +18,7 @@ use Rattle.of_core.specs.Scan.{Announced}
 use Rattle.of_core.specs.Transaction.{Stored}
 use Rattle.of_core.specs.Invariant.{At, Core}
 use Rattle.of_core.specs.Moves.{Goes, Moves}
-use Rattle.of_core.proofs.States.{state_same, batch_same, batch_new}
+use Rattle.of_core.proofs.States.{state_same, state_start, batch_same, batch_new}
 use Rattle.of_core.proofs.Logs.{turned_same, length-log_words}
 use Rattle.of_core.proofs.Assembling.{assemble, assemble_read, logs_of, small_words}
 use Rattle.of_core.proofs.Alike.{begun_as}
@@ -372,8 +372,10 @@ module _ (S : Setup) (Lawful : List ℕ → Type 0) (B : Start) where
             }
               where
                 reached : (j : ℕ) → j < S.callers → (ticket_in S B cs (m.seq + 1) j ≡ ticket_in S B w.batches m.seq j) ⊎ ((y : ℕ) × (y < length m.calls) × ((get_or m.calls y no_call).caller ≡ j) × (ticket_in S B cs (m.seq + 1) j ≡ (get_or m.calls y no_call).ticket))
-                    → ticket_in S B cs (last vs) j ≤ seq (announcement_of S w.words j)
-                reached j l (inl q) = omega (arith, g.shared.heard.reached j l, q, ap (λ (x : ℕ). ticket_in S B cs x j) new_last, ap (λ (x : ℕ). ticket_in S B w.batches x j) is_last)
+                    → ticket_in S B cs (last vs) j ≤ max (ticket_in S B cs B.seq j) (seq (announcement_of S w.words j))
+                reached j l (inl q) =
+                    let z : ticket_in S B cs B.seq j ≡ ticket_in S B w.batches B.seq j = ap (λ (ys : List ℕ). pay (get_or ys (ticket_cell S j) 0)) (state_start B cs ∙ sym (state_start B w.batches)) in
+                    omega (arith, g.shared.heard.reached j l, q, z, ap (λ (x : ℕ). ticket_in S B cs x j) new_last, ap (λ (x : ℕ). ticket_in S B w.batches x j) is_last)
                 reached j l (inr q) =
                     let c : seq (announcement_of S w.words j) ≡ (get_or m.calls q.0 no_call).ticket = ap (λ (x : ℕ). seq (announcement_of S w.words x)) (sym q.2) ∙ call_ticket q.0 q.1 in
                     omega (arith, c, q.3, ap (λ (x : ℕ). ticket_in S B cs x j) new_last)

@@ -25,7 +25,7 @@ use Rattle.of_core.proofs.Overlays.{extended, walk_fits, merged_unknown}
 use Rattle.of_core.proofs.Alike.{past_as}
 use Rattle.of_core.proofs.Assembling.{assemble_read, logs_of, number_at, same_batches, same_words}
 use Rattle.of_core.proofs.Rounds.{again, at_risen, cell_of, learn_past, own_seq, two_rounds}
-use Rattle.of_core.proofs.Tests.{differ, not_newer}
+use Rattle.of_core.proofs.Tests.{differ, is_newer, not_newer}
 
 module _ (S : Setup) (Lawful : List ℕ → Type 0) (B : Start) where
   -- the machine m of caller i, at its place
@@ -257,5 +257,5 @@ module _ (S : Setup) (Lawful : List ℕ → Type 0) (B : Start) where
         go (nat_lt m.seq (seq (cell S w.words x))) refl)
       where
         go : (b : Bool) → nat_lt m.seq (seq (cell S w.words x)) ≡ b → At S B w.words w.batches i (after_load_cell S m x (cell S w.words x) b) (after_load_cell S m x (cell S w.words x) b).place
-        go true e = again S Lawful B w g i m h m a.0.looks.round a.1 (two_rounds S Lawful B w g i m h m a.0) x a.6 (let z : m.seq < seq (cell S w.words x) = grind (arith, nat_tests) in z)
+        go true e = again S Lawful B w g i m h m a.0.looks.round a.1 (two_rounds S Lawful B w g i m h m a.0) x a.6 (is_newer m.seq (seq (cell S w.words x)) e)
         go false e = runs_at (record m { known = learned S m x (cell S w.words x) }) sound (learn_past S Lawful B w g i m h m a.0 x a.6 (not_newer m.seq (seq (cell S w.words x)) e)) a.1 a.2 a.3 a.4 a.5

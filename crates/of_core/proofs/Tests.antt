@@ -8,6 +8,9 @@ use Rattle.of_core.specs.Steps.{first_mark}
 pub differ : (x y : ℕ) → (x == y) ≡ false → x ≡ y → ⊥
 differ x y e q = grind (arith, nat_tests)
 
+pub is_newer : (x y : ℕ) → nat_lt x y ≡ true → x < y
+is_newer x y e = grind (arith, nat_tests)
+
 pub not_newer : (x y : ℕ) → nat_lt x y ≡ false → y ≤ x
 not_newer x y e = grind (arith, nat_tests)
 

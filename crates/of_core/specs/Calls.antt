@@ -8,13 +8,13 @@ use Rattle.of_core.specs.declared.place.Outcome.{Outcome}
 use Rattle.of_core.specs.declared.place.Outcome.TheVariants.{Answered, Spent}
 use Rattle.of_core.specs.Table.{Setup, risen}
 use Rattle.of_core.specs.Machine.{Call, IsOpen}
-use Rattle.of_core.specs.World.{World, Read}
+use Rattle.of_core.specs.World.{World, Start, Read}
 use Rattle.of_core.specs.History.{batch, HasCall}
 use Rattle.of_core.specs.Order.{no_read}
 use Rattle.of_core.specs.Bound.{bound}
 pub use Rattle.of_core.specs.Least.{least_read}
 use Rattle.of_core.specs.Least.{least_call}
-use Rattle.of_core.specs.Events.{Event, Begins, Turns, Loads, Evicts, Raises, machine, happens, run, turns, zeros}
+use Rattle.of_core.specs.Events.{Event, Begins, Turns, Loads, Evicts, Raises, machine, happens, run, turns}
 use Rattle.of_core.specs.Turn.{turn_of, IsIdle}
 
 -- these where it is so, and else none
@@ -99,16 +99,16 @@ abbrev pub last_of : List Outcome → Option Outcome
 last_of os = last_from None os
 
 -- what a moment says of the outcome of the call of caller i with this ticket and operation: a batch, or a read, has it, and it has made as many steps as such a call makes; or the sequence is spent
-abbrev pub Stood : Setup → World → (i ticket : ℕ) → (op : List ℕ) → Outcome → Type 0
-Stood S w i ticket op (Answered s true raw steps) = (0 < s) × (s ≤ risen S w.words) × HasCall S (batch (zeros S) w.batches s).calls i ticket op raw × (least_call op ≤ steps) × (steps ≤ bound S)
-Stood S w i ticket op (Answered s false raw steps) = (s ≤ risen S w.words) × ((k : ℕ) × (k < length w.reads) × (get_or w.reads k no_read ≡ record { caller = i; ticket = ticket; op = op; raw = raw; seq = s }))
+abbrev pub Stood : Setup → Start → World → (i ticket : ℕ) → (op : List ℕ) → Outcome → Type 0
+Stood S B w i ticket op (Answered s true raw steps) = (B.seq < s) × (s ≤ risen S w.words) × HasCall S (batch B w.batches s).calls i ticket op raw × (least_call op ≤ steps) × (steps ≤ bound S)
+Stood S B w i ticket op (Answered s false raw steps) = (s ≤ risen S w.words) × ((k : ℕ) × (k < length w.reads) × (get_or w.reads k no_read ≡ record { caller = i; ticket = ticket; op = op; raw = raw; seq = s }))
     × (S.meaning.reads_only op ≡ true) × (least_read S op ≤ steps) × (steps ≤ bound S)
-Stood S w i ticket op (Spent s) = (s ≡ S.limit) × (risen S w.words ≡ s)
+Stood S B w i ticket op (Spent s) = (s ≡ S.limit) × (risen S w.words ≡ s)
 
--- the calls of caller i, where it has begun these and these have ended
-pub record Calls (S : Setup) (w : World) (i : ℕ) (ops : List (List ℕ)) (outs : List Outcome) : Type 0 where
+-- the calls of caller i, where it has begun these behind so many others, and these have ended
+pub record Calls (S : Setup) (B : Start) (before : ℕ) (w : World) (i : ℕ) (ops : List (List ℕ)) (outs : List Outcome) : Type 0 where
   -- the machine counts what was begun
-  pub made : (machine w i).made ≡ length ops
+  pub made : (machine w i).made ≡ before + length ops
   -- with no call open all have ended
   pub idle : IsIdle (machine w i) → length outs ≡ length ops
   -- an open call is the last one begun
@@ -116,11 +116,11 @@ pub record Calls (S : Setup) (w : World) (i : ℕ) (ops : List (List ℕ)) (outs
   -- the machine holds the last outcome
   pub last : IsIdle (machine w i) → (machine w i).answer ≡ last_of outs
   -- each outcome is in the history
-  pub each : (x : ℕ) → x < length outs → Stood S w i (x + 1) (get_or ops x []) (get_or outs x no_outcome)
+  pub each : (x : ℕ) → x < length outs → Stood S B w i (before + x + 1) (get_or ops x []) (get_or outs x no_outcome)
   -- each of the caller's reads in the history is an outcome
-  pub reads : All (λ (r : Read). r.caller ≡ i → (x : ℕ) × (steps : ℕ) × (x < length outs) × (r.ticket ≡ x + 1) × (r.op ≡ get_or ops x []) × (get_or outs x no_outcome ≡ Answered r.seq false r.raw steps)) w.reads
+  pub reads : All (λ (r : Read). r.caller ≡ i → (x : ℕ) × (steps : ℕ) × (x < length outs) × (r.ticket ≡ before + x + 1) × (r.op ≡ get_or ops x []) × (get_or outs x no_outcome ≡ Answered r.seq false r.raw steps)) w.reads
   -- each of its calls in a batch was begun, with these words
-  pub calls : (k : ℕ) → 0 < k → k ≤ length w.batches → All (λ (c : Call). c.caller ≡ i → (0 < c.ticket) × (c.ticket ≤ length ops) × (c.op ≡ get_or ops (c.ticket - 1) [])) (batch (zeros S) w.batches k).calls
+  pub calls : (k : ℕ) → B.seq < k → k ≤ B.seq + length w.batches → All (λ (c : Call). c.caller ≡ i → (before < c.ticket) × (c.ticket ≤ before + length ops) × (c.op ≡ get_or ops (c.ticket - before - 1) [])) (batch B w.batches k).calls
 
 -- the turns of caller i among the events are the steps of its calls
 pub record TurnsTold (S : Setup) (w : World) (es : List Event) (i : ℕ) : Type 0 where

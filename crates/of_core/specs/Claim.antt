@@ -84,6 +84,7 @@ pub record IsSound (S : Setup) (B : Start) (w : World) : Type 0 where
   pub order : Ordered S B w.words w.batches w.reads
   -- recovery of the durable words gives the state after the batches up to the durable sequence, and each caller's own cells in it hold its last call
   pub recovers : (a : ℕ) → a < S.cells → recovered_data S.callers S.cells (durable_word S w.words) a ≡ at B w.batches (risen S w.words) a
+  pub from : B.seq ≤ risen S w.words
   pub reaches : risen S w.words ≤ B.seq + length w.batches
   pub own : (i : ℕ) → i < S.callers → Last S B w.batches (risen S w.words) i
   -- each round and each try has used the cells of one state alone

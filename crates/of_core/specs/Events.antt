@@ -2,10 +2,12 @@
 use Rattle.std.specs.Prelude.{◌==◌, Bool, true, false, ℕ, ◌+◌, max, List, [], ◌∷◌, ◌++◌, length, ◌≡◌, ◌≤◌, ◌<◌}
 use Rattle.std.proofs.Common.{get_or, set, replicate, zero, suc}
 use Rattle.of_core.specs.declared.place.Place.TheVariants.{Idle}
-use Rattle.of_core.specs.Table.{Setup, size, durable_at}
+use Rattle.of_cell.specs.Words.{pay}
+use Rattle.of_core.specs.Table.{Setup, size, durable_at, ticket_cell}
 use Rattle.of_core.specs.Machine.{Data, IsOpen, no_machine, idle, opened}
 use Rattle.of_core.specs.Steps.{finds}
 use Rattle.of_core.specs.World.{World, Start, stepped}
+use Rattle.of_core.specs.Starts.{first_words}
 
 -- what may happen to a table
 pub data Event : Type 0 where
@@ -56,18 +58,22 @@ abbrev pub IsSchedule : Setup → World → List Event → Type 0
 IsSchedule S w [] = Unit {0}
 IsSchedule S w (e ∷ es) = MayHappen S w e × IsSchedule S (happens S w e) es
 
--- n machines from caller i on
-abbrev pub idles : Setup → ℕ → ℕ → List Data
-idles S i zero = []
-idles S i (suc n) = idle S i 0 ∷ idles S (suc i) n
+-- how many calls caller i has behind it at a start: the number of its ticket cell
+abbrev pub start_ticket : Setup → Start → ℕ → ℕ
+start_ticket S B i = pay (get_or B.cells (ticket_cell S i) 0)
+
+-- n idle machines from caller i on, each with so many calls behind it
+abbrev pub idles : Setup → (made : ℕ → ℕ) → ℕ → ℕ → List Data
+idles S made i zero = []
+idles S made i (suc n) = idle S i (made i) ∷ idles S made (suc i) n
+
+-- a table of n words at its start, before anything has happened
+abbrev pub opening : Setup → Start → ℕ → World
+opening S B n = record { words = first_words S.callers S.cells B n; machines = idles S (start_ticket S B) 0 S.callers; batches = []; reads = []; loaded = [] }
 
 -- the start of a table of zeros
 abbrev pub zeros : Setup → Start
 zeros S = record { seq = 0; owner = 0; cells = replicate S.cells 0 }
-
--- a table of n zeros, before anything has happened
-abbrev pub opening : Setup → ℕ → World
-opening S n = record { words = replicate n 0; machines = idles S 0 S.callers; batches = []; reads = []; loaded = [] }
 
 -- 1 where it is so
 abbrev pub counted : Bool → ℕ

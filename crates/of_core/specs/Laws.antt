@@ -1,19 +1,27 @@
 -- The laws of all steps and all schedules.
 use Rattle.std.specs.Prelude.{ℕ, ◌+◌, List, ◌++◌, length, ◌≡◌, ◌≤◌, ◌<◌}
+use Rattle.std.specs.List.{All}
 use Rattle.std.proofs.Common.{get_or, set}
 use Rattle.of_core.specs.declared.place.Place.TheVariants.{Idle, LoadCurrent}
 use Rattle.of_core.specs.declared.place.Outcome.{Outcome}
 use Rattle.of_core.specs.Table.{Setup, size, table_size}
-use Rattle.of_core.specs.Machine.{Data, IsOpen, idle, opened}
+use Rattle.of_core.specs.Machine.{Call, Data, IsOpen, idle, opened}
 use Rattle.of_core.specs.Steps.{want, took, FoundBy}
 use Rattle.of_core.specs.World.{World, Start, added, stepped}
+use Rattle.of_core.specs.History.{batch}
 use Rattle.of_core.specs.Facts.{Step, rests}
+use Rattle.of_core.specs.Tries.{Tries}
+use Rattle.of_core.specs.Shared.{MayStart}
 use Rattle.of_core.specs.Invariant.{Good, IsLoaded}
 use Rattle.of_core.specs.Moves.{Moves}
-use Rattle.of_core.specs.Events.{Event, MayHappen, begun, happens, evicted, run, turns, IsSchedule, StaysOpen, machine, zeros, opening}
+use Rattle.of_core.specs.Events.{Event, MayHappen, begun, happens, evicted, run, turns, IsSchedule, StaysOpen, machine, start_ticket, opening}
 use Rattle.of_core.specs.Bound.{bound}
 use Rattle.of_core.specs.Claim.{IsSound}
 use Rattle.of_core.specs.Calls.{Calls, TurnsTold, begun_by, ended_by, operations, outcomes}
+
+-- the call is the open one of its caller
+abbrev pub IsOpenCall : World → Call → Type 0
+IsOpenCall w c = IsOpen (machine w c.caller).place × (c.ticket ≡ (machine w c.caller).made) × (c.op ≡ (machine w c.caller).op)
 
 -- each step of each machine keeps the invariant
 abbrev pub StepKept : Setup → (List ℕ → Type 0) → Type 0
@@ -32,6 +40,17 @@ abbrev pub StepTaken : Setup → (List ℕ → Type 0) → Type 0
 StepTaken S Lawful =
     (B : Start) (w : World) → Good S Lawful B w → (i : ℕ) (m : Data) → i < S.callers → get_or w.machines i m ≡ m → IsOpen m.place → (n : ℕ) → FoundBy (want S m) w.words n
     → Step S B w m n (took S m n) (added S w.words m n)
+
+-- and a try reads the state that it began at
+abbrev pub StepTries : Setup → (List ℕ → Type 0) → Type 0
+StepTries S Lawful =
+    (B : Start) (w : World) → Good S Lawful B w → (i : ℕ) (m : Data) → i < S.callers → get_or w.machines i m ≡ m → IsOpen m.place → (n : ℕ) → Tries m n (took S m n)
+
+-- a call in a batch that a step commits is the open call of its caller
+abbrev pub NewCalls : Setup → (List ℕ → Type 0) → Type 0
+NewCalls S Lawful =
+    (B : Start) (w : World) → Good S Lawful B w → (i : ℕ) (m : Data) → i < S.callers → get_or w.machines i m ≡ m → (n : ℕ) → FoundBy (want S m) w.words n
+    → (k : ℕ) → B.seq + length w.batches < k → k ≤ B.seq + length (stepped S i m n w).batches → All (IsOpenCall w) (batch B (stepped S i m n w).batches k).calls
 
 -- to begin a call keeps the invariant, and the call rests on nothing yet
 abbrev pub BeginKept : Setup → (List ℕ → Type 0) → Type 0
@@ -62,33 +81,33 @@ BesideKept S Lawful =
     (B : Start) (w : World) → Good S Lawful B w → (c v : ℕ) → table_size S ≤ c
     → Good S Lawful B (record w { words = set w.words c v }) × ((e : ℕ × ℕ) → IsLoaded S B w.words w.batches e → IsLoaded S B (set w.words c v) w.batches e)
 
--- a table of zeros with idle machines meets the invariant, and an idle machine rests on nothing
+-- a table at its start, with idle machines, meets the invariant, and an idle machine rests on nothing
 abbrev pub StartKept : Setup → (List ℕ → Type 0) → Type 0
-StartKept S Lawful = (n : ℕ) → table_size S ≤ n → Good S Lawful (zeros S) (opening S n) × ((i made : ℕ) → rests (idle S i made) ≡ 0)
+StartKept S Lawful = (B : Start) → MayStart S Lawful B → (n : ℕ) → table_size S ≤ n → Good S Lawful B (opening S B n) × ((i made : ℕ) → rests (idle S i made) ≡ 0)
 
 -- whatever meets the invariant has a legal history, and recovery gives the state that its durable words name
 abbrev pub GoodIsSound : Setup → (List ℕ → Type 0) → Type 0
 GoodIsSound S Lawful = (B : Start) (w : World) → Good S Lawful B w → IsSound S B w
 
--- so does every moment of every schedule
-abbrev pub EveryMoment : Setup → Type 0
-EveryMoment S = (n : ℕ) → table_size S ≤ n → (es : List Event) → IsSchedule S (opening S n) es → IsSound S (zeros S) (run S (opening S n) es)
+-- so does every moment of every schedule from every start
+abbrev pub EveryMoment : Setup → (List ℕ → Type 0) → Type 0
+EveryMoment S Lawful = (B : Start) → MayStart S Lawful B → (n : ℕ) → table_size S ≤ n → (es : List Event) → IsSchedule S (opening S B n) es → IsSound S B (run S (opening S B n) es)
 
--- every schedule leaves each caller's calls as its events begin and end them
-abbrev pub EveryCall : Setup → Type 0
-EveryCall S =
-    (n : ℕ) → table_size S ≤ n → (es : List Event) → IsSchedule S (opening S n) es → (i : ℕ) → i < S.callers
-    → Calls S (run S (opening S n) es) i (operations es i) (outcomes S (opening S n) es i)
+-- every schedule from every start leaves each caller's calls as its events begin and end them
+abbrev pub EveryCall : Setup → (List ℕ → Type 0) → Type 0
+EveryCall S Lawful =
+    (B : Start) → MayStart S Lawful B → (n : ℕ) → table_size S ≤ n → (es : List Event) → IsSchedule S (opening S B n) es → (i : ℕ) → i < S.callers
+    → Calls S B (start_ticket S B i) (run S (opening S B n) es) i (operations es i) (outcomes S (opening S B n) es i)
 
 -- each event leads from the calls before it to those after it
 abbrev pub CallsKept : Setup → (List ℕ → Type 0) → Type 0
 CallsKept S Lawful =
-    (w : World) → Good S Lawful (zeros S) w → (i : ℕ) → i < S.callers → (ops : List (List ℕ)) (outs : List Outcome) → Calls S w i ops outs
-    → (e : Event) → MayHappen S w e → Calls S (happens S w e) i (ops ++ begun_by e i) (outs ++ ended_by S w e i)
+    (B : Start) (w : World) → Good S Lawful B w → (i before : ℕ) → i < S.callers → (ops : List (List ℕ)) (outs : List Outcome) → Calls S B before w i ops outs
+    → (d : Event) → MayHappen S w d → Calls S B before (happens S w d) i (ops ++ begun_by d i) (outs ++ ended_by S w d i)
 
--- in every schedule the turns of a caller are the steps of its calls
-abbrev pub EveryTurn : Setup → Type 0
-EveryTurn S = (n : ℕ) → table_size S ≤ n → (es : List Event) → IsSchedule S (opening S n) es → (i : ℕ) → i < S.callers → TurnsTold S (opening S n) es i
+-- in every schedule from every start the turns of a caller are the steps of its calls
+abbrev pub EveryTurn : Setup → (List ℕ → Type 0) → Type 0
+EveryTurn S Lawful = (B : Start) → MayStart S Lawful B → (n : ℕ) → table_size S ≤ n → (es : List Event) → IsSchedule S (opening S B n) es → (i : ℕ) → i < S.callers → TurnsTold S (opening S B n) es i
 
 -- a call that stays open has made fewer steps than the bound, so its last one comes in time; and it never begins a fourth round
 abbrev pub EndsInTime : Setup → (List ℕ → Type 0) → Type 0

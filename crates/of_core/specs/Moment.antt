@@ -4,7 +4,8 @@ use Rattle.std.proofs.Common.{get_or}
 use Rattle.of_mem.specs.Meaning.{Meaning}
 use Rattle.of_core.specs.Table.{Setup, setup_of, table_size}
 use Rattle.of_core.specs.Machine.{Data, no_machine}
-use Rattle.of_core.specs.World.{World}
+use Rattle.of_core.specs.World.{World, Start}
+use Rattle.of_core.specs.Shared.{MayStart}
 use Rattle.of_core.specs.Events.{Event, run, IsSchedule, opening}
 use Rattle.of_core.specs.Seen.{Seen}
 
@@ -40,12 +41,14 @@ world_of b = record { words = b.words; machines = b.machines; batches = []; read
 abbrev pub after : {X : Type 0} → (X → Meaning) → List Event → Bench X → Bench X
 after meaning es b = record b { words = (run (table meaning b) (world_of b) es).words; machines = (run (table meaning b) (world_of b) es).machines }
 
--- the words and machines are those of a moment: a schedule leaves them
-pub record Reached (S : Setup) (ws : List ℕ) (ms : List Data) : Type 0 where
+-- the words and machines are those of a moment: a schedule leaves them from some start
+pub record Reached (S : Setup) (Lawful : List ℕ → Type 0) (ws : List ℕ) (ms : List Data) : Type 0 where
+  pub start : Start
+  pub may_start : MayStart S Lawful start
   pub events : List Event
-  pub schedule : IsSchedule S (opening S (table_words S)) events
-  pub words : (run S (opening S (table_words S)) events).words ≡ ws
-  pub machines : (run S (opening S (table_words S)) events).machines ≡ ms
+  pub schedule : IsSchedule S (opening S start (table_words S)) events
+  pub words : (run S (opening S start (table_words S)) events).words ≡ ws
+  pub machines : (run S (opening S start (table_words S)) events).machines ≡ ms
 
 -- each of the machines runs this work on a table of these sizes
 abbrev pub Alike : {X : Type 0} → X → (callers cells limit : ℕ) → List (Seen X) → Type 0

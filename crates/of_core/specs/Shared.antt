@@ -1,5 +1,5 @@
 -- What the invariant says of words and history alone, in groups.
-use Rattle.std.specs.Prelude.{ℕ, ◌+◌, ◌*◌, ◌-◌, List, length, ◌≡◌, ◌≤◌, ◌<◌, ◌⊎◌}
+use Rattle.std.specs.Prelude.{ℕ, ◌+◌, ◌*◌, ◌-◌, List, length, ◌≡◌, ◌≤◌, ◌<◌, ◌⊎◌, max, map}
 use Rattle.std.proofs.Common.{get_or}
 use Rattle.of_cell.specs.Words.{word, seq, pay}
 use Rattle.of_mem.specs.Meaning.{Once, SameFrom}
@@ -24,6 +24,12 @@ pub record IsStart (S : Setup) (B : Start) : Type 0 where
   pub owner_in : B.owner < S.callers
   pub size : length B.cells ≡ S.cells
   pub old : (a : ℕ) → seq (get_or B.cells a 0) ≤ B.seq
+
+-- a start that a table may have: its state is lawful, and its sequence is at most the limit
+pub record MayStart (S : Setup) (Lawful : List ℕ → Type 0) (B : Start) : Type 0 where
+  pub start : IsStart S B
+  pub lawful : Lawful (map pay B.cells)
+  pub limit : B.seq ≤ S.limit
 
 -- the sequence counts the batches, and names the last one's owner
 pub record Counted (S : Setup) (B : Start) (ws : List ℕ) (bs : List Batch) : Type 0 where
@@ -123,8 +129,8 @@ pub record Heard (S : Setup) (B : Start) (ws : List ℕ) (bs : List Batch) : Typ
   pub before : (k i : ℕ) → B.seq < k → k ≤ last ws → i < S.callers → seq ((batch B bs k).announcements i) ≤ seq (announcement_of S ws i)
   -- one that stood when a batch was committed is run by the next batch at the latest
   pub met : (k i : ℕ) → B.seq < k → k < last ws → i < S.callers → (batch B bs k).announcements i ≡ announcement_of S ws i → seq (announcement_of S ws i) ≤ ticket_in S B bs (k + 1) i
-  -- nobody has run a ticket that was not announced
-  pub reached : (i : ℕ) → i < S.callers → ticket_in S B bs (last ws) i ≤ seq (announcement_of S ws i)
+  -- nobody has run a ticket that was not announced, but for those behind the start
+  pub reached : (i : ℕ) → i < S.callers → ticket_in S B bs (last ws) i ≤ max (ticket_in S B bs B.seq i) (seq (announcement_of S ws i))
   -- a log has no more entries than there are cells, also where its round was lost
   pub counts : (i : ℕ) → i < S.callers → pay (log_word S ws i 0) ≤ S.cells
 

@@ -1,12 +1,13 @@
 -- Small works for worked schedules.
 use Rattle.std.specs.Prelude.{ℕ, ◌+◌, ◌*◌, ◌^◌, ◌-◌, ◌==◌, List, [], ◌∷◌, ◌++◌, length, Option, Some, None, Bool, true, false}
 use Rattle.std.proofs.Common.{get_or, replicate, zero, suc}
+use Rattle.of_cell.specs.Words.{word}
 use Rattle.of_mem.specs.declared.work.RawReply.{RawReply}
 use Rattle.of_mem.specs.Meaning.{Meaning, Walked, Needs, Gives, written}
 use Rattle.of_core.specs.Table.{Setup, setup_of, table_size}
-use Rattle.of_core.specs.World.{World}
+use Rattle.of_core.specs.World.{World, Start}
 use Rattle.of_core.specs.declared.place.Outcome.{Outcome}
-use Rattle.of_core.specs.Events.{Event, Begins, Turns, run, opening}
+use Rattle.of_core.specs.Events.{Event, Begins, Turns, run, opening, zeros}
 use Rattle.of_core.specs.Calls.{outcomes}
 
 -- a reply whose numbers are these, each marked at its place
@@ -69,7 +70,7 @@ table_with n meaning = setup_of n (n * 10 + 10) 100 (meaning (n * 10))
 
 -- from zeros, caller 0 begins the operation and makes so many turns
 abbrev pub alone : ℕ → (ℕ → Meaning) → List ℕ → (turns : ℕ) → World
-alone n meaning op k = run (table_with n meaning) (opening (table_with n meaning) (table_size (table_with n meaning))) (Begins 0 op ∷ replicate k (Turns 0))
+alone n meaning op k = run (table_with n meaning) (opening (table_with n meaning) (zeros (table_with n meaning)) (table_size (table_with n meaning))) (Begins 0 op ∷ replicate k (Turns 0))
 
 -- caller 1 begins to store v, and ends it
 abbrev pub stores : ℕ → List Event
@@ -77,7 +78,7 @@ stores v = Begins 1 (v ∷ []) ∷ replicate 50 (Turns 1)
 
 -- caller 0 reads two registers, and before each load of the second, in each try, caller 1 stores there
 abbrev pub overtaken : (turns : ℕ) → World
-overtaken k = run (table_with 2 registers) (opening (table_with 2 registers) (table_size (table_with 2 registers)))
+overtaken k = run (table_with 2 registers) (opening (table_with 2 registers) (zeros (table_with 2 registers)) (table_size (table_with 2 registers)))
     (Begins 0 (0 ∷ 0 ∷ []) ∷ replicate 3 (Turns 0) ++ stores 1 ++ replicate 4 (Turns 0) ++ stores 2 ++ replicate 4 (Turns 0) ++ stores 3 ++ replicate 4 (Turns 0) ++ stores 4 ++ replicate k (Turns 0))
 
 -- caller 0 reads one register, and then stores to one
@@ -86,4 +87,14 @@ read_and_store = Begins 0 (0 ∷ []) ∷ replicate 3 (Turns 0) ++ Begins 0 (7 �
 
 -- and how its calls end, from zeros
 abbrev pub two_calls : List Outcome
-two_calls = outcomes (table_with 1 registers) (opening (table_with 1 registers) (table_size (table_with 1 registers))) read_and_store 0
+two_calls = outcomes (table_with 1 registers) (opening (table_with 1 registers) (zeros (table_with 1 registers)) (table_size (table_with 1 registers))) read_and_store 0
+
+-- a start behind one call of caller 0, whose ticket is 1 and which has stored 7 in the second register
+abbrev pub one_done : (seq : ℕ) → Start
+one_done s = record { seq = s; owner = 0; cells = word s 1 ∷ word s 65536 ∷ (replicate 8 0 ++ (0 ∷ word s 7 ∷ replicate 8 0)) }
+
+-- from that start, with this limit, the caller begins to store and makes so many turns
+abbrev pub behind_one : (seq limit turns : ℕ) → World
+behind_one s l k =
+    let S : Setup = setup_of 1 20 l (registers 10) in
+    run S (opening S (one_done s) (table_size S)) (Begins 0 (8 ∷ []) ∷ replicate k (Turns 0))

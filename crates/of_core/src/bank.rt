@@ -1,18 +1,21 @@
 //! The plain bank: the words of a table, and a machine for each caller, whose steps come one after the other.
 
-ghost use Rattle.std.specs.Prelude.{◌≡◌, ◌<◌, ◌≤◌, ◌+◌, [], ◌∷◌, length, IfOk, IsTrue, ◌↔◌};
+ghost use Rattle.std.specs.Prelude.{◌≡◌, ◌<◌, ◌≤◌, ◌+◌, ◌*◌, [], ◌∷◌, length, IfOk, IsTrue, ◌↔◌};
 ghost use Rattle.std.proofs.Common.{get_or, set};
 ghost use Rattle.of_mem.specs.declared.work.TheConstants.{MOST_INSTRS};
-ghost use Rattle.of_core.specs.Table.{size};
+ghost use Rattle.of_cell.specs.Words.{pay};
+ghost use Rattle.of_cell.specs.Cells.{durable_cells, table_words as cell_words};
+ghost use Rattle.of_core.specs.Table.{size, setup_of};
 ghost use Rattle.of_core.specs.Steps.{word_of, left};
-ghost use Rattle.of_core.specs.Events.{Begins, Turns, Raises, opening};
+ghost use Rattle.of_core.specs.Events.{Begins, Turns, Raises, zeros, idles, opening};
+ghost use Rattle.of_core.specs.Starts.{IsStartRow, closed_at, first_cells, first_words, start_of};
 ghost use Rattle.of_core.specs.Moment.{after, table, table_words, machine_of};
 ghost use Rattle.of_core.specs.Turn.{turn_of, told, IsIdle};
 
 use crate::machine::Machine;
 use crate::place::{Op, Outcome};
-use of_cell::Shape;
-use of_mem::Work;
+use of_cell::{Shape, pack, payload_of, seq_of};
+use of_mem::{MOST_INSTRS, Work};
 use std::alloc::{AllocError, Global};
 use std::marker::Model;
 
@@ -47,7 +50,7 @@ impl<W: Work> Model for Bank<W> {
 
     ghost view = { bench };
 
-    ghost invariant = { IsBank W.many W.size W.meaning };
+    ghost invariant = { IsBank W.many W.size W.meaning W.lawful };
 }
 
 /// What a turn says of a call that was open before it.
@@ -88,6 +91,53 @@ fn perform(words: &mut [u64], op: Op) -> u64
     }
 }
 
+/// The request of a start's owner: closed, where there is a transaction behind the start.
+fn closed(seq: u32) -> u64
+    ensures { result ≡ closed_at seq }
+{
+    if seq == 0 { 0 } else { pack(seq, 1) }
+}
+
+/// The cells at the start that a durable row is.
+fn first_cells(alloc: Global, shape: &Shape, durable: &[u64]) -> Result<Vec<u64>, AllocError>
+    requires row { length durable.now ≡ durable_cells shape.now.callers shape.now.cells }
+    requires owner { pay (get_or durable.now 0 0) < shape.now.callers }
+    ensures { IfOk result (λ cells. cells.items ≡ first_cells shape.now.callers shape.now.cells (start_of shape.now.callers shape.now.cells durable.now)) }
+{
+    let current = durable[shape.cur() as usize];
+    let first = shape.data_cell(0) as usize;
+    let mut cells = vec![in alloc; 0; shape.callers as usize + 1]?;
+    cells[0] = current;
+    cells[shape.request(payload_of(current)) as usize] = closed(seq_of(current));
+    cells.extend_from_slice(&durable[first..first + shape.cells as usize])?;
+    cells.resize(shape.durable_cells() as usize, 0)?;
+    Ok(cells)
+}
+
+/// The words at the start that a durable row is: its cells, their durable words, and 0 behind them.
+fn first_words(alloc: Global, shape: &Shape, durable: &[u64]) -> Result<Vec<u64>, AllocError>
+    requires row { length durable.now ≡ durable_cells shape.now.callers shape.now.cells }
+    requires owner { pay (get_or durable.now 0 0) < shape.now.callers }
+    ensures { let start = start_of shape.now.callers shape.now.cells durable.now in IfOk result (λ words. words.items ≡ first_words shape.now.callers shape.now.cells start (cell_words shape.now.callers shape.now.instrs shape.now.cells)) }
+{
+    let cells = first_cells(alloc, shape, durable)?;
+    let mut words = Vec::from_slice(alloc, &cells)?;
+    words.extend_from_slice(&cells)?;
+    words.resize(shape.words() as usize, 0)?;
+    Ok(words)
+}
+
+/// How many calls a caller has behind it at the start that a durable row is: the number of its ticket cell.
+fn start_ticket(shape: &Shape, durable: &[u64], caller: u32) -> u32
+    requires caller { caller < shape.now.callers }
+    requires own { shape.now.callers * (MOST_INSTRS + 2) ≤ shape.now.cells }
+    requires row { length durable.now ≡ durable_cells shape.now.callers shape.now.cells }
+    ensures { result ≡ pay (get_or (start_of shape.now.callers shape.now.cells durable.now).cells (caller * (MOST_INSTRS + 2)) 0) }
+{
+    let ticket = caller * (MOST_INSTRS as u32 + 2);
+    payload_of(durable[shape.data_cell(ticket) as usize])
+}
+
 impl<W: Work> Bank<W> {
     /// A bank of zeros, with an idle machine for each caller. `limit` is the last sequence that may be committed. The error is that there
     /// is no memory.
@@ -100,13 +150,51 @@ impl<W: Work> Bank<W> {
         ensures callers { IfOk result (λ b. b.callers ≡ shape.callers) }
         ensures cells { IfOk result (λ b. b.cells ≡ shape.cells) }
         ensures limit { IfOk result (λ b. b.limit ≡ limit) }
-        ensures words { IfOk result (λ b. b.words ≡ (opening (table W.meaning b) (table_words (table W.meaning b))).words) }
-        ensures machines { IfOk result (λ b. b.machines ≡ (opening (table W.meaning b) (table_words (table W.meaning b))).machines) }
+        ensures words { IfOk result (λ b. b.words ≡ (opening (table W.meaning b) (zeros (table W.meaning b)) (table_words (table W.meaning b))).words) }
+        ensures machines { IfOk result (λ b. b.machines ≡ (opening (table W.meaning b) (zeros (table W.meaning b)) (table_words (table W.meaning b))).machines) }
+        ensures idle { IfOk result (λ b. b.machines ≡ idles (table W.meaning b) (λ i. 0) 0 b.callers) }
     {
         let words = vec![in alloc; 0; shape.words() as usize]?;
         let mut machines = Vec::new(alloc);
         for caller in 0..shape.callers {
             let machine = Machine::new(alloc, shape, limit, caller, 0, work)?;
+            machines.push(machine)?;
+        }
+        Ok(Bank {
+            work,
+            shape,
+            limit,
+            words,
+            machines,
+        })
+    }
+
+    /// A bank that starts from a durable row of which recovery changes nothing, with an idle machine for each caller, which has the
+    /// row's calls behind it. `limit` is the last sequence that may be committed. The error is that there is no memory.
+    pub fn start(
+        alloc: Global,
+        shape: Shape,
+        limit: u32,
+        work: W,
+        durable: &[u64],
+    ) -> Result<Self, AllocError>
+        requires callers { shape.callers ≡ W.many work }
+        requires instrs { shape.instrs ≡ MOST_INSTRS }
+        requires cells { shape.cells ≡ W.size work }
+        requires limit { limit ≤ 4294967294 }
+        requires row { IsStartRow (setup_of shape.callers shape.cells limit (W.meaning work)) (W.lawful work) durable.now }
+        ensures work { IfOk result (λ b. b.work ≡ work) }
+        ensures callers { IfOk result (λ b. b.callers ≡ shape.callers) }
+        ensures cells { IfOk result (λ b. b.cells ≡ shape.cells) }
+        ensures limit { IfOk result (λ b. b.limit ≡ limit) }
+        ensures words { let start = start_of shape.callers shape.cells durable.now in IfOk result (λ b. b.words ≡ (opening (table W.meaning b) start (table_words (table W.meaning b))).words) }
+        ensures machines { let start = start_of shape.callers shape.cells durable.now in IfOk result (λ b. b.machines ≡ (opening (table W.meaning b) start (table_words (table W.meaning b))).machines) }
+    {
+        let words = first_words(alloc, &shape, durable)?;
+        let mut machines = Vec::new(alloc);
+        for caller in 0..shape.callers {
+            let made = start_ticket(&shape, durable, caller);
+            let machine = Machine::new(alloc, shape, limit, caller, made, work)?;
             machines.push(machine)?;
         }
         Ok(Bank {

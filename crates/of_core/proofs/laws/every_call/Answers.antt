@@ -9,17 +9,17 @@ returns-clause-calls g c =
     let laws = g.met.W.Work g.world.𝓛 g.world.𝓜 g.world.𝓡 ((λ s x. x), (λ x. x), (λ x. x), λ x. x) in
     let S = setup_of (g.W.Work.many c.args.work) (g.W.Work.size c.args.work) c.args.limit (g.W.Work.meaning c.args.work) in
     let fits = laws.fits c.args.work in
-    λ total room es s i member. every_call S (g.W.Work.lawful c.args.work) (laws.sound c.args.work) i member fits.some (omega (arith, fits.few)) fits.own total room (omega arith) (omega (arith, fits.small)) es s
+    λ B may total room es s i member. every_call S (g.W.Work.lawful c.args.work) (laws.sound c.args.work) B i member may fits.some (omega (arith, fits.few)) fits.own total room (omega arith) (omega (arith, fits.small)) es s
 
 pub returns-clause-turns : goal.returns-clause-turns
 returns-clause-turns g c =
     let laws = g.met.W.Work g.world.𝓛 g.world.𝓜 g.world.𝓡 ((λ s x. x), (λ x. x), (λ x. x), λ x. x) in
     let S = setup_of (g.W.Work.many c.args.work) (g.W.Work.size c.args.work) c.args.limit (g.W.Work.meaning c.args.work) in
     let fits = laws.fits c.args.work in
-    λ total room es s i member. every_turn S (g.W.Work.lawful c.args.work) (laws.sound c.args.work) i member fits.some (omega (arith, fits.few)) fits.own total room (omega arith) (omega (arith, fits.small)) es s
+    λ B may total room es s i member. every_turn S (g.W.Work.lawful c.args.work) (laws.sound c.args.work) B i member may fits.some (omega (arith, fits.few)) fits.own total room (omega arith) (omega (arith, fits.small)) es s
 
 pub returns-clause-kept : goal.returns-clause-kept
 returns-clause-kept g c =
     let laws = g.met.W.Work g.world.𝓛 g.world.𝓜 g.world.𝓡 ((λ s x. x), (λ x. x), (λ x. x), λ x. x) in
     let S = setup_of (g.W.Work.many c.args.work) (g.W.Work.size c.args.work) c.args.limit (g.W.Work.meaning c.args.work) in
-    λ w h i member ops outs k e may. calls_kept S (g.W.Work.lawful c.args.work) (laws.sound c.args.work) w h i member ops outs k e may
+    λ B w h i before member ops outs k e may. calls_kept S (g.W.Work.lawful c.args.work) (laws.sound c.args.work) B w h before i member ops outs k e may

@@ -3,6 +3,8 @@ use Rattle.of_core.proofs.laws.step_kept.Goals as goal
 use Rattle.of_core.specs.Table.{setup_of}
 use Rattle.of_core.proofs.StepKept.{step_kept, step_moves, loaded_stays}
 use Rattle.of_core.proofs.StepTaken.{step_taken}
+use Rattle.of_core.proofs.TriesStep.{step_tries}
+use Rattle.of_core.proofs.NewCalls.{new_calls}
 use Rattle.of_core.proofs.Happenings.{begin_kept, rests_not, load_kept, evict_kept, evict_stays}
 use Rattle.of_core.proofs.Beside.{beside_kept, beside_stays}
 use Rattle.of_core.proofs.Openings.{start_good, idle_rests}
@@ -19,11 +21,13 @@ returns g c =
       kept = step_kept S L sound;
       moves = step_moves S L sound;
       taken = λ B w h i m l e o n f. step_taken S L B w h i m l e o n f;
+      tries = λ B w h i m l e o n. step_tries S L B w h i m l e o n;
+      new_calls = λ B w h i m l e n f. new_calls S L sound B w h i m l e n f;
       begins = λ B w h i m l e r op s f t. (begin_kept S L B w h i m l e r op s f t, rests_not S L B w h i m l e r op s f t);
       loads = load_kept S L;
       stays = loaded_stays S L sound;
       raises = λ B w h e l. (evict_kept S L B w h e l, evict_stays S L B w h e l);
       beside = λ B w h c v f. (beside_kept S L B w h c v f, beside_stays S L B w h c v f);
-      start = λ n room. (start_good S L sound fits.some (omega (arith, fits.few)) fits.own n room (omega arith) (omega (arith, fits.small)), idle_rests S);
+      start = λ B may n room. (start_good S L sound B may fits.some (omega (arith, fits.few)) fits.own n room (omega arith) (omega (arith, fits.small)), idle_rests S);
       sound = λ B w h. is_sound S L sound B w h.core h.within h.order;
     }

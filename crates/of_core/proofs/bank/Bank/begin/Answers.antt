@@ -34,7 +34,7 @@ invariant_of-self g c =
       room = inv.room;
       members = length-set b.machines.items i t ∙ inv.members;
       alike = alike_set b.work b.shape.callers b.shape.cells b.limit b.machines.items i t inv.alike (alike_call b.work b.shape.callers b.shape.cells b.limit s t d seen.0 put);
-      reached = rw machines (begins S _ _ inv.reached i c.args.op.now s.call seen.1 inside is_idle c.requires.some c.requires.few made);
+      reached = rw machines (begins S _ _ _ inv.reached i c.args.op.now s.call seen.1 inside is_idle c.requires.some c.requires.few made);
     }
 
 pub returns : goal.returns

@@ -25,7 +25,7 @@ invariant_of-self g c =
       room = length-set ws _ _ ∙ inv.room;
       members = inv.members;
       alike = inv.alike;
-      reached = rw word (raises S _ _ inv.reached c.args.cell low);
+      reached = rw word (raises S _ _ _ inv.reached c.args.cell low);
     }
 
 pub returns : goal.returns

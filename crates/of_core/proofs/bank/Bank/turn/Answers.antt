@@ -135,7 +135,7 @@ invariant_of-self g c =
       room = ap length table ∙ length-set ws _ _ ∙ inv.room;
       members = length-set b.machines.items i t ∙ inv.members;
       alike = alike_set b.work b.shape.callers b.shape.cells b.limit b.machines.items i t inv.alike (alike_call b.work b.shape.callers b.shape.cells b.limit s t d seen.0 put);
-      reached = rw (table, machines) (turns S _ _ inv.reached i s.call seen.1 inside);
+      reached = rw (table, machines) (turns S _ _ _ inv.reached i s.call seen.1 inside);
     }
 
 pub returns-clause-after : goal.returns-clause-after

@@ -1,0 +1,32 @@
+-- Where a table starts: its words at a start, and the start that a durable row is.
+use Rattle.std.specs.Prelude.{◌≡◌, ℕ, ◌+◌, ◌*◌, ◌-◌, List, ◌∷◌, ◌++◌, length, slice_range}
+use Rattle.std.proofs.Common.{get_or, set, replicate, zero, suc}
+use Rattle.of_cell.specs.Words.{word, seq, pay}
+use Rattle.of_cell.specs.Cells.{data_cell, durable_cells}
+use Rattle.of_recover.specs.Recovered.{recovered}
+use Rattle.of_core.specs.Table.{Setup}
+use Rattle.of_core.specs.World.{Start}
+use Rattle.of_core.specs.Shared.{MayStart}
+
+-- the request of a start's owner: closed, where there is a transaction behind the start
+abbrev pub closed_at : ℕ → ℕ
+closed_at zero = 0
+closed_at (suc s) = word (suc s) 1
+
+-- the cells at a start: its current-transaction word and its data words, its owner's request closed, and 0 everywhere else
+unfoldable pub first_cells : (callers cells : ℕ) → Start → List ℕ
+first_cells callers cells B = (word B.seq B.owner ∷ set (replicate callers 0) B.owner (closed_at B.seq)) ++ (B.cells ++ replicate (callers * (2 * cells + 1)) 0)
+
+-- the words at a start: the cells, their durable words, which are the same, and 0 behind them
+unfoldable pub first_words : (callers cells : ℕ) → Start → (words : ℕ) → List ℕ
+first_words callers cells B n = first_cells callers cells B ++ (first_cells callers cells B ++ replicate (n - (durable_cells callers cells + durable_cells callers cells)) 0)
+
+-- the start that a durable row is
+abbrev pub start_of : (callers cells : ℕ) → List ℕ → Start
+start_of callers cells row = record { seq = seq (get_or row 0 0); owner = pay (get_or row 0 0); cells = slice_range row (data_cell callers 0) (data_cell callers 0 + cells) }
+
+-- a durable row of which recovery changes nothing, and which a table may start from
+pub record IsStartRow (S : Setup) (Lawful : List ℕ → Type 0) (row : List ℕ) : Type 0 where
+  pub long : length row ≡ durable_cells S.callers S.cells
+  pub recovered : recovered S.callers S.cells row ≡ row
+  pub may_start : MayStart S Lawful (start_of S.callers S.cells row)
