@@ -1,2 +1,3 @@
 pub mod Register
 pub mod Sound
+pub mod Rows

@@ -1,6 +1,7 @@
 //! The bank on worked schedules: words, outcomes and step counts.
 
 ghost use Rattle.std.specs.Prelude.{◌≡◌, ◌<◌, ◌≤◌, ◌+◌, ◌*◌};
+ghost use Rattle.toy.specs.Rows.{written_row};
 
 use crate::Register;
 use of_cell::{Shape, pack};
@@ -151,5 +152,38 @@ fn spent_at_the_limit(rt: HostRuntime) -> Result<(), Fail> {
     // script, announcement, current word, request and ticket
     assert_eq!(rt; turns(&mut bank, 1, 4), Left::Open);
     assert_eq!(rt; turns(&mut bank, 1, 1), Left::Spent(1));
+    Ok(())
+}
+
+/// The durable words of one caller that has written 7, all with one sequence, with this request.
+fn written(seq: u32, request: u64) -> [u64; 36]
+    ensures { result ≡ written_row seq request }
+{
+    let mut row = [0; 36];
+    row[0] = pack(seq, 0);
+    row[1] = request;
+    row[2] = pack(seq, 1);
+    row[3] = pack(seq, 65_536);
+    row[12] = pack(seq, 7);
+    row
+}
+
+#[test]
+fn a_write_behind_another(rt: HostRuntime) -> Result<(), Fail> {
+    let row = written(1, pack(1, 1));
+    let mut bank = Bank::start(
+        rt.alloc(),
+        shape_for(1),
+        10,
+        Register { callers: 1 },
+        row.as_slice(),
+    )?;
+    assert_eq!(rt; bank.made(0), 1);
+    assert!(rt; bank.is_idle(0));
+    bank.begin(0, [pack(1, 8)].as_slice());
+    assert_eq!(rt; turns(&mut bank, 0, 48), Left::Answered(2, true, 65536, 48));
+    let words = bank.words();
+    assert_eq!(rt; words.get(2).copied(), Some(pack(2, 2)));
+    assert_eq!(rt; words.get(12).copied(), Some(pack(2, 8)));
     Ok(())
 }
