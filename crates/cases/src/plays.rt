@@ -7,13 +7,13 @@ use std::test::Fail;
 const PLAYS: [(&str, &str, u8, &str); 20] = [
     (
         "evict_past_the_cells",
-        "onefile plan 1\ncallers 1\nblocks 0\nevict 222\nend\n",
+        "onefile plan 1\ncallers 1\nblocks 0\nevict 246\nend\n",
         5,
         "error: bad plan, line 4\n",
     ),
     (
         "evict_the_last_cell",
-        "onefile plan 1\ncallers 1\nblocks 0\nevict 221\nend\n",
+        "onefile plan 1\ncallers 1\nblocks 0\nevict 245\nend\n",
         0,
         "onefile report 1\ncaller 0 done 0 0 0\nseq 0\nend\n",
     ),
@@ -73,7 +73,7 @@ const PLAYS: [(&str, &str, u8, &str); 20] = [
     ),
     (
         "overwritten_log",
-        "onefile plan 1\ncallers 1\nblocks 0\nscript 0 store 3 7\nscript 0 store 3 8\nturns 0 61\nevict 75\nevict 77\nend\n",
+        "onefile plan 1\ncallers 1\nblocks 0\nscript 0 store 3 7\nscript 0 store 3 8\nturns 0 61\nevict 83\nevict 85\nend\n",
         0,
         "onefile report 1\nentry 1 0 0 run none\ncaller 0 stopped 1 1 48\nseq 1\nregister 3 7\nend\n",
     ),

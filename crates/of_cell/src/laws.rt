@@ -26,15 +26,15 @@ pub fn places_differ(shape: &Shape)
     ensures below { PlacesBelow shape.now.callers shape.now.instrs shape.now.cells }
 {}
 
-/// The numbers for sixteen callers with scripts of eight and 512 blocks, which make 1759 data cells.
+/// The numbers for sixteen callers with scripts of sixteen and 512 blocks, which make 1887 data cells.
 pub fn largest()
-    ensures cells { durable_cells 16 1759 ≡ 58080 }
-    ensures words { table_words 16 8 1759 ≡ 116305 }
-    ensures steps { step_bound 16 8 1759 ≡ 128921 }
+    ensures cells { durable_cells 16 1887 ≡ 62304 }
+    ensures words { table_words 16 16 1887 ≡ 124881 }
+    ensures steps { step_bound 16 16 1887 ≡ 138657 }
 {}
 
-/// The numbers for one caller with scripts of eight and no blocks, which makes 73 data cells.
+/// The numbers for one caller with scripts of sixteen and no blocks, which makes 81 data cells.
 pub fn smallest()
-    ensures cells { durable_cells 1 73 ≡ 222 }
-    ensures steps { step_bound 1 8 73 ≡ 5438 }
+    ensures cells { durable_cells 1 81 ≡ 246 }
+    ensures steps { step_bound 1 16 81 ≡ 6054 }
 {}

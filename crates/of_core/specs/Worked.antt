@@ -2,6 +2,7 @@
 use Rattle.std.specs.Prelude.{ℕ, ◌+◌, ◌*◌, ◌^◌, ◌-◌, ◌==◌, List, [], ◌∷◌, ◌++◌, length, Option, Some, None, Bool, true, false}
 use Rattle.std.proofs.Common.{get_or, replicate, zero, suc}
 use Rattle.of_cell.specs.Words.{word}
+use Rattle.of_mem.specs.declared.work.TheConstants.{MOST_INSTRS}
 use Rattle.of_mem.specs.declared.work.RawReply.{RawReply}
 use Rattle.of_mem.specs.Meaning.{Meaning, Walked, Needs, Gives, written}
 use Rattle.of_core.specs.Table.{Setup, setup_of, table_size}
@@ -12,7 +13,7 @@ use Rattle.of_core.specs.Calls.{outcomes}
 
 -- a reply whose numbers are these, each marked at its place
 abbrev pub reply_with : List ℕ → RawReply
-reply_with vs = record { shape = 2 ^ length vs - 1; values = vs ++ replicate (8 - length vs) 0 }
+reply_with vs = record { shape = 2 ^ length vs - 1; values = vs ++ replicate (MOST_INSTRS - length vs) 0 }
 
 -- the walk asks for the cell a where it isn't known, and goes on with its number
 abbrev pub known_or : ℕ → (ℕ → Walked) → Option ℕ → Walked
@@ -66,7 +67,7 @@ first_key a = record {
 
 -- a table for n callers, with ten cells behind their own
 abbrev pub table_with : ℕ → (ℕ → Meaning) → Setup
-table_with n meaning = setup_of n (n * 10 + 10) 100 (meaning (n * 10))
+table_with n meaning = setup_of n (n * (MOST_INSTRS + 2) + 10) 100 (meaning (n * (MOST_INSTRS + 2)))
 
 -- from zeros, caller 0 begins the operation and makes so many turns
 abbrev pub alone : ℕ → (ℕ → Meaning) → List ℕ → (turns : ℕ) → World
@@ -91,10 +92,10 @@ two_calls = outcomes (table_with 1 registers) (opening (table_with 1 registers) 
 
 -- a start behind one call of caller 0, whose ticket is 1 and which has stored 7 in the second register
 abbrev pub one_done : (seq : ℕ) → Start
-one_done s = record { seq = s; owner = 0; cells = word s 1 ∷ word s 65536 ∷ (replicate 8 0 ++ (0 ∷ word s 7 ∷ replicate 8 0)) }
+one_done s = record { seq = s; owner = 0; cells = word s 1 ∷ word s 65536 ∷ (replicate MOST_INSTRS 0 ++ (0 ∷ word s 7 ∷ replicate 8 0)) }
 
 -- from that start, with this limit, the caller begins to store and makes so many turns
 abbrev pub behind_one : (seq limit turns : ℕ) → World
 behind_one s l k =
-    let S : Setup = setup_of 1 20 l (registers 10) in
+    let S : Setup = setup_of 1 (MOST_INSTRS + 12) l (registers (MOST_INSTRS + 2)) in
     run S (opening S (one_done s) (table_size S)) (Begins 0 (8 ∷ []) ∷ replicate k (Turns 0))

@@ -6,6 +6,7 @@ use Rattle.std.proofs.Math.Seq.{take-length, drop-length}
 use Rattle.std.proofs.lemmas.Bool.{false≢true}
 use Rattle.std.proofs.lemmas.List.{append_assoc, append-nil, take_more_set, take_more, drop_more, length-take-le}
 use Rattle.std.specs.Bool.{then_some}
+use Rattle.of_script.specs.declared.instr.TheConstants.{MOST_INSTRS}
 use Rattle.of_eval.specs.Shapes.{mark, mask_of}
 use Rattle.of_eval.specs.Reading.{marked_in}
 use Rattle.of_eval.specs.ShapeLaws.{mask_below}
@@ -89,7 +90,7 @@ mask_taken vs i = mask_below (take i vs) i (past vs i)
     past (v ∷ vs) (suc n) (suc i) l = past vs n i (omega arith)
 
 -- one place more is filled
-pub marked_step : (mask rest : ℕ) (cs : List ℕ) (vs : List (Option ℕ)) (i : ℕ) (x : Option ℕ) → length cs ≡ 8 → length vs ≡ 8 → i < 8 → x ≡ then_some (rest % 2 == 1) (get_or cs i 0)
+pub marked_step : (mask rest : ℕ) (cs : List ℕ) (vs : List (Option ℕ)) (i : ℕ) (x : Option ℕ) → length cs ≡ MOST_INSTRS → length vs ≡ MOST_INSTRS → i < MOST_INSTRS → x ≡ then_some (rest % 2 == 1) (get_or cs i 0)
     → take i vs ++ marked_in rest (drop i cs) ≡ marked_in mask cs → take (i + 1) (set vs i x) ++ marked_in (rest / 2) (drop (i + 1) cs) ≡ marked_in mask cs
 marked_step mask rest cs vs i x c v l e h =
     ap (λ (ws : List (Option ℕ)). ws ++ marked_in (rest / 2) (drop (i + 1) cs)) (take_more_set vs i x (omega arith))
@@ -99,17 +100,17 @@ marked_step mask rest cs vs i x c v l e h =
     ∙ h
 
 -- the last place is filled
-pub marked_end : (mask rest : ℕ) (cs : List ℕ) (vs : List (Option ℕ)) (i : ℕ) → length cs ≡ 8 → length vs ≡ 8 → i ≡ 8 → take i vs ++ marked_in rest (drop i cs) ≡ marked_in mask cs → vs ≡ marked_in mask cs
+pub marked_end : (mask rest : ℕ) (cs : List ℕ) (vs : List (Option ℕ)) (i : ℕ) → length cs ≡ MOST_INSTRS → length vs ≡ MOST_INSTRS → i ≡ MOST_INSTRS → take i vs ++ marked_in rest (drop i cs) ≡ marked_in mask cs → vs ≡ marked_in mask cs
 marked_end mask rest cs vs i c v e h =
     let all : take i vs ≡ vs = ap (λ (n : ℕ). take n vs) (e ∙ sym v) ∙ take-length vs in
     let none : drop i cs ≡ [] = ap (λ (n : ℕ). drop n cs) (e ∙ sym c) ∙ drop-length cs in
     sym (append-nil vs) ∙ ap (λ (ws : List (Option ℕ)). ws ++ []) (sym all) ∙ sym (ap (λ (ws : List ℕ). take i vs ++ marked_in rest ws) none) ∙ h
 
-pub bit_small : (i : ℕ) → i < 8 → 2 ^ i ≤ 128
-bit_small i l = let k : 2 ^ i ≤ 2 ^ 7 = pow_mono {i = i} {j = 7} (omega arith) in omega (arith, k)
+pub bit_small : (i : ℕ) → i < MOST_INSTRS → 2 ^ i ≤ 32768
+bit_small i l = let k : 2 ^ i ≤ 2 ^ 15 = pow_mono {i = i} {j = 15} (omega arith) in omega (arith, k)
 
 -- a mask with one value more
-pub with_number : (vs : List (Option ℕ)) (i : ℕ) → i < length vs → i < 8 → is_some (get_or vs i None) ≡ true → mask_of (take i vs) + 1 * 2 ^ i % 4294967296 ≡ mask_of (take (i + 1) vs)
+pub with_number : (vs : List (Option ℕ)) (i : ℕ) → i < length vs → i < MOST_INSTRS → is_some (get_or vs i None) ≡ true → mask_of (take i vs) + 1 * 2 ^ i % 4294967296 ≡ mask_of (take (i + 1) vs)
 with_number vs i l k e = go (get_or vs i None) refl
   where
     go : (v : Option ℕ) → get_or vs i None ≡ v → mask_of (take i vs) + 1 * 2 ^ i % 4294967296 ≡ mask_of (take (i + 1) vs)
@@ -124,8 +125,8 @@ with_none vs i l e = go (get_or vs i None) refl
     go None q = let m = mask_more vs i l in let s : mark (get_or vs i None) ≡ 0 = ap mark q in rw (m, s) (omega arith)
 
 -- so many places of a word
-pub bit_is : (n : ℕ) → n ≤ 8 → 1 * 2 ^ n % 4294967296 ≡ 2 ^ n
-bit_is n l = let k : 2 ^ n ≤ 2 ^ 8 = pow_mono {i = n} {j = 8} l in omega (arith, k)
+pub bit_is : (n : ℕ) → n ≤ MOST_INSTRS → 1 * 2 ^ n % 4294967296 ≡ 2 ^ n
+bit_is n l = let k : 2 ^ n ≤ 2 ^ MOST_INSTRS = pow_mono {i = n} {j = MOST_INSTRS} l in omega (arith, k)
 
-pub below_all : (m n : ℕ) → n ≤ 8 → m < 2 ^ n → m < 2 ^ 8
-below_all m n l h = let k : 2 ^ n ≤ 2 ^ 8 = pow_mono {i = n} {j = 8} l in omega (arith, k, h)
+pub below_all : (m n : ℕ) → n ≤ MOST_INSTRS → m < 2 ^ n → m < 2 ^ MOST_INSTRS
+below_all m n l h = let k : 2 ^ n ≤ 2 ^ MOST_INSTRS = pow_mono {i = n} {j = MOST_INSTRS} l in omega (arith, k, h)

@@ -8,6 +8,7 @@ use Rattle.of_mem.specs.Programs.{Program, answer, writes}
 use Rattle.of_mem.specs.Meaning.{written}
 use Rattle.of_mem.specs.ProgramWork.{memory}
 use Rattle.of_mem.proofs.Sounds.{memory-written}
+use Rattle.of_script.specs.declared.instr.TheConstants.{MOST_INSTRS}
 use Rattle.of_script.specs.declared.instr.Instr.{Instr}
 use Rattle.of_script.specs.Language.{InRange, instr_word}
 use Rattle.of_script.proofs.WordLaws.{instr_at_again}
@@ -20,7 +21,7 @@ use Rattle.of_eval.specs.Words.{effect_of, words_outcome, run_words, reply_to}
 use Rattle.of_eval.specs.ScriptPrograms.{words_program}
 use Rattle.of_eval.specs.Scripts.{store_at, cells_in, is_success}
 use Rattle.of_eval.specs.Scripted.{Runs, Answers, behind, words_run, words_answer}
-use Rattle.of_eval.specs.Marked.{full_width, mask_8}
+use Rattle.of_eval.specs.Marked.{full_width, mask_all}
 use Rattle.of_eval.specs.Means.{Does, MeansWords, WordsMeanScript}
 
 script_outcome : (s : State) (is : List Instr) → Each InRange is → words_outcome s (map instr_word is) ≡ outcome s is
@@ -37,14 +38,14 @@ is_done (Ok e) = true
 is_done (Err p) = false
 
 -- a reply with values is a success, and an abort is none
-pub outcome_success : (n : ℕ) (ws : List ℕ) (x : Outcome) → n ≤ 8 → length ws ≤ 8 → Answers ws x → is_success (cells_of (reply_to n (behind [] x))) ≡ is_done x
+pub outcome_success : (n : ℕ) (ws : List ℕ) (x : Outcome) → n ≤ MOST_INSTRS → length ws ≤ MOST_INSTRS → Answers ws x → is_success (cells_of (reply_to n (behind [] x))) ≡ is_done x
 outcome_success n ws (Ok e) few l h =
-    let vs = e.1 ++ replicate (8 - length e.1) None in
-    let small : mask_of vs < 256 = mask_8 vs (full_width e.1 (omega (arith, l, h.0))) in
+    let vs = e.1 ++ replicate (MOST_INSTRS - length e.1) None in
+    let small : mask_of vs < 65536 = mask_all vs (full_width e.1 (omega (arith, l, h.0))) in
     lt-ltb _ _ (omega (arith, small, few))
 outcome_success n ws (Err p) few l h = let c = code_some p.1 in le-ltb _ _ (omega (arith, c.0))
 
-module _ (w : Scripts) (xs op : List ℕ) (s : State) (size : length xs ≡ cells_in w) (few : length op ≤ 8) (h : IsStored (store_at w) w.blocks (memory xs) s) where
+module _ (w : Scripts) (xs op : List ℕ) (s : State) (size : length xs ≡ cells_in w) (few : length op ≤ MOST_INSTRS) (h : IsStored (store_at w) w.blocks (memory xs) s) where
   abbrev program : Program RawReply
   program = words_program (store_at w) w.blocks (length op) [] op
 
@@ -62,7 +63,7 @@ module _ (w : Scripts) (xs op : List ℕ) (s : State) (size : length xs ≡ cell
 
   does : Does w xs op s
   does =
-      let all : take 8 op ≡ op = take_all 8 op few in
+      let all : take MOST_INSTRS op ≡ op = take_all MOST_INSTRS op few in
       let g = left (words_outcome s op) (words_answer op s h.state) ran in
       let both = subst (λ (ws : List ℕ). IsStored (store_at w) w.blocks (memory (cond (is_success (answer (words_program (store_at w) w.blocks (length ws) [] ws) (memory xs))) (written xs (writes (words_program (store_at w) w.blocks (length ws) [] ws) (memory xs))) xs)) (run_words s op).0 × (answer (words_program (store_at w) w.blocks (length ws) [] ws) (memory xs) ≡ cells_of (reply_to (length op) (run_words s op).1))) (sym all) g in
       record { cells = both.0; reply = both.1 }

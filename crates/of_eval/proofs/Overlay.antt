@@ -16,6 +16,7 @@ use Rattle.of_mem.proofs.Frames.{SameBlocks, value_same, bucket_same, queue_same
 use Rattle.of_mem.proofs.Heaps.{front_below, chain_copy}
 use Rattle.of_mem.proofs.Overlaid.{over_at, RunsAlike, run_alike}
 use Rattle.of_mem.proofs.Sounds.{part_fresh}
+use Rattle.of_script.specs.declared.instr.TheConstants.{MOST_INSTRS}
 use Rattle.of_script.specs.declared.instr.Reply.{Reply}
 use Rattle.of_script.specs.declared.instr.Abort.{Abort}
 use Rattle.of_eval.specs.declared.scripts.Scripts.{Scripts}
@@ -75,7 +76,7 @@ is_none_of (Some a) = false
 pub whole_success : (r : Reply) → IsWhole r → (o : Option Abort) → r.abort ≡ o → is_success (cells_of r) ≡ is_none_of o
 whole_success r h None e =
     let k : mask_of r.values < 2 ^ length r.values = mask_width r.values in
-    let small : mask_of r.values < 2 ^ 8 = subst (λ (n : ℕ). mask_of r.values < 2 ^ n) h.width k in
+    let small : mask_of r.values < 2 ^ MOST_INSTRS = subst (λ (n : ℕ). mask_of r.values < 2 ^ n) h.width k in
     lt-ltb _ _ (omega (arith, small, h.few, ap abort_part e))
 whole_success r h (Some a) e = let c = code_some a.cause in le-ltb _ _ (omega (arith, c.0, ap abort_part e))
 

@@ -11,6 +11,7 @@ use Rattle.of_eval.specs.declared.lawful_cells.LawErr.{LawErr}
 use Rattle.of_eval.specs.declared.lawful_cells.LawErr.TheVariants.{Memory, Unlawful}
 use Rattle.of_eval.specs.Walking.{NamesFault}
 use Rattle.of_eval.specs.Faults.IsFirstFault.{Own}
+use Rattle.of_script.specs.declared.instr.TheConstants.{MOST_INSTRS}
 use Rattle.of_script.specs.Language.{greatest}
 use Rattle.of_script.specs.declared.instr.Reply.{Reply}
 use Rattle.of_script.specs.declared.instr.Abort.{Abort}
@@ -90,8 +91,8 @@ module _ (r : Reply) (f : ℕ → ℕ) (h : IsWhole r) (small : (i : ℕ) → i 
   shape_with = ap (λ n. n + r.len * 2 ^ 16 + abort_part r.abort) (filled_mask 0 f r.values)
 
 -- a number of the cells
-pub number_at : (instrs : ℕ) (m : ℕ → ℕ) (c i : ℕ) → i < 8 → i < instrs → get_or (map (reply_number instrs m c) (range_with_len 0 8)) i 0 ≡ m (reply_at instrs c i)
-number_at instrs m c i l k = get_or-map-range_with_len (reply_number instrs m c) 0 8 i i 0 l (omega arith) ∙ ap (λ (t : Bool). if t then m (reply_at instrs c i) else 0) (lt-ltb i instrs k)
+pub number_at : (instrs : ℕ) (m : ℕ → ℕ) (c i : ℕ) → i < MOST_INSTRS → i < instrs → get_or (map (reply_number instrs m c) (range_with_len 0 MOST_INSTRS)) i 0 ≡ m (reply_at instrs c i)
+number_at instrs m c i l k = get_or-map-range_with_len (reply_number instrs m c) 0 MOST_INSTRS i i 0 l (omega arith) ∙ ap (λ (t : Bool). if t then m (reply_at instrs c i) else 0) (lt-ltb i instrs k)
 
 -- a shape whose numbers are all small is that of a reply that the cells hold
 pub numbers_hold : (instrs : ℕ) (m : ℕ → ℕ) (c : ℕ) (r : Reply) → IsShapeOf instrs (m (shape_at instrs c)) r → ((i : ℕ) → i < r.len → HasNumber r i → IsNumber (m (reply_at instrs c i))) → HoldsReply instrs m c
@@ -110,7 +111,7 @@ numbers_hold instrs m c r h small =
       few = h.few;
     }
   where
-    numbers : (i v : ℕ) → get_or (filled 0 (λ j. m (reply_at instrs c j)) r.values) i None ≡ Some v → get_or (map (reply_number instrs m c) (range_with_len 0 8)) i 0 ≡ v
+    numbers : (i v : ℕ) → get_or (filled 0 (λ j. m (reply_at instrs c j)) r.values) i None ≡ Some v → get_or (map (reply_number instrs m c) (range_with_len 0 MOST_INSTRS)) i 0 ≡ v
     numbers i v e = elim (cases_lt i r.len) [
       | inl l ↦ number_at instrs m c i (omega (arith, h.held.0.few)) (omega (arith, h.few)) ∙ go (get_or r.values i None) (sym (filled_at 0 (λ j. m (reply_at instrs c j)) r.values i) ∙ e)
       | inr l ↦ absurd (false≢true (ap is_some (sym (none_filled (λ j. m (reply_at instrs c j)) r.values i (h.held.0.fits.past i l)) ∙ e)))

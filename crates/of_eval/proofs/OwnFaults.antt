@@ -4,6 +4,7 @@ use Rattle.std.proofs.lemmas.Bool.{cases_lt, false≢true}
 use Rattle.std.proofs.lemmas.List.{length-replicate}
 use Rattle.of_mem.specs.Places.{shape_at, reply_at}
 use Rattle.of_mem.specs.Stores.{IsNumber}
+use Rattle.of_script.specs.declared.instr.TheConstants.{MOST_INSTRS}
 use Rattle.of_script.specs.Language.{greatest}
 use Rattle.of_script.specs.declared.instr.Reply.{Reply}
 use Rattle.of_store.specs.Replies.{IsSmall}
@@ -21,7 +22,7 @@ zero_at (suc n) (suc i) = zero_at n i
 -- two replies of one shape have numbers at the same places
 same_numbers : (instrs shape : ℕ) (r s : Reply) → IsShapeOf instrs shape r → IsShapeOf instrs shape s → (r.len ≡ s.len) × ((j : ℕ) → HasNumber r j → HasNumber s j)
 same_numbers instrs shape r s h g =
-    let e : r.values ≡ s.values = sym (values_are (bare shape) r h.held (length-replicate {A = ℕ} 8 0)) ∙ values_are (bare shape) s g.held (length-replicate {A = ℕ} 8 0) in
+    let e : r.values ≡ s.values = sym (values_are (bare shape) r h.held (length-replicate {A = ℕ} MOST_INSTRS 0)) ∙ values_are (bare shape) s g.held (length-replicate {A = ℕ} MOST_INSTRS 0) in
     (sym (len_is (bare shape) r h.held) ∙ len_is (bare shape) s g.held, λ j k. ap (λ (vs : List (Option ℕ)). is_some (get_or vs j None)) (sym e) ∙ k)
 
 -- the shape of a reply that the cells hold
@@ -33,7 +34,7 @@ shape_held instrs m c h =
         whole_with h.reply (λ _. 0) h.held.0 small,
         record {
           shape = h.held.1.shape ∙ sym (shape_with h.reply (λ _. 0) h.held.0 small);
-          numbers = λ i v e. zero_at 8 i ∙ zero_is (get_or h.reply.values i None) v (sym (filled_at 0 (λ _. 0) h.reply.values i) ∙ e);
+          numbers = λ i v e. zero_at MOST_INSTRS i ∙ zero_is (get_or h.reply.values i None) v (sym (filled_at 0 (λ _. 0) h.reply.values i) ∙ e);
         },
       );
       few = h.few;
@@ -49,7 +50,7 @@ number_held instrs m c h r g j l k =
     let s = same_numbers instrs (m (shape_at instrs c)) r (with_numbers h.reply (λ _. 0)) g (shape_held instrs m c h) in
     go (get_or h.reply.values j None) refl (sym (filled_marks (λ _. 0) h.reply.values j) ∙ s.1 j k) (omega (arith, s.0, l, h.held.0.few)) (omega (arith, s.0, l, h.few))
   where
-    go : (x : Option ℕ) → get_or h.reply.values j None ≡ x → is_some (get_or h.reply.values j None) ≡ true → j < 8 → j < instrs → IsNumber (m (reply_at instrs c j))
+    go : (x : Option ℕ) → get_or h.reply.values j None ≡ x → is_some (get_or h.reply.values j None) ≡ true → j < MOST_INSTRS → j < instrs → IsNumber (m (reply_at instrs c j))
     go None e q a b = absurd (false≢true (ap is_some (sym e) ∙ q))
     go (Some v) e q a b =
         let is : m (reply_at instrs c j) ≡ v = sym (number_at instrs m c j a b) ∙ h.held.1.numbers j v e in

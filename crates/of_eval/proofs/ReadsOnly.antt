@@ -6,6 +6,7 @@ use Rattle.std.proofs.lemmas.Bool.{false≢true, le-leb, leb-true}
 use Rattle.std.proofs.lemmas.Option.{none-some}
 use Rattle.std.proofs.lemmas.List.{length-map}
 use Rattle.std.proofs.lemmas.List.Elements.{All-from_recursion, recursion_from_All}
+use Rattle.of_script.specs.declared.instr.TheConstants.{MOST_INSTRS}
 use Rattle.of_script.specs.declared.instr.Instr.{Instr}
 use Rattle.of_script.specs.Language.{IsScript, InRange, instr_word, reads_only}
 use Rattle.of_script.specs.Reading.{instr_at}
@@ -38,8 +39,8 @@ read_words (i ∷ is) h k = rw (instr_at_again i h.0, k.0) (read_words is h.1 k.
 
 pub reads_of : (op : List ℕ) → script_reads op ≡ true → (s : OfScript op) × IsScript s.script
 reads_of op e =
-    let a = both (leb 1 (length op)) (leb (length op) 8 && words_read op) e in
-    let b = both (leb (length op) 8) (words_read op) a.1 in
+    let a = both (leb 1 (length op)) (leb (length op) MOST_INSTRS && words_read op) e in
+    let b = both (leb (length op) MOST_INSTRS) (words_read op) a.1 in
     let s = of_script op b.1 in
     let same : length s.script ≡ length op = sym (length-map s.script instr_word) ∙ ap length s.words in
     (s, record { some = omega (arith, same, leb-true _ _ a.0); few = omega (arith, same, leb-true _ _ b.0); in_range = s.range })
@@ -57,7 +58,7 @@ pub some_reads : (op : List ℕ) (script : List Instr) (b : Bool) → IsScript s
 some_reads op script true h e k =
     let many : length op ≡ length script = sym (ap length e) ∙ length-map script instr_word in
     let r : words_read op ≡ true = subst (λ (ws : List ℕ). words_read ws ≡ true) e (read_words script h.in_range (recursion_from_All (λ i. IsTrue (reads_only i)) script (k.0 refl))) in
-    rw (le-leb 1 (length op) (omega (arith, many, h.some)), le-leb (length op) 8 (omega (arith, many, h.few)), r) refl
+    rw (le-leb 1 (length op) (omega (arith, many, h.some)), le-leb (length op) MOST_INSTRS (omega (arith, many, h.few)), r) refl
 some_reads op script false h e k = go (script_reads op) refl
   where
     go : (t : Bool) → script_reads op ≡ t → false ≡ t

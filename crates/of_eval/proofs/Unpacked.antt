@@ -4,6 +4,7 @@ use Rattle.std.specs.List.{All}
 use Rattle.std.proofs.lemmas.Bool.{cases_lt}
 use Rattle.std.proofs.lemmas.List.{get_or_past, get_or_default}
 use Rattle.of_store.specs.Replies.{IsSmall}
+use Rattle.of_script.specs.declared.instr.TheConstants.{MOST_INSTRS}
 use Rattle.of_script.specs.declared.instr.Reply.{Reply}
 use Rattle.of_script.specs.declared.instr.Abort.{Abort}
 use Rattle.of_script.specs.declared.instr.Cause.{Cause}
@@ -68,7 +69,7 @@ reply_is l vs a r e f g = λ i. record { len = e i; values = f i; abort = g i }
 
 module _ (raw : RawReply) (r : Reply) (h : IsHeldBy raw r) where
   marks_small : mask_of r.values < 65536
-  marks_small = let k : mask_of r.values < 2 ^ length r.values = mask_width r.values in let e : mask_of r.values < 2 ^ 8 = subst (λ (n : ℕ). mask_of r.values < 2 ^ n) h.0.width k in omega (arith, e)
+  marks_small = let k : mask_of r.values < 2 ^ length r.values = mask_width r.values in let e : mask_of r.values < 2 ^ MOST_INSTRS = subst (λ (n : ℕ). mask_of r.values < 2 ^ n) h.0.width k in omega (arith, e)
 
   parts_with : (o : Option Abort) → r.abort ≡ o → Parts raw.shape (mask_of r.values) r.len (place_in o) (code_in o)
   parts_with None e = apart raw.shape (mask_of r.values) r.len 0 0 (h.1.shape ∙ ap (λ (x : Option Abort). mask_of r.values + r.len * 2 ^ 16 + abort_part x) e) marks_small (omega (arith, h.0.few)) (omega arith)
@@ -82,11 +83,11 @@ module _ (raw : RawReply) (r : Reply) (h : IsHeldBy raw r) where
   pub len_is : raw.shape / 2 ^ 16 % 32 ≡ r.len
   len_is = parts.len
 
-  pub len_in : (1 ≤ raw.shape / 2 ^ 16 % 32) × (raw.shape / 2 ^ 16 % 32 ≤ 8)
+  pub len_in : (1 ≤ raw.shape / 2 ^ 16 % 32) × (raw.shape / 2 ^ 16 % 32 ≤ MOST_INSTRS)
   len_in = (omega (arith, parts.len, h.0.some), omega (arith, parts.len, h.0.few))
 
   -- the numbers are those that the marks say
-  pub values_are : length raw.values ≡ 8 → marked_in (raw.shape % 2 ^ 16) raw.values ≡ r.values
+  pub values_are : length raw.values ≡ MOST_INSTRS → marked_in (raw.shape % 2 ^ 16) raw.values ≡ r.values
   values_are e = rw (parts.marks) (marked_again r.values raw.values (h.0.width ∙ sym e) h.1.numbers)
 
   pub small_values : All IsSmall r.values
@@ -100,7 +101,7 @@ module _ (raw : RawReply) (r : Reply) (h : IsHeldBy raw r) where
   no_abort small (Some a) e = let k = code_some a.cause in let c : raw.shape / 2 ^ 26 ≡ code_of a.cause = (parts_with (Some a) e).code in absurd (omega (arith, k.0, c, small))
 
   -- the only reply with no abort
-  pub answered_is : length raw.values ≡ 8 → raw.shape < 2 ^ 21 → (l : ℕ) → l ≡ raw.shape / 2 ^ 16 % 32 → (vs : List (Option ℕ)) → vs ≡ marked_in (raw.shape % 2 ^ 16) raw.values → ◌≡◌ {A = Option Reply} (Some (record { len = l; values = vs; abort = None })) (Some r)
+  pub answered_is : length raw.values ≡ MOST_INSTRS → raw.shape < 2 ^ 21 → (l : ℕ) → l ≡ raw.shape / 2 ^ 16 % 32 → (vs : List (Option ℕ)) → vs ≡ marked_in (raw.shape % 2 ^ 16) raw.values → ◌≡◌ {A = Option Reply} (Some (record { len = l; values = vs; abort = None })) (Some r)
   answered_is w small l e vs is = ap Some (reply_is l vs None r (e ∙ len_is) (is ∙ values_are w) (sym (no_abort small r.abort refl)))
 
   an_abort : 2 ^ 21 ≤ raw.shape → (o : Option Abort) → r.abort ≡ o → (a : Abort) × (o ≡ Some a) × Parts raw.shape (mask_of r.values) r.len a.place (code_of a.cause) × (a.place < r.len) × ((i : ℕ) → get_or r.values i None ≡ None)
@@ -119,15 +120,15 @@ module _ (raw : RawReply) (r : Reply) (h : IsHeldBy raw r) where
       zeros (suc n) = let e : mask_of (replicate n None) ≡ 0 = zeros n in omega (arith, e)
 
   -- the only reply with this abort
-  pub aborted_is : 2 ^ 21 ≤ raw.shape → (l p : ℕ) (c : Cause) → l ≡ raw.shape / 2 ^ 16 % 32 → p ≡ raw.shape / 2 ^ 21 % 32 → code_of c ≡ raw.shape / 2 ^ 26 → ◌≡◌ {A = Option Reply} (Some (record { len = l; values = replicate 8 None; abort = Some (record { place = p; cause = c }) })) (Some r)
+  pub aborted_is : 2 ^ 21 ≤ raw.shape → (l p : ℕ) (c : Cause) → l ≡ raw.shape / 2 ^ 16 % 32 → p ≡ raw.shape / 2 ^ 21 % 32 → code_of c ≡ raw.shape / 2 ^ 26 → ◌≡◌ {A = Option Reply} (Some (record { len = l; values = replicate MOST_INSTRS None; abort = Some (record { place = p; cause = c }) })) (Some r)
   aborted_is large l p c e f g =
       let a = abort_of large in
       let place : p ≡ a.0.place = f ∙ a.2.place in
       let cause : c ≡ a.0.cause = code_injective c a.0.cause (g ∙ a.2.code) in
-      ap Some (reply_is l (replicate 8 None) (Some (record { place = p; cause = c })) r (e ∙ len_is) (ap (λ (n : ℕ). replicate n None) (sym h.0.width) ∙ sym (nones r.values a.4)) ((λ i. Some (record { place = place i; cause = cause i })) ∙ sym a.1))
+      ap Some (reply_is l (replicate MOST_INSTRS None) (Some (record { place = p; cause = c })) r (e ∙ len_is) (ap (λ (n : ℕ). replicate n None) (sym h.0.width) ∙ sym (nones r.values a.4)) ((λ i. Some (record { place = place i; cause = cause i })) ∙ sym a.1))
 
 -- what the marks say is a reply with no abort
-pub answered_holds : (raw : RawReply) (l : ℕ) (vs : List (Option ℕ)) → length raw.values ≡ 8 → 1 ≤ l → l ≤ 8 → l ≡ raw.shape / 2 ^ 16 % 32 → raw.shape < 2 ^ 21 → vs ≡ marked_in (raw.shape % 2 ^ 16) raw.values
+pub answered_holds : (raw : RawReply) (l : ℕ) (vs : List (Option ℕ)) → length raw.values ≡ MOST_INSTRS → 1 ≤ l → l ≤ MOST_INSTRS → l ≡ raw.shape / 2 ^ 16 % 32 → raw.shape < 2 ^ 21 → vs ≡ marked_in (raw.shape % 2 ^ 16) raw.values
     → raw.shape % 2 ^ 16 < 2 ^ l → All IsSmall vs → IsHeldBy raw (record { len = l; values = vs; abort = None })
 answered_holds raw l vs w some few e small is below each = (
   record {

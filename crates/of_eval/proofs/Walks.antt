@@ -9,6 +9,7 @@ use Rattle.of_mem.specs.Places.{register_at, cells_at}
 use Rattle.of_mem.specs.Programs.{Program, Lacks, Ends, run, answer, after}
 use Rattle.of_mem.specs.StoreParts.{HasStore}
 use Rattle.of_mem.proofs.Runs.{Ended, run_ended, run_then_gives, run_then_needs}
+use Rattle.of_script.specs.declared.instr.TheConstants.{MOST_INSTRS}
 use Rattle.of_script.specs.declared.instr.Instr.{Instr}
 use Rattle.of_script.specs.declared.instr.Cause.{Cause}
 use Rattle.of_script.specs.Language.{IsScript, InRange, instr_word}
@@ -51,8 +52,8 @@ pub not_decoded : (w : ℕ) → ((script : List Instr) → IsScript script → m
 not_decoded w h = no_instr w (instr_at w) refl h
 
 module _ (o blocks : ℕ) where
-  pub script_is : (op : List ℕ) (p : Pad) → length op ≤ 8 → run (script_program o blocks op) p ≡ run (words_program o blocks (length op) [] op) p
-  script_is op p few = ap (λ (ws : List ℕ). run (words_program o blocks (length ws) [] ws) p) (take_all 8 op few)
+  pub script_is : (op : List ℕ) (p : Pad) → length op ≤ MOST_INSTRS → run (script_program o blocks op) p ≡ run (words_program o blocks (length op) [] op) p
+  script_is op p few = ap (λ (ws : List ℕ). run (words_program o blocks (length ws) [] ws) p) (take_all MOST_INSTRS op few)
 
   module _ (n : ℕ) (op : List ℕ) (i : ℕ) (l : i < length op) (vs : List (Option ℕ)) (p q : Pad) where
     opened : run (words_program o blocks n (take i vs) (drop i op)) p ≡ run (words_program o blocks n (take i vs) (get_or op i 0 ∷ drop (i + 1) op)) p
@@ -88,14 +89,14 @@ pub has_store : (o blocks : ℕ) (p : Pad) → HasState o blocks p → HasStore 
 has_store o blocks p h = (h.0, plain h.1, h.2, h.3.stands)
 
 -- values with none from place n on are the first n values, filled up
-filled : (vs : List (Option ℕ)) (n : ℕ) → length vs ≡ 8 → n ≤ 8 → ((k : ℕ) → n ≤ k → get_or vs k None ≡ None) → take n vs ++ replicate (8 - length (take n vs)) None ≡ vs
+filled : (vs : List (Option ℕ)) (n : ℕ) → length vs ≡ MOST_INSTRS → n ≤ MOST_INSTRS → ((k : ℕ) → n ≤ k → get_or vs k None ≡ None) → take n vs ++ replicate (MOST_INSTRS - length (take n vs)) None ≡ vs
 filled vs n e l past =
     let rest : drop n vs ≡ replicate (length (drop n vs)) None = nones (drop n vs) (λ i. get_or-drop n vs i None ∙ past (n + i) (omega arith)) in
-    let many : length (drop n vs) ≡ 8 - length (take n vs) = omega (arith, length-drop n vs, length-take-le n vs (omega (arith, e, l)), e) in
+    let many : length (drop n vs) ≡ MOST_INSTRS - length (take n vs) = omega (arith, length-drop n vs, length-take-le n vs (omega (arith, e, l)), e) in
     ap (λ (k : ℕ). take n vs ++ replicate k None) (sym many) ∙ ap (λ (ws : List (Option ℕ)). take n vs ++ ws) (sym rest) ∙ take-append-drop n vs
 
 -- all words answered
-pub ran_ends : (o blocks n : ℕ) (op : List ℕ) (i : ℕ) (vs : List (Option ℕ)) (p : Pad) → n ≡ i → length op ≤ i → length vs ≡ 8 → n ≤ 8 → ((k : ℕ) → i ≤ k → get_or vs k None ≡ None)
+pub ran_ends : (o blocks n : ℕ) (op : List ℕ) (i : ℕ) (vs : List (Option ℕ)) (p : Pad) → n ≡ i → length op ≤ i → length vs ≡ MOST_INSTRS → n ≤ MOST_INSTRS → ((k : ℕ) → i ≤ k → get_or vs k None ≡ None)
     → run (words_program o blocks n (take i vs) (drop i op)) p ≡ Ends (cells_of (record { len = n; values = vs; abort = None })) p
 ran_ends o blocks n op i vs p is l w few past =
     let none : drop i op ≡ [] = drop_of_length-le op l in

@@ -15,6 +15,7 @@ use Rattle.of_eval.specs.Words.{reply_to}
 use Rattle.of_eval.specs.ShapeLaws.{mark_small, mask_width}
 use Rattle.of_eval.specs.ShapeLaws.{code_some}
 use Rattle.of_eval.specs.Scripted.{behind, Answers}
+use Rattle.of_script.specs.declared.instr.TheConstants.{MOST_INSTRS}
 
 doubled : (x k : ℕ) → x * 2 ^ suc k ≡ 2 * (x * 2 ^ k)
 doubled x k = let p : 2 ^ suc k ≡ 2 * 2 ^ k = grind arith in rw p (grind arith)
@@ -60,27 +61,27 @@ words_small [] zero h = tt
 words_small [] (suc k) h = (omega arith, words_small [] k tt)
 words_small (v ∷ vs) k h = (word_small v h.0, words_small vs k h.1)
 
-pub full_width : (vs : List (Option ℕ)) → length vs ≤ 8 → length (vs ++ replicate (8 - length vs) None) ≡ 8
-full_width vs l = length-append vs (replicate (8 - length vs) None) ∙ ap (λ (n : ℕ). length vs + n) (length-replicate (8 - length vs) None) ∙ omega (arith, l)
+pub full_width : (vs : List (Option ℕ)) → length vs ≤ MOST_INSTRS → length (vs ++ replicate (MOST_INSTRS - length vs) None) ≡ MOST_INSTRS
+full_width vs l = length-append vs (replicate (MOST_INSTRS - length vs) None) ∙ ap (λ (n : ℕ). length vs + n) (length-replicate (MOST_INSTRS - length vs) None) ∙ omega (arith, l)
 
-pub mask_8 : (vs : List (Option ℕ)) → length vs ≡ 8 → mask_of vs < 256
-mask_8 vs e = let k : mask_of vs < 2 ^ length vs = mask_width vs in let q : mask_of vs < 2 ^ 8 = subst (λ (n : ℕ). mask_of vs < 2 ^ n) e k in omega (arith, q)
+pub mask_all : (vs : List (Option ℕ)) → length vs ≡ MOST_INSTRS → mask_of vs < 65536
+mask_all vs e = let k : mask_of vs < 2 ^ length vs = mask_width vs in let q : mask_of vs < 2 ^ MOST_INSTRS = subst (λ (n : ℕ). mask_of vs < 2 ^ n) e k in omega (arith, q)
 
 -- so many words, the first of an operation
-pub reply_fits : (op ws : List ℕ) (x : Outcome) → length ws ≤ 8 → length ws ≤ length op → Answers ws x → IsReply op (cells_of (reply_to (length ws) (behind [] x)))
+pub reply_fits : (op ws : List ℕ) (x : Outcome) → length ws ≤ MOST_INSTRS → length ws ≤ length op → Answers ws x → IsReply op (cells_of (reply_to (length ws) (behind [] x)))
 reply_fits op ws (Ok e) few part h =
-    let vs = e.1 ++ replicate (8 - length e.1) None in
-    let wide : length vs ≡ 8 = full_width e.1 (omega (arith, few, h.0)) in
-    let small : mask_of vs < 256 = mask_8 vs wide in
+    let vs = e.1 ++ replicate (MOST_INSTRS - length e.1) None in
+    let wide : length vs ≡ MOST_INSTRS = full_width e.1 (omega (arith, few, h.0)) in
+    let small : mask_of vs < 65536 = mask_all vs wide in
     record {
       shape = omega (arith, small, few);
-      values = all_each (λ (n : ℕ). n < 4294967296) (map (λ v. unwrap_or v 0) vs) (words_small e.1 (8 - length e.1) h.1);
-      marks = λ j l m. (omega (arith, small, few), omega (arith, part, h.0, none_past e.1 (8 - length e.1) j (marked_has vs (mask_of vs + length ws * 2 ^ 16 + 0) (length ws) (omega arith) j l m)), omega (arith, length-map vs (λ (v : Option ℕ). unwrap_or v 0), wide, few, h.0, none_past e.1 (8 - length e.1) j (marked_has vs (mask_of vs + length ws * 2 ^ 16 + 0) (length ws) (omega arith) j l m)));
+      values = all_each (λ (n : ℕ). n < 4294967296) (map (λ v. unwrap_or v 0) vs) (words_small e.1 (MOST_INSTRS - length e.1) h.1);
+      marks = λ j l m. (omega (arith, small, few), omega (arith, part, h.0, none_past e.1 (MOST_INSTRS - length e.1) j (marked_has vs (mask_of vs + length ws * 2 ^ 16 + 0) (length ws) (omega arith) j l m)), omega (arith, length-map vs (λ (v : Option ℕ). unwrap_or v 0), wide, few, h.0, none_past e.1 (MOST_INSTRS - length e.1) j (marked_has vs (mask_of vs + length ws * 2 ^ 16 + 0) (length ws) (omega arith) j l m)));
     }
 reply_fits op ws (Err p) few part h =
     let code = code_some p.1 in
     record {
       shape = omega (arith, h, few, code.1);
-      values = all_each (λ (n : ℕ). n < 4294967296) (map (λ v. unwrap_or v 0) (replicate 8 None)) (words_small [] 8 tt);
-      marks = λ j l m. absurd (let r : j < 0 = none_past [] 8 j (marked_has (replicate 8 None) (shape_of (reply_to (length ws) (Aborted (0 + p.0) p.1))) (length ws + p.0 * 32 + code_of p.1 * 1024) (omega arith) j l m) in omega (arith, r));
+      values = all_each (λ (n : ℕ). n < 4294967296) (map (λ v. unwrap_or v 0) (replicate MOST_INSTRS None)) (words_small [] MOST_INSTRS tt);
+      marks = λ j l m. absurd (let r : j < 0 = none_past [] MOST_INSTRS j (marked_has (replicate MOST_INSTRS None) (shape_of (reply_to (length ws) (Aborted (0 + p.0) p.1))) (length ws + p.0 * 32 + code_of p.1 * 1024) (omega arith) j l m) in omega (arith, r));
     }

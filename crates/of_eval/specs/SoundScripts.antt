@@ -1,5 +1,5 @@
 -- Scripts keep the rules of a work.
-use Rattle.std.proofs.Common.{◌≡◌, ℕ, zero, suc, ◌*◌, ◌≤◌, true, leb, ◌&&◌, refl, sym, ◌∙◌, ap, subst, arith, List, [], ◌∷◌, length, take, replicate, get_or, Ok, Err, length-take}
+use Rattle.std.proofs.Common.{◌≡◌, ℕ, zero, suc, ◌*◌, ◌≤◌, true, leb, ◌&&◌, refl, sym, ◌∙◌, ap, subst, arith, List, [], ◌∷◌, length, take, replicate, get_or, Ok, Err, length-take, ◌+◌}
 use Rattle.std.proofs.lemmas.Bool.{ltb-true}
 use Rattle.of_mem.specs.Programs.{answer, after}
 use Rattle.of_mem.specs.Stores.{Store, Stands}
@@ -39,7 +39,7 @@ module _ (o blocks : ℕ) (few : blocks ≤ 512) where
   abbrev first : List ℕ → List ℕ
   first op = take MOST_INSTRS op
 
-  first_few : (op : List ℕ) → (length (first op) ≤ 8) × (length (first op) ≤ length op)
+  first_few : (op : List ℕ) → (length (first op) ≤ MOST_INSTRS) × (length (first op) ≤ length op)
   first_few op = (omega (arith, length-take MOST_INSTRS op), omega (arith, length-take MOST_INSTRS op))
 
   pub script_run : (op : List ℕ) (m : ℕ → ℕ) (s : State) → IsStored o blocks m s → Runs o blocks (length (first op)) (script_program o blocks op) m [] (words_outcome s (first op))
@@ -68,7 +68,7 @@ module _ (o blocks : ℕ) (few : blocks ≤ 512) where
   all_read : (op : List ℕ) → script_reads op ≡ true → words_read (first op) ≡ true
   all_read op e = taken_read MOST_INSTRS op (both (leb (length op) MOST_INSTRS) (words_read op) (both (leb 1 (length op)) (leb (length op) MOST_INSTRS && words_read op) e).1).1
 
-pub scripts_sound : (w : Scripts) → Sound (scripts_meaning w) (LawfulCells w) (w.callers * 10) (cells_in w)
+pub scripts_sound : (w : Scripts) → Sound (scripts_meaning w) (LawfulCells w) (w.callers * (MOST_INSTRS + 2)) (cells_in w)
 scripts_sound w = sound is_success script_reads (script_program (store_at w) w.blocks) (StandsForSome (store_at w) w.blocks) (store_at w) (cells_in w) (record {
   zeros = λ m z. (empty_store w.blocks, empty_is_stored (store_at w) w.blocks w.few_blocks m z);
   leads = λ m op l k. script_leads (store_at w) w.blocks w.few_blocks m op l k;

@@ -91,7 +91,7 @@ fn are_small(values: &[Option<u32>; MOST_INSTRS]) -> bool
 fn abort_part(abort: Option<Abort>) -> u32
     requires { IfSome abort (λ a. a.place < MOST_INSTRS) }
     ensures value { result ≡ the_abort_part abort }
-    ensures small { result ≤ 8 * 2 ^ 21 + 5 * 2 ^ 26 }
+    ensures small { result ≤ 16 * 2 ^ 21 + 5 * 2 ^ 26 }
 {
     match abort {
         None => 0,

@@ -14,7 +14,7 @@ fn shapes_are_as_laid_out(rt: HostRuntime) {
         abort: None,
     };
     let counted = Reply {
-        len: 8,
+        len: MOST_INSTRS as u8,
         values: [Some(3); MOST_INSTRS],
         abort: None,
     };
@@ -27,7 +27,7 @@ fn shapes_are_as_laid_out(rt: HostRuntime) {
         }),
     };
     assert_eq!(rt; reply_cells(&stored).shape, 65_536);
-    assert_eq!(rt; reply_cells(&counted).shape, 524_543);
+    assert_eq!(rt; reply_cells(&counted).shape, 1_114_111);
     assert_eq!(rt; reply_cells(&overflow).shape, 67_174_400);
     assert_eq!(rt; reply_of(&reply_cells(&stored)), Some(stored));
     assert_eq!(rt; reply_of(&reply_cells(&counted)), Some(counted));
@@ -41,7 +41,7 @@ fn other_cells_hold_no_reply(rt: HostRuntime) {
         0,
         65_537,
         65_538,
-        9 * 65_536,
+        17 * 65_536,
         65_536 + (1 << 21),
         67_174_400 + (1 << 21),
         65_536 + 6 * (1 << 26),
@@ -65,7 +65,7 @@ fn a_run_asks_for_what_it_reads(rt: HostRuntime) -> Result<(), Fail> {
     let put = [4_611_686_029_164_806_151];
     assert_eq!(rt;
         scripts.run(&mut part, &put, &mut out),
-        Err(Need { addr: 34 })
+        Err(Need { addr: 42 })
     );
     assert_eq!(rt; part.pending_len(), 0);
     Ok(())

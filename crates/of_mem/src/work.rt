@@ -8,7 +8,7 @@ ghost use Rattle.of_mem.specs.Pad.{over};
 use crate::part::{Need, Part};
 
 /// The most words of an operation, and the most numbers of a reply.
-pub const MOST_INSTRS: usize = 8;
+pub const MOST_INSTRS: usize = 16;
 
 /// A reply as cells hold it: its shape, and a number at each place, 0 where the shape marks none.
 #[derive(Clone, Copy, Debug, PartialEq, Eq)]

@@ -217,7 +217,7 @@ follows h es k a = follows_by h.callers h.blocks h.limit es k a
 
 cells_small : (n b a : ℕ) → n ≤ 16 → b ≤ 512 → a < durable_cells n (data_cells n b) → a ≤ 4294967295
 cells_small n b a few low lt =
-    let rows : 2 * data_cells n b + 1 ≤ 3519 = omega arith in
+    let rows : 2 * data_cells n b + 1 ≤ 3775 = omega arith in
     omega (arith, mul-le-mul_left n rows)
 
 entries_range : (h : Heading) (es : List Entry) → IsHeading h → AllByRecursion (InRange h) es → sum_by turns_of (filter_map item_of es) ≤ 10000000 → AllByRecursion LineInRange (map Body es ++ End ∷ [])

@@ -57,7 +57,7 @@ fn names_the_bad_line(rt: HostRuntime) -> Result<(), Fail> {
         ("turns 1 5\nend\n", 4),
         ("turns 0 0\nend\n", 4),
         ("turns 0 9999999\nturns 0 1\nturns 0 1\nend\n", 6),
-        ("evict 222\nend\n", 4),
+        ("evict 246\nend\n", 4),
         ("end\nend\n", 5),
         ("end\n\n# after the end\nscript 0 count\n", 7),
     ] {
@@ -77,8 +77,8 @@ fn prints_what_it_reads(rt: HostRuntime) -> Result<(), Fail> {
             "onefile plan 1\ncallers 1\nblocks 0\nlimit 4294967294\nscript 0 store 3 7; add 3 1\nend\n",
         ),
         (
-            "onefile plan 1\ncallers 1\nblocks 0\nevict 221\nend\n",
-            "onefile plan 1\ncallers 1\nblocks 0\nlimit 4294967294\nevict 221\nend\n",
+            "onefile plan 1\ncallers 1\nblocks 0\nevict 245\nend\n",
+            "onefile plan 1\ncallers 1\nblocks 0\nlimit 4294967294\nevict 245\nend\n",
         ),
         (
             "# two callers\n onefile  plan 1 \n\ncallers 2\nblocks 3\nlimit 9\nturns 1 5\nscript 1 count\nstop 1 30\nscript 0 put 1 2;need 1 2\nevict 0\nscript 1 load 4\nend\n\n# done",

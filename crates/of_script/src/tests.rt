@@ -48,7 +48,10 @@ fn names_the_first_bad_piece(rt: HostRuntime) -> Result<(), Fail> {
         ("count 1", 0),
         ("Count", 0),
         ("count\n", 0),
-        ("count;count;count;count;count;count;count;count;count", 8),
+        (
+            "count;count;count;count;count;count;count;count;count;count;count;count;count;count;count;count;count",
+            16,
+        ),
     ] {
         assert_eq!(rt;
             parse(text.as_bytes()),
@@ -77,7 +80,9 @@ fn writes_and_reads_words(rt: HostRuntime) -> Result<(), Fail> {
         let script = parse(text.as_bytes())?;
         let mut words = [1; MOST_INSTRS];
         assert_eq!(rt; to_words(&script, &mut words), 1);
-        assert_eq!(rt; words, [word, 0, 0, 0, 0, 0, 0, 0]);
+        let mut expected = [0; MOST_INSTRS];
+        expected[0] = word;
+        assert_eq!(rt; words, expected);
         assert_eq!(rt; from_words(&[word]), Some(script), "{text}");
     }
     for word in [0, 343597383681, 34359738369, 13835058055282163712] {
@@ -86,7 +91,7 @@ fn writes_and_reads_words(rt: HostRuntime) -> Result<(), Fail> {
     let script = Script::new(&[Instr::Store { reg: 3, value: 7 }, Instr::Count]);
     assert_eq!(rt; parse(b"store 3 7; count"), Ok(script));
     assert_eq!(rt; from_words(&[]), None);
-    assert_eq!(rt; from_words(&[343597383680; 9]), None);
+    assert_eq!(rt; from_words(&[343597383680; MOST_INSTRS + 1]), None);
     Ok(())
 }
 

@@ -7,7 +7,7 @@ use Rattle.of_core.specs.Starts.{IsStartRow}
 use Rattle.toy.specs.Register.{meaning_of}
 use Rattle.toy.specs.Rows.{written_row}
 
-pub starts_at_one : (limit : ℕ) → 1 ≤ limit → IsStartRow (setup_of 1 11 limit (meaning_of 10)) (λ xs. Unit {0}) (written_row 1 (word 1 1))
+pub starts_at_one : (limit : ℕ) → 1 ≤ limit → IsStartRow (setup_of 1 19 limit (meaning_of 18)) (λ xs. Unit {0}) (written_row 1 (word 1 1))
 unfolding recovered word seq pay
 starts_at_one limit l = record {
   long = refl;
@@ -19,7 +19,7 @@ starts_at_one limit l = record {
   };
 }
   where
-    old : (a : ℕ) → seq (get_or (word 1 1 ∷ word 1 65536 ∷ (replicate 8 0 ++ (word 1 7 ∷ []))) a 0) ≤ 1
+    old : (a : ℕ) → seq (get_or (word 1 1 ∷ word 1 65536 ∷ (replicate 16 0 ++ (word 1 7 ∷ []))) a 0) ≤ 1
     old zero = lit≤ tt
     old (suc zero) = lit≤ tt
     old (suc (suc zero)) = lit≤ tt
@@ -31,9 +31,17 @@ starts_at_one limit l = record {
     old (suc (suc (suc (suc (suc (suc (suc (suc zero)))))))) = lit≤ tt
     old (suc (suc (suc (suc (suc (suc (suc (suc (suc zero))))))))) = lit≤ tt
     old (suc (suc (suc (suc (suc (suc (suc (suc (suc (suc zero)))))))))) = lit≤ tt
-    old (suc (suc (suc (suc (suc (suc (suc (suc (suc (suc (suc k))))))))))) = lit≤ tt
+    old (suc (suc (suc (suc (suc (suc (suc (suc (suc (suc (suc zero))))))))))) = lit≤ tt
+    old (suc (suc (suc (suc (suc (suc (suc (suc (suc (suc (suc (suc zero)))))))))))) = lit≤ tt
+    old (suc (suc (suc (suc (suc (suc (suc (suc (suc (suc (suc (suc (suc zero))))))))))))) = lit≤ tt
+    old (suc (suc (suc (suc (suc (suc (suc (suc (suc (suc (suc (suc (suc (suc zero)))))))))))))) = lit≤ tt
+    old (suc (suc (suc (suc (suc (suc (suc (suc (suc (suc (suc (suc (suc (suc (suc zero))))))))))))))) = lit≤ tt
+    old (suc (suc (suc (suc (suc (suc (suc (suc (suc (suc (suc (suc (suc (suc (suc (suc zero)))))))))))))))) = lit≤ tt
+    old (suc (suc (suc (suc (suc (suc (suc (suc (suc (suc (suc (suc (suc (suc (suc (suc (suc zero))))))))))))))))) = lit≤ tt
+    old (suc (suc (suc (suc (suc (suc (suc (suc (suc (suc (suc (suc (suc (suc (suc (suc (suc (suc zero)))))))))))))))))) = lit≤ tt
+    old (suc (suc (suc (suc (suc (suc (suc (suc (suc (suc (suc (suc (suc (suc (suc (suc (suc (suc (suc k))))))))))))))))))) = lit≤ tt
 
-pub starts_at_zero : (limit : ℕ) → IsStartRow (setup_of 1 11 limit (meaning_of 10)) (λ xs. Unit {0}) (written_row 0 0)
+pub starts_at_zero : (limit : ℕ) → IsStartRow (setup_of 1 19 limit (meaning_of 18)) (λ xs. Unit {0}) (written_row 0 0)
 unfolding recovered word seq pay
 starts_at_zero limit = record {
   long = refl;
@@ -45,7 +53,7 @@ starts_at_zero limit = record {
   };
 }
   where
-    old : (a : ℕ) → seq (get_or (word 0 1 ∷ word 0 65536 ∷ (replicate 8 0 ++ (word 0 7 ∷ []))) a 0) ≤ 0
+    old : (a : ℕ) → seq (get_or (word 0 1 ∷ word 0 65536 ∷ (replicate 16 0 ++ (word 0 7 ∷ []))) a 0) ≤ 0
     old zero = lit≤ tt
     old (suc zero) = lit≤ tt
     old (suc (suc zero)) = lit≤ tt
@@ -57,4 +65,12 @@ starts_at_zero limit = record {
     old (suc (suc (suc (suc (suc (suc (suc (suc zero)))))))) = lit≤ tt
     old (suc (suc (suc (suc (suc (suc (suc (suc (suc zero))))))))) = lit≤ tt
     old (suc (suc (suc (suc (suc (suc (suc (suc (suc (suc zero)))))))))) = lit≤ tt
-    old (suc (suc (suc (suc (suc (suc (suc (suc (suc (suc (suc k))))))))))) = lit≤ tt
+    old (suc (suc (suc (suc (suc (suc (suc (suc (suc (suc (suc zero))))))))))) = lit≤ tt
+    old (suc (suc (suc (suc (suc (suc (suc (suc (suc (suc (suc (suc zero)))))))))))) = lit≤ tt
+    old (suc (suc (suc (suc (suc (suc (suc (suc (suc (suc (suc (suc (suc zero))))))))))))) = lit≤ tt
+    old (suc (suc (suc (suc (suc (suc (suc (suc (suc (suc (suc (suc (suc (suc zero)))))))))))))) = lit≤ tt
+    old (suc (suc (suc (suc (suc (suc (suc (suc (suc (suc (suc (suc (suc (suc (suc zero))))))))))))))) = lit≤ tt
+    old (suc (suc (suc (suc (suc (suc (suc (suc (suc (suc (suc (suc (suc (suc (suc (suc zero)))))))))))))))) = lit≤ tt
+    old (suc (suc (suc (suc (suc (suc (suc (suc (suc (suc (suc (suc (suc (suc (suc (suc (suc zero))))))))))))))))) = lit≤ tt
+    old (suc (suc (suc (suc (suc (suc (suc (suc (suc (suc (suc (suc (suc (suc (suc (suc (suc (suc zero)))))))))))))))))) = lit≤ tt
+    old (suc (suc (suc (suc (suc (suc (suc (suc (suc (suc (suc (suc (suc (suc (suc (suc (suc (suc (suc k))))))))))))))))))) = lit≤ tt

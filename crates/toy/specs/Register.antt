@@ -2,6 +2,7 @@
 use Rattle.std.specs.Prelude.{ℕ, ◌==◌, List, [], ◌∷◌, Option, Some, None, Bool, true, false}
 use Rattle.std.proofs.Common.{get_or, set, replicate}
 use Rattle.of_cell.specs.Words.{seq, pay}
+use Rattle.of_mem.specs.declared.work.TheConstants.{MOST_INSTRS}
 use Rattle.of_mem.specs.declared.work.RawReply.{RawReply}
 use Rattle.of_mem.specs.Meaning.{Meaning, Walked, Needs, Gives}
 
@@ -11,7 +12,7 @@ shape_of true = 0
 shape_of false = 65536
 
 abbrev pub reply_of : ℕ → RawReply
-reply_of v = record { shape = shape_of (v == 0); values = replicate 8 0 }
+reply_of v = record { shape = shape_of (v == 0); values = replicate MOST_INSTRS 0 }
 
 -- an operation without a sequence in its first word
 abbrev pub reads_only : List ℕ → Bool

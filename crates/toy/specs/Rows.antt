@@ -5,4 +5,4 @@ use Rattle.of_cell.specs.Words.{word}
 
 -- its first call has written 7, all words have this sequence, and this is its request
 abbrev pub written_row : (seq request : ℕ) → List ℕ
-written_row s request = word s 0 ∷ request ∷ word s 1 ∷ word s 65536 ∷ (replicate 8 0 ++ (word s 7 ∷ replicate 23 0))
+written_row s request = word s 0 ∷ request ∷ word s 1 ∷ word s 65536 ∷ (replicate 16 0 ++ (word s 7 ∷ replicate 39 0))

@@ -1,12 +1,13 @@
 -- A register meets the rules of a work.
-use Rattle.std.proofs.Common.{◌≡◌, ℕ, zero, suc, ◌+◌, ◌*◌, ◌<◌, ◌≤◌, ◌==◌, List, [], ◌∷◌, length, Option, Some, None, Bool, true, false, get_or, set, drop, refl, sym, ◌∙◌, ap, arith, length-set}
-use Rattle.std.proofs.lemmas.List.{drop-set-add, get_or-drop}
+use Rattle.std.proofs.Common.{◌≡◌, ℕ, zero, suc, ◌+◌, ◌*◌, ◌<◌, ◌≤◌, ◌==◌, List, [], ◌∷◌, length, Option, Some, None, Bool, true, false, get_or, set, replicate, drop, refl, sym, ◌∙◌, ap, arith, length-set}
+use Rattle.std.proofs.lemmas.List.{drop-set-add, get_or-drop, get_or-replicate}
 use Rattle.of_cell.specs.Words.{pay}
 use Rattle.of_cell.proofs.Order.{pay_small}
+use Rattle.of_mem.specs.declared.work.TheConstants.{MOST_INSTRS}
 use Rattle.of_mem.specs.Meaning.{Sound, HasRoom, SameFrom, Agrees, Fits, marked}
 use Rattle.toy.specs.Register.{meaning_of, reply_of, shape_of, reads_only, walk_by, walk_read, cells_by, reply_by}
 
-pub register_fits : (n : ℕ) → 1 ≤ n → n ≤ 16 → HasRoom n (n * 10 + 1)
+pub register_fits : (n : ℕ) → 1 ≤ n → n ≤ 16 → HasRoom n (n * (MOST_INSTRS + 2) + 1)
 register_fits n some few = record { some = some; few = few; own = omega arith; small = omega arith }
 
 module _ (base : ℕ) where
@@ -30,16 +31,8 @@ module _ (base : ℕ) where
   cells_many xs op true = refl
   cells_many xs op false = length-set xs base (pay (get_or op 0 0))
 
-  values : (k d : ℕ) → k < 8 → get_or (reply_of 1).values k d < 4294967296
-  values zero d m = omega arith
-  values (suc zero) d m = omega arith
-  values (suc (suc zero)) d m = omega arith
-  values (suc (suc (suc zero))) d m = omega arith
-  values (suc (suc (suc (suc zero)))) d m = omega arith
-  values (suc (suc (suc (suc (suc zero))))) d m = omega arith
-  values (suc (suc (suc (suc (suc (suc zero)))))) d m = omega arith
-  values (suc (suc (suc (suc (suc (suc (suc zero))))))) d m = omega arith
-  values (suc (suc (suc (suc (suc (suc (suc (suc k)))))))) d m = absurd (omega arith)
+  values : (k d : ℕ) → k < MOST_INSTRS → get_or (reply_of 1).values k d < 4294967296
+  values k d m = let z : get_or (replicate MOST_INSTRS 0) k d ≡ 0 = get_or-replicate MOST_INSTRS k 0 d m in omega (arith, z)
 
   shape_small : (b : Bool) → shape_of b < 4294967296
   shape_small true = omega arith

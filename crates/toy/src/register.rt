@@ -3,6 +3,7 @@
 ghost use Rattle.std.specs.Prelude.{◌≡◌, ◌<◌, ◌≤◌, ◌+◌, ◌*◌, ◌==◌, ℕ, List};
 ghost use Rattle.std.proofs.Common.{get_or};
 ghost use Rattle.of_cell.specs.Words.{seq};
+ghost use Rattle.of_mem.specs.declared.work.TheConstants.{MOST_INSTRS};
 ghost use Rattle.toy.specs.Register.{meaning_of, reply_of, reads_only};
 ghost use Rattle.toy.specs.Sound.{register_sound, register_fits};
 
@@ -42,11 +43,11 @@ fn reply(value: u32) -> RawReply
 impl Work for Register {
     ghost many = { λ w. w.callers };
 
-    ghost size = { λ w. w.callers * 10 + 1 };
+    ghost size = { λ w. w.callers * (MOST_INSTRS + 2) + 1 };
 
     ghost lawful = { λ w xs. Unit {0} };
 
-    ghost meaning = { λ w. meaning_of (w.callers * 10) };
+    ghost meaning = { λ w. meaning_of (w.callers * (MOST_INSTRS + 2)) };
 
     fn callers(&self) -> u32 {
         self.callers
@@ -80,5 +81,5 @@ impl Work for Register {
 
     ghost fits = { λ w. register_fits w.callers w.some w.few };
 
-    ghost sound = { λ w. register_sound (w.callers * 10) };
+    ghost sound = { λ w. register_sound (w.callers * (MOST_INSTRS + 2)) };
 }

@@ -2,10 +2,12 @@
 
 ghost use Rattle.std.specs.Prelude.{◌≡◌, ◌<◌, ◌≤◌, ◌+◌, ◌*◌};
 ghost use Rattle.toy.specs.Rows.{written_row};
+ghost use Rattle.of_mem.specs.declared.work.TheConstants.{MOST_INSTRS};
 
 use crate::Register;
 use of_cell::{Shape, pack};
 use of_core::{Bank, Outcome, Turn};
+use of_mem::MOST_INSTRS;
 use std::test::Fail;
 
 /// How a run of turns of one caller ended, as far as the tests compare it.
@@ -52,13 +54,13 @@ fn shape_for(callers: u32) -> Shape
     requires some { 1 ≤ callers }
     requires few { callers ≤ 2 }
     ensures callers { result.callers ≡ callers }
-    ensures instrs { result.instrs ≡ 8 }
-    ensures cells { result.cells ≡ callers * 10 + 1 }
+    ensures instrs { result.instrs ≡ MOST_INSTRS }
+    ensures cells { result.cells ≡ callers * (MOST_INSTRS + 2) + 1 }
 {
     Shape {
         callers,
-        instrs: 8,
-        cells: callers * 10 + 1,
+        instrs: MOST_INSTRS as u32,
+        cells: callers * (MOST_INSTRS as u32 + 2) + 1,
     }
 }
 
@@ -121,7 +123,7 @@ fn two_calls_in_one_batch(rt: HostRuntime) -> Result<(), Fail> {
     assert_eq!(rt; turns(&mut bank, 1, 4), Left::Answered(1, true, 65536, 6));
     let words = bank.words();
     assert_eq!(rt; words.get(0).copied(), Some(pack(1, 0)));
-    assert_eq!(rt; words.get(23).copied(), Some(pack(1, 8)));
+    assert_eq!(rt; words.get(39).copied(), Some(pack(1, 8)));
     Ok(())
 }
 
@@ -159,12 +161,12 @@ fn spent_at_the_limit(rt: HostRuntime) -> Result<(), Fail> {
 fn written(seq: u32, request: u64) -> [u64; 36]
     ensures { result ≡ written_row seq request }
 {
-    let mut row = [0; 36];
+    let mut row = [0; 60];
     row[0] = pack(seq, 0);
     row[1] = request;
     row[2] = pack(seq, 1);
     row[3] = pack(seq, 65_536);
-    row[12] = pack(seq, 7);
+    row[20] = pack(seq, 7);
     row
 }
 
@@ -184,6 +186,6 @@ fn a_write_behind_another(rt: HostRuntime) -> Result<(), Fail> {
     assert_eq!(rt; turns(&mut bank, 0, 48), Left::Answered(2, true, 65536, 48));
     let words = bank.words();
     assert_eq!(rt; words.get(2).copied(), Some(pack(2, 2)));
-    assert_eq!(rt; words.get(12).copied(), Some(pack(2, 8)));
+    assert_eq!(rt; words.get(20).copied(), Some(pack(2, 8)));
     Ok(())
 }

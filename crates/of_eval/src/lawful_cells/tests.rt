@@ -1,6 +1,6 @@
-//! Cells that stand for a store, and cells at fault. With one caller and scripts of 8 instructions the registers begin at cell 10; fresh
-//! is cell 26, the free list's front 27, the keys' count 28, the buckets' fronts begin at 29, the queues' heads, tails and lengths at
-//! 61, and the blocks at 73.
+//! Cells that stand for a store, and cells at fault. With one caller and scripts of 16 instructions the registers begin at cell 18; fresh
+//! is cell 34, the free list's front 35, the keys' count 36, the buckets' fronts begin at 37, the queues' heads, tails and lengths at
+//! 69, and the blocks at 81.
 
 use crate::lawful_cells::{LawErr, lawful};
 use crate::scripts::Scripts;
@@ -9,11 +9,11 @@ use of_script::REGISTERS;
 use std::test::Fail;
 
 /// The data cells of one caller and two blocks.
-const CELLS: usize = 79;
+const CELLS: usize = 87;
 
 const PLOT: Plot = Plot {
     callers: 1,
-    instrs: 8,
+    instrs: 16,
     blocks: 2,
 };
 
@@ -32,10 +32,10 @@ fn laid(numbers: &[(usize, u32)]) -> [u32; CELLS] {
 fn zeros_are_the_empty_store(rt: HostRuntime) -> Result<(), Fail> {
     let plot = Plot {
         callers: 1,
-        instrs: 8,
+        instrs: 16,
         blocks: 0,
     };
-    let store = lawful(rt.alloc(), &plot, &[0; 73])?;
+    let store = lawful(rt.alloc(), &plot, &[0; 81])?;
     assert_eq!(rt; *store.registers(), [0; REGISTERS]);
     assert_eq!(rt; store.keys(), 0);
     assert_eq!(rt; store.room(), 0);
@@ -48,37 +48,37 @@ fn the_first_cell_at_fault_is_named(rt: HostRuntime) -> Result<(), Fail> {
         // a shape with no ticket, and a ticket with no shape
         (&[(1, 65_536)], 1),
         (&[(0, 1)], 1),
-        // nine instructions
-        (&[(0, 1), (1, 9 * 65_536)], 1),
+        // seventeen instructions
+        (&[(0, 1), (1, 17 * 65_536)], 1),
         // a marked number
         (&[(0, 1), (1, 65_537), (2, 2_147_483_648)], 2),
-        (&[(10, 2_147_483_648)], 10),
-        (&[(26, 3)], 26),
+        (&[(18, 2_147_483_648)], 18),
+        (&[(34, 3)], 34),
         // a free list beyond fresh, and a cycle in it
-        (&[(27, 1)], 27),
-        (&[(26, 1), (27, 1), (75, 1)], 75),
+        (&[(35, 1)], 35),
+        (&[(34, 1), (35, 1), (83, 1)], 83),
         // a cycle in a bucket
-        (&[(26, 2), (28, 2), (29, 1), (75, 2), (76, 32), (78, 1)], 78),
+        (&[(34, 2), (36, 2), (37, 1), (83, 2), (84, 32), (86, 1)], 86),
         // a key of another bucket, a key twice, and a value
-        (&[(26, 1), (28, 1), (29, 1), (73, 1)], 73),
-        (&[(26, 2), (28, 2), (29, 1), (75, 2)], 76),
-        (&[(26, 1), (28, 1), (29, 1), (74, 2_147_483_648)], 74),
+        (&[(34, 1), (36, 1), (37, 1), (81, 1)], 81),
+        (&[(34, 2), (36, 2), (37, 1), (83, 2)], 84),
+        (&[(34, 1), (36, 1), (37, 1), (82, 2_147_483_648)], 82),
         // too few keys, and too many
-        (&[(26, 1), (29, 1)], 28),
-        (&[(26, 1), (28, 2), (29, 1)], 28),
+        (&[(34, 1), (37, 1)], 36),
+        (&[(34, 1), (36, 2), (37, 1)], 36),
         // an item, a tail, and a length
         (
-            &[(26, 1), (61, 1), (62, 1), (63, 1), (73, 2_147_483_648)],
-            73,
+            &[(34, 1), (69, 1), (70, 1), (71, 1), (81, 2_147_483_648)],
+            81,
         ),
-        (&[(26, 1), (61, 1), (63, 1)], 62),
-        (&[(26, 1), (61, 1), (62, 1)], 63),
+        (&[(34, 1), (69, 1), (71, 1)], 70),
+        (&[(34, 1), (69, 1), (70, 1)], 71),
         // the last queue
-        (&[(26, 1), (70, 2)], 70),
+        (&[(34, 1), (78, 2)], 78),
         // a block of the free list in a queue too
-        (&[(26, 1), (27, 1), (61, 1), (62, 1), (63, 1)], 61),
+        (&[(34, 1), (35, 1), (69, 1), (70, 1), (71, 1)], 69),
         // a block in no chain
-        (&[(26, 1)], 26),
+        (&[(34, 1)], 34),
     ];
     for (numbers, cell) in rows {
         match lawful(rt.alloc(), &PLOT, &laid(numbers)) {

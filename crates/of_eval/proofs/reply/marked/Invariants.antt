@@ -1,9 +1,10 @@
 use Rattle.std.proofs.Common.{◌≡◌, ◌++◌, take, drop, length}
 use Rattle.of_eval.specs.Reading.{marked_in}
 use Rattle.of_eval.proofs.reply.marked.Given as goal
+use Rattle.of_script.specs.declared.instr.TheConstants.{MOST_INSTRS}
 
 abbrev pub invariant-loop-i : goal.invariant-loop-i
 invariant-loop-i l = record {
   read : take l.i l.values ++ marked_in l.rest (drop l.i l.cells) ≡ marked_in l.mask l.cells;
-  width : length l.values ≡ 8;
+  width : length l.values ≡ MOST_INSTRS;
 }

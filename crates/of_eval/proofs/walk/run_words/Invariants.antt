@@ -5,6 +5,7 @@ use Rattle.of_store.specs.Replies.{IsSmall}
 use Rattle.of_eval.specs.ScriptPrograms.{words_program}
 use Rattle.of_eval.specs.Stored.{HasState}
 use Rattle.of_eval.proofs.walk.run_words.Given as goal
+use Rattle.of_script.specs.declared.instr.TheConstants.{MOST_INSTRS}
 
 abbrev pub invariant-loop-i : goal.invariant-loop-i
 invariant-loop-i l = record {
@@ -13,7 +14,7 @@ invariant-loop-i l = record {
   stands : HasState (base l.fn.plot) l.fn.plot.blocks l.part;
   known : l.part.known ≡ l.fn.part.known;
   batch : l.part.batch ≡ l.fn.part.batch;
-  width : length l.values ≡ 8;
+  width : length l.values ≡ MOST_INSTRS;
   past : (k : ℕ) → l.i ≤ k → get_or l.values k None ≡ None;
   small : (k : ℕ) → IsSmall (get_or l.values k None);
 }

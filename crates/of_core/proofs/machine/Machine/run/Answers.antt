@@ -1,6 +1,7 @@
-use Rattle.std.proofs.Common.{◌≡◌, ℕ, ◌<◌, ◌*◌, List, [], ◌∷◌, ◌++◌, length, map, take, Option, ap, ◌∙◌, sym, refl, arith}
+use Rattle.std.proofs.Common.{◌+◌, ◌≡◌, ℕ, ◌<◌, ◌*◌, List, [], ◌∷◌, ◌++◌, length, map, take, Option, ap, ◌∙◌, sym, refl, arith}
 use Rattle.std.proofs.lemmas.List.{map-append}
 use Rattle.of_cell.specs.Words.{seq}
+use Rattle.of_mem.specs.declared.work.TheConstants.{MOST_INSTRS}
 use Rattle.of_mem.specs.Pad.{Pad, over}
 use Rattle.of_mem.specs.Meaning.{Sound, Needs, Gives}
 use Rattle.of_mem.specs.declared.work.RawReply.{RawReply}
@@ -82,7 +83,7 @@ returns-in-Ok-push g c =
     let words : c.len-words.result ≡ length script = c.len-words.ensures ∙ c.self.inside.script.ok.0 in
     let small : ticket < 4294967296 = rw (← number) (omega arith) in
     let own : c.put_own.new.part.script ≡ es ++ own_cells S scan ticket (length script) r =
-    c.put_own.ensures.script ∙ ap (λ (t : ℕ). put_all es (own_cells_at (scan * 10) t c.len-words.result r)) number ∙ ap (λ (n : ℕ). put_all es (own_cells_at (scan * 10) ticket n r)) words
+    c.put_own.ensures.script ∙ ap (λ (t : ℕ). put_all es (own_cells_at (scan * (MOST_INSTRS + 2)) t c.len-words.result r)) number ∙ ap (λ (n : ℕ). put_all es (own_cells_at (scan * (MOST_INSTRS + 2)) ticket n r)) words
     ∙ own_behind S L sound (merged known log) script a.0 a.1 a.2 a.3 scan ticket es r s.scan i.fit.script small i.fit.own_in walked
     in
     let entries : c.collect.new.log.entries ≡ put_all log (es ++ own_cells S scan ticket (length script) r) = ap (λ (p : Pairs). p.entries) c.collect.ensures.log ∙ ap (put_all log) own in

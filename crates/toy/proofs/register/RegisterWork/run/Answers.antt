@@ -1,5 +1,6 @@
-use Rattle.std.proofs.Common.{◌≡◌, ℕ, ◌*◌, [], ◌∷◌, Some, None, true, false, get_or, refl, sym, ◌∙◌, ap, arith}
+use Rattle.std.proofs.Common.{◌+◌, ◌≡◌, ℕ, ◌*◌, [], ◌∷◌, Some, None, true, false, get_or, refl, sym, ◌∙◌, ap, arith}
 use Rattle.of_cell.specs.Words.{seq}
+use Rattle.of_mem.specs.declared.work.TheConstants.{MOST_INSTRS}
 use Rattle.of_mem.specs.Pad.{Pad, over}
 use Rattle.toy.specs.Register.{reads_only}
 use Rattle.toy.proofs.Walks.{over_newest, wrote_first, is_read, is_write}
@@ -7,7 +8,7 @@ use Rattle.toy.proofs.register.RegisterWork.run.Goals as goal
 
 pub returns-in-Ok-clause-walk : goal.returns-in-Ok-clause-walk
 returns-in-Ok-clause-walk c =
-    let base : ℕ = c.args.self.now.callers * 10 in
+    let base : ℕ = c.args.self.now.callers * (MOST_INSTRS + 2) in
     let zero : seq (get_or c.args.op.now 0 0) ≡ 0 = ap seq (sym c.first_word-word.ensures) ∙ sym c.seq_of.ensures ∙ c.if-seq_of-eq0.true in
     let read : reads_only c.args.op.now ≡ true = is_read c.args.op.now zero in
     let known : get_or (over c.args.part.now.known c.args.part.now.batch) base None ≡ Some c.in-Ok.value = over_newest c.args.part.now base c.requires.empty (omega (arith, c.requires.cells)) ∙ c.in-Ok.ensures in
@@ -15,7 +16,7 @@ returns-in-Ok-clause-walk c =
 
 pub returns-in-Err-clause-walk : goal.returns-in-Err-clause-walk
 returns-in-Err-clause-walk c =
-    let base : ℕ = c.args.self.now.callers * 10 in
+    let base : ℕ = c.args.self.now.callers * (MOST_INSTRS + 2) in
     let zero : seq (get_or c.args.op.now 0 0) ≡ 0 = ap seq (sym c.first_word-word.ensures) ∙ sym c.seq_of.ensures ∙ c.if-seq_of-eq0.true in
     let read : reads_only c.args.op.now ≡ true = is_read c.args.op.now zero in
     let known : get_or (over c.args.part.now.known c.args.part.now.batch) base None ≡ None = over_newest c.args.part.now base c.requires.empty (omega (arith, c.requires.cells)) ∙ c.in-Err.ensures.0 in
@@ -25,5 +26,5 @@ pub returns-else-seq_of-eq0-clause-walk : goal.returns-else-seq_of-eq0-clause-wa
 returns-else-seq_of-eq0-clause-walk c =
     let other : seq (get_or c.args.op.now 0 0) ≡ 0 → ⊥ = λ e. c.if-seq_of-eq0.false (c.seq_of.ensures ∙ ap seq c.first_word-word.ensures ∙ e) in
     let write : reads_only c.args.op.now ≡ false = is_write c.args.op.now other in
-    let script : c.write.new.self.script ≡ (c.args.self.now.callers * 10, c.payload_of.result) ∷ [] = ap (λ (p : Pad). p.script) c.write.ensures.writes ∙ wrote_first c.args.part.now (c.args.self.now.callers * 10) c.payload_of.result c.requires.empty in
+    let script : c.write.new.self.script ≡ (c.args.self.now.callers * (MOST_INSTRS + 2), c.payload_of.result) ∷ [] = ap (λ (p : Pad). p.script) c.write.ensures.writes ∙ wrote_first c.args.part.now (c.args.self.now.callers * (MOST_INSTRS + 2)) c.payload_of.result c.requires.empty in
     rw (write, script, c.payload_of.ensures, c.first_word-word.ensures, c.reply-else-seq_of-eq0.ensures) refl
