@@ -6,91 +6,277 @@ use std::alloc::Global;
 use std::process::Abort;
 use std::test::Fail;
 
-const FIRST_RUN: &str = "onefile plan 1
+// The plan of the case `first_run`.
+const FIRST_RUN: &str = "\
+onefile plan 1
 callers 1
 blocks 0
 script 0 store 3 7; add 3 1
 end
 ";
 
-// What each plan of `serial` gives, by the name of its case.
-const PLANS: [(&str, &str, u8, &str); 13] = [
+// What each plan of `serial` gives: the name of its case, the plan, the status and what is printed.
+const PLANS: [(&str, &str, u8, &str); 15] = [
     (
         "first_run",
         FIRST_RUN,
-        0,
-        "onefile report 1\nentry 1 0 0 run none 8\ncaller 0 done 1 1 0\nseq 1\nregister 3 8\nend\n",
+        status::DONE,
+        "\
+onefile report 1
+entry 1 0 0 run none 8
+caller 0 done 1 1 0
+seq 1
+register 3 8
+end
+",
     ),
     (
         "put_then_get",
-        "onefile plan 1\ncallers 1\nblocks 4\nscript 0 put 5 7; get 5\nend\n",
-        0,
-        "onefile report 1\nentry 1 0 0 run none 7\ncaller 0 done 1 1 0\nseq 1\nkey 5 7\nend\n",
+        "\
+onefile plan 1
+callers 1
+blocks 4
+script 0 put 5 7; get 5
+end
+",
+        status::DONE,
+        "\
+onefile report 1
+entry 1 0 0 run none 7
+caller 0 done 1 1 0
+seq 1
+key 5 7
+end
+",
     ),
     (
         "add_overflows",
-        "onefile plan 1\ncallers 1\nblocks 0\nscript 0 store 3 2147483647\nscript 0 add 3 1\nend\n",
-        0,
-        "onefile report 1\nentry 1 0 0 run none\nentry 2 0 1 run abort 0 overflow\ncaller 0 done 2 2 0\nseq 2\nregister 3 2147483647\nend\n",
+        "\
+onefile plan 1
+callers 1
+blocks 0
+script 0 store 3 2147483647
+script 0 add 3 1
+end
+",
+        status::DONE,
+        "\
+onefile report 1
+entry 1 0 0 run none
+entry 2 0 1 run abort 0 overflow
+caller 0 done 2 2 0
+seq 2
+register 3 2147483647
+end
+",
     ),
     (
         "abort_undoes_the_script",
-        "onefile plan 1\ncallers 1\nblocks 4\nscript 0 store 0 5; put 7 1; sub 1 1\nend\n",
-        0,
-        "onefile report 1\nentry 1 0 0 run abort 2 short\ncaller 0 done 1 1 0\nseq 1\nend\n",
+        "\
+onefile plan 1
+callers 1
+blocks 4
+script 0 store 0 5; put 7 1; sub 1 1
+end
+",
+        status::DONE,
+        "\
+onefile report 1
+entry 1 0 0 run abort 2 short
+caller 0 done 1 1 0
+seq 1
+end
+",
     ),
     (
         "no_room",
-        "onefile plan 1\ncallers 1\nblocks 0\nscript 0 put 1 1\nend\n",
-        0,
-        "onefile report 1\nentry 1 0 0 run abort 0 noroom\ncaller 0 done 1 1 0\nseq 1\nend\n",
+        "\
+onefile plan 1
+callers 1
+blocks 0
+script 0 put 1 1
+end
+",
+        status::DONE,
+        "\
+onefile report 1
+entry 1 0 0 run abort 0 noroom
+caller 0 done 1 1 0
+seq 1
+end
+",
     ),
     (
         "room_for_a_known_key",
-        "onefile plan 1\ncallers 1\nblocks 1\nscript 0 put 1 1\nscript 0 put 1 2\nend\n",
-        0,
-        "onefile report 1\nentry 1 0 0 run none\nentry 2 0 1 run 1\ncaller 0 done 2 2 0\nseq 2\nkey 1 2\nend\n",
+        "\
+onefile plan 1
+callers 1
+blocks 1
+script 0 put 1 1
+script 0 put 1 2
+end
+",
+        status::DONE,
+        "\
+onefile report 1
+entry 1 0 0 run none
+entry 2 0 1 run 1
+caller 0 done 2 2 0
+seq 2
+key 1 2
+end
+",
     ),
     (
         "pop_and_del_of_nothing",
-        "onefile plan 1\ncallers 1\nblocks 4\nscript 0 pop 0\nscript 0 del 9\nend\n",
-        0,
-        "onefile report 1\nentry 1 0 0 run none\nentry 2 0 1 run none\ncaller 0 done 2 2 0\nseq 2\nend\n",
+        "\
+onefile plan 1
+callers 1
+blocks 4
+script 0 pop 0
+script 0 del 9
+end
+",
+        status::DONE,
+        "\
+onefile report 1
+entry 1 0 0 run none
+entry 2 0 1 run none
+caller 0 done 2 2 0
+seq 2
+end
+",
     ),
     (
         "no_scripts_serial",
-        "onefile plan 1\ncallers 1\nblocks 0\nend\n",
-        0,
-        "onefile report 1\ncaller 0 done 0 0 0\nseq 0\nend\n",
+        "\
+onefile plan 1
+callers 1
+blocks 0
+end
+",
+        status::DONE,
+        "\
+onefile report 1
+caller 0 done 0 0 0
+seq 0
+end
+",
     ),
     (
         "order_and_fulfil_serial",
-        "onefile plan 1\ncallers 2\nblocks 4\nscript 0 put 1001 5; push 0 1001; add 0 1\nscript 1 pop 0; need 1001 5; put 1001 4; sub 0 1; count; len 0\nend\n",
-        0,
-        "onefile report 1\nentry 1 0 0 run none none 1\nentry 2 1 0 run 1001 none 5 0 1 0\ncaller 0 done 1 1 0\ncaller 1 done 1 1 0\nseq 2\nkey 1001 4\nend\n",
+        "\
+onefile plan 1
+callers 2
+blocks 4
+script 0 put 1001 5; push 0 1001; add 0 1
+script 1 pop 0; need 1001 5; put 1001 4; sub 0 1; count; len 0
+end
+",
+        status::DONE,
+        "\
+onefile report 1
+entry 1 0 0 run none none 1
+entry 2 1 0 run 1001 none 5 0 1 0
+caller 0 done 1 1 0
+caller 1 done 1 1 0
+seq 2
+key 1001 4
+end
+",
     ),
     (
         "free_spacing",
-        "onefile plan 1\ncallers 1\nblocks 0\nscript 0 store  3 7 ;add 3 1\nend\n",
-        0,
-        "onefile report 1\nentry 1 0 0 run none 8\ncaller 0 done 1 1 0\nseq 1\nregister 3 8\nend\n",
+        "\
+onefile plan 1
+callers 1
+blocks 0
+script 0 store  3 7 ;add 3 1
+end
+",
+        status::DONE,
+        "\
+onefile report 1
+entry 1 0 0 run none 8
+caller 0 done 1 1 0
+seq 1
+register 3 8
+end
+",
     ),
     (
         "serial_reaches_the_limit",
-        "onefile plan 1\ncallers 1\nblocks 0\nlimit 1\nscript 0 store 3 7\nscript 0 store 3 8\nend\n",
-        0,
-        "onefile report 1\nentry 1 0 0 run none\ncaller 0 spent 1 1 0\nseq 1\nregister 3 7\nend\n",
+        "\
+onefile plan 1
+callers 1
+blocks 0
+limit 1
+script 0 store 3 7
+script 0 store 3 8
+end
+",
+        status::DONE,
+        "\
+onefile report 1
+entry 1 0 0 run none
+caller 0 spent 1 1 0
+seq 1
+register 3 7
+end
+",
     ),
     (
         "end_line_cut_off",
-        "onefile plan 1\ncallers 1\nblocks 0\nscript 0 store 3 7\nen",
-        5,
+        "\
+onefile plan 1
+callers 1
+blocks 0
+script 0 store 3 7
+en",
+        status::BAD_PLAN,
         "error: bad plan, line 5\n",
     ),
     (
         "script_of_no_caller",
-        "onefile plan 1\ncallers 1\nblocks 0\nscript 1 count\nend\n",
-        5,
+        "\
+onefile plan 1
+callers 1
+blocks 0
+script 1 count
+end
+",
+        status::BAD_PLAN,
+        "error: bad plan, line 4\n",
+    ),
+    (
+        "sixteen_adds",
+        "\
+onefile plan 1
+callers 1
+blocks 0
+script 0 add 0 1; add 0 1; add 0 1; add 0 1; add 0 1; add 0 1; add 0 1; add 0 1; add 0 1; add 0 1; add 0 1; add 0 1; add 0 1; add 0 1; add 0 1; add 0 1
+end
+",
+        status::DONE,
+        "\
+onefile report 1
+entry 1 0 0 run 1 2 3 4 5 6 7 8 9 10 11 12 13 14 15 16
+caller 0 done 1 1 0
+seq 1
+register 0 16
+end
+",
+    ),
+    (
+        "seventeen_adds",
+        "\
+onefile plan 1
+callers 1
+blocks 0
+script 0 add 0 1; add 0 1; add 0 1; add 0 1; add 0 1; add 0 1; add 0 1; add 0 1; add 0 1; add 0 1; add 0 1; add 0 1; add 0 1; add 0 1; add 0 1; add 0 1; add 0 1
+end
+",
+        status::BAD_PLAN,
         "error: bad plan, line 4\n",
     ),
 ];
