@@ -9,7 +9,7 @@ use Rattle.of_core.specs.declared.place.Outcome.{Outcome}
 use Rattle.of_core.specs.declared.bank.Turn.{Turn}
 use Rattle.of_core.specs.Table.{Setup, base, size, durable_at}
 use Rattle.of_core.specs.Machine.{Data, no_machine, idle, opened}
-use Rattle.of_core.specs.Steps.{want, want_at, took, took_at, word_of, words_after, finds}
+use Rattle.of_core.specs.Steps.{want, want_at, took, took_at, counted_at, word_of, words_after, finds}
 use Rattle.of_core.specs.World.{World, Start}
 use Rattle.of_core.specs.Shared.{MayStart}
 use Rattle.of_core.specs.Invariant.{Good}
@@ -143,7 +143,7 @@ pub rests : (S : Setup) (ws : List ℕ) (ms : List Data) (i : ℕ) (m : Data) �
 unfolding want took
 rests S ws ms i m e p = go m.place p (get_or ws (word_of (want_at S m m.place)) 0)
   where
-    go : (p : Place) → p ≡ Idle → (n : ℕ) → (words_after (want_at S m p) ws ≡ ws) × (set ms i (took_at S m n p) ≡ ms)
+    go : (p : Place) → p ≡ Idle → (n : ℕ) → (words_after (want_at S m p) ws ≡ ws) × (set ms i (took_at S (counted_at p m) n p) ≡ ms)
     go p q n = rw q (set-get_or ws 0 0, rw (← e) (set-get_or ms i no_machine))
 
 -- what a turn says of a machine that wasn't idle

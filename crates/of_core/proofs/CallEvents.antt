@@ -12,7 +12,7 @@ use Rattle.of_core.specs.declared.place.Outcome.{Outcome}
 use Rattle.of_core.specs.declared.place.Outcome.TheVariants.{Answered, Spent}
 use Rattle.of_core.specs.Table.{Setup, base, durable_word, announcement_of, script_of, last, risen}
 use Rattle.of_core.specs.Machine.{Call, Data, IsOpen, is_idle, no_machine, opened}
-use Rattle.of_core.specs.Steps.{took, took_at, finds}
+use Rattle.of_core.specs.Steps.{took, took_at, counted_at, finds}
 use Rattle.of_core.specs.World.{World, Start, Batch, Read, added, answered, answers_by}
 use Rattle.of_core.specs.History.{batch, ticket_in}
 use Rattle.of_core.specs.Shared.{Opened}
@@ -115,7 +115,7 @@ module _ (S : Setup) (Lawful : List ℕ → Type 0) (sound : Sound S.meaning Law
     -- an idle machine stays as it is
     rests_as : (machine w j).place ≡ Idle → (d ≡ machine w j) × (answered (machine w j) d ≡ [])
     unfolding took answered
-    rests_as q = (ap (took_at S (machine w j) n) q, ap (λ (b : Bool). answers_by d b (is_idle d.place)) (ap is_idle q))
+    rests_as q = (ap (λ (p : Place). took_at S (counted_at p (machine w j)) n p) q, ap (λ (b : Bool). answers_by d b (is_idle d.place)) (ap is_idle q))
 
     -- a call of caller i in a new batch is its open one
     module _ (i : ℕ) (member : i < S.callers) where

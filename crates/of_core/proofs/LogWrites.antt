@@ -8,7 +8,7 @@ use Rattle.of_core.specs.declared.place.Place.TheVariants.{StoreLog, StoreReques
 use Rattle.of_core.specs.Table.{Setup, script_at, size, durable_at, request_at, log_at, script_word, current_word, request_of, cell, log_word, durable_word, durable_request, last, holder, risen}
 use Rattle.of_core.specs.Machine.{Data, entry, log_words}
 use Rattle.of_core.specs.Steps.{took_at}
-use Rattle.of_core.specs.World.{World, Start, stepped_at}
+use Rattle.of_core.specs.World.{World, Start, stepped_on}
 use Rattle.of_core.specs.History.{batch, at}
 use Rattle.of_core.specs.Shared.{Kinds, IsRequest, IsLogWord, Opened, DataCells, Durable}
 use Rattle.of_core.specs.Transaction.{Stored}
@@ -22,7 +22,7 @@ use Rattle.of_core.proofs.Touches.{Touches, durable_of, heard_of, kinds_of, kind
 module _ (S : Setup) (Lawful : List ℕ → Type 0) (B : Start) where
   module _ (w : World) (g : Core S Lawful B w) (i : ℕ) (m : Data) (h : i < S.callers) where
     -- the machine stores a word of its log
-    pub store_log_kept : (x : ℕ) → At S B w.words w.batches i m (StoreLog x) → Goes S Lawful B i w (stepped_at S i m (StoreLog x) w)
+    pub store_log_kept : (x : ℕ) → At S B w.words w.batches i m (StoreLog x) → Goes S Lawful B i w (stepped_on S i m (StoreLog x) w)
     store_log_kept x a =
         rw (append-nil w.batches)
         (assemble S Lawful B w g i h vs w.batches (took_at S m (log_word S w.words m.caller x) (StoreLog x)) (moves_of S Lawful B i w.words vs w.batches touches g.shared)
@@ -179,7 +179,7 @@ module _ (S : Setup) (Lawful : List ℕ → Type 0) (B : Start) where
         stored y l (inr q) = log_row y (omega (arith, x_in)) q ∙ st.each y (omega arith)
 
     -- the machine stores its request
-    pub store_request_kept : At S B w.words w.batches i m StoreRequest → Goes S Lawful B i w (stepped_at S i m StoreRequest w)
+    pub store_request_kept : At S B w.words w.batches i m StoreRequest → Goes S Lawful B i w (stepped_on S i m StoreRequest w)
     store_request_kept a =
         rw (append-nil w.batches)
         (assemble S Lawful B w g i h vs w.batches (took_at S m (request_of w.words m.caller) StoreRequest) (moves_of S Lawful B i w.words vs w.batches touches g.shared)

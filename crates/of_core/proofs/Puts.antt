@@ -138,7 +138,7 @@ read_anywhere m p (Needs a) = refl
 read_anywhere m p (Gives es r) = refl
 
 -- how a scan goes on, where the choices are by value
-pub next_call_is : (m : Data) (more : Bool) → next_call m more ≡ record m { place = place_behind more; scan = m.scan + 1; steps = m.steps + 1 }
+pub next_call_is : (m : Data) (more : Bool) → next_call m more ≡ record m { place = place_behind more; scan = m.scan + 1 }
 next_call_is m true = refl
 next_call_is m false = refl
 

@@ -13,7 +13,7 @@ use Rattle.of_core.specs.declared.place.Place.TheVariants.{LoadAnnouncement, Loa
 use Rattle.of_core.specs.Table.{Setup, data_at, script_at, ticket_cell, base, script_of, script_word, announcement_of, cell, last}
 use Rattle.of_core.specs.Machine.{Data, Call, learned, own_cells, merged, put_all, no_call}
 use Rattle.of_core.specs.Steps.{ran, after_load_cell, took_at, next_call, with_run, call_run, own_raw, weighed, after_announcement, after_load_ticket, script_more, runs, after_load_script}
-use Rattle.of_core.specs.World.{World, Start, stepped_at}
+use Rattle.of_core.specs.World.{World, Start, stepped_on}
 use Rattle.of_core.specs.History.{state, batch, Rising, ticket_in, numbers}
 use Rattle.of_core.specs.Rounds.{Begun, Past, Calm}
 use Rattle.of_core.specs.Scan.{Over, Scans, Hears, Reads, Taken, Announced}
@@ -80,7 +80,7 @@ module _ (S : Setup) (Lawful : List ℕ → Type 0) (B : Start) where
     pub ticket_in_cells : (c : ℕ) → c < S.callers → ticket_cell S c < S.cells
     ticket_in_cells c l = omega (arith, room_for c S.callers (S.instrs + 2) l, g.shared.own_in)
 
-    pub load_announcement_kept : At S B w.words w.batches i m LoadAnnouncement → Goes S Lawful B i w (stepped_at S i m LoadAnnouncement w)
+    pub load_announcement_kept : At S B w.words w.batches i m LoadAnnouncement → Goes S Lawful B i w (stepped_on S i m LoadAnnouncement w)
     load_announcement_kept a = assemble_read S Lawful B w g i h _ _ (took_at S m found LoadAnnouncement) (same_words S Lawful B w g i m h (script_at S m.scan S.instrs)) (same_batches S Lawful B w g i m h) (
         go (get_or m.known (ticket_cell S m.scan) None) refl)
       where
@@ -93,7 +93,7 @@ module _ (S : Setup) (Lawful : List ℕ → Type 0) (B : Start) where
             weighed_at (record m { heard = found }) (past_as S Lawful B w g i m h m _ a.0 refl refl refl refl refl refl refl refl refl) a.1 a.2 a.3 (hears_now m.seq m.scan a.3) v
             (sym (a.0.looks.agrees (ticket_cell S m.scan) v e) ∙ number_at S Lawful B w.batches m.seq (ticket_cell S m.scan)) (nat_lt v (seq found)) refl
 
-    pub load_ticket_kept : At S B w.words w.batches i m LoadTicket → Goes S Lawful B i w (stepped_at S i m LoadTicket w)
+    pub load_ticket_kept : At S B w.words w.batches i m LoadTicket → Goes S Lawful B i w (stepped_on S i m LoadTicket w)
     load_ticket_kept a = assemble_read S Lawful B w g i h _ _ (took_at S m found LoadTicket) (same_words S Lawful B w g i m h (data_at S (ticket_cell S m.scan))) (same_batches S Lawful B w g i m h) (
         go (nat_lt m.seq (seq found)) refl)
       where
@@ -231,7 +231,7 @@ module _ (S : Setup) (Lawful : List ℕ → Type 0) (B : Start) where
                     let y : announcement_of S w.words n.scan ≡ n.heard = hs.stood after z' in
                     inr (length n.calls, rw length-append (omega arith), ap (λ (d : Call). d.caller) s ∙ sym e, ap (λ (d : Call). d.ticket) s ∙ sym (ap seq y) ∙ ap (λ (x : ℕ). seq (announcement_of S w.words x)) (sym e))
 
-    pub load_script_kept : Sound S.meaning Lawful (base S) S.cells → (j : ℕ) → At S B w.words w.batches i m (LoadScript j) → Goes S Lawful B i w (stepped_at S i m (LoadScript j) w)
+    pub load_script_kept : Sound S.meaning Lawful (base S) S.cells → (j : ℕ) → At S B w.words w.batches i m (LoadScript j) → Goes S Lawful B i w (stepped_on S i m (LoadScript j) w)
     load_script_kept sound j a = assemble_read S Lawful B w g i h _ _ (took_at S m found (LoadScript j)) (same_words S Lawful B w g i m h (script_at S m.scan j)) (same_batches S Lawful B w g i m h) (
         go (nat_lt (j + 1) (pay m.heard)) refl)
       where
@@ -252,7 +252,7 @@ module _ (S : Setup) (Lawful : List ℕ → Type 0) (B : Start) where
             runs_at (record m { script = script_more m found }) sound (past_as S Lawful B w g i m h m _ a.0 refl refl refl refl refl refl refl refl refl) a.1 a.2 a.3 a.4
             (reads (pay m.heard) (omega (arith, not_newer (j + 1) (pay m.heard) e, a.6)))
 
-    pub load_cell_kept : Sound S.meaning Lawful (base S) S.cells → (x : ℕ) → At S B w.words w.batches i m (LoadCell x) → Goes S Lawful B i w (stepped_at S i m (LoadCell x) w)
+    pub load_cell_kept : Sound S.meaning Lawful (base S) S.cells → (x : ℕ) → At S B w.words w.batches i m (LoadCell x) → Goes S Lawful B i w (stepped_on S i m (LoadCell x) w)
     load_cell_kept sound x a = assemble_read S Lawful B w g i h _ _ (took_at S m (cell S w.words x) (LoadCell x)) (same_words S Lawful B w g i m h (data_at S x)) (same_batches S Lawful B w g i m h) (
         go (nat_lt m.seq (seq (cell S w.words x))) refl)
       where

@@ -65,7 +65,7 @@ module _ (S : Setup) (Lawful : List ℕ → Type 0) (B : Start) (w : World) (g :
   a = g.core.each i m h own
 
   abbrev d : Data
-  d = took_at S m n m.place
+  d = took_at S (counted_at m.place m) n m.place
 
   abbrev bs : List Batch
   bs = commits_at S w.words m n m.place

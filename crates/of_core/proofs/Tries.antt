@@ -9,7 +9,7 @@ use Rattle.of_core.specs.declared.place.Place.TheVariants.{TryCurrent, TryReques
 use Rattle.of_core.specs.Table.{Setup, data_at, base, current_word, request_of, cell, last, holder, risen}
 use Rattle.of_core.specs.Machine.{Data, unknown, learned}
 use Rattle.of_core.specs.Steps.{read_on, read_ran, tried, resumed, after_try_request, over_try, after_try_cell, is_open, took_at}
-use Rattle.of_core.specs.World.{World, Start, stepped_at}
+use Rattle.of_core.specs.World.{World, Start, stepped_on}
 use Rattle.of_core.specs.History.{state, at, numbers}
 use Rattle.of_core.specs.Shared.{Opened}
 use Rattle.of_core.specs.Rounds.{WasCurrent, Trying, Helper, Watches, Calm}
@@ -107,7 +107,7 @@ module _ (S : Setup) (Lawful : List ℕ → Type 0) (B : Start) where
     resumed_at n sound (inr p) c o quiet true e = tried_at n sound p c o quiet
     resumed_at n sound (inr p) c o quiet false e = absurd (differ n.rounds 0 e p.fresh.rounds)
 
-    pub try_current_kept : At S B w.words w.batches i m TryCurrent → Goes S Lawful B i w (stepped_at S i m TryCurrent w)
+    pub try_current_kept : At S B w.words w.batches i m TryCurrent → Goes S Lawful B i w (stepped_on S i m TryCurrent w)
     try_current_kept a = assemble_read S Lawful B w g i h _ _ (took_at S m (current_word w.words) TryCurrent) (same_words S Lawful B w g i m h 0) (same_batches S Lawful B w g i m h) (
       record { fresh = fresh_as S Lawful B w g i m h m _ a.0 refl refl refl refl refl; reads = a.2; few = omega (arith, a.3) },
       record {
@@ -121,7 +121,7 @@ module _ (S : Setup) (Lawful : List ℕ → Type 0) (B : Start) where
       a.1,
     )
 
-    pub try_request_kept : Sound S.meaning Lawful (base S) S.cells → At S B w.words w.batches i m TryRequest → Goes S Lawful B i w (stepped_at S i m TryRequest w)
+    pub try_request_kept : Sound S.meaning Lawful (base S) S.cells → At S B w.words w.batches i m TryRequest → Goes S Lawful B i w (stepped_on S i m TryRequest w)
     try_request_kept sound a = assemble_read S Lawful B w g i h _ _ (took_at S m (request_of w.words m.owner) TryRequest) (same_words S Lawful B w g i m h (m.owner + 1)) (same_batches S Lawful B w g i m h) (
         go (is_open m.seq (request_of w.words m.owner)) refl)
       where
@@ -148,7 +148,7 @@ module _ (S : Setup) (Lawful : List ℕ → Type 0) (B : Start) where
         )
         go false eb = tried_at m sound a.0 a.1 a.2 (quiet_from S Lawful B w g i m h m.seq m.owner a.1 (λ l. not_open S Lawful B w g i m h m.seq (request_of w.words m.owner) eb (omega (arith, l))))
 
-    pub try_cell_kept : Sound S.meaning Lawful (base S) S.cells → (x : ℕ) → At S B w.words w.batches i m (TryCell x) → Goes S Lawful B i w (stepped_at S i m (TryCell x) w)
+    pub try_cell_kept : Sound S.meaning Lawful (base S) S.cells → (x : ℕ) → At S B w.words w.batches i m (TryCell x) → Goes S Lawful B i w (stepped_on S i m (TryCell x) w)
     try_cell_kept sound x a = assemble_read S Lawful B w g i h _ _ (took_at S m (cell S w.words x) (TryCell x)) (same_words S Lawful B w g i m h (data_at S x)) (same_batches S Lawful B w g i m h) (
         go (nat_lt m.seq (seq (cell S w.words x))) refl)
       where

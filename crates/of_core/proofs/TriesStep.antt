@@ -8,7 +8,7 @@ use Rattle.of_core.specs.declared.place.Outcome.{Outcome}
 use Rattle.of_core.specs.declared.place.Outcome.TheVariants.{Answered}
 use Rattle.of_core.specs.Table.{Setup}
 use Rattle.of_core.specs.Machine.{Data, IsOpen, is_idle}
-use Rattle.of_core.specs.Steps.{took, took_at}
+use Rattle.of_core.specs.Steps.{took, took_at, counted_at}
 use Rattle.of_core.specs.World.{World, Start, commits_at}
 use Rattle.of_core.specs.Order.{IsTrying}
 use Rattle.of_core.specs.Facts.{Facts, CountsBy, EndsWith, loads, loads_at}
@@ -18,7 +18,7 @@ use Rattle.of_core.proofs.StepFacts.{step_facts}
 
 module _ (S : Setup) (Lawful : List ℕ → Type 0) (B : Start) (w : World) (g : Good S Lawful B w) (i : ℕ) (m : Data) (h : i < S.callers) (own : get_or w.machines i m ≡ m) (o : IsOpen m.place) (n : ℕ) where
   abbrev d : Data
-  d = took_at S m n m.place
+  d = took_at S (counted_at m.place m) n m.place
 
   facts : Facts S m n m.place d (commits_at S w.words m n m.place)
   facts = step_facts S Lawful B w g.core i m h n m.place o (g.core.each i m h own)

@@ -338,7 +338,7 @@ impl<W: Work> Machine<W> {
         ensures { self.new ≡ record self.old { call = took (setup W.meaning self.old) self.old.call found } }
     {
         // the step bound keeps the count within its type
-        prove!(self.steps < u64::MAX);
+        self.steps += 1;
         match self.place {
             Place::Idle => unreachable!(),
             Place::TryCurrent => self.after_try_current(found),

@@ -10,7 +10,7 @@ ghost use Rattle.of_core.specs.Machine.{learned, merged};
 ghost use Rattle.of_core.specs.Steps.{runs, weighed};
 ghost use Rattle.of_core.specs.Fill.{place_behind, newer_raw};
 ghost use Rattle.of_core.specs.Fit.{Scanning, is_scanning};
-ghost use Rattle.of_core.specs.Seen.{setup, step_from, HasTime};
+ghost use Rattle.of_core.specs.Seen.{setup, step_from};
 ghost use Rattle.of_core.specs.declared.place.Place.TheVariants.{LoadScript, LoadCell};
 
 use crate::machine::fill::{collect, put_own, words_of};
@@ -45,7 +45,6 @@ impl<W: Work> Machine<W> {
         requires small { pay found ≤ MOST_INSTRS }
         requires some { 0 < seq found → 1 ≤ pay found }
         requires unnamed { value_at self.old.call.log (ticket_cell (setup W.meaning self.old) self.old.call.scan) ≡ None }
-        requires time { HasTime self.old }
         ensures { self.new ≡ step_from W.meaning Place.LoadAnnouncement found self.old }
     {
         self.heard = found;
@@ -53,7 +52,6 @@ impl<W: Work> Machine<W> {
             Ok(ticket) => self.weigh(ticket < seq_of(found)),
             Err(_) => {
                 self.place = Place::LoadTicket;
-                self.steps += 1;
             }
         }
     }
@@ -63,12 +61,10 @@ impl<W: Work> Machine<W> {
         requires at { self.old.call.place ≡ Place.LoadTicket }
         requires small { pay self.old.call.heard ≤ MOST_INSTRS }
         requires some { 0 < seq self.old.call.heard → 1 ≤ pay self.old.call.heard }
-        requires time { HasTime self.old }
         ensures { self.new ≡ step_from W.meaning Place.LoadTicket found self.old }
     {
         if self.seq < seq_of(found) {
             self.place = Place::LoadCurrent;
-            self.steps += 1;
         } else {
             self.part.learn(self.scan * OWN_CELLS, payload_of(found));
             self.weigh(payload_of(found) < seq_of(self.heard));
@@ -81,7 +77,6 @@ impl<W: Work> Machine<W> {
         requires scan { Scanning (setup W.meaning self.old) self.old.call }
         requires small { pay self.old.call.heard ≤ MOST_INSTRS }
         requires some { IsTrue new → 0 < pay self.old.call.heard }
-        requires time { HasTime self.old }
         ensures { self.new ≡ record self.old { call = weighed (setup W.meaning self.old) self.old.call new } }
     {
         if new {
@@ -91,7 +86,6 @@ impl<W: Work> Machine<W> {
             self.scan += 1;
             self.place = place_behind(self.scan < self.shape.callers);
         }
-        self.steps += 1;
     }
 
     /// From the load of a script word.
@@ -99,7 +93,6 @@ impl<W: Work> Machine<W> {
         requires at { self.old.call.place ≡ LoadScript at }
         requires many { length self.old.call.script ≡ at }
         requires agrees { (xs : List ℕ) × (length xs ≡ self.old.cells) × W.lawful self.old.work xs × Agrees (merged self.old.call.known self.old.call.log) xs }
-        requires time { HasTime self.old }
         ensures { self.new ≡ step_from W.meaning (LoadScript at) found self.old }
     {
         match self.script.push(found) {
@@ -109,7 +102,6 @@ impl<W: Work> Machine<W> {
         }
         if at + 1 < payload_of(self.heard) {
             self.place = Place::LoadScript(at + 1);
-            self.steps += 1;
         } else {
             self.run();
         }
@@ -120,12 +112,10 @@ impl<W: Work> Machine<W> {
         requires at { self.old.call.place ≡ LoadCell addr }
         requires some { 1 ≤ length self.old.call.script }
         requires agrees { seq found ≤ self.old.call.seq → (xs : List ℕ) × (length xs ≡ self.old.cells) × W.lawful self.old.work xs × Agrees (merged (learned (setup W.meaning self.old) self.old.call addr found) self.old.call.log) xs }
-        requires time { HasTime self.old }
         ensures { self.new ≡ step_from W.meaning (LoadCell addr) found self.old }
     {
         if self.seq < seq_of(found) {
             self.place = Place::LoadCurrent;
-            self.steps += 1;
         } else {
             self.part.learn(addr, payload_of(found));
             self.run();
@@ -138,7 +128,6 @@ impl<W: Work> Machine<W> {
         requires scan { Scanning (setup W.meaning self.old) self.old.call }
         requires some { 1 ≤ length self.old.call.script }
         requires agrees { (xs : List ℕ) × (length xs ≡ self.old.cells) × W.lawful self.old.work xs × Agrees (merged self.old.call.known self.old.call.log) xs }
-        requires time { HasTime self.old }
         ensures { self.new ≡ record self.old { call = runs (setup W.meaning self.old) self.old.call } }
     {
         let work = self.work;
@@ -175,11 +164,9 @@ impl<W: Work> Machine<W> {
                 self.raw = newer_raw(self.scan == self.caller, &raw, &self.raw);
                 self.scan += 1;
                 self.place = place_behind(self.scan < self.shape.callers);
-                self.steps += 1;
             }
             Err(need) => {
                 self.place = Place::LoadCell(need.addr);
-                self.steps += 1;
             }
         }
     }
