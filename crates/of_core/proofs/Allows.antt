@@ -5,10 +5,11 @@ use Rattle.std.proofs.lemmas.Bool.Decides.{nat_tests}
 use Rattle.of_cell.specs.Words.{word, seq, pay}
 use Rattle.of_mem.specs.Meaning.{Meaning, Sound, Agrees, written}
 use Rattle.of_mem.specs.Pairs.{value_at}
+use Rattle.of_mem.specs.Pad.{over}
 use Rattle.of_core.specs.declared.place.Place.{Place}
 use Rattle.of_core.specs.declared.place.Place.TheVariants.{TryCurrent, TryRequest, TryCell, LoadCurrent, CopyLog, LookAgain, LoadAnnouncement, LoadTicket, LoadScript, LoadCell, RaiseClosed}
 use Rattle.of_core.specs.Table.{Setup, setup_of, base, ticket_cell, cell}
-use Rattle.of_core.specs.Machine.{Data, no_call, log_words, learned, merged}
+use Rattle.of_core.specs.Machine.{Data, no_call, log_words, learned}
 use Rattle.of_core.specs.Steps.{want, want_at, copy_more, FoundBy}
 use Rattle.of_core.specs.History.{state, batch, numbers}
 use Rattle.of_core.specs.Shared.{IsLog}
@@ -153,7 +154,7 @@ module _ (S : Setup) (Lawful : List ℕ → Type 0) (m : Data) (found : ℕ) (h 
 
   -- what is known in a scan, under the log, agrees with what its calls lead to
   scan_agrees : Sound S.meaning Lawful (base S) S.cells → (n : Data) → Past S h.start h.world.words h.world.batches h.caller n → Scans S h.start h.world.words h.world.batches h.caller n
-      → (xs : List ℕ) × (length xs ≡ S.cells) × Lawful xs × Agrees (merged n.known n.log) xs
+      → (xs : List ℕ) × (length xs ≡ S.cells) × Lawful xs × Agrees (over n.known n.log) xs
   scan_agrees sound n p o =
       let xs : List ℕ = numbers h.start h.world.batches n.seq in
       let upto : n.seq ≤ h.start.seq + length h.world.batches = at_risen S Lawful h.start h.world h.good.core h.caller m h.in_range n p.looks in
@@ -165,10 +166,10 @@ module _ (S : Setup) (Lawful : List ℕ → Type 0) (m : Data) (found : ℕ) (h 
         left_agrees S Lawful sound xs n.calls n.log size lawful o.over n.known p.looks.agrees,
       )
 
-  pub script_agrees : Sound S.meaning Lawful (base S) S.cells → (j : ℕ) → m.place ≡ LoadScript j → (xs : List ℕ) × (length xs ≡ S.cells) × Lawful xs × Agrees (merged m.known m.log) xs
+  pub script_agrees : Sound S.meaning Lawful (base S) S.cells → (j : ℕ) → m.place ≡ LoadScript j → (xs : List ℕ) × (length xs ≡ S.cells) × Lawful xs × Agrees (over m.known m.log) xs
   script_agrees sound j q = let a = place_at (LoadScript j) q in scan_agrees sound m a.0 a.2
 
-  pub cell_agrees : Sound S.meaning Lawful (base S) S.cells → (x : ℕ) → m.place ≡ LoadCell x → seq found ≤ m.seq → (xs : List ℕ) × (length xs ≡ S.cells) × Lawful xs × Agrees (merged (learned S m x found) m.log) xs
+  pub cell_agrees : Sound S.meaning Lawful (base S) S.cells → (x : ℕ) → m.place ≡ LoadCell x → seq found ≤ m.seq → (xs : List ℕ) × (length xs ≡ S.cells) × Lawful xs × Agrees (over (learned S m x found) m.log) xs
   cell_agrees sound x q l =
       let f : found ≡ cell S h.world.words x = found_at (LoadCell x) q in
       let a = place_at (LoadCell x) q in

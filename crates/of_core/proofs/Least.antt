@@ -2,10 +2,11 @@
 use Rattle.std.proofs.Common.{◌≡◌, ℕ, ◌+◌, ◌-◌, ◌*◌, ◌≤◌, ◌==◌, List, length, get_or, refl, sym, ap, subst, arith, Option, Some, None, Bool, true, false, nat_lt}
 use Rattle.of_cell.specs.Words.{word, seq, pay}
 use Rattle.of_mem.specs.Meaning.{Walked, Needs, Gives}
+use Rattle.of_mem.specs.Pad.{over}
 use Rattle.of_core.specs.declared.place.Place.{Place}
 use Rattle.of_core.specs.declared.place.Place.TheVariants.{Idle, TryCurrent, TryRequest, TryCell, StoreScript, StoreAnnouncement, LoadCurrent, LoadRequest, CopyLog, LookAgain, LoadOwnTicket, LoadShape, LoadReply, LoadAnnouncement, LoadTicket, LoadScript, LoadCell, RaiseOld, StoreLog, RaiseLog, StoreRequest, RaiseRequest, ExchangeCurrent, RaiseCurrent, LoadTarget, ExchangeTarget, ReloadTarget, RaiseTarget, CloseRequest, RaiseClosed}
 use Rattle.of_core.specs.Table.{Setup, ticket_cell}
-use Rattle.of_core.specs.Machine.{Data, unknown, learned, merged, log_words, opened, first_place, idle}
+use Rattle.of_core.specs.Machine.{Data, unknown, learned, log_words, opened, first_place, idle}
 use Rattle.of_core.specs.Steps.{read_ran, tried, resumed, after_try_request, over_try, after_try_cell, took_at, counted_at, after_store_script, after_load_request, after_copy_log, after_look_again, after_own_ticket, after_load_shape, shape_read, after_load_reply, reply_read, asks_more, first_mark, after_announcement, weighed, after_load_ticket, after_load_script, script_more, ran, next_call, with_run, after_load_cell, after_raise_log, after_exchange, after_raise_current, after_load_target, next_entry, after_raise_closed, is_open, copy_more}
 use Rattle.of_core.specs.World.{Batch, Start}
 use Rattle.of_core.specs.Invariant.{At}
@@ -152,12 +153,12 @@ module _ (S : Setup) where
       where
         go : (b : Bool) → Late S (after_load_script S now j n b) (after_load_script S now j n b).place
         go true = record { steps = omega (arith, t.steps); rests = λ q. cc; told = λ q. cc }
-        go false = ran_late (record now { script = script_more m n }) (omega (arith, t.steps)) (S.meaning.walk (merged m.known m.log) (script_more m n))
+        go false = ran_late (record now { script = script_more m n }) (omega (arith, t.steps)) (S.meaning.walk (over m.known m.log) (script_more m n))
     late (LoadCell x) a t e = go (nat_lt m.seq (seq n))
       where
         go : (b : Bool) → Late S (after_load_cell S now x n b) (after_load_cell S now x n b).place
         go true = record { steps = omega (arith, t.steps); rests = λ q. cc; told = λ q. cc }
-        go false = ran_late (record now { known = learned S m x n }) (omega (arith, t.steps)) (S.meaning.walk (merged (learned S m x n) m.log) m.script)
+        go false = ran_late (record now { known = learned S m x n }) (omega (arith, t.steps)) (S.meaning.walk (over (learned S m x n) m.log) m.script)
     late RaiseOld a t e = record { steps = omega (arith, t.steps); rests = λ q. cc; told = λ q. cc }
     late (StoreLog x) a t e = record { steps = omega (arith, t.steps); rests = λ q. cc; told = λ q. cc }
     late (RaiseLog x) a t e = go (nat_lt (x + 1) (length (log_words m.log)))

@@ -12,7 +12,8 @@ use Rattle.of_cell.specs.Words.{word, pay}
 use Rattle.of_cell.proofs.Order.{pay_word}
 use Rattle.of_mem.specs.declared.work.RawReply.{RawReply}
 use Rattle.of_mem.specs.Meaning.{Once, written, Finishes}
-use Rattle.of_core.specs.Table.{Setup, base}
+use Rattle.of_core.specs.declared.machine.fill.TheConstants.{ABORTED}
+use Rattle.of_core.specs.Table.{Setup, base, ticket_cell}
 use Rattle.of_core.specs.Machine.{listed, own_cells, flat, log_words, turned}
 use Rattle.of_core.specs.History.{changed}
 use Rattle.of_core.specs.Shared.{IsEntry, IsLog}
@@ -159,7 +160,7 @@ once_few S es h o =
 
 -- the walk's writes and the caller's own cells are a log
 pub whole_log : (S : Setup) (i ticket count : ℕ) (xs op : List ℕ) (es : List (ℕ × ℕ)) (r : RawReply) → i < S.callers → count ≤ S.instrs → ticket < 4294967296 → base S ≤ S.cells
-    → Finishes S.meaning (base S) S.cells xs op es r → IsLog S (es ++ own_cells S i ticket count r)
+    → Finishes S.meaning (base S) S.cells xs op es r → IsLog S (es ++ own_cells (ticket_cell S i) ticket count r)
 whole_log S i ticket count xs op es r h c t b f = record {
   entries = entries_all;
   once = once_all;
@@ -167,10 +168,10 @@ whole_log S i ticket count xs op es r h c t b f = record {
 }
   where
     own : List (ℕ × ℕ)
-    own = own_cells S i ticket count r
+    own = own_cells (ticket_cell S i) ticket count r
 
     o : IsOwn (i * (S.instrs + 2)) (S.instrs + 2) own
-    o = own_is (i * (S.instrs + 2)) count (S.instrs + 2) ticket r (omega arith) f.shape t f.values (nat_lt r.shape 67108864)
+    o = own_is (i * (S.instrs + 2)) count (S.instrs + 2) ticket r (omega arith) f.shape t f.values (nat_lt r.shape ABORTED)
 
     low : i * (S.instrs + 2) + (S.instrs + 2) ≤ base S
     low = room_for i S.callers (S.instrs + 2) h
@@ -183,11 +184,11 @@ whole_log S i ticket count xs op es r h c t b f = record {
 
 -- the caller's own cells are below the others
 pub own_below : (S : Setup) (i ticket count : ℕ) (r : RawReply) → i < S.callers → count ≤ S.instrs → ticket < 4294967296 → r.shape < 4294967296 → All (λ (v : ℕ). v < 4294967296) r.values
-    → All (λ (e : ℕ × ℕ). e.0 < base S) (own_cells S i ticket count r)
+    → All (λ (e : ℕ × ℕ). e.0 < base S) (own_cells (ticket_cell S i) ticket count r)
 own_below S i ticket count r h c t a vs = λ k d l. omega (arith, (o.inside k d l).1, room_for i S.callers (S.instrs + 2) h)
   where
-    o : IsOwn (i * (S.instrs + 2)) (S.instrs + 2) (own_cells S i ticket count r)
-    o = own_is (i * (S.instrs + 2)) count (S.instrs + 2) ticket r (omega arith) a t vs (nat_lt r.shape 67108864)
+    o : IsOwn (i * (S.instrs + 2)) (S.instrs + 2) (own_cells (ticket_cell S i) ticket count r)
+    o = own_is (i * (S.instrs + 2)) count (S.instrs + 2) ticket r (omega arith) a t vs (nat_lt r.shape ABORTED)
 
 pub length-flat : (es : List (ℕ × ℕ)) → length (flat es) ≡ 2 * length es
 length-flat [] = refl

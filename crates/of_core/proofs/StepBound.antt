@@ -4,10 +4,11 @@ use Rattle.std.proofs.Math.Nat.{mul_comm}
 use Rattle.std.proofs.lemmas.Bool.Decides.{nat_tests}
 use Rattle.of_cell.specs.Words.{word, seq, pay}
 use Rattle.of_mem.specs.Meaning.{Walked, Needs, Gives}
+use Rattle.of_mem.specs.Pad.{over}
 use Rattle.of_core.specs.declared.place.Place.{Place}
 use Rattle.of_core.specs.declared.place.Place.TheVariants.{Idle, TryCurrent, TryRequest, TryCell, StoreScript, StoreAnnouncement, LoadCurrent, LoadRequest, CopyLog, LookAgain, LoadOwnTicket, LoadShape, LoadReply, LoadAnnouncement, LoadTicket, LoadScript, LoadCell, RaiseOld, StoreLog, RaiseLog, StoreRequest, RaiseRequest, ExchangeCurrent, RaiseCurrent, LoadTarget, ExchangeTarget, ReloadTarget, RaiseTarget, CloseRequest, RaiseClosed}
 use Rattle.of_core.specs.Table.{Setup, ticket_cell, shape_cell, reply_cell, cell}
-use Rattle.of_core.specs.Machine.{Data, unknown, learned, merged, log_words, opened, first_place}
+use Rattle.of_core.specs.Machine.{Data, unknown, learned, log_words, opened, first_place}
 use Rattle.of_core.specs.Steps.{read_on, read_ran, tried, resumed, after_try_request, over_try, after_try_cell, want_at, word_of, took_at, counted_at, after_store_script, after_load_request, after_copy_log, after_look_again, after_own_ticket, after_load_shape, shape_read, after_load_reply, reply_read, asks_more, first_mark, after_announcement, weighed, after_load_ticket, after_load_script, script_more, ran, next_call, with_run, after_load_cell, after_raise_log, after_exchange, after_raise_current, after_load_target, next_entry, after_raise_closed, is_open, copy_more}
 use Rattle.of_core.specs.World.{World, Start}
 use Rattle.of_core.specs.Transaction.{Applies}
@@ -368,7 +369,7 @@ module _ (S : Setup) where
 
         go : (b : Bool) → Within S (after_load_script S now j found b) (after_load_script S now j found b).place
         go true = record { told = λ q. cc; steps = more m.steps S.instrs j (scan_left S m) (bound S) j_in t.steps }
-        go false = ran_within (record now { script = script_more m found }) a.3 (last m.steps S.instrs j (scan_left S m) (bound S) j_in t.steps) (S.meaning.walk (merged m.known m.log) (script_more m found))
+        go false = ran_within (record now { script = script_more m found }) a.3 (last m.steps S.instrs j (scan_left S m) (bound S) j_in t.steps) (S.meaning.walk (over m.known m.log) (script_more m found))
     within (LoadCell x) a t e = go (nat_lt m.seq (seq found))
       where
         found : ℕ
@@ -379,7 +380,7 @@ module _ (S : Setup) where
         go false = ran_within (record now { known = learned S m x found }) a.3
             (known_sum0 m.steps ((S.callers - m.scan - 1) * (S.instrs + 1)) (unknowns m.known) (unknowns (learned S m x found)) (4 * S.cells + 6) (rounds_left S m) (bound S)
             (unknowns_set m.known x (pay found) (omega (arith, a.0.looks.all, a.6)) a.7) t.steps)
-            (S.meaning.walk (merged (learned S m x found) m.log) m.script)
+            (S.meaning.walk (over (learned S m x found) m.log) m.script)
     within RaiseOld a t e = record { told = λ q. cc; steps = sum m.steps S.cells (rounds_left S m) (bound S) t.steps }
       where
         sum : (s c r l : ℕ) → s + (4 * c + 6 + r) ≤ l → s + 1 + (2 * (2 * c + 1 - 0) + 3 + r) ≤ l

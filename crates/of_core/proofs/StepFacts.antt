@@ -3,10 +3,11 @@ use Rattle.std.proofs.Common.{◌≡◌, ℕ, ◌+◌, ◌-◌, ◌<◌, ◌≤�
 use Rattle.std.proofs.lemmas.Bool.Decides.{nat_tests}
 use Rattle.of_cell.specs.Words.{word, seq, pay}
 use Rattle.of_mem.specs.Meaning.{Walked, Needs, Gives}
+use Rattle.of_mem.specs.Pad.{over}
 use Rattle.of_core.specs.declared.place.Place.{Place}
 use Rattle.of_core.specs.declared.place.Place.TheVariants.{Idle, TryCurrent, TryRequest, TryCell, StoreScript, StoreAnnouncement, LoadCurrent, LoadRequest, CopyLog, LookAgain, LoadOwnTicket, LoadShape, LoadReply, LoadAnnouncement, LoadTicket, LoadScript, LoadCell, RaiseOld, StoreLog, RaiseLog, StoreRequest, RaiseRequest, ExchangeCurrent, RaiseCurrent, LoadTarget, ExchangeTarget, ReloadTarget, RaiseTarget, CloseRequest, RaiseClosed}
 use Rattle.of_core.specs.Table.{Setup, ticket_cell}
-use Rattle.of_core.specs.Machine.{Data, IsOpen, unknown, learned, log_words, merged}
+use Rattle.of_core.specs.Machine.{Data, IsOpen, unknown, learned, log_words}
 use Rattle.of_core.specs.Steps.{read_ran, resumed, after_try_request, over_try, after_try_cell, after_load_request, after_copy_log, after_look_again, after_own_ticket, after_load_shape, after_load_reply, after_announcement, after_load_ticket, after_load_script, after_load_cell, after_raise_log, after_exchange, after_raise_current, after_load_target, next_entry, after_raise_closed, after_store_script, ran, weighed, next_call, with_run, asks_more, shape_read, reply_read, copy_more, script_more, first_mark, is_open, took_at, counted_at}
 use Rattle.of_core.specs.World.{World, Batch, Start, commits_at, one_batch}
 use Rattle.of_core.specs.History.{state}
@@ -172,12 +173,12 @@ module _ (S : Setup) (Lawful : List ℕ → Type 0) (B : Start) (w : World) (g :
     where
       go : (b : Bool) → Facts S m n (LoadScript j) (after_load_script S now j n b) []
       go true = on (LoadScript j) (after_load_script S now j n true) refl refl refl refl (omega arith) (λ q. absurd q) (refl, refl)
-      go false = ran_facts (LoadScript j) refl (omega arith) (record now { script = script_more m n }) refl refl refl refl refl refl (S.meaning.walk (merged m.known m.log) (script_more m n))
+      go false = ran_facts (LoadScript j) refl (omega arith) (record now { script = script_more m n }) refl refl refl refl refl refl (S.meaning.walk (over m.known m.log) (script_more m n))
   step_facts (LoadCell x) o a = go (nat_lt m.seq (seq n))
     where
       go : (b : Bool) → Facts S m n (LoadCell x) (after_load_cell S now x n b) []
       go true = on (LoadCell x) (after_load_cell S now x n true) refl refl refl refl (omega arith) (λ q. absurd q) (refl, refl)
-      go false = ran_facts (LoadCell x) refl (omega arith) (record now { known = learned S m x n }) refl refl refl refl refl refl (S.meaning.walk (merged (learned S m x n) m.log) m.script)
+      go false = ran_facts (LoadCell x) refl (omega arith) (record now { known = learned S m x n }) refl refl refl refl refl refl (S.meaning.walk (over (learned S m x n) m.log) m.script)
   step_facts RaiseOld o a = on RaiseOld (took_at S now n RaiseOld) refl refl refl refl (omega arith) (λ q. absurd q) (refl, refl)
   step_facts (StoreLog x) o a = on (StoreLog x) (took_at S now n (StoreLog x)) refl refl refl refl (omega arith) (λ q. absurd q) (refl, refl)
   step_facts (RaiseLog x) o a = go (nat_lt (x + 1) (length (log_words m.log)))

@@ -1,8 +1,9 @@
 -- Words and machines of a moment, and what events leave of them.
 use Rattle.std.specs.Prelude.{◌≡◌, ℕ, ◌+◌, ◌<◌, List, [], length, map}
 use Rattle.std.proofs.Common.{get_or}
+use Rattle.of_cell.specs.Cells as cells
 use Rattle.of_mem.specs.Meaning.{Meaning}
-use Rattle.of_core.specs.Table.{Setup, setup_of, table_size}
+use Rattle.of_core.specs.Table.{Setup, setup_of}
 use Rattle.of_core.specs.Machine.{Data, no_machine}
 use Rattle.of_core.specs.World.{World, Start}
 use Rattle.of_core.specs.Shared.{MayStart}
@@ -27,7 +28,7 @@ table meaning b = setup_of b.callers b.cells b.limit (meaning b.work)
 
 -- how many words it has: those of the table, and one for the members
 abbrev pub table_words : Setup → ℕ
-table_words S = table_size S + 1
+table_words S = cells.table_words S.callers S.instrs S.cells
 
 -- caller i's machine
 abbrev pub machine_of : {X : Type 0} → Bench X → ℕ → Data

@@ -4,13 +4,15 @@ use Rattle.std.proofs.Common.{get_or, set, replicate, zero, suc}
 use Rattle.of_cell.specs.Words.{word, seq, pay}
 use Rattle.of_mem.specs.declared.work.RawReply.{RawReply}
 use Rattle.of_mem.specs.Meaning.{Walked, Needs, Gives, marked}
+use Rattle.of_mem.specs.Pairs.{put_all}
+use Rattle.of_mem.specs.Pad.{over}
 use Rattle.of_core.specs.declared.place.Place.{Place}
 use Rattle.of_core.specs.declared.place.Place.TheVariants.{Idle, TryCurrent, TryRequest, TryCell, StoreScript, StoreAnnouncement, LoadCurrent, LoadRequest, CopyLog, LookAgain, LoadOwnTicket, LoadShape, LoadReply, LoadAnnouncement, LoadTicket, LoadScript, LoadCell, RaiseOld, StoreLog, RaiseLog, StoreRequest, RaiseRequest, ExchangeCurrent, RaiseCurrent, LoadTarget, ExchangeTarget, ReloadTarget, RaiseTarget, CloseRequest, RaiseClosed}
 use Rattle.of_core.specs.declared.place.Op.{Op}
 use Rattle.of_core.specs.declared.place.Op.TheVariants.{Load, Store, Exchange, Raise}
 use Rattle.of_core.specs.declared.place.Outcome.TheVariants.{Answered, Spent}
 use Rattle.of_core.specs.Table.{Setup, request_at, data_at, log_at, durable_at, script_at, ticket_cell, shape_cell, reply_cell}
-use Rattle.of_core.specs.Machine.{Call, Data, entry, log_words, log_of, turned, unknown, learned, merged, put_all, own_cells}
+use Rattle.of_core.specs.Machine.{Call, Data, entry, log_words, log_of, turned, unknown, learned, own_cells}
 
 -- what the machine m asks for at a place
 abbrev pub want_at : Setup → Data → Place → Op
@@ -185,9 +187,12 @@ after_load_reply S m j found true = next_round m
 after_load_reply S m j found false = asks_more (reply_read m j found) (first_mark m.raw.shape (j + 1) (S.instrs - j - 1))
 
 -- The scan: of each caller in turn the announcement, and where it isn't known the ticket cell. A call with a new ticket is run.
+abbrev pub place_behind : (more : Bool) → Place
+place_behind true = LoadAnnouncement
+place_behind false = RaiseOld
+
 abbrev pub next_call : Data → (more : Bool) → Data
-next_call m true = record m { place = LoadAnnouncement; scan = m.scan + 1 }
-next_call m false = record m { place = RaiseOld; scan = m.scan + 1 }
+next_call m more = record m { place = place_behind more; scan = m.scan + 1 }
 
 abbrev pub weighed : Setup → Data → (new : Bool) → Data
 weighed S m true = record m { place = LoadScript 0; script = [] }
@@ -205,15 +210,16 @@ after_load_ticket S m found false = weighed S (record m { known = learned S m (t
 abbrev pub call_run : Data → RawReply → Call
 call_run m r = record { caller = m.scan; ticket = seq m.heard; op = m.script; raw = r }
 
-abbrev pub own_raw : Data → RawReply → (own : Bool) → RawReply
-own_raw m r true = r
-own_raw m r false = m.raw
+-- the reply of one's own call: the new one where the call that was run is one's own
+abbrev pub newer_raw : (new old : RawReply) → (own : Bool) → RawReply
+newer_raw new old true = new
+newer_raw new old false = old
 
 abbrev pub with_run : Setup → Data → List (ℕ × ℕ) → RawReply → Data
 with_run S m es r = record m {
-  log = put_all m.log (es ++ own_cells S m.scan (seq m.heard) (length m.script) r);
+  log = put_all m.log (es ++ own_cells (ticket_cell S m.scan) (seq m.heard) (length m.script) r);
   calls = m.calls ++ call_run m r ∷ [];
-  raw = own_raw m r (m.scan == m.caller);
+  raw = newer_raw r m.raw (m.scan == m.caller);
 }
 
 -- a run that needs a cell begins again when the cell is known
@@ -222,7 +228,7 @@ ran S m (Needs a) = record m { place = LoadCell a }
 ran S m (Gives es r) = next_call (with_run S m es r) (nat_lt (m.scan + 1) S.callers)
 
 abbrev pub runs : Setup → Data → Data
-runs S m = ran S m (S.meaning.walk (merged m.known m.log) m.script)
+runs S m = ran S m (S.meaning.walk (over m.known m.log) m.script)
 
 abbrev pub script_more : Data → ℕ → List ℕ
 script_more m found = m.script ++ found ∷ []

@@ -4,10 +4,9 @@ ghost use Rattle.std.specs.Prelude.{◌≡◌, ◌<◌, ◌≤◌, ◌+◌, ◌-
 ghost use Rattle.std.specs.List.{All};
 ghost use Rattle.std.proofs.Common.{take, drop};
 ghost use Rattle.of_mem.specs.declared.work.TheConstants.{MOST_INSTRS};
-ghost use Rattle.of_mem.specs.Meaning.{Once};
-ghost use Rattle.of_core.specs.Machine.{log_of, log_words, put_all, turned};
+ghost use Rattle.of_mem.specs.Pairs.{put_all};
+ghost use Rattle.of_core.specs.Machine.{log_of, log_words, own_cells, reply_cells, turned};
 ghost use Rattle.of_core.specs.Steps.{first_mark};
-ghost use Rattle.of_core.specs.Fill.{reply_cells_at, own_cells_at};
 
 use of_mem::{MOST_INSTRS, Part, RawReply};
 use of_wset::WriteSet;
@@ -33,7 +32,7 @@ fn put_reply(part: &mut Part, row: u32, count: u32, raw: &RawReply)
     requires room { row + 2 + MOST_INSTRS ≤ length part.old.known }
     requires small { length part.old.known ≤ 4096 }
     requires count { count ≤ MOST_INSTRS }
-    ensures script { part.new.script ≡ put_all part.old.script (reply_cells_at row count raw.now) }
+    ensures script { part.new.script ≡ put_all part.old.script (reply_cells row count raw.now) }
     ensures known { part.new.known ≡ part.old.known }
     ensures batch { part.new.batch ≡ part.old.batch }
 {
@@ -50,7 +49,7 @@ pub fn put_own(part: &mut Part, row: u32, ticket: u32, count: u32, raw: &RawRepl
     requires room { row + 2 + MOST_INSTRS ≤ length part.old.known }
     requires small { length part.old.known ≤ 4096 }
     requires count { count ≤ MOST_INSTRS }
-    ensures script { part.new.script ≡ put_all part.old.script (own_cells_at row ticket count raw.now) }
+    ensures script { part.new.script ≡ put_all part.old.script (own_cells row ticket count raw.now) }
     ensures known { part.new.known ≡ part.old.known }
     ensures batch { part.new.batch ≡ part.old.batch }
 {

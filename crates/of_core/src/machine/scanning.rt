@@ -5,10 +5,10 @@ ghost use Rattle.of_cell.specs.Words.{seq, pay};
 ghost use Rattle.of_mem.specs.declared.work.TheConstants.{MOST_INSTRS};
 ghost use Rattle.of_mem.specs.Meaning.{Agrees};
 ghost use Rattle.of_mem.specs.Pairs.{value_at};
+ghost use Rattle.of_mem.specs.Pad.{over};
 ghost use Rattle.of_core.specs.Table.{ticket_cell};
-ghost use Rattle.of_core.specs.Machine.{learned, merged};
-ghost use Rattle.of_core.specs.Steps.{runs, weighed};
-ghost use Rattle.of_core.specs.Fill.{place_behind, newer_raw};
+ghost use Rattle.of_core.specs.Machine.{learned};
+ghost use Rattle.of_core.specs.Steps.{newer_raw, place_behind, runs, weighed};
 ghost use Rattle.of_core.specs.Fit.{Scanning, is_scanning};
 ghost use Rattle.of_core.specs.Seen.{setup, step_from};
 ghost use Rattle.of_core.specs.declared.place.Place.TheVariants.{LoadScript, LoadCell};
@@ -92,7 +92,7 @@ impl<W: Work> Machine<W> {
     pub(super) fn after_load_script(&mut self, at: u32, found: u64)
         requires at { self.old.call.place ≡ LoadScript at }
         requires many { length self.old.call.script ≡ at }
-        requires agrees { (xs : List ℕ) × (length xs ≡ self.old.cells) × W.lawful self.old.work xs × Agrees (merged self.old.call.known self.old.call.log) xs }
+        requires agrees { (xs : List ℕ) × (length xs ≡ self.old.cells) × W.lawful self.old.work xs × Agrees (over self.old.call.known self.old.call.log) xs }
         ensures { self.new ≡ step_from W.meaning (LoadScript at) found self.old }
     {
         match self.script.push(found) {
@@ -111,7 +111,7 @@ impl<W: Work> Machine<W> {
     pub(super) fn after_load_cell(&mut self, addr: u32, found: u64)
         requires at { self.old.call.place ≡ LoadCell addr }
         requires some { 1 ≤ length self.old.call.script }
-        requires agrees { seq found ≤ self.old.call.seq → (xs : List ℕ) × (length xs ≡ self.old.cells) × W.lawful self.old.work xs × Agrees (merged (learned (setup W.meaning self.old) self.old.call addr found) self.old.call.log) xs }
+        requires agrees { seq found ≤ self.old.call.seq → (xs : List ℕ) × (length xs ≡ self.old.cells) × W.lawful self.old.work xs × Agrees (over (learned (setup W.meaning self.old) self.old.call addr found) self.old.call.log) xs }
         ensures { self.new ≡ step_from W.meaning (LoadCell addr) found self.old }
     {
         if self.seq < seq_of(found) {
@@ -127,12 +127,10 @@ impl<W: Work> Machine<W> {
         requires scanning { is_scanning self.old.call.place ≡ true }
         requires scan { Scanning (setup W.meaning self.old) self.old.call }
         requires some { 1 ≤ length self.old.call.script }
-        requires agrees { (xs : List ℕ) × (length xs ≡ self.old.cells) × W.lawful self.old.work xs × Agrees (merged self.old.call.known self.old.call.log) xs }
+        requires agrees { (xs : List ℕ) × (length xs ≡ self.old.cells) × W.lawful self.old.work xs × Agrees (over self.old.call.known self.old.call.log) xs }
         ensures { self.new ≡ record self.old { call = runs (setup W.meaning self.old) self.old.call } }
     {
         let work = self.work;
-        // a log names no cell twice
-        let _entries = self.log.len();
         let mut raw = RawReply {
             shape: 0,
             values: [0; MOST_INSTRS],
