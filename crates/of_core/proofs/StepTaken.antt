@@ -8,7 +8,7 @@ use Rattle.of_core.specs.declared.place.Outcome.{Outcome}
 use Rattle.of_core.specs.declared.place.Outcome.TheVariants.{Answered, Spent}
 use Rattle.of_core.specs.Table.{Setup, last}
 use Rattle.of_core.specs.Machine.{Data, IsOpen, is_idle}
-use Rattle.of_core.specs.Steps.{want, want_at, took, took_at, FoundBy}
+use Rattle.of_core.specs.Steps.{want, want_at, took, took_at, counted_at, FoundBy}
 use Rattle.of_core.specs.World.{World, Start, Batch, Read, added, answered, answers_by, answers_at, read_of, commits_at}
 use Rattle.of_core.specs.Facts.{Facts, Step, CountsBy, EndsWith, Tells, loads, rests, loads_at, rests_at}
 use Rattle.of_core.specs.Invariant.{At, Good}
