@@ -37,10 +37,10 @@ pub core_kept : (S : Setup) (Lawful : List ℕ → Type 0) → Sound S.meaning L
 core_kept S Lawful sound B w g i m h e = go m.place (g.each i m h e)
   where
     -- the machine with its step counted
-    abbrev c : Data
+    c : Data
     c = record m { steps = m.steps + 1 }
 
-    now : (p : Place) → At S B w.words w.batches i m p → At S B w.words w.batches i c p
+    now : (p : Place) → At S B w.words w.batches i m p → At S B w.words w.batches i (counted_at p m) p
     now p a = counted_stands S Lawful B w g i m h p a
 
     go : (p : Place) → At S B w.words w.batches i m p → Goes S Lawful B i w (stepped_at S i m p w)
