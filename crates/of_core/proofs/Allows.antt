@@ -2,6 +2,8 @@
 use Rattle.std.proofs.Common.{◌≡◌, ℕ, suc, ◌+◌, ◌<◌, ◌≤◌, ◌==◌, inl, inr, List, [], ◌∷◌, length, None, Bool, true, false, get_or, refl, sym, ◌∙◌, subst, arith}
 use Rattle.std.proofs.lemmas.List.{length-map, take_all}
 use Rattle.std.proofs.lemmas.Bool.Decides.{nat_tests}
+use Rattle.of_cell.specs.declared.shape.TheConstants.{MOST_CALLERS, MOST_DATA_CELLS}
+use Rattle.of_core.specs.declared.machine.trying.TheConstants.{MOST_TRIES}
 use Rattle.of_cell.specs.Words.{word, seq, pay}
 use Rattle.of_mem.specs.Meaning.{Meaning, Sound, Agrees, written}
 use Rattle.of_mem.specs.Pairs.{value_at}
@@ -27,7 +29,7 @@ use Rattle.of_core.proofs.Tries.{watch_more}
 use Rattle.of_core.proofs.Helping.{copied_count}
 
 -- a call's steps are still counted
-pub few_steps : (n m l : ℕ) (M : Meaning) (Lawful : List ℕ → Type 0) (d : Data) (found : ℕ) → n ≤ 16 → m ≤ 4096 → Meets (setup_of n m l M) Lawful d found → d.steps + 1 < 18446744073709551616
+pub few_steps : (n m l : ℕ) (M : Meaning) (Lawful : List ℕ → Type 0) (d : Data) (found : ℕ) → n ≤ MOST_CALLERS → m ≤ MOST_DATA_CELLS → Meets (setup_of n m l M) Lawful d found → d.steps + 1 < 18446744073709551616
 few_steps n m l M Lawful d found p q h = let w = (h.good.within h.caller d h.in_range h.here).steps in omega arith
 
 module _ (S : Setup) (Lawful : List ℕ → Type 0) (m : Data) (found : ℕ) (h : Meets S Lawful m found) where
@@ -45,7 +47,7 @@ module _ (S : Setup) (Lawful : List ℕ → Type 0) (m : Data) (found : ℕ) (h 
   pub try_current_upto : m.place ≡ TryCurrent → seq found ≤ S.limit
   try_current_upto q = rw (found_at TryCurrent q) h.good.core.shared.counted.limit
 
-  pub tries_few : m.place ≡ TryCurrent → m.tries ≤ 3
+  pub tries_few : m.place ≡ TryCurrent → m.tries < MOST_TRIES
   tries_few q = (place_at TryCurrent q).3
 
   pub load_current_owner : m.place ≡ LoadCurrent → pay found < S.callers

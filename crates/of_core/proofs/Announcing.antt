@@ -3,6 +3,7 @@ use Rattle.std.proofs.Common.{◌≡◌, ℕ, zero, suc, ◌+◌, ◌*◌, ◌-�
 use Rattle.std.proofs.lemmas.Bool.{cases_eq}
 use Rattle.std.proofs.lemmas.Bool.Decides.{nat_tests}
 use Rattle.std.proofs.lemmas.List.{append-nil, take_more, take_all, get_or-set_same, get_or-set_other}
+use Rattle.of_cell.specs.declared.word.TheConstants.{PAYLOADS}
 use Rattle.of_cell.specs.Words.{word, seq, pay}
 use Rattle.of_cell.proofs.Order.{seq_word, pay_word}
 use Rattle.of_core.specs.declared.place.Place.TheVariants.{StoreScript, StoreAnnouncement}
@@ -221,7 +222,7 @@ module _ (S : Setup) (Lawful : List ℕ → Type 0) (B : Start) (w : World) (g :
       n_is : last w.words ≡ B.seq + length w.batches
       n_is = g.shared.counted.count
 
-      small : length m.op < 4294967296
+      small : length m.op < PAYLOADS
       small = omega (arith, f.words, g.shared.narrow)
 
       now : announcement_of S us i ≡ word m.made (length m.op)
@@ -272,7 +273,7 @@ module _ (S : Setup) (Lawful : List ℕ → Type 0) (B : Start) (w : World) (g :
           small_at c l (inl q) = rw q (omega (arith, now_pay, f.words))
           small_at c l (inr q) = rw (ann_other c q) (g.shared.heard.small c l)
 
-          ticket_at : (c : ℕ) → c < S.callers → (c ≡ i) ⊎ (c ≡ i → ⊥) → seq (announcement_of S us c) < 4294967296
+          ticket_at : (c : ℕ) → c < S.callers → (c ≡ i) ⊎ (c ≡ i → ⊥) → seq (announcement_of S us c) < PAYLOADS
           ticket_at c l (inl q) = rw q (omega (arith, now_seq, f.ticket))
           ticket_at c l (inr q) = rw (ann_other c q) (g.shared.heard.tickets c l)
 

@@ -2,6 +2,8 @@
 use Rattle.std.proofs.Common.{◌≡◌, ℕ, zero, suc, ◌+◌, ◌<◌, ◌≤◌, List, [], ◌∷◌, ◌++◌, length, get_or, set, replicate, Option, max, refl, sym, ◌∙◌, ap, arith, length-append, length-set, ◌⊎◌, inl, inr}
 use Rattle.std.proofs.lemmas.List.{get_or_default, get_or_push, get_or_append_left, get_or-map, length-map, map-set, map-append, get_or-set_same, get_or-set_other, set-get_or}
 use Rattle.std.proofs.lemmas.Bool.{cases_eq}
+use Rattle.of_mem.specs.declared.work.TheConstants.{MOST_INSTRS}
+use Rattle.of_cell.specs.declared.word.TheConstants.{PAYLOADS}
 use Rattle.of_mem.specs.Meaning.{Meaning, Sound}
 use Rattle.of_core.specs.declared.place.Place.{Place}
 use Rattle.of_core.specs.declared.place.Place.TheVariants.{Idle}
@@ -51,7 +53,7 @@ module _ (S : Setup) (Lawful : List ℕ → Type 0) (ws : List ℕ) (ms : List D
   is_machine : (i : ℕ) → machine (end S Lawful ws ms r) i ≡ get_or ms i no_machine
   is_machine i = ap (λ (xs : List Data). get_or xs i no_machine) r.machines
 
-  pub begins : (i : ℕ) (op : List ℕ) (m : Data) → get_or ms i no_machine ≡ m → i < S.callers → m.place ≡ Idle → 1 ≤ length op → length op ≤ S.instrs → m.made + 1 < 4294967296 → Reached S Lawful ws (set ms i (opened S m op))
+  pub begins : (i : ℕ) (op : List ℕ) (m : Data) → get_or ms i no_machine ≡ m → i < S.callers → m.place ≡ Idle → 1 ≤ length op → length op ≤ S.instrs → m.made + 1 < PAYLOADS → Reached S Lawful ws (set ms i (opened S m op))
   begins i op m e h p l k t = rw (← r.words, ← r.machines, ← (is_machine i ∙ e)) (further (Begins i op) (h, rw (is_machine i ∙ e) p, l, k, rw (is_machine i ∙ e) t))
 
   pub turns : (i : ℕ) (m : Data) → get_or ms i no_machine ≡ m → i < S.callers → Reached S Lawful (words_after (want S m) ws) (set ms i (took S m (finds S ws m)))
@@ -61,7 +63,7 @@ module _ (S : Setup) (Lawful : List ℕ → Type 0) (ws : List ℕ) (ms : List D
   raises c h = rw (← r.words, ← r.machines) (further (Raises c) h)
 
 -- the machine of a bank meets the word that its wanted step finds
-module _ (S : Setup) (Lawful : List ℕ → Type 0) (sound : Sound S.meaning Lawful (base S) S.cells) (some : 0 < S.callers) (few : S.callers < 4294967296) (own_in : base S ≤ S.cells) (narrow : S.instrs ≤ 16) (little : S.cells < 4294967296) (ws : List ℕ) (ms : List Data) (r : Reached S Lawful ws ms) where
+module _ (S : Setup) (Lawful : List ℕ → Type 0) (sound : Sound S.meaning Lawful (base S) S.cells) (some : 0 < S.callers) (few : S.callers < PAYLOADS) (own_in : base S ≤ S.cells) (narrow : S.instrs ≤ MOST_INSTRS) (little : S.cells < PAYLOADS) (ws : List ℕ) (ms : List Data) (r : Reached S Lawful ws ms) where
   good : Good S Lawful r.start (end S Lawful ws ms r)
   good = run_good S Lawful sound r.start r.events (opening S r.start (table_words S)) (start_good S Lawful sound r.start r.may_start some few own_in (table_words S) (omega arith) narrow little) r.schedule
 

@@ -3,6 +3,7 @@ use Rattle.std.proofs.Common.{◌≡◌, ℕ, ◌+◌, ◌*◌, ◌-◌, ◌<◌
 use Rattle.std.specs.List.{All}
 use Rattle.std.proofs.lemmas.Bool.{cases_eq, cases_lt}
 use Rattle.std.proofs.lemmas.List.{append-nil, set-get_or, get_or-set_same, get_or-set_other}
+use Rattle.of_cell.specs.declared.word.TheConstants.{PAYLOADS}
 use Rattle.of_cell.specs.Words.{word, seq, pay}
 use Rattle.of_cell.proofs.Order.{seq_mono, seq_less, seq_word, pay_word, word_eta}
 use Rattle.of_mem.specs.Meaning.{Sound}
@@ -121,7 +122,7 @@ module _ (S : Setup) (Lawful : List ℕ → Type 0) (B : Start) where
             here : current_word vs ≡ word (m.seq + 1) m.caller
             here = get_or-set_same w.words 0 (word (m.seq + 1) m.caller) 0 (omega (arith, g.shared.room))
 
-            small : m.caller < 4294967296
+            small : m.caller < PAYLOADS
             small = rw ci (omega (arith, g.shared.few))
 
             new_last : last vs ≡ m.seq + 1

@@ -1,5 +1,6 @@
 -- Each call has made as many steps as its place says at least.
 use Rattle.std.proofs.Common.{◌≡◌, ℕ, ◌+◌, ◌-◌, ◌*◌, ◌≤◌, ◌==◌, List, length, get_or, refl, sym, ap, subst, arith, Option, Some, None, Bool, true, false, nat_lt}
+use Rattle.of_core.specs.declared.machine.trying.TheConstants.{MOST_TRIES}
 use Rattle.of_cell.specs.Words.{word, seq, pay}
 use Rattle.of_mem.specs.Meaning.{Walked, Needs, Gives}
 use Rattle.of_mem.specs.Pad.{over}
@@ -90,7 +91,7 @@ module _ (S : Setup) where
         over false = record { steps = omega arith; rests = λ q. cc; told = λ q. cc }
 
         go : (b : Bool) → Late S (after_try_cell S now x n b) (after_try_cell S now x n b).place
-        go true = over (nat_lt m.tries 4)
+        go true = over (nat_lt m.tries MOST_TRIES)
         go false = read_late (record now { known = learned S m x n }) (S.meaning.walk (learned S m x n) m.op) (omega (arith, t.steps)) (omega (arith, t.steps, least_upto (S.meaning.walk (unknown S) m.op)))
     late (StoreScript j) a t e = go (nat_lt (j + 1) (length m.op)) refl
       where

@@ -2,6 +2,7 @@
 use Rattle.std.proofs.Common.{◌≡◌, ℕ, ◌+◌, ◌*◌, ◌-◌, ◌<◌, ◌≤◌, ◌⊎◌, inl, inr, List, length, get_or, set, refl, sym, ◌∙◌, ap, subst, arith, length-set}
 use Rattle.std.proofs.lemmas.Bool.{cases_eq}
 use Rattle.std.proofs.lemmas.List.{append-nil, get_or-set_same, get_or-set_other}
+use Rattle.of_cell.specs.declared.word.TheConstants.{PAYLOADS}
 use Rattle.of_cell.specs.Words.{word, seq, pay}
 use Rattle.of_cell.proofs.Order.{seq_less, seq_word, pay_word, seq_from, word_above}
 use Rattle.of_core.specs.declared.place.Place.TheVariants.{StoreLog, StoreRequest}
@@ -110,7 +111,7 @@ module _ (S : Setup) (Lawful : List ℕ → Type 0) (B : Start) where
         log_how j y l u (inl q) (inr r) = inl (rw q (log_row y u r))
         log_how j y l u (inl q) (inl r) = inr (rw (q, r, here) (omega (arith, st.rest x (omega arith) x_in, seq_from (m.seq + 1) (get_or (log_words m.log) x 0) new (omega arith))))
 
-        fits_word : (y : ℕ) → get_or (log_words m.log) y 0 < 4294967296
+        fits_word : (y : ℕ) → get_or (log_words m.log) y 0 < PAYLOADS
         fits_word y = small_words S Lawful B m.log g.shared.little st.over.over.is_log y
 
         touches : (Touches S Lawful B) i w.words vs w.batches

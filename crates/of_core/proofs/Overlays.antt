@@ -5,6 +5,8 @@ use Rattle.std.proofs.lemmas.Bool.{cases_eq, cases_lt}
 use Rattle.std.proofs.lemmas.Bool.Decides.{nat_tests}
 use Rattle.std.proofs.lemmas.List.Elements.{All-append}
 use Rattle.std.proofs.lemmas.List.{get_or_append_left, get_or-append_right, get_or-set_same, get_or-set_other, set-set, set_comm, get_or_past, get_or-take, length-take, get_or_push, get_or_default}
+use Rattle.of_mem.specs.declared.work.TheConstants.{MOST_INSTRS}
+use Rattle.of_cell.specs.declared.word.TheConstants.{PAYLOADS}
 use Rattle.of_mem.specs.declared.work.RawReply.{RawReply}
 use Rattle.of_mem.specs.Meaning.{Once, written, SameFrom, Meaning, Finishes, Sound, Fits, Agrees, marked}
 use Rattle.of_mem.specs.Pairs.{put, put_all}
@@ -188,7 +190,7 @@ put_names_all : (ds es : List (ℕ × ℕ)) (a v : ℕ) → Once es → Names es
 put_names_all ds es a v o n = subst (λ (x : ℕ × ℕ). Names (put_all ds es) x.0 x.1) n.names (put_all_names ds es n.place o n.among)
 
 -- a call's own cells, by name
-own_names : (S : Setup) (i t : ℕ) (op : List ℕ) (r : RawReply) → S.instrs ≤ 16 → ((j : ℕ) → j < 16 → marked r.shape j ≡ true → (r.shape < ABORTED) × (j < length op) × (j < length r.values))
+own_names : (S : Setup) (i t : ℕ) (op : List ℕ) (r : RawReply) → S.instrs ≤ MOST_INSTRS → ((j : ℕ) → j < MOST_INSTRS → marked r.shape j ≡ true → (r.shape < ABORTED) × (j < length op) × (j < length r.values))
     → OwnIn S (own_cells (ticket_cell S i) t (length op) r) (record { caller = i; ticket = t; op = op; raw = r })
 own_names S i t op r narrow marks = record {
   ticket = names_right (replies (nat_lt r.shape ABORTED)) two (ticket_cell S i) t (record { place = 1; among = omega arith; names = refl });
@@ -243,7 +245,7 @@ module _ (S : Setup) (Lawful : List ℕ → Type 0) (sound : Sound S.meaning Law
     walk_fits known op h = sound.walks (over known ds) (written xs ds) op left_length left_lawful (left_agrees known h)
 
     -- one call more
-    pub extended : (c t : ℕ) (op : List ℕ) (es : List (ℕ × ℕ)) (r : RawReply) → c < S.callers → t < 4294967296 → length op ≤ S.instrs → base S ≤ S.cells → S.instrs ≤ 16
+    pub extended : (c t : ℕ) (op : List ℕ) (es : List (ℕ × ℕ)) (r : RawReply) → c < S.callers → t < PAYLOADS → length op ≤ S.instrs → base S ≤ S.cells → S.instrs ≤ MOST_INSTRS
         → All (λ (d : Call). d.caller < c) cs → Finishes S.meaning (base S) S.cells (written xs ds) op es r
         → Overlay S xs (cs ++ record { caller = c; ticket = t; op = op; raw = r } ∷ []) (put_all ds (es ++ own_cells (ticket_cell S c) t (length op) r))
     extended c t op es r h tl n b narrow others f = record {

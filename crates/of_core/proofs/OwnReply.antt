@@ -3,6 +3,7 @@ use Rattle.std.proofs.Common.{◌≡◌, ℕ, ◌+◌, ◌-◌, ◌<◌, ◌≤�
 use Rattle.std.proofs.lemmas.Bool.{cases_eq, cases_lt}
 use Rattle.std.proofs.lemmas.Bool.Decides.{nat_tests}
 use Rattle.std.proofs.lemmas.List.{length-replicate, get_or-set_same, get_or-set_other}
+use Rattle.of_cell.specs.declared.word.TheConstants.{PAYLOADS}
 use Rattle.of_cell.specs.Words.{word, seq, pay}
 use Rattle.of_cell.proofs.Order.{pay_small, seq_word, pay_word}
 use Rattle.of_mem.specs.Meaning.{marked}
@@ -61,7 +62,7 @@ module _ (S : Setup) (Lawful : List ℕ → Type 0) (B : Start) where
         is_in : (d.caller < S.callers) × (ticket_in S B w.batches c.number d.caller ≡ d.ticket)
         is_in = g.shared.stands.now c.number c.from (omega (arith, c.upto, at_risen S Lawful B w g i m h n p)) c.place no_call c.among
 
-        small : d.ticket < 4294967296
+        small : d.ticket < PAYLOADS
         small = rw (← is_in.1) (pay_small (at B w.batches c.number (ticket_cell S d.caller)))
 
         word_is : n.heard ≡ word c.number d.ticket

@@ -4,6 +4,7 @@ use Rattle.std.proofs.lemmas.List.{get_or_append_left, get_or_push, append-nil, 
 use Rattle.std.proofs.lemmas.Bool.{cases_lt, cases_eq}
 use Rattle.std.proofs.lemmas.Bool.Decides.{nat_tests}
 use Rattle.of_wset.specs.Pairs as wset
+use Rattle.of_cell.specs.declared.word.TheConstants.{PAYLOADS}
 use Rattle.of_mem.specs.Pairs.{value_at, put, put_all}
 use Rattle.of_mem.specs.Pad.{Pad, newest, wrote}
 use Rattle.of_mem.specs.Meaning.{Meaning, Sound, Agrees, Once, Fits, Walked, Needs, Gives, marked}
@@ -95,7 +96,7 @@ module _ (S : Setup) (Lawful : List ℕ → Type 0) (sound : Sound S.meaning Law
   needs_cell a e = (walk_fits (Needs a) e).1
 
   -- a run that is over: the own cells come behind what it wrote
-  pub own_behind : (i ticket : ℕ) (es : List (ℕ × ℕ)) (r : RawReply) → i < S.callers → length op ≤ S.instrs → ticket < 4294967296 → base S ≤ S.cells → S.meaning.walk known op ≡ Gives es r
+  pub own_behind : (i ticket : ℕ) (es : List (ℕ × ℕ)) (r : RawReply) → i < S.callers → length op ≤ S.instrs → ticket < PAYLOADS → base S ≤ S.cells → S.meaning.walk known op ≡ Gives es r
       → put_all es (own_cells (ticket_cell S i) ticket (length op) r) ≡ es ++ own_cells (ticket_cell S i) ticket (length op) r
   own_behind i ticket es r h c t b e = put_all_apart es (own_cells (ticket_cell S i) ticket (length op) r) (whole_log S i ticket (length op) xs op es r h c t b (walk_fits (Gives es r) e)).once
 

@@ -3,6 +3,7 @@ use Rattle.std.proofs.Common.{◌≡◌, ℕ, ◌+◌, ◌*◌, ◌<◌, ◌≤�
 use Rattle.std.proofs.lemmas.Bool.{cases_eq, cases_lt, cases_order}
 use Rattle.std.proofs.lemmas.Bool.Decides.{nat_tests}
 use Rattle.std.proofs.lemmas.List.{append-nil}
+use Rattle.of_cell.specs.declared.word.TheConstants.{PAYLOADS}
 use Rattle.of_cell.specs.Words.{word, seq, pay}
 use Rattle.of_cell.proofs.Order.{seq_word, pay_word, seq_mono, word_later, word_next, word_eta}
 use Rattle.of_mem.specs.Meaning.{Sound}
@@ -326,7 +327,7 @@ module _ (S : Setup) (Lawful : List ℕ → Type 0) (B : Start) where
         x = (entry m j).0
 
         x_in : x < S.cells
-        x_in = let t = a.0.log.each j a.1 in (subst (λ (e : ℕ × ℕ). (e.0 < S.cells) × (e.1 < 4294967296)) t.2 ((g.shared.counted.logs m.seq a.0.after a.0.upto).entries t.0 (0, 0) t.1)).0
+        x_in = let t = a.0.log.each j a.1 in (subst (λ (e : ℕ × ℕ). (e.0 < S.cells) × (e.1 < PAYLOADS)) t.2 ((g.shared.counted.logs m.seq a.0.after a.0.upto).entries t.0 (0, 0) t.1)).0
 
         loads : IsLoaded S B w.words w.batches (data_at S x, f)
         loads = record {

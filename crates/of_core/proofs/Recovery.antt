@@ -3,6 +3,7 @@ use Rattle.std.proofs.Common.{◌≡◌, ℕ, zero, suc, ◌+◌, ◌*◌, ◌-�
 use Rattle.std.specs.Option.{option_map}
 use Rattle.std.specs.List.{find, range_with_len}
 use Rattle.std.proofs.lemmas.Bool.{cases_eq, and_parts, eq-eqb, ne_eqb, lt-ltb, le-leb, ltb-true, ltb-false, eqb-true}
+use Rattle.of_cell.specs.declared.word.TheConstants.{PAYLOADS}
 use Rattle.of_cell.specs.Words.{word, seq, pay}
 use Rattle.of_cell.specs.Cells.{data_cell}
 use Rattle.of_cell.proofs.Order.{seq_word, pay_word}
@@ -195,7 +196,7 @@ module _ (S : Setup) (Lawful : List ℕ → Type 0) (B : Start) (w : World) (g :
 
 -- A list of the durable words recovers to the state of the durable sequence, and names it.
 module _ (S : Setup) (B : Start) (w : World) (sound : IsSound S B w) (durable : List ℕ) (all : IsDurableRow S.callers S.cells durable) (there : (c : ℕ) → c < size S → get_or durable c 0 ≡ durable_word S w.words c) where
-  pub list_recovers : (a : ℕ) → a < S.cells → a < 4294967296 → get_or (recovered S.callers S.cells durable) (data_cell S.callers a) 0 ≡ at B w.batches (risen S w.words) a
+  pub list_recovers : (a : ℕ) → a < S.cells → a < PAYLOADS → get_or (recovered S.callers S.cells durable) (data_cell S.callers a) 0 ≡ at B w.batches (risen S w.words) a
   list_recovers a l m = data_at S.callers S.cells durable all a l ∙ recovered_data-same S.callers S.cells (λ c. get_or durable c 0) (durable_word S w.words) there a l m ∙ sound.recovers a l
 
   pub list_seq : current_seq (λ c. get_or durable c 0) ≡ risen S w.words

@@ -2,6 +2,7 @@
 use Rattle.std.proofs.Common.{◌≡◌, ℕ, zero, suc, ◌+◌, ◌-◌, ◌<◌, ◌≤◌, ◌⊎◌, inl, inr, List, length, get_or, Bool, true, false, ◌*◌, refl, sym, ◌∙◌, ap, subst, arith, Option, Some, None}
 use Rattle.std.specs.List.{All}
 use Rattle.std.proofs.lemmas.Bool.{cases_lt, cases_order}
+use Rattle.of_cell.specs.declared.word.TheConstants.{PAYLOADS}
 use Rattle.of_cell.proofs.Order.{seq_word, word_inj, seq_mono}
 use Rattle.of_cell.specs.Words.{word, seq, pay}
 use Rattle.of_mem.specs.declared.work.RawReply.{RawReply}
@@ -420,7 +421,7 @@ module _ (S : Setup) (Lawful : List ℕ → Type 0) (B : Start) (i : ℕ) (ws : 
     mode_stable m false l u h = owns_stable m l u h
 
     entry_in : (m : Data) (n : ℕ) → Applies S B ws bs j m n → (k : ℕ) → k < length m.log → (entry m k).0 < S.cells
-    entry_in m n h k l = let t = h.log.each k l in (subst (λ (e : ℕ × ℕ). (e.0 < S.cells) × (e.1 < 4294967296)) t.2 ((shared.counted.logs m.seq h.after h.upto).entries t.0 (0, 0) t.1)).0
+    entry_in m n h k l = let t = h.log.each k l in (subst (λ (e : ℕ × ℕ). (e.0 < S.cells) × (e.1 < PAYLOADS)) t.2 ((shared.counted.logs m.seq h.after h.upto).entries t.0 (0, 0) t.1)).0
 
     applies_stable : (m : Data) (n : ℕ) → n ≤ length m.log → Applies S B ws bs j m n → Applies S B vs cs j m n
     applies_stable m n fits h = let same = v.batches m.seq h.after h.upto in record {

@@ -2,6 +2,7 @@
 use Rattle.std.proofs.Common.{◌≡◌, ℕ, zero, suc, ◌+◌, ◌*◌, ◌-◌, ◌<◌, ◌≤◌, ◌==◌, List, [], ◌∷◌, length, get_or, set, replicate, refl, sym, ◌∙◌, ap, subst, arith, Option, Some, None, Bool, true, false, nat_lt}
 use Rattle.std.proofs.Math.Nat.{mul_comm}
 use Rattle.std.proofs.lemmas.Bool.Decides.{nat_tests}
+use Rattle.of_core.specs.declared.machine.trying.TheConstants.{MOST_TRIES}
 use Rattle.of_cell.specs.Words.{word, seq, pay}
 use Rattle.of_mem.specs.Meaning.{Walked, Needs, Gives}
 use Rattle.of_mem.specs.Pad.{over}
@@ -32,7 +33,7 @@ unknowns_set (Some x ∷ ks) zero v l e = cc
 unknowns_set (None ∷ ks) (suc a) v l e = omega (arith, unknowns_set ks a v (omega arith) e)
 unknowns_set (Some x ∷ ks) (suc a) v l e = unknowns_set ks a v (omega arith) e
 
-try_cost : (r q : ℕ) → r ≤ 3 → (4 - (r + 1)) * q + q ≡ (4 - r) * q
+try_cost : (r q : ℕ) → r < MOST_TRIES → (MOST_TRIES - (r + 1)) * q + q ≡ (MOST_TRIES - r) * q
 try_cost zero q l = omega arith
 try_cost (suc zero) q l = omega arith
 try_cost (suc (suc zero)) q l = omega arith
@@ -156,7 +157,7 @@ module _ (S : Setup) where
     pub within : (p : Place) → At S B w.words w.batches i m p → Within S m p → m.place ≡ p
         → Within S (took_at S (counted_at p m) (get_or w.words (word_of (want_at S m p)) 0) p) (took_at S (counted_at p m) (get_or w.words (word_of (want_at S m p)) 0) p).place
     within Idle a t e = subst (λ (q : Place). Within S m q) (sym e) t
-    within TryCurrent a t e = record { told = λ q. cc; steps = sum m.steps S.cells ((4 - (m.tries + 1)) * (7 * S.cells + 7)) ((4 - m.tries) * (7 * S.cells + 7)) (announced_left S) (bound S) (try_cost m.tries (7 * S.cells + 7) a.3) t.steps }
+    within TryCurrent a t e = record { told = λ q. cc; steps = sum m.steps S.cells ((MOST_TRIES - (m.tries + 1)) * (7 * S.cells + 7)) ((MOST_TRIES - m.tries) * (7 * S.cells + 7)) (announced_left S) (bound S) (try_cost m.tries (7 * S.cells + 7) a.3) t.steps }
       where
         sum : (s c x y r l : ℕ) → x + (7 * c + 7) ≡ y → s + (y + r) ≤ l → s + 1 + (7 * c + 6 + (x + r)) ≤ l
         sum s c x y r l e h = omega arith
@@ -194,10 +195,10 @@ module _ (S : Setup) where
 
         over : (b : Bool) → Within S (over_try now b) (over_try now b).place
         over true = record { told = λ q. cc; steps = again m.steps (unknowns m.known) (unknowns (learned S m x found)) (tries_left S m) (bound S) one t.steps }
-        over false = record { told = λ q. cc; steps = aloud m.steps (unknowns m.known) (unknowns (learned S m x found)) ((4 - m.tries) * (7 * S.cells + 7)) S.instrs (3 * lost S + applying S) (bound S) one t.steps }
+        over false = record { told = λ q. cc; steps = aloud m.steps (unknowns m.known) (unknowns (learned S m x found)) ((MOST_TRIES - m.tries) * (7 * S.cells + 7)) S.instrs (3 * lost S + applying S) (bound S) one t.steps }
 
         go : (b : Bool) → Within S (after_try_cell S now x found b) (after_try_cell S now x found b).place
-        go true = over (nat_lt m.tries 4)
+        go true = over (nat_lt m.tries MOST_TRIES)
         go false = reads_within (record now { known = learned S m x found }) (less m.steps (unknowns m.known) (unknowns (learned S m x found)) (tries_left S m) (bound S) one t.steps)
     within (StoreScript j) a t e = go (nat_lt (j + 1) (length m.op))
       where

@@ -1,6 +1,7 @@
 -- What one step of an open call does, by the place that it is made from.
 use Rattle.std.proofs.Common.{◌≡◌, ℕ, ◌+◌, ◌-◌, ◌<◌, ◌≤◌, zero, suc, ◌*◌, ◌==◌, inl, inr, List, [], length, get_or, refl, ap, arith, Option, Some, None, Bool, true, false, nat_lt}
 use Rattle.std.proofs.lemmas.Bool.Decides.{nat_tests}
+use Rattle.of_core.specs.declared.machine.trying.TheConstants.{MOST_TRIES}
 use Rattle.of_cell.specs.Words.{word, seq, pay}
 use Rattle.of_mem.specs.Meaning.{Walked, Needs, Gives}
 use Rattle.of_mem.specs.Pad.{over}
@@ -106,7 +107,7 @@ module _ (S : Setup) (Lawful : List ℕ → Type 0) (B : Start) (w : World) (g :
       over false = on (TryCell x) (over_try now false) refl refl refl refl (omega arith) (λ q. absurd q) (refl, refl)
 
       go : (b : Bool) → Facts S m n (TryCell x) (after_try_cell S now x n b) []
-      go true = over (nat_lt m.tries 4)
+      go true = over (nat_lt m.tries MOST_TRIES)
       go false = read_facts (TryCell x) refl (omega arith) tt (record now { known = learned S m x n }) refl refl refl refl refl refl (S.meaning.walk (learned S m x n) m.op)
   step_facts (StoreScript j) o a = go (nat_lt (j + 1) (length m.op))
     where

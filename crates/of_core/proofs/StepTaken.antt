@@ -1,5 +1,6 @@
 -- What the step of an open call is, in a world that meets the invariant.
 use Rattle.std.proofs.Common.{◌≡◌, ℕ, ◌+◌, ◌<◌, List, [], ◌∷◌, length, get_or, refl, sym, ◌∙◌, ap, subst, arith, Option, Some, None, Bool, true, false, ◌≤◌, ◌⊎◌, inl, inr}
+use Rattle.of_cell.specs.declared.word.TheConstants.{PAYLOADS}
 use Rattle.of_cell.specs.Words.{seq}
 use Rattle.of_cell.proofs.Order.{seq_word}
 use Rattle.of_core.specs.declared.place.Place.{Place}
@@ -89,7 +90,7 @@ module _ (S : Setup) (Lawful : List ℕ → Type 0) (B : Start) (w : World) (g :
       let c = facts.commits l in
       let x = subst (λ (p : Place). At S B w.words w.batches i m p) c.0 a in
       let y : n ≡ get_or w.words 0 0 = subst (λ (p : Place). FoundBy (want_at S m p) w.words n) c.0 f in
-      let owner : m.owner < 4294967296 = omega (arith, x.0.past.looks.round.owner_in, g.core.shared.few) in
+      let owner : m.owner < PAYLOADS = omega (arith, x.0.past.looks.round.owner_in, g.core.shared.few) in
       let z : last w.words ≡ m.seq = ap seq (sym y ∙ c.1) ∙ seq_word m.seq m.owner owner in
       ap (rests_at m) c.0 ∙ sym z ∙ g.core.shared.counted.count
 

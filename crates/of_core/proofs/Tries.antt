@@ -3,6 +3,7 @@ use Rattle.std.proofs.Common.{◌≡◌, ℕ, ◌+◌, ◌-◌, ◌<◌, ◌≤�
 use Rattle.std.proofs.lemmas.Bool.{cases_eq, cases_lt}
 use Rattle.std.proofs.lemmas.Bool.Decides.{nat_tests}
 use Rattle.std.proofs.lemmas.List.{length-map, length-replicate, get_or-replicate, get_or_past, get_or-set_same, get_or-set_other}
+use Rattle.of_core.specs.declared.machine.trying.TheConstants.{MOST_TRIES}
 use Rattle.of_cell.specs.Words.{word, seq, pay}
 use Rattle.of_mem.specs.Meaning.{Walked, Needs, Gives, Fits, Sound}
 use Rattle.of_core.specs.declared.place.Place.TheVariants.{TryCurrent, TryRequest, TryCell}
@@ -152,11 +153,11 @@ module _ (S : Setup) (Lawful : List ℕ → Type 0) (B : Start) where
     try_cell_kept sound x a = assemble_read S Lawful B w g i h _ _ (took_at S m (cell S w.words x) (TryCell x)) (same_words S Lawful B w g i m h (data_at S x)) (same_batches S Lawful B w g i m h) (
         go (nat_lt m.seq (seq (cell S w.words x))) refl)
       where
-        over : (b : Bool) → nat_lt m.tries 4 ≡ b → At S B w.words w.batches i (over_try m b) (over_try m b).place
+        over : (b : Bool) → nat_lt m.tries MOST_TRIES ≡ b → At S B w.words w.batches i (over_try m b) (over_try m b).place
         over true e = (fresh_as S Lawful B w g i m h m _ a.0.fresh refl refl refl refl refl, calm_more S Lawful B w g i m h m.seq (last w.words) a.1.upto a.2, a.0.reads, let z : m.tries < 4 = grind (arith, nat_tests) in omega arith)
         over false e = (fresh_as S Lawful B w g i m h m _ a.0.fresh refl refl refl refl refl, calm_more S Lawful B w g i m h m.seq (last w.words) a.1.upto a.2, omega (arith, a.0.fresh.some), refl)
 
         go : (b : Bool) → nat_lt m.seq (seq (cell S w.words x)) ≡ b → At S B w.words w.batches i (after_try_cell S m x (cell S w.words x) b) (after_try_cell S m x (cell S w.words x) b).place
-        go true e = over (nat_lt m.tries 4) refl
+        go true e = over (nat_lt m.tries MOST_TRIES) refl
         go false e = reads_at (record m { known = learned S m x (cell S w.words x) }) sound (trying_as S Lawful B w g i m h m _ a.0 refl refl refl refl refl refl) a.1 a.2
             (watch_more m.seq m.owner m a.1 a.3 x a.4 (not_newer m.seq (seq (cell S w.words x)) e))

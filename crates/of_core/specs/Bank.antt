@@ -1,5 +1,6 @@
 -- What contracts see of a bank's fields, and what it keeps.
 use Rattle.std.specs.Prelude.{◌≡◌, ◌≤◌, ℕ, List, length}
+use Rattle.of_core.specs.declared.machine.TheConstants.{GREATEST_LIMIT}
 use Rattle.of_mem.specs.Meaning.{Meaning}
 use Rattle.of_mem.specs.declared.work.TheConstants.{MOST_INSTRS}
 use Rattle.of_core.specs.declared.bank.Bank.TheInside.{Inside}
@@ -14,7 +15,7 @@ pub record IsBank {W : Type 0} (many size : W → ℕ) (meaning : W → Meaning)
   pub callers : many b.work ≡ b.shape.callers
   pub instrs : b.shape.instrs ≡ MOST_INSTRS
   pub cells : size b.work ≡ b.shape.cells
-  pub limit : b.limit ≤ 4294967294
+  pub limit : b.limit ≤ GREATEST_LIMIT
   pub room : length b.words.items ≡ table_words (setup_of b.shape.callers b.shape.cells b.limit (meaning b.work))
   pub members : length b.machines.items ≡ b.shape.callers
   pub alike : Alike b.work b.shape.callers b.shape.cells b.limit b.machines.items

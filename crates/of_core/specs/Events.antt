@@ -1,6 +1,7 @@
 -- Events, schedules and the moments that they leave.
 use Rattle.std.specs.Prelude.{◌==◌, Bool, true, false, ℕ, ◌+◌, max, List, [], ◌∷◌, ◌++◌, length, ◌≡◌, ◌≤◌, ◌<◌}
 use Rattle.std.proofs.Common.{get_or, set, replicate, zero, suc}
+use Rattle.of_cell.specs.declared.word.TheConstants.{PAYLOADS}
 use Rattle.of_core.specs.declared.place.Place.TheVariants.{Idle}
 use Rattle.of_cell.specs.Words.{pay}
 use Rattle.of_core.specs.Table.{Setup, size, durable_at, ticket_cell}
@@ -42,7 +43,7 @@ happens S w (Turns i) = stepped S i (machine w i) (finds S w.words (machine w i)
 
 -- when an event may happen: a call begins where none of the caller's is open, with 1 to as many words as an operation may have
 abbrev pub MayHappen : Setup → World → Event → Type 0
-MayHappen S w (Begins i op) = (i < S.callers) × ((machine w i).place ≡ Idle) × (1 ≤ length op) × (length op ≤ S.instrs) × ((machine w i).made + 1 < 4294967296)
+MayHappen S w (Begins i op) = (i < S.callers) × ((machine w i).place ≡ Idle) × (1 ≤ length op) × (length op ≤ S.instrs) × ((machine w i).made + 1 < PAYLOADS)
 MayHappen S w (Loads c) = c < size S
 MayHappen S w (Evicts k) = k < length w.loaded
 MayHappen S w (Raises c) = c < size S

@@ -1,6 +1,7 @@
 -- The protocol invariant.
 use Rattle.std.specs.Prelude.{ℕ, ◌+◌, ◌*◌, List, [], length, Option, Some, None, true, false, ◌≡◌, ◌≤◌, ◌<◌, ◌⊎◌}
 use Rattle.std.proofs.Common.{get_or, take}
+use Rattle.of_core.specs.declared.machine.trying.TheConstants.{MOST_TRIES}
 use Rattle.of_cell.specs.Words.{word, seq, pay}
 use Rattle.of_core.specs.declared.place.Place.{Place}
 use Rattle.of_core.specs.declared.place.Place.TheVariants.{Idle, TryCurrent, TryRequest, TryCell, StoreScript, StoreAnnouncement, LoadCurrent, LoadRequest, CopyLog, LookAgain, LoadOwnTicket, LoadShape, LoadReply, LoadAnnouncement, LoadTicket, LoadScript, LoadCell, RaiseOld, StoreLog, RaiseLog, StoreRequest, RaiseRequest, ExchangeCurrent, RaiseCurrent, LoadTarget, ExchangeTarget, ReloadTarget, RaiseTarget, CloseRequest, RaiseClosed}
@@ -39,7 +40,7 @@ pub record Rests (S : Setup) (B : Start) (ws : List ℕ) (bs : List Batch) (i : 
 -- what a place says of its machine
 abbrev pub At : Setup → Start → List ℕ → List Batch → ℕ → Data → Place → Type 0
 At S B ws bs i m Idle = Rests S B ws bs i m
-At S B ws bs i m TryCurrent = Fresh S B ws bs i m × Calm S B ws bs i (last ws) × (S.meaning.reads_only m.op ≡ true) × (m.tries ≤ 3)
+At S B ws bs i m TryCurrent = Fresh S B ws bs i m × Calm S B ws bs i (last ws) × (S.meaning.reads_only m.op ≡ true) × (m.tries < MOST_TRIES)
 At S B ws bs i m TryRequest = Trying S B ws bs i m × WasCurrent S B ws bs m.seq m.owner × Calm S B ws bs i m.seq
 At S B ws bs i m (TryCell a) = Trying S B ws bs i m × WasCurrent S B ws bs m.seq m.owner × Calm S B ws bs i m.seq × Watches S B ws bs m.seq m.known × (a < S.cells) × (get_or m.known a None ≡ None)
 At S B ws bs i m (StoreScript j) = Fresh S B ws bs i m × Calm S B ws bs i (last ws) × (j < length m.op) × (script_of S ws i j ≡ take j m.op)

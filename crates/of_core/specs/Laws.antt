@@ -2,6 +2,7 @@
 use Rattle.std.specs.Prelude.{ℕ, ◌+◌, ◌*◌, List, [], ◌∷◌, ◌++◌, length, ◌≡◌, ◌≤◌, ◌<◌, ◌⊎◌, true}
 use Rattle.std.specs.List.{All}
 use Rattle.std.proofs.Common.{get_or, set, take, replicate}
+use Rattle.of_cell.specs.declared.word.TheConstants.{PAYLOADS}
 use Rattle.of_cell.specs.Words.{word}
 use Rattle.of_mem.specs.Meaning.{Meaning}
 use Rattle.of_core.specs.declared.place.Place.{Place}
@@ -42,7 +43,7 @@ EachStep S Lawful Law =
 -- at each begin of a call, of these words, on each idle machine
 abbrev pub EachBegin : Setup → (List ℕ → Type 0) → (Start → World → ℕ → Data → List ℕ → Type 0) → Type 0
 EachBegin S Lawful Law = EachMachine S Lawful (λ B w i m. m.place ≡ Idle
-    → (op : List ℕ) → 1 ≤ length op → length op ≤ S.instrs → m.made + 1 < 4294967296 → Law B w i m op)
+    → (op : List ℕ) → 1 ≤ length op → length op ≤ S.instrs → m.made + 1 < PAYLOADS → Law B w i m op)
 
 -- at each word that was loaded for an eviction
 abbrev pub EachLoaded : Setup → (List ℕ → Type 0) → (Start → World → ℕ × ℕ → Type 0) → Type 0

@@ -1,6 +1,7 @@
 -- The order of steps: what a machine asks for at each place, and how it goes on with the word that was found.
 use Rattle.std.specs.Prelude.{◌≡◌, ℕ, ◌+◌, ◌*◌, ◌==◌, nat_lt, max, ◌-◌, List, [], ◌∷◌, ◌++◌, length, Option, Some, None, Bool, true, false, if◌then◌else◌, ◌&&◌}
 use Rattle.std.proofs.Common.{get_or, set, replicate, zero, suc}
+use Rattle.of_core.specs.declared.machine.trying.TheConstants.{MOST_TRIES}
 use Rattle.of_cell.specs.Words.{word, seq, pay}
 use Rattle.of_mem.specs.declared.work.RawReply.{RawReply}
 use Rattle.of_mem.specs.Meaning.{Walked, Needs, Gives, marked}
@@ -95,13 +96,13 @@ read_on S m = read_ran m (S.meaning.walk m.known m.op)
 abbrev pub tried : Setup → Data → Data
 tried S m = read_on S (record m { known = unknown S; helps = false })
 
--- a try that met a newer cell is over; after the fourth the call is announced
+-- a try that met a newer cell is over; after the last the call is announced
 abbrev pub over_try : Data → (more : Bool) → Data
 over_try m true = record m { place = TryCurrent }
 over_try m false = record m { place = StoreScript 0 }
 
 abbrev pub after_try_cell : Setup → Data → (a found : ℕ) → (newer : Bool) → Data
-after_try_cell S m a found true = over_try m (nat_lt m.tries 4)
+after_try_cell S m a found true = over_try m (nat_lt m.tries MOST_TRIES)
 after_try_cell S m a found false = read_on S (record m { known = learned S m a found })
 
 -- a transaction is open where its owner's request says so

@@ -5,6 +5,7 @@ ghost use Rattle.std.proofs.Common.{get_or, set};
 ghost use Rattle.of_mem.specs.declared.work.TheConstants.{MOST_INSTRS};
 ghost use Rattle.of_cell.specs.Words.{pay};
 ghost use Rattle.of_cell.specs.Cells.{durable_cells, table_words as cell_words};
+ghost use Rattle.of_cell.specs.declared.word.TheConstants.{PAYLOADS};
 ghost use Rattle.of_core.specs.Table.{size, setup_of};
 ghost use Rattle.of_core.specs.Steps.{word_of, left};
 ghost use Rattle.of_core.specs.Events.{Begins, Turns, Raises, zeros, idles, opening};
@@ -12,7 +13,7 @@ ghost use Rattle.of_core.specs.Starts.{IsStartRow, closed_at, first_cells, first
 ghost use Rattle.of_core.specs.Moment.{after, table, table_words, machine_of};
 ghost use Rattle.of_core.specs.Turn.{turn_of, told, IsIdle};
 
-use crate::machine::Machine;
+use crate::machine::{GREATEST_LIMIT, Machine};
 use crate::place::{Op, Outcome};
 use of_cell::{Shape, pack, payload_of, seq_of};
 use of_mem::{MOST_INSTRS, Work};
@@ -145,7 +146,7 @@ impl<W: Work> Bank<W> {
         requires callers { shape.callers ≡ W.many work }
         requires instrs { shape.instrs ≡ MOST_INSTRS }
         requires cells { shape.cells ≡ W.size work }
-        requires limit { limit ≤ 4294967294 }
+        requires limit { limit ≤ GREATEST_LIMIT }
         ensures work { IfOk result (λ b. b.work ≡ work) }
         ensures callers { IfOk result (λ b. b.callers ≡ shape.callers) }
         ensures cells { IfOk result (λ b. b.cells ≡ shape.cells) }
@@ -181,7 +182,7 @@ impl<W: Work> Bank<W> {
         requires callers { shape.callers ≡ W.many work }
         requires instrs { shape.instrs ≡ MOST_INSTRS }
         requires cells { shape.cells ≡ W.size work }
-        requires limit { limit ≤ 4294967294 }
+        requires limit { limit ≤ GREATEST_LIMIT }
         requires row { IsStartRow (setup_of shape.callers shape.cells limit (W.meaning work)) (W.lawful work) durable.now }
         ensures work { IfOk result (λ b. b.work ≡ work) }
         ensures callers { IfOk result (λ b. b.callers ≡ shape.callers) }
@@ -228,7 +229,7 @@ impl<W: Work> Bank<W> {
         requires idle { IsIdle (machine_of self.old caller) }
         requires some { 1 ≤ length op.now }
         requires few { length op.now ≤ MOST_INSTRS }
-        requires made { (machine_of self.old caller).made + 1 < 4294967296 }
+        requires made { (machine_of self.old caller).made + 1 < PAYLOADS }
         ensures { self.new ≡ after W.meaning (Begins caller op.now ∷ []) self.old }
     {
         let machine = &mut self.machines[caller as usize];

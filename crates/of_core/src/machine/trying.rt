@@ -22,7 +22,7 @@ impl<W: Work> Machine<W> {
     pub(super) fn after_try_current(&mut self, found: u64)
         requires owner { pay found < self.old.callers }
         requires upto { seq found ≤ self.old.limit }
-        requires tries { self.old.call.tries ≤ 3 }
+        requires tries { self.old.call.tries < MOST_TRIES }
         ensures { self.new ≡ step_from W.meaning Place.TryCurrent found self.old }
     {
         self.seq = seq_of(found);
@@ -61,7 +61,7 @@ impl<W: Work> Machine<W> {
     /// Tries once more, or announces the call.
     fn end_try(&mut self)
         requires some { 1 ≤ length self.old.call.op }
-        ensures { self.new ≡ record self.old { call = over_try self.old.call (nat_lt self.old.call.tries 4) } }
+        ensures { self.new ≡ record self.old { call = over_try self.old.call (nat_lt self.old.call.tries MOST_TRIES) } }
     {
         self.place = if self.tries < MOST_TRIES {
             Place::TryCurrent

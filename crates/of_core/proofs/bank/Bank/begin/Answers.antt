@@ -1,4 +1,5 @@
 use Rattle.std.proofs.Common.{◌≡◌, ℕ, ◌+◌, ◌<◌, [], ◌∷◌, length, set, arith, ap, ◌∙◌, length-set}
+use Rattle.of_cell.specs.declared.word.TheConstants.{PAYLOADS}
 use Rattle.of_core.specs.Table.{Setup, setup_of}
 use Rattle.of_core.specs.Seen.{Seen, setup}
 use Rattle.of_core.specs.Machine.{Data, opened}
@@ -25,7 +26,7 @@ invariant_of-self g c =
     let put : t ≡ record s { call = d } = c.begin.ensures ∙ ap (λ (T : Setup). record s { call = opened T s.call c.args.op.now }) same in
     let machines : held (set b.machines.items i t) ≡ set (held b.machines.items) i d = held_put b.work b.shape.callers b.shape.cells b.limit b.machines.items i t d (ap (λ (x : Seen _). x.call) put) in
     let is_idle : s.call.place ≡ Idle = rw (← seen.1) (rw (← c.self.view_is) at c.requires.idle) in
-    let made : s.call.made + 1 < 4294967296 = rw (← seen.1) (rw (← c.self.view_is) at c.requires.made) in
+    let made : s.call.made + 1 < PAYLOADS = rw (← seen.1) (rw (← c.self.view_is) at c.requires.made) in
     record {
       callers = inv.callers;
       instrs = inv.instrs;

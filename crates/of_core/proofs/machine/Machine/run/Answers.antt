@@ -1,5 +1,6 @@
 use Rattle.std.proofs.Common.{◌+◌, ◌≡◌, ℕ, ◌<◌, ◌*◌, List, [], ◌∷◌, ◌++◌, length, map, take, Option, ap, ◌∙◌, sym, refl, arith}
 use Rattle.std.proofs.lemmas.List.{map-append}
+use Rattle.of_cell.specs.declared.word.TheConstants.{PAYLOADS}
 use Rattle.of_cell.specs.Words.{seq}
 use Rattle.of_mem.specs.declared.work.TheConstants.{MOST_INSTRS}
 use Rattle.of_mem.specs.Pairs.{put_all}
@@ -81,7 +82,7 @@ returns-in-Ok-push g c =
     let walked : M.walk (over known log) script ≡ Gives es r = rw (all, c.as_slice.ensures.value) at c.in-Ok.ensures.walk in
     let number : c.seq_of-ticket.result ≡ ticket = c.seq_of-ticket.ensures in
     let words : c.len-words.result ≡ length script = c.len-words.ensures ∙ c.self.inside.script.ok.0 in
-    let small : ticket < 4294967296 = rw (← number) (omega arith) in
+    let small : ticket < PAYLOADS = rw (← number) (omega arith) in
     let own : c.put_own.new.part.script ≡ es ++ own_cells (ticket_cell S scan) ticket (length script) r =
     c.put_own.ensures.script ∙ ap (λ (t : ℕ). put_all es (own_cells (scan * (MOST_INSTRS + 2)) t c.len-words.result r)) number ∙ ap (λ (n : ℕ). put_all es (own_cells (scan * (MOST_INSTRS + 2)) ticket n r)) words
     ∙ own_behind S L sound (over known log) script a.0 a.1 a.2 a.3 scan ticket es r s.scan i.fit.script small i.fit.own_in walked
