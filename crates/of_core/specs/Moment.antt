@@ -18,6 +18,8 @@ pub record Bench (X : Type 0) : Type 0 where
   pub callers : ℕ
   pub cells : ℕ
   pub limit : ℕ
+  -- where the table started
+  pub start : Start
   -- the words of the table, and each caller's machine
   pub words : List ℕ
   pub machines : List Data
@@ -42,14 +44,13 @@ world_of b = record { words = b.words; machines = b.machines; batches = []; read
 abbrev pub after : {X : Type 0} → (X → Meaning) → List Event → Bench X → Bench X
 after meaning es b = record b { words = (run (table meaning b) (world_of b) es).words; machines = (run (table meaning b) (world_of b) es).machines }
 
--- the words and machines are those of a moment: a schedule leaves them from some start
-pub record Reached (S : Setup) (Lawful : List ℕ → Type 0) (ws : List ℕ) (ms : List Data) : Type 0 where
-  pub start : Start
-  pub may_start : MayStart S Lawful start
+-- the words and machines are those of a moment: a schedule leaves them from the start
+pub record Reached (S : Setup) (Lawful : List ℕ → Type 0) (B : Start) (ws : List ℕ) (ms : List Data) : Type 0 where
+  pub may_start : MayStart S Lawful B
   pub events : List Event
-  pub schedule : IsSchedule S (opening S start (table_words S)) events
-  pub words : (run S (opening S start (table_words S)) events).words ≡ ws
-  pub machines : (run S (opening S start (table_words S)) events).machines ≡ ms
+  pub schedule : IsSchedule S (opening S B (table_words S)) events
+  pub words : (run S (opening S B (table_words S)) events).words ≡ ws
+  pub machines : (run S (opening S B (table_words S)) events).machines ≡ ms
 
 -- each of the machines runs this work on a table of these sizes
 abbrev pub Alike : {X : Type 0} → X → (callers cells limit : ℕ) → List (Seen X) → Type 0

@@ -10,7 +10,7 @@ ghost use Rattle.of_core.specs.Table.{size, setup_of};
 ghost use Rattle.of_core.specs.Steps.{word_of, left};
 ghost use Rattle.of_core.specs.Events.{Begins, Turns, Raises, zeros, idles, opening};
 ghost use Rattle.of_core.specs.Starts.{IsStartRow, closed_at, first_cells, first_words, start_of};
-ghost use Rattle.of_core.specs.Moment.{after, table, table_words, machine_of};
+ghost use Rattle.of_core.specs.Moment.{Reached, after, machine_of, table, table_words};
 ghost use Rattle.of_core.specs.Turn.{turn_of, told, IsIdle};
 
 use crate::machine::{GREATEST_LIMIT, Machine};
@@ -19,6 +19,7 @@ use of_cell::{Shape, pack, payload_of, seq_of};
 use of_mem::{MOST_INSTRS, Work};
 use std::alloc::{AllocError, Global};
 use std::marker::Model;
+use std::snapshot::Snapshot;
 
 /// What a turn says of its caller's call.
 #[derive(Clone, Copy)]
@@ -31,13 +32,15 @@ pub enum Turn {
     Ended(Outcome),
 }
 
-/// The words of a table, and a machine for each caller. A contract sees them, and that they are those of a moment: some schedule leaves
-/// them.
+/// The words of a table, and a machine for each caller. A contract sees them and where the table started; they are those of a moment,
+/// which a schedule leaves from there.
 #[derive(Drop)]
 pub struct Bank<W: Work> {
     work: W,
     shape: Shape,
     limit: u32,
+    /// The words that the table started with.
+    first: Snapshot<Vec<u64>>,
     words: Vec<u64>,
     machines: Vec<Machine<W>>,
 }
@@ -151,6 +154,7 @@ impl<W: Work> Bank<W> {
         ensures callers { IfOk result (λ b. b.callers ≡ shape.callers) }
         ensures cells { IfOk result (λ b. b.cells ≡ shape.cells) }
         ensures limit { IfOk result (λ b. b.limit ≡ limit) }
+        ensures start { IfOk result (λ b. b.start ≡ zeros (table W.meaning b)) }
         ensures words { IfOk result (λ b. b.words ≡ (opening (table W.meaning b) (zeros (table W.meaning b)) (table_words (table W.meaning b))).words) }
         ensures machines { IfOk result (λ b. b.machines ≡ (opening (table W.meaning b) (zeros (table W.meaning b)) (table_words (table W.meaning b))).machines) }
         ensures idle { IfOk result (λ b. b.machines ≡ idles (table W.meaning b) (λ i. 0) 0 b.callers) }
@@ -165,6 +169,7 @@ impl<W: Work> Bank<W> {
             work,
             shape,
             limit,
+            first: Snapshot::of(&words),
             words,
             machines,
         })
@@ -188,6 +193,7 @@ impl<W: Work> Bank<W> {
         ensures callers { IfOk result (λ b. b.callers ≡ shape.callers) }
         ensures cells { IfOk result (λ b. b.cells ≡ shape.cells) }
         ensures limit { IfOk result (λ b. b.limit ≡ limit) }
+        ensures start { IfOk result (λ b. b.start ≡ start_of shape.callers shape.cells durable.now) }
         ensures words { let start = start_of shape.callers shape.cells durable.now in IfOk result (λ b. b.words ≡ (opening (table W.meaning b) start (table_words (table W.meaning b))).words) }
         ensures machines { let start = start_of shape.callers shape.cells durable.now in IfOk result (λ b. b.machines ≡ (opening (table W.meaning b) start (table_words (table W.meaning b))).machines) }
     {
@@ -202,6 +208,7 @@ impl<W: Work> Bank<W> {
             work,
             shape,
             limit,
+            first: Snapshot::of(&words),
             words,
             machines,
         })
@@ -259,6 +266,12 @@ impl<W: Work> Bank<W> {
     {
         let durable = self.shape.durable_word(cell) as usize;
         self.words[durable] = self.words[durable].max(self.words[cell as usize]);
+    }
+
+    /// The words and machines are those that a schedule leaves from the start. It does nothing.
+    pub fn stands(&self)
+        ensures { Reached (table W.meaning self.now) (W.lawful self.now.work) self.now.start self.now.words self.now.machines }
+    {
     }
 
     /// Hands the words out.
