@@ -272,6 +272,8 @@ impl<W: Work> Bank<W> {
     pub fn stands(&self)
         ensures { Reached (table W.meaning self.now) (W.lawful self.now.work) self.now.start self.now.words self.now.machines }
     {
+        // to read a field shows what the type keeps
+        let _limit = self.limit;
     }
 
     /// Hands the words out.
