@@ -27,7 +27,6 @@ impl<W: Work> Machine<W> {
             self.place = Place::Idle;
             self.answer = Some(Outcome::Spent { seq: self.seq });
             self.steps = 0;
-            return;
         } else {
             self.part.learn(self.caller * OWN_CELLS, payload_of(found));
             self.place = Place::LoadAnnouncement;
