@@ -1,5 +1,5 @@
 -- Each step, begin and eviction, and each event, leads from the calls of one caller before it to those after it.
-use Rattle.std.proofs.Common.{◌≡◌, ℕ, ◌+◌, ◌<◌, ◌≤◌, ◌⊎◌, ◌==◌, inl, inr, List, [], ◌∷◌, ◌++◌, length, get_or, set, refl, sym, ◌∙◌, ap, subst, arith, Bool, true, false}
+use Rattle.std.proofs.Common.{◌≡◌, ℕ, ◌+◌, ◌<◌, ◌≤◌, ◌⊎◌, ◌==◌, inl, inr, List, [], ◌∷◌, ◌++◌, length, get_or, set, refl, sym, ◌∙◌, ap, subst, arith, Bool, true}
 use Rattle.std.proofs.lemmas.Bool.{cases_eq}
 use Rattle.std.proofs.lemmas.List.{append-nil, get_or-set_same, get_or-set_other, get_or_default}
 use Rattle.of_cell.specs.Words.{seq}
@@ -15,7 +15,7 @@ use Rattle.of_core.specs.History.{batch}
 use Rattle.of_core.specs.Invariant.{Good, IsLoaded}
 use Rattle.of_core.specs.Events.{Event, Begins, Turns, Loads, Evicts, Raises, begun, evicted, machine, happens, MayHappen, one_turn, counted}
 use Rattle.of_core.specs.Calls.{only, begun_by, ended_in, ended_by, Calls, ComesOpen, NoneSpent, steps_told}
-use Rattle.of_core.specs.Laws.{CallsGrow, CallsStay, OthersStay, StepCalls, BeginCalls, RaiseCalls, BesideCalls}
+use Rattle.of_core.specs.Laws.{CallsGrow, CallsStay, OthersStay, StepCalls, BeginCalls}
 use Rattle.of_core.proofs.Tests.{same_number, other_number}
 use Rattle.of_core.proofs.Raises.{rises}
 use Rattle.of_core.proofs.Found.{found_now}

@@ -1,5 +1,5 @@
 -- What a step of any machine leaves of the calls of each caller.
-use Rattle.std.proofs.Common.{◌≡◌, ℕ, ◌+◌, ◌-◌, ◌<◌, ◌≤◌, ◌⊎◌, inl, inr, List, [], ◌∷◌, ◌++◌, length, get_or, refl, sym, ◌∙◌, ap, subst, arith, Option, Some, None, Bool, true, false}
+use Rattle.std.proofs.Common.{◌≡◌, ℕ, ◌+◌, ◌<◌, ◌≤◌, ◌⊎◌, inl, inr, List, [], ◌∷◌, ◌++◌, length, get_or, refl, sym, ◌∙◌, ap, subst, arith, Option, Some, None, Bool, true, false}
 use Rattle.std.specs.List.{All}
 use Rattle.std.proofs.lemmas.List.{append-nil, length-append, get_or_push, get_or_append_left, get_or-set_same, get_or-set_other, get_or_default}
 use Rattle.of_cell.proofs.Order.{seq_mono}
@@ -11,7 +11,7 @@ use Rattle.of_core.specs.declared.place.Outcome.TheVariants.{Answered, Spent}
 use Rattle.of_core.specs.Table.{Setup, base, durable_word, last, risen}
 use Rattle.of_core.specs.Machine.{Call, Data, IsOpen, is_idle, no_machine}
 use Rattle.of_core.specs.Steps.{want, took, FoundBy}
-use Rattle.of_core.specs.World.{World, Start, Batch, Read, added, answered, stepped}
+use Rattle.of_core.specs.World.{World, Start, Read, added, answered, stepped}
 use Rattle.of_core.specs.History.{batch, ticket_in}
 use Rattle.of_core.specs.Shared.{Opened}
 use Rattle.of_core.specs.Invariant.{At, Good, Told}
@@ -19,9 +19,9 @@ use Rattle.of_core.specs.Moves.{Moves}
 use Rattle.of_core.specs.Bound.{Told_within}
 use Rattle.of_core.specs.Least.{Told_least}
 use Rattle.of_core.specs.Order.{no_read}
-use Rattle.of_core.specs.Facts.{Step, Tells, ReadsFrom}
+use Rattle.of_core.specs.Facts.{Step, Tells}
 use Rattle.of_core.specs.Seen.{ended, ended_at}
-use Rattle.of_core.specs.Turn.{told, turn_of, turn_from}
+use Rattle.of_core.specs.Turn.{told, turn_from}
 use Rattle.of_core.specs.Events.{machine}
 use Rattle.of_core.specs.Calls.{outcome_of, ended_in, no_outcome, seq_of, Beyond, Stood, Calls, NoneSpent, steps_told}
 use Rattle.of_core.specs.Laws.{IsOpenCall}
@@ -34,7 +34,7 @@ use Rattle.of_core.proofs.NewCalls.{new_calls}
 use Rattle.of_core.proofs.Benches.{turn_is}
 use Rattle.of_core.proofs.OpenCalls.{caller_at}
 use Rattle.of_core.proofs.CallOrder.{announced_beyond}
-use Rattle.of_core.proofs.Calls.{Among, Words, all_one, none_ended, Grows, stood_grows, stood_low, outcome_low, stays, ends_one}
+use Rattle.of_core.proofs.Calls.{Among, Words, all_one, none_ended, Grows, stood_grows, stood_low, stays, ends_one}
 
 module _ (S : Setup) (Lawful : List ℕ → Type 0) (B : Start) (w : World) (g : Good S Lawful B w) where
   pub own : (i : ℕ) → i < S.callers → get_or w.machines i (machine w i) ≡ machine w i
@@ -181,7 +181,7 @@ module _ (S : Setup) (Lawful : List ℕ → Type 0) (sound : Sound S.meaning Law
               not_run : (k : ℕ) → B.seq < k → k ≤ B.seq + length v.batches → (y : ℕ) (e : Call) → y < length (batch B v.batches k).calls → (get_or (batch B v.batches k).calls y e).caller ≡ j → (get_or (batch B v.batches k).calls y e).ticket < d.made
               not_run k l u y e z q =
                   let p : (get_or (batch B v.batches k).calls y e).ticket ≤ ticket_in S B v.batches (last v.words) (get_or (batch B v.batches k).calls y e).caller =
-                      ticket_upto S Lawful B v.batches good.core.shared.stands k (last v.words) l (omega (arith, u, last_is S Lawful B v good)) (omega (arith, last_is S Lawful B v good)) y e z in
+                  ticket_upto S Lawful B v.batches good.core.shared.stands k (last v.words) l (omega (arith, u, last_is S Lawful B v good)) (omega (arith, last_is S Lawful B v good)) y e z in
                   omega (arith, p, a.0, ap (ticket_in S B v.batches (last v.words)) q)
 
       -- it comes behind the outcomes from before

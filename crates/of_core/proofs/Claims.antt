@@ -9,7 +9,7 @@ use Rattle.of_core.specs.declared.place.Place.{Place}
 use Rattle.of_core.specs.declared.place.Place.TheVariants.{Idle, TryCell, LoadOwnTicket, LoadShape, LoadReply, LoadAnnouncement, LoadTicket, LoadScript, LoadCell, RaiseOld, StoreLog, RaiseLog, StoreRequest, RaiseRequest, ExchangeCurrent}
 use Rattle.of_core.specs.declared.place.Outcome.{Outcome}
 use Rattle.of_core.specs.declared.place.Outcome.TheVariants.{Answered, Spent}
-use Rattle.of_core.specs.Table.{Setup, base, size, durable_word, durable_cell, last, risen}
+use Rattle.of_core.specs.Table.{Setup, base, durable_word, durable_cell, last, risen}
 use Rattle.of_core.specs.Machine.{Data, Call, no_machine}
 use Rattle.of_core.specs.World.{World, Start}
 use Rattle.of_core.specs.History.{state, batch, at, numbers, ticket_in, replay}

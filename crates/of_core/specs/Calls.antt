@@ -96,7 +96,7 @@ abbrev pub seq_of : Outcome → ℕ
 seq_of (Answered s announced raw steps) = s
 seq_of (Spent s) = s
 
--- an outcome comes behind a sequence: an announced call's is above it, and no other is below it
+-- an outcome stands behind a sequence: an announced call's is above it, and no other is below
 abbrev pub Beyond : ℕ → Outcome → Type 0
 Beyond low (Answered s true raw steps) = low < s
 Beyond low (Answered s false raw steps) = low ≤ s
@@ -119,7 +119,9 @@ abbrev pub NotRun : Start → World → (i ticket : ℕ) → Type 0
 NotRun B w i ticket = (k : ℕ) → B.seq < k → k ≤ B.seq + length w.batches
     → All (λ (c : Call). c.caller ≡ i → c.ticket < ticket) (batch B w.batches k).calls
 
--- what a moment says of the outcome of the call of caller i with this ticket and operation: a batch, or a read, has it, and it has made as many steps as such a call makes; or the sequence is spent, and no batch has it
+-- what a moment says of the outcome of the call of caller i with this ticket and operation: a
+-- batch, or a read, has it, and it has made as many steps as such a call makes; or the sequence is
+-- spent, and no batch has it
 abbrev pub Stood : Setup → Start → World → (i ticket : ℕ) → (op : List ℕ) → Outcome → Type 0
 Stood S B w i ticket op (Answered s true raw steps) = (B.seq < s) × (s ≤ risen S w.words) × HasCall S (batch B w.batches s).calls i ticket op raw × (least_call op ≤ steps) × (steps ≤ bound S)
 Stood S B w i ticket op (Answered s false raw steps) = (s ≤ risen S w.words) × ((k : ℕ) × (k < length w.reads) × (get_or w.reads k no_read ≡ record { caller = i; ticket = ticket; op = op; raw = raw; seq = s }))
@@ -138,10 +140,13 @@ pub record Calls (S : Setup) (B : Start) (before : ℕ) (w : World) (i : ℕ) (o
   pub last : IsIdle (machine w i) → (machine w i).answer ≡ last_of outs
   -- each outcome is in the history
   pub each : (x : ℕ) → x < length outs → Stood S B w i (before + x + 1) (get_or ops x []) (get_or outs x no_outcome)
-  -- none goes back: of two outcomes the later is of no older state, and of a newer one where its call was announced
-  pub rising : (x y : ℕ) → x < y → y < length outs → Beyond (seq_of (get_or outs x no_outcome)) (get_or outs y no_outcome)
-  -- nor does a try of the open call read an older one
-  pub reads_from : (x : ℕ) → x < length outs → ReadsFrom (seq_of (get_or outs x no_outcome)) (machine w i)
+  -- none goes back: of two outcomes the later is of no older state, and of a newer one where its
+  -- call was announced
+  pub rising : (x y : ℕ) → x < y → y < length outs
+      → Beyond (seq_of (get_or outs x no_outcome)) (get_or outs y no_outcome)
+  -- nor does a try of the open call read an older state
+  pub reads_from : (x : ℕ) → x < length outs
+      → ReadsFrom (seq_of (get_or outs x no_outcome)) (machine w i)
   -- each of the caller's reads in the history is an outcome
   pub reads : All (λ (r : Read). r.caller ≡ i → (x : ℕ) × (steps : ℕ) × (x < length outs) × (r.ticket ≡ before + x + 1) × (r.op ≡ get_or ops x []) × (get_or outs x no_outcome ≡ Answered r.seq false r.raw steps)) w.reads
   -- each of its calls in a batch was begun, with these words

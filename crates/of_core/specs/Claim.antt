@@ -20,7 +20,7 @@ use Rattle.of_core.specs.History.{state, batch, at, numbers, replay, ticket_in, 
 use Rattle.of_core.specs.Bound.{bound}
 use Rattle.of_core.specs.Events.{machine}
 
--- the places of a round, or of a try, behind its first load of a cell of the state
+-- the places of a round or a try at which what is known of cells is of its state
 abbrev pub knows_state : Place → Bool
 knows_state (TryCell a) = true
 knows_state LoadOwnTicket = true
@@ -44,13 +44,15 @@ ReadsOwn S st i m LoadShape = Finds S st i m
 ReadsOwn S st i m (LoadReply j) = Finds S st i m × ReadUpto S st i m j
 ReadsOwn S st i m p = Unit {0}
 
--- a round or a try has used the cells of one state alone: what is known of cells, and what was loaded of the own ones
+-- a round or a try has used the cells of one state alone: what is known of cells, and what was
+-- loaded of the own ones
 pub record UsesOne (S : Setup) (B : Start) (w : World) (i : ℕ) (m : Data) : Type 0 where
   pub known : knows_state m.place ≡ true → Agrees m.known (numbers B w.batches m.seq)
   pub own : ReadsOwn S (state B w.batches m.seq) i m m.place
 
--- A word that the cell c has held, as the history tells it: the current-transaction word names a batch and its owner, a request is open or closes a batch of its caller,
--- a data word is of some state, and a log word of a batch's sequence is of that batch's log.
+-- A word that the cell c has held, as the history tells it: the current-transaction word names a
+-- batch and its owner, a request is open or closes a batch of its caller, a data word is of some
+-- state, and a log word of a batch's sequence is of that batch's log.
 pub record HasHeld (S : Setup) (B : Start) (ws : List ℕ) (bs : List Batch) (c v : ℕ) : Type 0 where
   pub current : c ≡ 0 → HeldAsCurrent B ws bs v
   pub request : (j : ℕ) → j < S.callers → c ≡ request_at j → IsRequest B ws bs j v

@@ -69,7 +69,9 @@ rests m = rests_at m m.place
 unfoldable pub ReadsFrom : (low : ℕ) → Data → Type 0
 ReadsFrom low m = IsTrying m m.place → low ≤ m.seq
 
--- what a call's last step answers, where it leads from m to d: no newer state than the machine rested on, and the number of its steps. An unannounced answer is a read of the history, of no older state than the try read from
+-- what a call's last step answers, where it leads from m to d: no newer state than the machine
+-- rested on, and the number of its steps. An unannounced answer is a read of the history, of no
+-- older state than the try reads from
 abbrev pub Tells : Setup → Data → Data → Outcome → Type 0
 Tells S m d (Answered s true raw steps) = (s ≤ rests m) × (steps ≡ m.steps + 1) × (answered m d ≡ [])
 Tells S m d (Answered s false raw steps) = (s ≤ rests m) × (steps ≡ m.steps + 1)
