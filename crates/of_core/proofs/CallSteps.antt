@@ -23,7 +23,7 @@ use Rattle.of_core.specs.Facts.{Step, Tells}
 use Rattle.of_core.specs.Seen.{ended, ended_at}
 use Rattle.of_core.specs.Turn.{told, turn_from}
 use Rattle.of_core.specs.Events.{machine}
-use Rattle.of_core.specs.Calls.{outcome_of, ended_in, no_outcome, seq_of, Beyond, Stood, Calls, NoneSpent, steps_told}
+use Rattle.of_core.specs.Calls.{outcome_of, ended_in, no_outcome, seq_of, Beyond, Stood, IsOutcome, WasBegun, Calls, NoneSpent, steps_told}
 use Rattle.of_core.specs.Laws.{IsOpenCall}
 use Rattle.of_core.proofs.Tickets.{ticket_upto}
 use Rattle.of_core.proofs.Idle.{idle_stays}
@@ -34,7 +34,7 @@ use Rattle.of_core.proofs.NewCalls.{new_calls}
 use Rattle.of_core.proofs.Benches.{turn_is}
 use Rattle.of_core.proofs.OpenCalls.{caller_at}
 use Rattle.of_core.proofs.CallOrder.{announced_beyond}
-use Rattle.of_core.proofs.Calls.{Among, Words, all_one, none_ended, Grows, stood_grows, stood_low, stays, ends_one}
+use Rattle.of_core.proofs.Calls.{all_one, none_ended, Grows, stood_grows, stood_low, stays, ends_one}
 
 module _ (S : Setup) (Lawful : List ℕ → Type 0) (B : Start) (w : World) (g : Good S Lawful B w) where
   pub own : (i : ℕ) → i < S.callers → get_or w.machines i (machine w i) ≡ machine w i
@@ -100,7 +100,7 @@ module _ (S : Setup) (Lawful : List ℕ → Type 0) (sound : Sound S.meaning Law
     none_idle q = ap (answered m) (same_idle q) ∙ (idle_stays S m n q).1
 
     -- a call of caller i in a new batch is one that it has begun
-    new_words : (i : ℕ) → i < S.callers → (before : ℕ) (ops : List (List ℕ)) (outs : List Outcome) → Calls S B before w i ops outs → (k : ℕ) → B.seq + length w.batches < k → k ≤ B.seq + length v.batches → All (Words before i ops) (batch B v.batches k).calls
+    new_words : (i : ℕ) → i < S.callers → (before : ℕ) (ops : List (List ℕ)) (outs : List Outcome) → Calls S B before w i ops outs → (k : ℕ) → B.seq + length w.batches < k → k ≤ B.seq + length v.batches → All (WasBegun before i ops) (batch B v.batches k).calls
     new_words i member before ops outs c k l u y e z q =
         let x : Call = get_or (batch B v.batches k).calls y e in
         let p : IsOpenCall w x = new_calls S Lawful sound B w g j m h (own S Lawful B w g j h) n found k l u y e z in
@@ -201,8 +201,8 @@ module _ (S : Setup) (Lawful : List ℕ → Type 0) (sound : Sound S.meaning Law
           same : ended_in m d ≡ [] → Calls S B before v j ops outs → Calls S B before v j ops (outs ++ ended_in m d)
           same e k = subst (λ (os : List Outcome). Calls S B before v j ops (outs ++ os)) (sym e) (subst (λ (os : List Outcome). Calls S B before v j ops os) (sym (append-nil outs)) k)
 
-          none : answered m d ≡ [] → All (Among before j ops outs) (answered m d)
-          none e = subst (λ (rs : List Read). All (Among before j ops outs) rs) (sym e) (λ k r l. absurd (omega arith))
+          none : answered m d ≡ [] → All (IsOutcome before j ops outs) (answered m d)
+          none e = subst (λ (rs : List Read). All (IsOutcome before j ops outs) rs) (sym e) (λ k r l. absurd (omega arith))
 
           of_reads : (o : Outcome) → IsOpen m.place → Tells S m d o → All (λ (r : Read). (r.ticket ≡ d.made) × (r.op ≡ d.op) × ((steps : ℕ) × (o ≡ Answered r.seq false r.raw steps))) (answered m d)
           of_reads (Answered s true raw steps) live t = rw t.2 (λ k r l. absurd (omega arith))
