@@ -43,7 +43,7 @@ module _ (S : Setup) (Lawful : List ℕ → Type 0) (B : Start) (w : World) (g :
   -- where a machine of nobody but i changes the calls of i stay
   quiet : (v : World) → Good S Lawful B v → risen S w.words ≤ risen S v.words → v.batches ≡ w.batches → v.reads ≡ w.reads → (i : ℕ) → machine v i ≡ machine w i → CallsStay S B i w v
   quiet v q l e f i same before ops outs c =
-      stays S B before w i ops outs c v (grows_same v q l e f) [] (f ∙ sym (append-nil w.reads)) (λ k r l. absurd (omega arith)) (λ k l u. absurd (omega (arith, ap length e))) (machine w i) same refl (λ r. (r, refl)) (λ o. (o, refl)) (λ low l r. r)
+      stays S B before w i ops outs c v (grows_same v q l e f) [] (f ∙ sym (append-nil w.reads)) (λ k r l. absurd (omega arith)) (λ k l u. absurd (omega (arith, ap length e))) (machine w i) same refl (λ r. (r, refl)) (λ o. (o, refl, refl)) (λ low l r. r)
 
   -- words are raised
   pub raise_calls : (e : ℕ × ℕ) → IsLoaded S B w.words w.batches e → (i : ℕ) → CallsStay S B i w (evicted S w e)

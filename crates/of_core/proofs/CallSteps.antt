@@ -135,7 +135,7 @@ module _ (S : Setup) (Lawful : List ℕ → Type 0) (sound : Sound S.meaning Law
     -- the calls of another stay
     pub other_step : (i : ℕ) → i < S.callers → (j ≡ i → ⊥) → (before : ℕ) (ops : List (List ℕ)) (outs : List Outcome) → Calls S B before w i ops outs → Calls S B before v i ops outs
     other_step i member away before ops outs c =
-        stays S B before w i ops outs c v step_grows (answered m d) refl (λ k r l q. absurd (away (sym (own_reads k r l) ∙ q))) (new_words i member before ops outs c) (machine w i) (not_now i away) refl (λ q. (q, refl)) (λ o. (o, refl)) (λ low l r. r)
+        stays S B before w i ops outs c v step_grows (answered m d) refl (λ k r l q. absurd (away (sym (own_reads k r l) ∙ q))) (new_words i member before ops outs c) (machine w i) (not_now i away) refl (λ q. (q, refl)) (λ o. (o, refl, refl)) (λ low l r. r)
 
     -- how the step has ended the call
     pub says_ended : IsOpen m.place → (o : Option Outcome) → ended d ≡ o → ended_in m d ≡ outcome_of (told o)
@@ -211,7 +211,7 @@ module _ (S : Setup) (Lawful : List ℕ → Type 0) (sound : Sound S.meaning Law
 
           ended_now : (b : Bool) → IsOpen m.place → is_idle d.place ≡ b → Calls S B before v j ops (outs ++ ended_in m d)
           ended_now false live e = same (says_ended live None (none_ended d d.place e))
-              (stays S B before w j ops outs c v step_grows (answered m d) refl (none ((taken live).goes_on e).2) (new_words j h before ops outs c) d now (taken live).made (λ q. let z : true ≡ false = sym (ap is_idle q) ∙ e in cc) (λ o. (live, (taken live).op)) (taken live).reads_from)
+              (stays S B before w j ops outs c v step_grows (answered m d) refl (none ((taken live).goes_on e).2) (new_words j h before ops outs c) d now (taken live).made (λ q. let z : true ≡ false = sym (ap is_idle q) ∙ e in cc) (λ o. (live, (taken live).op, ((taken live).goes_on e).1)) (taken live).reads_from)
           ended_now true live e =
               let rest = idle_is d.place e in
               let t = (taken live).ends rest in
@@ -223,7 +223,7 @@ module _ (S : Setup) (Lawful : List ℕ → Type 0) (sound : Sound S.meaning Law
           go false e = ended_now (is_idle d.place) e refl
           go true e =
               let q = idle_is m.place e in
-              same (says_idle q) (stays S B before w j ops outs c v step_grows (answered m d) refl (none (none_idle q)) (new_words j h before ops outs c) m (now ∙ same_idle q) refl (λ r. (r, refl)) (λ o. (o, refl)) (λ low l r. r))
+              same (says_idle q) (stays S B before w j ops outs c v step_grows (answered m d) refl (none (none_idle q)) (new_words j h before ops outs c) m (now ∙ same_idle q) refl (λ r. (r, refl)) (λ o. (o, refl, refl)) (λ low l r. r))
 
     abbrev Counts : List Outcome → ℕ → Type 0
     Counts os x = (steps_told os + x ≤ m.steps + 1) × (IsOpen m.place → NoneSpent os → steps_told os + x ≡ m.steps + 1)

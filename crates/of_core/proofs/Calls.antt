@@ -109,12 +109,13 @@ module _ (S : Setup) (B : Start) where
 
     -- where none of the caller's calls has begun or ended
     pub stays : (v : World) → Grows w v → (rs : List Read) → v.reads ≡ w.reads ++ rs → All (IsOutcome before i ops outs) rs → ((k : ℕ) → B.seq + length w.batches < k → k ≤ B.seq + length v.batches → All (WasBegun before i ops) (batch B v.batches k).calls)
-        → (d : Data) → machine v i ≡ d → d.made ≡ (machine w i).made → (d.place ≡ Idle → ((machine w i).place ≡ Idle) × (d.answer ≡ (machine w i).answer)) → (IsOpen d.place → IsOpen (machine w i).place × (d.op ≡ (machine w i).op))
+        → (d : Data) → machine v i ≡ d → d.made ≡ (machine w i).made → (d.place ≡ Idle → ((machine w i).place ≡ Idle) × (d.answer ≡ (machine w i).answer)) → (IsOpen d.place → IsOpen (machine w i).place × (d.op ≡ (machine w i).op) × (d.answer ≡ (machine w i).answer))
         → ((low : ℕ) → low ≤ B.seq + length w.batches → ReadsFrom low (machine w i) → ReadsFrom low d) → Calls S B before v i ops outs
     stays v f rs e all new d x made idle live from = record {
       made = ap (λ (n : Data). n.made) x ∙ made ∙ c.made;
       idle = λ q. c.idle (idle (ap (λ (n : Data). n.place) (sym x) ∙ q)).0;
       open_call = λ q. let o = live (subst (λ (n : Data). IsOpen n.place) x q) in ((c.open_call o.0).0, ap (λ (n : Data). n.op) x ∙ o.1 ∙ (c.open_call o.0).1);
+      unanswered = λ q. let o = live (subst (λ (n : Data). IsOpen n.place) x q) in ap (λ (n : Data). n.answer) x ∙ o.2 ∙ c.unanswered o.0;
       last = λ q. let o = idle (ap (λ (n : Data). n.place) (sym x) ∙ q) in ap (λ (n : Data). n.answer) x ∙ o.1 ∙ c.last o.0;
       each = each_stays v f ops outs (extends_self ops) (extends_self outs);
       reads = reads_stay v f ops outs (extends_self ops) (extends_self outs) rs e all;
@@ -129,6 +130,7 @@ module _ (S : Setup) (B : Start) where
       made = ap (λ (n : Data). n.made) x ∙ omega (arith, sym (ap (λ (n : Data). n.made) own) ∙ c.made, length-append ops (op ∷ []));
       idle = λ q. absurd (closed (S.meaning.reads_only op) (ap (λ (n : Data). n.place) (sym x) ∙ q));
       open_call = λ q. (omega (arith, length-append ops (op ∷ []), all_ended), ap (λ (n : Data). n.op) x ∙ sym (get_or_push ops op [] (length outs) (sym all_ended)));
+      unanswered = λ q. ap (λ (n : Data). n.answer) x;
       last = λ q. absurd (closed (S.meaning.reads_only op) (ap (λ (n : Data). n.place) (sym x) ∙ q));
       each = each_stays v f (ops ++ op ∷ []) outs (extends_push ops op) (extends_self outs);
       reads = reads_stay v f (ops ++ op ∷ []) outs (extends_push ops op) (extends_self outs) [] (e ∙ sym (append-nil w.reads)) (λ k d l. absurd (omega arith));
@@ -153,6 +155,7 @@ module _ (S : Setup) (B : Start) where
       made = ap (λ (n : Data). n.made) x ∙ made ∙ c.made;
       idle = λ q. omega (arith, length-append outs (o ∷ []), (c.open_call live).0);
       open_call = λ q. let z : true ≡ false = sym (ap is_idle (ap (λ (n : Data). n.place) x ∙ rest)) ∙ q in cc;
+      unanswered = λ q. let z : true ≡ false = sym (ap is_idle (ap (λ (n : Data). n.place) x ∙ rest)) ∙ q in cc;
       last = λ q. ap (λ (n : Data). n.answer) x ∙ answer ∙ sym (last_push outs None o);
       each = λ y l. at_each y l (cases_lt y (length outs));
       reads = reads_stay v f ops (outs ++ o ∷ []) (extends_self ops) (extends_push outs o) rs e (λ k r l q. let a = all k r l in

@@ -159,6 +159,8 @@ pub record Calls (S : Setup) (B : Start) (before : ℕ) (w : World) (i : ℕ) (o
   -- an open call is the last one begun
   pub open_call : IsOpen (machine w i).place
       → (length ops ≡ length outs + 1) × ((machine w i).op ≡ get_or ops (length outs) [])
+  -- which has no answer yet
+  pub unanswered : IsOpen (machine w i).place → (machine w i).answer ≡ None
   -- the machine holds the last outcome
   pub last : IsIdle (machine w i) → (machine w i).answer ≡ last_of outs
   -- each outcome is in the history

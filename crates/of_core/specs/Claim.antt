@@ -136,8 +136,11 @@ pub record IsSound (S : Setup) (B : Start) (w : World) : Type 0 where
   pub held : (c : ℕ) → c < size S → HasHeld S B w.words w.batches c (durable_word S w.words c)
   -- each round and each try has used the cells of one state alone
   pub one : (i : ℕ) → i < S.callers → UsesOne S B w i (machine w i)
-  -- no call makes more steps than the bound
+  -- each caller has a machine, and no call makes more steps than the bound
+  pub members : length w.machines ≡ S.callers
   pub within : (i : ℕ) → i < S.callers → (machine w i).steps ≤ bound S
+  -- an idle machine has made no step of an open call
+  pub at_rest : (i : ℕ) → i < S.callers → (machine w i).place ≡ Idle → (machine w i).steps ≡ 0
   -- each idle machine's last outcome is in the history, at the durable sequence at most
   pub answered : (i : ℕ) → i < S.callers → (machine w i).place ≡ Idle
       → IsTold S B w i (machine w i) (machine w i).answer

@@ -29,5 +29,5 @@ returns g c =
       rises = λ B w h e l. rises S L B w.words w.batches h.core.shared e.0 e.1 l;
       beside = λ B w h c v f. (beside_kept S L B w h c v f, beside_stays S L B w h c v f);
       start = λ B may n room. (start_good S L sound B may fits.some (omega (arith, fits.few)) fits.own n room (omega arith) (omega (arith, fits.small)), idle_rests S);
-      sound = λ B w h. is_sound S L sound B w h.core h.within h.order;
+      sound = λ B w h. is_sound S L sound B w h.core h.within h.late h.order;
     }
