@@ -4,6 +4,7 @@ use Rattle.std.specs.List.{All}
 use Rattle.std.proofs.Common.{get_or, set, take, replicate}
 use Rattle.of_cell.specs.Words.{word}
 use Rattle.of_mem.specs.Meaning.{Meaning}
+use Rattle.of_recover.specs.Recovered.{recovered}
 use Rattle.of_core.specs.declared.place.Place.{Place}
 use Rattle.of_core.specs.declared.place.Place.TheVariants.{Idle, LoadCurrent}
 use Rattle.of_core.specs.declared.place.Outcome.{Outcome}
@@ -17,7 +18,7 @@ use Rattle.of_core.specs.Shared.{IsStart, MayStart}
 use Rattle.of_core.specs.Invariant.{Good, IsLoaded}
 use Rattle.of_core.specs.Moves.{Moves}
 use Rattle.of_core.specs.Events.{Event, Turns, MayHappen, begun, happens, evicted, run, turns, IsSchedule, StaysOpen, machine, start_ticket, opening, zeros}
-use Rattle.of_core.specs.Starts.{first_words}
+use Rattle.of_core.specs.Starts.{first_words, start_of, IsStartRow, IsDurable, recovered_start}
 use Rattle.of_core.specs.Bound.{bound}
 use Rattle.of_core.specs.Claim.{IsSound}
 use Rattle.of_core.specs.Calls.{Calls, TurnsTold, begun_by, ended_by, ended_in, operations, outcomes}
@@ -265,6 +266,14 @@ ZeroWords S = (n : ℕ) → table_size S ≤ n → first_words S.callers S.cells
 -- and no call stands behind it
 abbrev pub ZeroTickets : Setup → Type 0
 ZeroTickets S = (i : ℕ) → start_ticket S (zeros S) i ≡ 0
+
+-- what recovery makes of the durable words of any moment is a row from which a table may start, at
+-- the state after the batch of the durable sequence
+abbrev pub RecoveredStarts : Setup → (List ℕ → Type 0) → Type 0
+RecoveredStarts S Lawful =
+    (B : Start) (w : World) → Good S Lawful B w → (row : List ℕ) → IsDurable S w.words row →
+    let found : List ℕ = recovered S.callers S.cells row in
+    IsStartRow S Lawful found × (start_of S.callers S.cells found ≡ recovered_start S B w)
 
 -- Machines by themselves.
 

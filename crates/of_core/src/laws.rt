@@ -8,7 +8,8 @@ ghost use Rattle.of_core.specs.Laws.{StartKept, GoodIsSound};
 ghost use Rattle.of_core.specs.Laws.{StartCalls, StepCalls, BeginCalls, RaiseCalls, BesideCalls};
 ghost use Rattle.of_core.specs.Laws.{EventKept, ScheduleKept, EveryMoment};
 ghost use Rattle.of_core.specs.Laws.{EveryCall, EveryTurn, CallsKept, EndsInTime};
-ghost use Rattle.of_core.specs.Laws.{FirstWords, FirstMachines, ZerosMayStart, ZeroWords, ZeroTickets};
+ghost use Rattle.of_core.specs.Laws.{FirstWords, FirstMachines, ZerosMayStart};
+ghost use Rattle.of_core.specs.Laws.{ZeroWords, ZeroTickets, RecoveredStarts};
 ghost use Rattle.of_core.specs.Laws.{IdleOrOpen, IdleIs, IdleStays, IdleRests, FindsWord, TurnIsStep};
 ghost use Rattle.of_core.specs.Laws.{FirstState, BatchesNumbered, NextBatch, BatchesStand, StatesStand};
 ghost use Rattle.of_core.specs.Laws.{BeginningBatches, BeginningStates, BeginningLegal};
@@ -65,13 +66,14 @@ pub fn ends_in_time<W: Work>(limit: u32, work: W)
 {}
 
 /// A table's first words hold its start, and its machines are idle. Zeros are a start that may be,
-/// with no call behind it.
+/// with no call behind it, and so is what recovery makes of the durable words of any moment.
 pub fn starts<W: Work>(limit: u32, work: W)
     ensures words { FirstWords (setup_for W.many W.size W.meaning limit work) }
     ensures machines { FirstMachines (setup_for W.many W.size W.meaning limit work) }
     ensures zeros { ZerosMayStart (setup_for W.many W.size W.meaning limit work) (W.lawful work) }
     ensures zero_words { ZeroWords (setup_for W.many W.size W.meaning limit work) }
     ensures zero_tickets { ZeroTickets (setup_for W.many W.size W.meaning limit work) }
+    ensures recovered { RecoveredStarts (setup_for W.many W.size W.meaning limit work) (W.lawful work) }
 {}
 
 /// What holds of a machine by itself, on any table.
