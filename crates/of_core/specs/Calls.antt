@@ -51,7 +51,8 @@ ended_in m d = outcome_of (turn_of m d)
 -- how an event has ended a call of caller i
 abbrev pub ended_by : Setup → World → Event → ℕ → List Outcome
 ended_by S w (Begins j op) i = []
-ended_by S w (Turns j) i = only (i == j) (ended_in (machine w j) (machine (happens S w (Turns j)) j))
+ended_by S w (Turns j) i =
+    only (i == j) (ended_in (machine w j) (machine (happens S w (Turns j)) j))
 ended_by S w (Loads c) i = []
 ended_by S w (Evicts k) i = []
 ended_by S w (Raises c) i = []
@@ -151,7 +152,8 @@ WasBegun before i ops c = c.caller ≡ i
     × (c.op ≡ get_or ops (c.ticket - before - 1) [])
 
 -- the calls of caller i, where it has begun these behind so many others, and these have ended
-pub record Calls (S : Setup) (B : Start) (before : ℕ) (w : World) (i : ℕ) (ops : List (List ℕ)) (outs : List Outcome) : Type 0 where
+pub record Calls (S : Setup) (B : Start) (before : ℕ) (w : World) (i : ℕ)
+    (ops : List (List ℕ)) (outs : List Outcome) : Type 0 where
   -- the machine counts what was begun
   pub made : (machine w i).made ≡ before + length ops
   -- with no call open all have ended

@@ -118,7 +118,8 @@ pub record IsSound (S : Setup) (B : Start) (w : World) : Type 0 where
   pub order : Ordered S B w.words w.batches w.reads
   -- recovery of the durable words gives the state after the batches up to the durable sequence
   pub recovers : (a : ℕ) → a < S.cells
-      → recovered_data S.callers S.cells (durable_word S w.words) a ≡ at B w.batches (risen S w.words) a
+      → recovered_data S.callers S.cells (durable_word S w.words) a
+      ≡ at B w.batches (risen S w.words) a
   -- in which each caller's own cells hold its last call
   pub own : (i : ℕ) → i < S.callers → Last S B w.batches (risen S w.words) i
   -- and no word is newer

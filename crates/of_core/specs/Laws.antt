@@ -41,9 +41,11 @@ EachStep S Lawful Law =
     EachMachine S Lawful (λ B w i m. (n : ℕ) → FoundBy (want S m) w.words n → Law B w i m n)
 
 -- at each begin of a call with these words, by each idle machine
-abbrev pub EachBegin : Setup → (List ℕ → Type 0) → (Start → World → ℕ → Data → List ℕ → Type 0) → Type 0
+abbrev pub EachBegin : Setup → (List ℕ → Type 0)
+    → (Start → World → ℕ → Data → List ℕ → Type 0) → Type 0
 EachBegin S Lawful Law = EachMachine S Lawful (λ B w i m. m.place ≡ Idle
-    → (op : List ℕ) → 1 ≤ length op → length op ≤ S.instrs → m.made + 1 < 4294967296 → Law B w i m op)
+    → (op : List ℕ) → 1 ≤ length op → length op ≤ S.instrs
+    → m.made + 1 < 4294967296 → Law B w i m op)
 
 -- at each word that was loaded for an eviction
 abbrev pub EachLoaded : Setup → (List ℕ → Type 0) → (Start → World → ℕ × ℕ → Type 0) → Type 0
@@ -61,7 +63,8 @@ abbrev pub EachStart : Setup → (List ℕ → Type 0) → (Start → (n : ℕ) 
 EachStart S Lawful Law = (B : Start) → MayStart S Lawful B → (n : ℕ) → table_size S ≤ n → Law B n
 
 -- at each schedule from each start
-abbrev pub EachSchedule : Setup → (List ℕ → Type 0) → (Start → (n : ℕ) → List Event → Type 0) → Type 0
+abbrev pub EachSchedule : Setup → (List ℕ → Type 0)
+    → (Start → (n : ℕ) → List Event → Type 0) → Type 0
 EachSchedule S Lawful Law =
     EachStart S Lawful (λ B n. (es : List Event) → IsSchedule S (opening S B n) es → Law B n es)
 
@@ -143,7 +146,8 @@ GoodIsSound S Lawful = (B : Start) (w : World) → Good S Lawful B w → IsSound
 -- The calls of one caller, step by step.
 
 -- from w to v caller i begins these calls, and these of its calls end
-abbrev pub CallsGrow : Setup → Start → (i : ℕ) → List (List ℕ) → List Outcome → (w v : World) → Type 0
+abbrev pub CallsGrow : Setup → Start → (i : ℕ)
+    → List (List ℕ) → List Outcome → (w v : World) → Type 0
 CallsGrow S B i more ended w v =
     (before : ℕ) (ops : List (List ℕ)) (outs : List Outcome)
     → Calls S B before w i ops outs → Calls S B before v i (ops ++ more) (outs ++ ended)
@@ -269,8 +273,8 @@ ZeroTickets S = (i : ℕ) → start_ticket S (zeros S) i ≡ 0
 
 -- what recovery makes of the durable words of any moment is a row from which a table may start, at
 -- the state after the batch of the durable sequence
-abbrev pub RecoveredStarts : Setup → (List ℕ → Type 0) → Type 0
-RecoveredStarts S Lawful =
+abbrev pub Restarts : Setup → (List ℕ → Type 0) → Type 0
+Restarts S Lawful =
     (B : Start) (w : World) → Good S Lawful B w → (row : List ℕ) → IsDurable S w.words row →
     let found : List ℕ = recovered S.callers S.cells row in
     IsStartRow S Lawful found × (start_of S.callers S.cells found ≡ recovered_start S B w)

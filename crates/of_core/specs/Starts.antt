@@ -15,17 +15,27 @@ abbrev pub closed_at : ℕ → ℕ
 closed_at zero = 0
 closed_at (suc s) = word (suc s) 1
 
--- the cells at a start: its current-transaction word and its data words, its owner's request closed, and 0 everywhere else
+-- the cells at a start: its current-transaction word and its data words, its owner's request
+-- closed, and 0 everywhere else
 unfoldable pub first_cells : (callers cells : ℕ) → Start → List ℕ
-first_cells callers cells B = (word B.seq B.owner ∷ set (replicate callers 0) B.owner (closed_at B.seq)) ++ (B.cells ++ replicate (callers * (2 * cells + 1)) 0)
+first_cells callers cells B =
+    (word B.seq B.owner ∷ set (replicate callers 0) B.owner (closed_at B.seq))
+    ++ (B.cells ++ replicate (callers * (2 * cells + 1)) 0)
 
 -- the words at a start: the cells, their durable words, which are the same, and 0 behind them
 unfoldable pub first_words : (callers cells : ℕ) → Start → (words : ℕ) → List ℕ
-first_words callers cells B n = first_cells callers cells B ++ (first_cells callers cells B ++ replicate (n - (durable_cells callers cells + durable_cells callers cells)) 0)
+first_words callers cells B n =
+    first_cells callers cells B
+    ++ (first_cells callers cells B
+    ++ replicate (n - (durable_cells callers cells + durable_cells callers cells)) 0)
 
 -- the start that a durable row is
 abbrev pub start_of : (callers cells : ℕ) → List ℕ → Start
-start_of callers cells row = record { seq = seq (get_or row 0 0); owner = pay (get_or row 0 0); cells = slice_range row (data_cell callers 0) (data_cell callers 0 + cells) }
+start_of callers cells row = record {
+  seq = seq (get_or row 0 0);
+  owner = pay (get_or row 0 0);
+  cells = slice_range row (data_cell callers 0) (data_cell callers 0 + cells);
+}
 
 -- the row is the durable words, cell by cell
 pub record IsDurable (S : Setup) (ws row : List ℕ) : Type 0 where

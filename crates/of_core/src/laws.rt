@@ -9,7 +9,7 @@ ghost use Rattle.of_core.specs.Laws.{StartCalls, StepCalls, BeginCalls, RaiseCal
 ghost use Rattle.of_core.specs.Laws.{EventKept, ScheduleKept, EveryMoment};
 ghost use Rattle.of_core.specs.Laws.{EveryCall, EveryTurn, CallsKept, EndsInTime};
 ghost use Rattle.of_core.specs.Laws.{FirstWords, FirstMachines, ZerosMayStart};
-ghost use Rattle.of_core.specs.Laws.{ZeroWords, ZeroTickets, RecoveredStarts};
+ghost use Rattle.of_core.specs.Laws.{ZeroWords, ZeroTickets, Restarts};
 ghost use Rattle.of_core.specs.Laws.{IdleOrOpen, IdleIs, IdleStays, IdleRests, FindsWord, TurnIsStep};
 ghost use Rattle.of_core.specs.Laws.{FirstState, BatchesNumbered, NextBatch, BatchesStand, StatesStand};
 ghost use Rattle.of_core.specs.Laws.{BeginningBatches, BeginningStates, BeginningLegal};
@@ -73,7 +73,7 @@ pub fn starts<W: Work>(limit: u32, work: W)
     ensures zeros { ZerosMayStart (setup_for W.many W.size W.meaning limit work) (W.lawful work) }
     ensures zero_words { ZeroWords (setup_for W.many W.size W.meaning limit work) }
     ensures zero_tickets { ZeroTickets (setup_for W.many W.size W.meaning limit work) }
-    ensures recovered { RecoveredStarts (setup_for W.many W.size W.meaning limit work) (W.lawful work) }
+    ensures restarts { Restarts (setup_for W.many W.size W.meaning limit work) (W.lawful work) }
 {}
 
 /// What holds of a machine by itself, on any table.

@@ -20,5 +20,5 @@ returns g c =
       zeros = zeros_start S L sound fits.some;
       zero_words = λ n room. zero_words S n (omega (arith, room));
       zero_tickets = zero_ticket S;
-      recovered = λ B w h row durable. let s = is_sound S L sound B w h.core h.within h.late h.order in (restarts S L B w h s row durable, start_is S L B w h s row durable);
+      restarts = λ B w h row durable. let s = is_sound S L sound B w h.core h.within h.late h.order in (restarts S L B w h s row durable, start_is S L B w h s row durable);
     }
