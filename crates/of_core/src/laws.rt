@@ -2,9 +2,9 @@
 //! theorems.
 
 ghost use Rattle.of_core.specs.Laws.{setup_for};
-ghost use Rattle.of_core.specs.Laws.{StepKept, StepMoves, StepTaken, NewCalls, BeginKept};
-ghost use Rattle.of_core.specs.Laws.{LoadKept, LoadedStays, RaiseKept, RaiseRises, BesideKept};
-ghost use Rattle.of_core.specs.Laws.{StartKept, GoodIsSound};
+ghost use Rattle.of_core.specs.Laws.{StepKept, StepMoves, StepTaken, StepDurables, NewCalls};
+ghost use Rattle.of_core.specs.Laws.{BeginKept, LoadKept, LoadedStays, RaiseKept, RaiseRises};
+ghost use Rattle.of_core.specs.Laws.{BesideKept, StartKept, GoodIsSound};
 ghost use Rattle.of_core.specs.Laws.{StartCalls, StepCalls, BeginCalls, RaiseCalls, BesideCalls};
 ghost use Rattle.of_core.specs.Laws.{EventKept, ScheduleKept, EveryMoment};
 ghost use Rattle.of_core.specs.Laws.{EveryCall, EveryTurn, CallsKept, EndsInTime};
@@ -22,6 +22,7 @@ pub fn step_kept<W: Work>(limit: u32, work: W)
     ensures kept { StepKept (setup_for W.many W.size W.meaning limit work) (W.lawful work) }
     ensures moves { StepMoves (setup_for W.many W.size W.meaning limit work) (W.lawful work) }
     ensures taken { StepTaken (setup_for W.many W.size W.meaning limit work) (W.lawful work) }
+    ensures durables { StepDurables (setup_for W.many W.size W.meaning limit work) (W.lawful work) }
     ensures new_calls { NewCalls (setup_for W.many W.size W.meaning limit work) (W.lawful work) }
     ensures begins { BeginKept (setup_for W.many W.size W.meaning limit work) (W.lawful work) }
     ensures loads { LoadKept (setup_for W.many W.size W.meaning limit work) (W.lawful work) }
