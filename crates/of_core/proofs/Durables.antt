@@ -1,13 +1,13 @@
 -- A step leaves each durable word as it was, or makes it the word that its cell holds.
-use Rattle.std.proofs.Common.{◌≡◌, ℕ, ◌+◌, ◌*◌, ◌-◌, ◌<◌, ◌≤◌, ◌⊎◌, inl, inr, List, length, get_or, set, max, refl, sym, ◌∙◌, ap, subst, arith, Bool, true, false}
+use Rattle.std.proofs.Common.{◌≡◌, ℕ, ◌+◌, ◌*◌, ◌-◌, ◌<◌, ◌≤◌, ◌⊎◌, inl, inr, List, length, get_or, set, max, sym, ◌∙◌, ap, subst, arith, Bool, true, false}
 use Rattle.std.proofs.lemmas.Bool.{cases_eq, cases_lt, cases_order}
 use Rattle.std.proofs.lemmas.List.{get_or-set_same, get_or-set_other, set-get_or, get_or_default}
 use Rattle.of_cell.specs.Words.{word, seq, pay}
 use Rattle.of_cell.proofs.Order.{word_eta, word_later, seq_less, seq_mono, word_next}
 use Rattle.of_core.specs.declared.place.Place.{Place}
 use Rattle.of_core.specs.declared.place.Place.TheVariants.{Idle, TryCurrent, TryRequest, TryCell, StoreScript, StoreAnnouncement, LoadCurrent, LoadRequest, CopyLog, LookAgain, LoadOwnTicket, LoadShape, LoadReply, LoadAnnouncement, LoadTicket, LoadScript, LoadCell, RaiseOld, StoreLog, RaiseLog, StoreRequest, RaiseRequest, ExchangeCurrent, RaiseCurrent, LoadTarget, ExchangeTarget, ReloadTarget, RaiseTarget, CloseRequest, RaiseClosed}
-use Rattle.of_core.specs.Table.{Setup, size, durable_at, script_at, request_at, data_at, log_at, current_word, request_of, cell, log_word, durable_word, durable_request, durable_cell, last, holder, risen}
-use Rattle.of_core.specs.Machine.{Data, entry, log_words, no_machine}
+use Rattle.of_core.specs.Table.{Setup, size, durable_at, script_at, request_at, data_at, log_at, request_of, cell, durable_word, durable_request, durable_cell, last, holder, risen}
+use Rattle.of_core.specs.Machine.{Data, entry, no_machine}
 use Rattle.of_core.specs.Steps.{want, want_at, word_of, words_after, FoundBy}
 use Rattle.of_core.specs.World.{World, Start, stepped}
 use Rattle.of_core.specs.History.{batch, at}

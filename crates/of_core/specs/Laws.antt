@@ -17,7 +17,7 @@ use Rattle.of_core.specs.Facts.{Step, ReadsFrom, rests}
 use Rattle.of_core.specs.Shared.{IsStart, MayStart}
 use Rattle.of_core.specs.Invariant.{Good, IsLoaded}
 use Rattle.of_core.specs.Moves.{Moves}
-use Rattle.of_core.specs.Events.{Event, Turns, MayHappen, begun, happens, evicted, run, turns, IsSchedule, StaysOpen, machine, start_ticket, opening, zeros}
+use Rattle.of_core.specs.Events.{Event, Turns, MayHappen, begun, happens, evicted, run, turns, HasStood, IsSchedule, StaysOpen, machine, start_ticket, opening, zeros}
 use Rattle.of_core.specs.Starts.{first_words, start_of, IsStartRow, IsDurable, recovered_start}
 use Rattle.of_core.specs.Bound.{bound}
 use Rattle.of_core.specs.Claim.{IsSound}
@@ -211,6 +211,12 @@ ScheduleKept S Lawful =
 -- every moment of every schedule from every start has what each moment claims
 abbrev pub EveryMoment : Setup → (List ℕ → Type 0) → Type 0
 EveryMoment S Lawful = EachSchedule S Lawful (λ B n es. IsSound S B (run S (opening S B n) es))
+
+-- each durable word is one that its cell has held, at this moment or before
+abbrev pub EveryDurable : Setup → (List ℕ → Type 0) → Type 0
+EveryDurable S Lawful = EachSchedule S Lawful (λ B n es.
+    let w : World = opening S B n in
+    (c : ℕ) → c < size S → HasStood S w es c (durable_word S (run S w es).words c))
 
 -- every schedule from every start leaves each caller's calls as its events begin and end them
 abbrev pub EveryCall : Setup → (List ℕ → Type 0) → Type 0
