@@ -1,5 +1,5 @@
 -- Each step, begin and eviction, and each event, leads from the calls of one caller before it to those after it.
-use Rattle.std.proofs.Common.{◌≡◌, ℕ, ◌+◌, ◌<◌, ◌≤◌, ◌⊎◌, ◌==◌, inl, inr, List, [], ◌∷◌, ◌++◌, length, get_or, set, refl, sym, ◌∙◌, ap, subst, arith, Bool, true, false}
+use Rattle.std.proofs.Common.{◌≡◌, ℕ, ◌+◌, ◌<◌, ◌≤◌, ◌⊎◌, ◌==◌, inl, inr, List, [], ◌∷◌, ◌++◌, length, get_or, set, refl, sym, ◌∙◌, ap, subst, arith, Bool, true}
 use Rattle.std.proofs.lemmas.Bool.{cases_eq}
 use Rattle.std.proofs.lemmas.List.{append-nil, get_or-set_same, get_or-set_other, get_or_default}
 use Rattle.of_cell.specs.declared.word.TheConstants.{PAYLOADS}
@@ -16,7 +16,7 @@ use Rattle.of_core.specs.History.{batch}
 use Rattle.of_core.specs.Invariant.{Good, IsLoaded}
 use Rattle.of_core.specs.Events.{Event, Begins, Turns, Loads, Evicts, Raises, begun, evicted, machine, happens, MayHappen, one_turn, counted}
 use Rattle.of_core.specs.Calls.{only, begun_by, ended_in, ended_by, Calls, ComesOpen, NoneSpent, steps_told}
-use Rattle.of_core.specs.Laws.{CallsGrow, CallsStay, OthersStay, StepCalls, BeginCalls, RaiseCalls, BesideCalls}
+use Rattle.of_core.specs.Laws.{CallsGrow, CallsStay, OthersStay, StepCalls, BeginCalls}
 use Rattle.of_core.proofs.Tests.{same_number, other_number}
 use Rattle.of_core.proofs.Raises.{rises}
 use Rattle.of_core.proofs.Found.{found_now}
@@ -44,7 +44,7 @@ module _ (S : Setup) (Lawful : List ℕ → Type 0) (B : Start) (w : World) (g :
   -- where a machine of nobody but i changes the calls of i stay
   quiet : (v : World) → Good S Lawful B v → risen S w.words ≤ risen S v.words → v.batches ≡ w.batches → v.reads ≡ w.reads → (i : ℕ) → machine v i ≡ machine w i → CallsStay S B i w v
   quiet v q l e f i same before ops outs c =
-      stays S B before w i ops outs c v (grows_same v q l e f) [] (f ∙ sym (append-nil w.reads)) (λ k r l. absurd (omega arith)) (λ k l u. absurd (omega (arith, ap length e))) (machine w i) same refl (λ r. (r, refl)) (λ o. (o, refl)) (λ low l r. r)
+      stays S B before w i ops outs c v (grows_same v q l e f) [] (f ∙ sym (append-nil w.reads)) (λ k r l. absurd (omega arith)) (λ k l u. absurd (omega (arith, ap length e))) (machine w i) same refl (λ r. (r, refl)) (λ o. (o, refl, refl)) (λ low l r. r)
 
   -- words are raised
   pub raise_calls : (e : ℕ × ℕ) → IsLoaded S B w.words w.batches e → (i : ℕ) → CallsStay S B i w (evicted S w e)

@@ -1,6 +1,5 @@
 -- A call that a batch has run comes behind all calls that its caller has made before it.
-use Rattle.std.proofs.Common.{◌≡◌, ℕ, ◌+◌, ◌<◌, ◌≤◌, ◌⊎◌, inl, inr, List, [], length, get_or, refl, sym, ◌∙◌, ap, subst, arith, true, false}
-use Rattle.std.specs.List.{All}
+use Rattle.std.proofs.Common.{◌≡◌, ℕ, ◌+◌, ◌<◌, ◌≤◌, ◌⊎◌, inl, inr, List, length, get_or, sym, ◌∙◌, ap, subst, arith, true, false}
 use Rattle.std.proofs.lemmas.Bool.{cases_order}
 use Rattle.of_mem.specs.declared.work.RawReply.{RawReply}
 use Rattle.of_core.specs.declared.place.Outcome.{Outcome}
@@ -8,8 +7,8 @@ use Rattle.of_core.specs.declared.place.Outcome.TheVariants.{Answered, Spent}
 use Rattle.of_core.specs.Table.{Setup, risen}
 use Rattle.of_core.specs.Machine.{Call, no_call}
 use Rattle.of_core.specs.World.{World, Start, Read}
-use Rattle.of_core.specs.History.{batch, HasCall}
-use Rattle.of_core.specs.Order.{InOrder, no_read}
+use Rattle.of_core.specs.History.{batch}
+use Rattle.of_core.specs.Order.{no_read}
 use Rattle.of_core.specs.Invariant.{Good}
 use Rattle.of_core.specs.Calls.{seq_of, Stood}
 use Rattle.of_core.proofs.Tickets.{tickets_rise}

@@ -1,5 +1,5 @@
 -- What a step of any machine leaves of the calls of each caller.
-use Rattle.std.proofs.Common.{◌≡◌, ℕ, ◌+◌, ◌-◌, ◌<◌, ◌≤◌, ◌⊎◌, inl, inr, List, [], ◌∷◌, ◌++◌, length, get_or, refl, sym, ◌∙◌, ap, subst, arith, Option, Some, None, Bool, true, false}
+use Rattle.std.proofs.Common.{◌≡◌, ℕ, ◌+◌, ◌<◌, ◌≤◌, ◌⊎◌, inl, inr, List, [], ◌∷◌, ◌++◌, length, get_or, refl, sym, ◌∙◌, ap, subst, arith, Option, Some, None, Bool, true, false}
 use Rattle.std.specs.List.{All}
 use Rattle.std.proofs.lemmas.List.{append-nil, length-append, get_or_push, get_or_append_left, get_or-set_same, get_or-set_other, get_or_default}
 use Rattle.of_cell.proofs.Order.{seq_mono}
@@ -11,7 +11,7 @@ use Rattle.of_core.specs.declared.place.Outcome.TheVariants.{Answered, Spent}
 use Rattle.of_core.specs.Table.{Setup, base, durable_word, last, risen}
 use Rattle.of_core.specs.Machine.{Call, Data, IsOpen, is_idle, no_machine}
 use Rattle.of_core.specs.Steps.{want, took, FoundBy}
-use Rattle.of_core.specs.World.{World, Start, Batch, Read, added, answered, stepped}
+use Rattle.of_core.specs.World.{World, Start, Read, added, answered, stepped}
 use Rattle.of_core.specs.History.{batch, ticket_in}
 use Rattle.of_core.specs.Shared.{Opened}
 use Rattle.of_core.specs.Invariant.{At, Good, Told}
@@ -19,11 +19,11 @@ use Rattle.of_core.specs.Moves.{Moves}
 use Rattle.of_core.specs.Bound.{Told_within}
 use Rattle.of_core.specs.Least.{Told_least}
 use Rattle.of_core.specs.Order.{no_read}
-use Rattle.of_core.specs.Facts.{Step, Tells, ReadsFrom}
+use Rattle.of_core.specs.Facts.{Step, Tells}
 use Rattle.of_core.specs.Seen.{ended, ended_at}
-use Rattle.of_core.specs.Turn.{told, turn_of, turn_from}
+use Rattle.of_core.specs.Turn.{told, turn_from}
 use Rattle.of_core.specs.Events.{machine}
-use Rattle.of_core.specs.Calls.{outcome_of, ended_in, no_outcome, seq_of, Beyond, Stood, Calls, NoneSpent, steps_told}
+use Rattle.of_core.specs.Calls.{outcome_of, ended_in, no_outcome, seq_of, Beyond, Stood, IsOutcome, WasBegun, Calls, NoneSpent, steps_told}
 use Rattle.of_core.specs.Laws.{IsOpenCall}
 use Rattle.of_core.proofs.Tickets.{ticket_upto}
 use Rattle.of_core.proofs.Idle.{idle_stays}
@@ -34,7 +34,7 @@ use Rattle.of_core.proofs.NewCalls.{new_calls}
 use Rattle.of_core.proofs.Benches.{turn_is}
 use Rattle.of_core.proofs.OpenCalls.{caller_at}
 use Rattle.of_core.proofs.CallOrder.{announced_beyond}
-use Rattle.of_core.proofs.Calls.{Among, Words, all_one, none_ended, Grows, stood_grows, stood_low, outcome_low, stays, ends_one}
+use Rattle.of_core.proofs.Calls.{all_one, none_ended, Grows, stood_grows, stood_low, stays, ends_one}
 
 module _ (S : Setup) (Lawful : List ℕ → Type 0) (B : Start) (w : World) (g : Good S Lawful B w) where
   pub own : (i : ℕ) → i < S.callers → get_or w.machines i (machine w i) ≡ machine w i
@@ -100,7 +100,7 @@ module _ (S : Setup) (Lawful : List ℕ → Type 0) (sound : Sound S.meaning Law
     none_idle q = ap (answered m) (same_idle q) ∙ (idle_stays S m n q).1
 
     -- a call of caller i in a new batch is one that it has begun
-    new_words : (i : ℕ) → i < S.callers → (before : ℕ) (ops : List (List ℕ)) (outs : List Outcome) → Calls S B before w i ops outs → (k : ℕ) → B.seq + length w.batches < k → k ≤ B.seq + length v.batches → All (Words before i ops) (batch B v.batches k).calls
+    new_words : (i : ℕ) → i < S.callers → (before : ℕ) (ops : List (List ℕ)) (outs : List Outcome) → Calls S B before w i ops outs → (k : ℕ) → B.seq + length w.batches < k → k ≤ B.seq + length v.batches → All (WasBegun before i ops) (batch B v.batches k).calls
     new_words i member before ops outs c k l u y e z q =
         let x : Call = get_or (batch B v.batches k).calls y e in
         let p : IsOpenCall w x = new_calls S Lawful sound B w g j m h (own S Lawful B w g j h) n found k l u y e z in
@@ -135,7 +135,7 @@ module _ (S : Setup) (Lawful : List ℕ → Type 0) (sound : Sound S.meaning Law
     -- the calls of another stay
     pub other_step : (i : ℕ) → i < S.callers → (j ≡ i → ⊥) → (before : ℕ) (ops : List (List ℕ)) (outs : List Outcome) → Calls S B before w i ops outs → Calls S B before v i ops outs
     other_step i member away before ops outs c =
-        stays S B before w i ops outs c v step_grows (answered m d) refl (λ k r l q. absurd (away (sym (own_reads k r l) ∙ q))) (new_words i member before ops outs c) (machine w i) (not_now i away) refl (λ q. (q, refl)) (λ o. (o, refl)) (λ low l r. r)
+        stays S B before w i ops outs c v step_grows (answered m d) refl (λ k r l q. absurd (away (sym (own_reads k r l) ∙ q))) (new_words i member before ops outs c) (machine w i) (not_now i away) refl (λ q. (q, refl)) (λ o. (o, refl, refl)) (λ low l r. r)
 
     -- how the step has ended the call
     pub says_ended : IsOpen m.place → (o : Option Outcome) → ended d ≡ o → ended_in m d ≡ outcome_of (told o)
@@ -181,7 +181,7 @@ module _ (S : Setup) (Lawful : List ℕ → Type 0) (sound : Sound S.meaning Law
               not_run : (k : ℕ) → B.seq < k → k ≤ B.seq + length v.batches → (y : ℕ) (e : Call) → y < length (batch B v.batches k).calls → (get_or (batch B v.batches k).calls y e).caller ≡ j → (get_or (batch B v.batches k).calls y e).ticket < d.made
               not_run k l u y e z q =
                   let p : (get_or (batch B v.batches k).calls y e).ticket ≤ ticket_in S B v.batches (last v.words) (get_or (batch B v.batches k).calls y e).caller =
-                      ticket_upto S Lawful B v.batches good.core.shared.stands k (last v.words) l (omega (arith, u, last_is S Lawful B v good)) (omega (arith, last_is S Lawful B v good)) y e z in
+                  ticket_upto S Lawful B v.batches good.core.shared.stands k (last v.words) l (omega (arith, u, last_is S Lawful B v good)) (omega (arith, last_is S Lawful B v good)) y e z in
                   omega (arith, p, a.0, ap (ticket_in S B v.batches (last v.words)) q)
 
       -- it comes behind the outcomes from before
@@ -201,8 +201,8 @@ module _ (S : Setup) (Lawful : List ℕ → Type 0) (sound : Sound S.meaning Law
           same : ended_in m d ≡ [] → Calls S B before v j ops outs → Calls S B before v j ops (outs ++ ended_in m d)
           same e k = subst (λ (os : List Outcome). Calls S B before v j ops (outs ++ os)) (sym e) (subst (λ (os : List Outcome). Calls S B before v j ops os) (sym (append-nil outs)) k)
 
-          none : answered m d ≡ [] → All (Among before j ops outs) (answered m d)
-          none e = subst (λ (rs : List Read). All (Among before j ops outs) rs) (sym e) (λ k r l. absurd (omega arith))
+          none : answered m d ≡ [] → All (IsOutcome before j ops outs) (answered m d)
+          none e = subst (λ (rs : List Read). All (IsOutcome before j ops outs) rs) (sym e) (λ k r l. absurd (omega arith))
 
           of_reads : (o : Outcome) → IsOpen m.place → Tells S m d o → All (λ (r : Read). (r.ticket ≡ d.made) × (r.op ≡ d.op) × ((steps : ℕ) × (o ≡ Answered r.seq false r.raw steps))) (answered m d)
           of_reads (Answered s true raw steps) live t = rw t.2 (λ k r l. absurd (omega arith))
@@ -211,7 +211,7 @@ module _ (S : Setup) (Lawful : List ℕ → Type 0) (sound : Sound S.meaning Law
 
           ended_now : (b : Bool) → IsOpen m.place → is_idle d.place ≡ b → Calls S B before v j ops (outs ++ ended_in m d)
           ended_now false live e = same (says_ended live None (none_ended d d.place e))
-              (stays S B before w j ops outs c v step_grows (answered m d) refl (none ((taken live).goes_on e).2) (new_words j h before ops outs c) d now (taken live).made (λ q. let z : true ≡ false = sym (ap is_idle q) ∙ e in cc) (λ o. (live, (taken live).op)) (taken live).reads_from)
+              (stays S B before w j ops outs c v step_grows (answered m d) refl (none ((taken live).goes_on e).2) (new_words j h before ops outs c) d now (taken live).made (λ q. let z : true ≡ false = sym (ap is_idle q) ∙ e in cc) (λ o. (live, (taken live).op, ((taken live).goes_on e).1)) (taken live).reads_from)
           ended_now true live e =
               let rest = idle_is d.place e in
               let t = (taken live).ends rest in
@@ -223,7 +223,7 @@ module _ (S : Setup) (Lawful : List ℕ → Type 0) (sound : Sound S.meaning Law
           go false e = ended_now (is_idle d.place) e refl
           go true e =
               let q = idle_is m.place e in
-              same (says_idle q) (stays S B before w j ops outs c v step_grows (answered m d) refl (none (none_idle q)) (new_words j h before ops outs c) m (now ∙ same_idle q) refl (λ r. (r, refl)) (λ o. (o, refl)) (λ low l r. r))
+              same (says_idle q) (stays S B before w j ops outs c v step_grows (answered m d) refl (none (none_idle q)) (new_words j h before ops outs c) m (now ∙ same_idle q) refl (λ r. (r, refl)) (λ o. (o, refl, refl)) (λ low l r. r))
 
     abbrev Counts : List Outcome → ℕ → Type 0
     Counts os x = (steps_told os + x ≤ m.steps + 1) × (IsOpen m.place → NoneSpent os → steps_told os + x ≡ m.steps + 1)

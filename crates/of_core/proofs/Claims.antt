@@ -9,13 +9,14 @@ use Rattle.of_core.specs.declared.place.Place.{Place}
 use Rattle.of_core.specs.declared.place.Place.TheVariants.{Idle, TryCell, LoadOwnTicket, LoadShape, LoadReply, LoadAnnouncement, LoadTicket, LoadScript, LoadCell, RaiseOld, StoreLog, RaiseLog, StoreRequest, RaiseRequest, ExchangeCurrent}
 use Rattle.of_core.specs.declared.place.Outcome.{Outcome}
 use Rattle.of_core.specs.declared.place.Outcome.TheVariants.{Answered, Spent}
-use Rattle.of_core.specs.Table.{Setup, base, size, durable_word, durable_cell, last, risen}
+use Rattle.of_core.specs.Table.{Setup, base, durable_word, durable_cell, last, risen}
 use Rattle.of_core.specs.Machine.{Data, Call, no_machine}
 use Rattle.of_core.specs.World.{World, Start}
 use Rattle.of_core.specs.History.{state, batch, at, numbers, ticket_in, replay}
 use Rattle.of_core.specs.Shared.{Opened, Held, IsRequest, IsLogWord}
 use Rattle.of_core.specs.Invariant.{Core, At, Told, Rests}
 use Rattle.of_core.specs.Bound.{bound, Within, Told_within}
+use Rattle.of_core.specs.Least.{Late}
 use Rattle.of_core.specs.Events.{machine}
 use Rattle.of_core.specs.World.{Read}
 use Rattle.of_core.specs.Order.{IsRead, Order}
@@ -45,8 +46,8 @@ module _ (S : Setup) (Lawful : List ℕ → Type 0) (sound : Sound S.meaning Law
         same : SameFrom (base S) (numbers B w.batches r.seq) (replay S.meaning (map pay B.cells) (take (r.seq - B.seq) w.batches))
         same = rw back at (upto S Lawful sound B w g (r.seq - B.seq) (omega (arith, p.upto))).0
 
-    pub is_sound : ((i : ℕ) (m : Data) → i < S.callers → get_or w.machines i m ≡ m → Within S m m.place) → Order S B w → IsSound S B w
-    is_sound within order =
+    pub is_sound : ((i : ℕ) (m : Data) → i < S.callers → get_or w.machines i m ≡ m → Within S m m.place) → ((i : ℕ) (m : Data) → i < S.callers → get_or w.machines i m ≡ m → Late S m m.place) → Order S B w → IsSound S B w
+    is_sound within late order =
         let t : take (length w.batches) w.batches ≡ w.batches = take_all (length w.batches) w.batches (omega arith) in
         record {
           legal = rw t at (upto S Lawful sound B w g (length w.batches) (omega arith)).1;
@@ -67,6 +68,8 @@ module _ (S : Setup) (Lawful : List ℕ → Type 0) (sound : Sound S.meaning Law
           tickets = tickets_rise S Lawful B w.batches g.shared.stands;
           own = λ i h. g.shared.stands.last (risen S w.words) i g.shared.durable.from (reach g.shared.durable.step) h;
           one = λ i h. uses i (machine w i) (g.each i (machine w i) h (own i h));
+          members = g.members;
+          at_rest = λ i h q. (late i (machine w i) h (own i h)).rests q;
           within = λ i h. let t = within i (machine w i) h (own i h) in less (machine w i).steps _ (bound S) t.steps;
           answered = λ i h q. told_is i (machine w i) h (machine w i).answer ((within i (machine w i) h (own i h)).told q) (at_idle i h q).told;
         }

@@ -66,6 +66,7 @@ module _ (S : Setup) (Lawful : List ℕ → Type 0) (sound : Sound S.meaning Law
       made = ap (λ (d : Data). d.made) here ∙ omega arith;
       idle = λ q. refl;
       open_call = λ q. let z : true ≡ false = sym (ap (λ (d : Data). is_idle d.place) here) ∙ q in cc;
+      unanswered = λ q. ap (λ (d : Data). d.answer) here;
       last = λ q. ap (λ (d : Data). d.answer) here;
       each = λ x l. absurd (omega arith);
       reads = λ k r l. absurd (omega arith);

@@ -193,6 +193,7 @@ module _ (S : Setup) (Lawful : List ℕ → Type 0) (B : Start) where
             rest = λ y l u. rw (log_same i y) (st.rest y l u);
           },
           here,
+          λ k l u o. rw (dur_same (request_at i) (omega arith)) (let z = a.shut k l (rw current_same at u) o in omega (arith, z, a.level)),
         ))
       where
         st : Stored S B w.words w.batches i m (length (log_words m.log)) (length (log_words m.log))

@@ -15,7 +15,7 @@ use Rattle.of_core.specs.History.{state, batch, numbers, ticket_in, HasCall}
 use Rattle.of_core.specs.Shared.{Held, IsRequest, IsLogWord, Shared}
 use Rattle.of_core.specs.Rounds.{Keeps, Quieted, Fresh, Begun, Round, WasCurrent, Trying, Watches, Between, Looks, Past, Calm, Finds, ReadUpto}
 use Rattle.of_core.specs.Scan.{Over, Hears, Reads, Scans}
-use Rattle.of_core.specs.Transaction.{Applies, Copies, Stored, Logs}
+use Rattle.of_core.specs.Transaction.{Applies, Copies, Stored, ClosedDurably, Logs}
 use Rattle.of_core.specs.Order.{Order}
 use Rattle.of_core.specs.Bound.{Within}
 use Rattle.of_core.specs.Least.{Late}
@@ -60,7 +60,7 @@ At S B ws bs i m RaiseOld = Past S B ws bs i m × Calm S B ws bs i m.seq × Over
 At S B ws bs i m (StoreLog x) = Logs S B ws bs i m x x × (x < length (log_words m.log))
 At S B ws bs i m (RaiseLog x) = Logs S B ws bs i m (x + 1) x × (x < length (log_words m.log))
 At S B ws bs i m StoreRequest = Logs S B ws bs i m (length (log_words m.log)) (length (log_words m.log))
-At S B ws bs i m RaiseRequest = Stored S B ws bs i m (length (log_words m.log)) (length (log_words m.log)) × (request_of ws i ≡ word (m.seq + 1) 0)
+At S B ws bs i m RaiseRequest = Stored S B ws bs i m (length (log_words m.log)) (length (log_words m.log)) × (request_of ws i ≡ word (m.seq + 1) 0) × ClosedDurably S B ws bs i
 At S B ws bs i m ExchangeCurrent = Stored S B ws bs i m (length (log_words m.log)) (length (log_words m.log)) × (request_of ws i ≡ word (m.seq + 1) 0) × (durable_request S ws i ≡ word (m.seq + 1) 0)
 At S B ws bs i m RaiseCurrent = Applies S B ws bs i m 0
 At S B ws bs i m (LoadTarget j) = Applies S B ws bs i m j × (j < length m.log) × (m.seq ≤ risen S ws)

@@ -1,10 +1,11 @@
 -- The laws of all steps and all schedules: what the contracts of `laws` say.
-use Rattle.std.specs.Prelude.{ℕ, ◌+◌, ◌*◌, List, [], ◌∷◌, ◌++◌, length, ◌≡◌, ◌≤◌, ◌<◌, ◌⊎◌, true}
+use Rattle.std.specs.Prelude.{ℕ, ◌+◌, List, [], ◌∷◌, ◌++◌, length, ◌≡◌, ◌≤◌, ◌<◌, ◌⊎◌, true}
 use Rattle.std.specs.List.{All}
 use Rattle.std.proofs.Common.{get_or, set, take, replicate}
 use Rattle.of_cell.specs.declared.word.TheConstants.{PAYLOADS}
 use Rattle.of_cell.specs.Words.{word}
 use Rattle.of_mem.specs.Meaning.{Meaning}
+use Rattle.of_recover.specs.Recovered.{recovered}
 use Rattle.of_core.specs.declared.place.Place.{Place}
 use Rattle.of_core.specs.declared.place.Place.TheVariants.{Idle, LoadCurrent}
 use Rattle.of_core.specs.declared.place.Outcome.{Outcome}
@@ -17,8 +18,8 @@ use Rattle.of_core.specs.Facts.{Step, ReadsFrom, rests}
 use Rattle.of_core.specs.Shared.{IsStart, MayStart}
 use Rattle.of_core.specs.Invariant.{Good, IsLoaded}
 use Rattle.of_core.specs.Moves.{Moves}
-use Rattle.of_core.specs.Events.{Event, Turns, MayHappen, begun, happens, evicted, run, turns, IsSchedule, StaysOpen, machine, start_ticket, opening, zeros}
-use Rattle.of_core.specs.Starts.{first_words}
+use Rattle.of_core.specs.Events.{Event, Turns, MayHappen, begun, happens, evicted, run, turns, HasStood, IsSchedule, StaysOpen, machine, start_ticket, opening, zeros}
+use Rattle.of_core.specs.Starts.{first_words, start_of, IsStartRow, IsDurable, recovered_start}
 use Rattle.of_core.specs.Bound.{bound}
 use Rattle.of_core.specs.Claim.{IsSound}
 use Rattle.of_core.specs.Calls.{Calls, TurnsTold, begun_by, ended_by, ended_in, operations, outcomes}
@@ -40,10 +41,12 @@ abbrev pub EachStep : Setup → (List ℕ → Type 0) → (Start → World → �
 EachStep S Lawful Law =
     EachMachine S Lawful (λ B w i m. (n : ℕ) → FoundBy (want S m) w.words n → Law B w i m n)
 
--- at each begin of a call, of these words, on each idle machine
-abbrev pub EachBegin : Setup → (List ℕ → Type 0) → (Start → World → ℕ → Data → List ℕ → Type 0) → Type 0
+-- at each begin of a call with these words, by each idle machine
+abbrev pub EachBegin : Setup → (List ℕ → Type 0)
+    → (Start → World → ℕ → Data → List ℕ → Type 0) → Type 0
 EachBegin S Lawful Law = EachMachine S Lawful (λ B w i m. m.place ≡ Idle
-    → (op : List ℕ) → 1 ≤ length op → length op ≤ S.instrs → m.made + 1 < PAYLOADS → Law B w i m op)
+    → (op : List ℕ) → 1 ≤ length op → length op ≤ S.instrs
+    → m.made + 1 < PAYLOADS → Law B w i m op)
 
 -- at each word that was loaded for an eviction
 abbrev pub EachLoaded : Setup → (List ℕ → Type 0) → (Start → World → ℕ × ℕ → Type 0) → Type 0
@@ -61,7 +64,8 @@ abbrev pub EachStart : Setup → (List ℕ → Type 0) → (Start → (n : ℕ) 
 EachStart S Lawful Law = (B : Start) → MayStart S Lawful B → (n : ℕ) → table_size S ≤ n → Law B n
 
 -- at each schedule from each start
-abbrev pub EachSchedule : Setup → (List ℕ → Type 0) → (Start → (n : ℕ) → List Event → Type 0) → Type 0
+abbrev pub EachSchedule : Setup → (List ℕ → Type 0)
+    → (Start → (n : ℕ) → List Event → Type 0) → Type 0
 EachSchedule S Lawful Law =
     EachStart S Lawful (λ B n. (es : List Event) → IsSchedule S (opening S B n) es → Law B n es)
 
@@ -81,9 +85,17 @@ abbrev pub StepTaken : Setup → (List ℕ → Type 0) → Type 0
 StepTaken S Lawful = EachMachine S Lawful (λ B w i m. IsOpen m.place
     → (n : ℕ) → FoundBy (want S m) w.words n → Step S B w m n (took S m n) (added S w.words m n))
 
+-- it leaves each durable word as it was, or makes it the word that its cell holds
+abbrev pub StepDurables : Setup → (List ℕ → Type 0) → Type 0
+StepDurables S Lawful = EachStep S Lawful (λ B w i m n. (c : ℕ) → c < size S
+    → (durable_word S (stepped S i m n w).words c ≡ durable_word S w.words c)
+    ⊎ (durable_word S (stepped S i m n w).words c ≡ get_or w.words c 0))
+
 -- the call is the open one of its caller
 abbrev pub IsOpenCall : World → Call → Type 0
-IsOpenCall w c = IsOpen (machine w c.caller).place × (c.ticket ≡ (machine w c.caller).made) × (c.op ≡ (machine w c.caller).op)
+IsOpenCall w c =
+    let m : Data = machine w c.caller in
+    IsOpen m.place × (c.ticket ≡ m.made) × (c.op ≡ m.op)
 
 -- a call in a batch that a step commits is the open call of its caller
 abbrev pub NewCalls : Setup → (List ℕ → Type 0) → Type 0
@@ -96,7 +108,8 @@ abbrev pub BeginKept : Setup → (List ℕ → Type 0) → Type 0
 BeginKept S Lawful = EachBegin S Lawful (λ B w i m op. Good S Lawful B (begun S i m op w)
     × (rests (opened S m op) ≡ 0) × ((low : ℕ) → ReadsFrom low (opened S m op)))
 
--- a word that was loaded from its cell may be raised at any later time: it is such a word when it is loaded
+-- a word that was loaded from its cell may be raised at any later time: it is such a word
+-- when it is loaded
 abbrev pub LoadKept : Setup → (List ℕ → Type 0) → Type 0
 LoadKept S Lawful =
     (B : Start) (w : World) → Good S Lawful B w
@@ -111,7 +124,8 @@ LoadedStays S Lawful = EachStep S Lawful (λ B w i m n.
 -- and to raise the durable word of its cell to it keeps the invariant, and all other such words
 abbrev pub RaiseKept : Setup → (List ℕ → Type 0) → Type 0
 RaiseKept S Lawful = EachLoaded S Lawful (λ B w e. Good S Lawful B (evicted S w e)
-    × ((d : ℕ × ℕ) → IsLoaded S B w.words w.batches d → IsLoaded S B (evicted S w e).words w.batches d))
+    × ((d : ℕ × ℕ) → IsLoaded S B w.words w.batches d
+    → IsLoaded S B (evicted S w e).words w.batches d))
 
 -- no durable word falls by that
 abbrev pub RaiseRises : Setup → (List ℕ → Type 0) → Type 0
@@ -120,22 +134,27 @@ RaiseRises S Lawful = EachLoaded S Lawful (λ B w e.
 
 -- words behind the table's own may be anything
 abbrev pub BesideKept : Setup → (List ℕ → Type 0) → Type 0
-BesideKept S Lawful = EachBeside S Lawful (λ B w c v. Good S Lawful B (record w { words = set w.words c v })
-    × ((e : ℕ × ℕ) → IsLoaded S B w.words w.batches e → IsLoaded S B (set w.words c v) w.batches e))
+BesideKept S Lawful = EachBeside S Lawful (λ B w c v.
+    Good S Lawful B (record w { words = set w.words c v })
+    × ((e : ℕ × ℕ) → IsLoaded S B w.words w.batches e
+    → IsLoaded S B (set w.words c v) w.batches e))
 
--- a table at its start, with idle machines, meets the invariant, and an idle machine rests on nothing
+-- a table at its start, with idle machines, meets the invariant, and an idle machine rests on
+-- nothing
 abbrev pub StartKept : Setup → (List ℕ → Type 0) → Type 0
 StartKept S Lawful = EachStart S Lawful (λ B n. Good S Lawful B (opening S B n)
     × ((i made : ℕ) → rests (idle S i made) ≡ 0))
 
--- whatever meets the invariant has a legal history, and recovery gives the state that its durable words name
+-- whatever meets the invariant has a legal history, and recovery gives the state that its
+-- durable words name
 abbrev pub GoodIsSound : Setup → (List ℕ → Type 0) → Type 0
 GoodIsSound S Lawful = (B : Start) (w : World) → Good S Lawful B w → IsSound S B w
 
 -- The calls of one caller, step by step.
 
 -- from w to v caller i begins these calls, and these of its calls end
-abbrev pub CallsGrow : Setup → Start → (i : ℕ) → List (List ℕ) → List Outcome → (w v : World) → Type 0
+abbrev pub CallsGrow : Setup → Start → (i : ℕ)
+    → List (List ℕ) → List Outcome → (w v : World) → Type 0
 CallsGrow S B i more ended w v =
     (before : ℕ) (ops : List (List ℕ)) (outs : List Outcome)
     → Calls S B before w i ops outs → Calls S B before v i (ops ++ more) (outs ++ ended)
@@ -158,7 +177,8 @@ StartCalls S Lawful = EachStart S Lawful (λ B n.
 -- a step ends its caller's open call or none, and changes the calls of nobody else
 abbrev pub StepCalls : Setup → (List ℕ → Type 0) → Type 0
 StepCalls S Lawful = EachStep S Lawful (λ B w i m n.
-    CallsGrow S B i [] (ended_in m (took S m n)) w (stepped S i m n w) × OthersStay S B i w (stepped S i m n w))
+    CallsGrow S B i [] (ended_in m (took S m n)) w (stepped S i m n w)
+    × OthersStay S B i w (stepped S i m n w))
 
 -- to begin a call gives its caller one call more, and changes the calls of nobody else
 abbrev pub BeginCalls : Setup → (List ℕ → Type 0) → Type 0
@@ -193,33 +213,46 @@ ScheduleKept S Lawful =
 abbrev pub EveryMoment : Setup → (List ℕ → Type 0) → Type 0
 EveryMoment S Lawful = EachSchedule S Lawful (λ B n es. IsSound S B (run S (opening S B n) es))
 
+-- each durable word is one that its cell has held, at this moment or before
+abbrev pub EveryDurable : Setup → (List ℕ → Type 0) → Type 0
+EveryDurable S Lawful = EachSchedule S Lawful (λ B n es.
+    let w : World = opening S B n in
+    (c : ℕ) → c < size S → HasStood S w es c (durable_word S (run S w es).words c))
+
 -- every schedule from every start leaves each caller's calls as its events begin and end them
 abbrev pub EveryCall : Setup → (List ℕ → Type 0) → Type 0
-EveryCall S Lawful = EachSchedule S Lawful (λ B n es. (i : ℕ) → i < S.callers
-    → Calls S B (start_ticket S B i) (run S (opening S B n) es) i (operations es i) (outcomes S (opening S B n) es i))
+EveryCall S Lawful = EachSchedule S Lawful (λ B n es.
+    let w : World = opening S B n in
+    (i : ℕ) → i < S.callers
+    → Calls S B (start_ticket S B i) (run S w es) i (operations es i) (outcomes S w es i))
 
 -- each event leads from the calls before it to those after it
 abbrev pub CallsKept : Setup → (List ℕ → Type 0) → Type 0
 CallsKept S Lawful =
     (B : Start) (w : World) → Good S Lawful B w
-    → (i before : ℕ) → i < S.callers → (ops : List (List ℕ)) (outs : List Outcome) → Calls S B before w i ops outs
-    → (d : Event) → MayHappen S w d → Calls S B before (happens S w d) i (ops ++ begun_by d i) (outs ++ ended_by S w d i)
+    → (i before : ℕ) → i < S.callers
+    → (ops : List (List ℕ)) (outs : List Outcome) → Calls S B before w i ops outs
+    → (d : Event) → MayHappen S w d
+    → Calls S B before (happens S w d) i (ops ++ begun_by d i) (outs ++ ended_by S w d i)
 
 -- in every schedule from every start the turns of a caller are the steps of its calls
 abbrev pub EveryTurn : Setup → (List ℕ → Type 0) → Type 0
 EveryTurn S Lawful = EachSchedule S Lawful (λ B n es.
     (i : ℕ) → i < S.callers → TurnsTold S (opening S B n) es i)
 
--- a call that stays open has made fewer steps than the bound, so its last one comes in time; and it never begins a fourth round
+-- a call that stays open has made fewer steps than the bound, so its last one comes in time;
+-- and it never begins a fourth round
 abbrev pub EndsInTime : Setup → (List ℕ → Type 0) → Type 0
 EndsInTime S Lawful =
     (B : Start) (w : World) → Good S Lawful B w
     → (es : List Event) → IsSchedule S w es → (i : ℕ) → i < S.callers → StaysOpen S w es i
-    → ((machine w i).steps + turns i es < bound S) × ((machine (run S w es) i).place ≡ LoadCurrent → (machine (run S w es) i).rounds ≤ 2)
+    → ((machine w i).steps + turns i es < bound S)
+    × ((machine (run S w es) i).place ≡ LoadCurrent → (machine (run S w es) i).rounds ≤ 2)
 
 -- Starts.
 
--- the n words hold a start: its current-transaction word and its data words, the same durably, and 0 behind the durable words
+-- the n words hold a start: its current-transaction word and its data words, the same durably,
+-- and 0 behind the durable words
 pub record HoldsStart (S : Setup) (B : Start) (ws : List ℕ) (n : ℕ) : Type 0 where
   pub long : length ws ≡ n
   pub current : get_or ws 0 0 ≡ word B.seq B.owner
@@ -229,12 +262,19 @@ pub record HoldsStart (S : Setup) (B : Start) (ws : List ℕ) (n : ℕ) : Type 0
 
 -- the first words of a table hold its start
 abbrev pub FirstWords : Setup → Type 0
-FirstWords S = (B : Start) → IsStart S B → (n : ℕ) → table_size S ≤ n → HoldsStart S B (first_words S.callers S.cells B n) n
+FirstWords S = (B : Start) → IsStart S B → (n : ℕ) → table_size S ≤ n
+    → HoldsStart S B (first_words S.callers S.cells B n) n
 
 -- its machines are idle, one for each caller, with as many calls behind it as its ticket counts
 abbrev pub FirstMachines : Setup → Type 0
-FirstMachines S = (B : Start) (n : ℕ) → (length (opening S B n).machines ≡ S.callers)
-    × ((i : ℕ) (d : Data) → i < S.callers → get_or (opening S B n).machines i d ≡ idle S i (start_ticket S B i))
+FirstMachines S = (B : Start) (n : ℕ) →
+    let ms : List Data = (opening S B n).machines in
+    (length ms ≡ S.callers)
+    × ((i : ℕ) (d : Data) → i < S.callers → get_or ms i d ≡ idle S i (start_ticket S B i))
+
+-- zeros are a start that a table may have
+abbrev pub ZerosMayStart : Setup → (List ℕ → Type 0) → Type 0
+ZerosMayStart S Lawful = MayStart S Lawful (zeros S)
 
 -- the first words of a table of zeros are zeros
 abbrev pub ZeroWords : Setup → Type 0
@@ -243,6 +283,14 @@ ZeroWords S = (n : ℕ) → table_size S ≤ n → first_words S.callers S.cells
 -- and no call stands behind it
 abbrev pub ZeroTickets : Setup → Type 0
 ZeroTickets S = (i : ℕ) → start_ticket S (zeros S) i ≡ 0
+
+-- what recovery makes of the durable words of any moment is a row from which a table may start, at
+-- the state after the batch of the durable sequence
+abbrev pub Restarts : Setup → (List ℕ → Type 0) → Type 0
+Restarts S Lawful =
+    (B : Start) (w : World) → Good S Lawful B w → (row : List ℕ) → IsDurable S w.words row →
+    let found : List ℕ = recovered S.callers S.cells row in
+    IsStartRow S Lawful found × (start_of S.callers S.cells found ≡ recovered_start S B w)
 
 -- Machines by themselves.
 
@@ -279,11 +327,13 @@ FirstState = (B : Start) (bs : List Batch) → state B bs B.seq ≡ B.cells
 
 -- the batches are numbered from the start's sequence on
 abbrev pub BatchesNumbered : Type 0
-BatchesNumbered = (B : Start) (bs : List Batch) (d : ℕ) → batch B bs (B.seq + d + 1) ≡ get_or bs d no_batch
+BatchesNumbered = (B : Start) (bs : List Batch) (d : ℕ)
+    → batch B bs (B.seq + d + 1) ≡ get_or bs d no_batch
 
 -- the next batch has the next number
 abbrev pub NextBatch : Type 0
-NextBatch = (B : Start) (bs : List Batch) (b : Batch) (k : ℕ) → k ≡ B.seq + length bs + 1 → batch B (bs ++ b ∷ []) k ≡ b
+NextBatch = (B : Start) (bs : List Batch) (b : Batch) (k : ℕ)
+    → k ≡ B.seq + length bs + 1 → batch B (bs ++ b ∷ []) k ≡ b
 
 -- a longer history has the same batches, as far as the shorter one goes
 abbrev pub BatchesStand : Type 0
@@ -292,7 +342,8 @@ BatchesStand = (B : Start) (bs cs : List Batch) (k : ℕ)
 
 -- and the same states
 abbrev pub StatesStand : Type 0
-StatesStand = (B : Start) (bs cs : List Batch) (k : ℕ) → k ≤ B.seq + length bs → state B (bs ++ cs) k ≡ state B bs k
+StatesStand = (B : Start) (bs cs : List Batch) (k : ℕ)
+    → k ≤ B.seq + length bs → state B (bs ++ cs) k ≡ state B bs k
 
 -- so has the beginning of a history
 abbrev pub BeginningBatches : Type 0
@@ -300,8 +351,10 @@ BeginningBatches = (B : Start) (bs : List Batch) (n k : ℕ)
     → B.seq < k → k ≤ B.seq + n → batch B (take n bs) k ≡ batch B bs k
 
 abbrev pub BeginningStates : Type 0
-BeginningStates = (B : Start) (bs : List Batch) (n k : ℕ) → k ≤ B.seq + n → state B (take n bs) k ≡ state B bs k
+BeginningStates = (B : Start) (bs : List Batch) (n k : ℕ)
+    → k ≤ B.seq + n → state B (take n bs) k ≡ state B bs k
 
 -- and the beginning of a legal history is legal
 abbrev pub BeginningLegal : Type 0
-BeginningLegal = (M : Meaning) (xs : List ℕ) (bs : List Batch) (n : ℕ) → Legal M xs bs → Legal M xs (take n bs)
+BeginningLegal = (M : Meaning) (xs : List ℕ) (bs : List Batch) (n : ℕ)
+    → Legal M xs bs → Legal M xs (take n bs)

@@ -49,7 +49,8 @@ abbrev pub one_batch : Setup → List ℕ → Data → Bool → List Batch
 one_batch S ws m true = record { owner = m.caller; log = m.log; calls = m.calls; announcements = λ c. announcement_of S ws c } ∷ []
 one_batch S ws m false = []
 
--- what a step from a place commits: an exchange of the current-transaction word its batch, and any other nothing
+-- what a step from a place commits: an exchange of the current-transaction word its batch, and
+-- any other nothing
 abbrev pub commits_at : Setup → List ℕ → Data → ℕ → Place → List Batch
 commits_at S ws m found ExchangeCurrent = one_batch S ws m (found == word m.seq m.owner)
 commits_at S ws m found p = []

@@ -1,23 +1,28 @@
-//! The laws of all steps and all schedules: functions that do nothing, whose contracts are the theorems.
+//! The laws of all steps and all schedules: functions that do nothing, whose contracts are the
+//! theorems.
 
-ghost use Rattle.of_core.specs.Shared.{MayStart};
-ghost use Rattle.of_core.specs.Events.{zeros};
 ghost use Rattle.of_core.specs.Laws.{setup_for};
-ghost use Rattle.of_core.specs.Laws.{StepKept, StepMoves, StepTaken, NewCalls, BeginKept, LoadKept, LoadedStays, RaiseKept, RaiseRises, BesideKept, StartKept, GoodIsSound};
+ghost use Rattle.of_core.specs.Laws.{StepKept, StepMoves, StepTaken, StepDurables, NewCalls};
+ghost use Rattle.of_core.specs.Laws.{BeginKept, LoadKept, LoadedStays, RaiseKept, RaiseRises};
+ghost use Rattle.of_core.specs.Laws.{BesideKept, StartKept, GoodIsSound};
 ghost use Rattle.of_core.specs.Laws.{StartCalls, StepCalls, BeginCalls, RaiseCalls, BesideCalls};
-ghost use Rattle.of_core.specs.Laws.{EventKept, ScheduleKept, EveryMoment, EveryCall, EveryTurn, CallsKept, EndsInTime};
-ghost use Rattle.of_core.specs.Laws.{FirstWords, FirstMachines, ZeroWords, ZeroTickets};
+ghost use Rattle.of_core.specs.Laws.{EventKept, ScheduleKept, EveryDurable, EveryMoment};
+ghost use Rattle.of_core.specs.Laws.{EveryCall, EveryTurn, CallsKept, EndsInTime};
+ghost use Rattle.of_core.specs.Laws.{FirstWords, FirstMachines, ZerosMayStart};
+ghost use Rattle.of_core.specs.Laws.{ZeroWords, ZeroTickets, Restarts};
 ghost use Rattle.of_core.specs.Laws.{IdleOrOpen, IdleIs, IdleStays, IdleRests, FindsWord, TurnIsStep};
-ghost use Rattle.of_core.specs.Laws.{FirstState, BatchesNumbered, NextBatch, BatchesStand, StatesStand, BeginningBatches, BeginningStates, BeginningLegal};
+ghost use Rattle.of_core.specs.Laws.{FirstState, BatchesNumbered, NextBatch, BatchesStand, StatesStand};
+ghost use Rattle.of_core.specs.Laws.{BeginningBatches, BeginningStates, BeginningLegal};
 
 use of_mem::Work;
 
-/// From whatever meets the invariant each step, each begin of a call and each eviction leads to what meets it. A table at a start
-/// meets it, and whatever meets it has what every moment claims.
+/// From whatever meets the invariant each step, each begin of a call and each eviction leads to
+/// what meets it. A table at a start meets it, and whatever meets it has what every moment claims.
 pub fn step_kept<W: Work>(limit: u32, work: W)
     ensures kept { StepKept (setup_for W.many W.size W.meaning limit work) (W.lawful work) }
     ensures moves { StepMoves (setup_for W.many W.size W.meaning limit work) (W.lawful work) }
     ensures taken { StepTaken (setup_for W.many W.size W.meaning limit work) (W.lawful work) }
+    ensures durables { StepDurables (setup_for W.many W.size W.meaning limit work) (W.lawful work) }
     ensures new_calls { NewCalls (setup_for W.many W.size W.meaning limit work) (W.lawful work) }
     ensures begins { BeginKept (setup_for W.many W.size W.meaning limit work) (W.lawful work) }
     ensures loads { LoadKept (setup_for W.many W.size W.meaning limit work) (W.lawful work) }
@@ -29,8 +34,8 @@ pub fn step_kept<W: Work>(limit: u32, work: W)
     ensures sound { GoodIsSound (setup_for W.many W.size W.meaning limit work) (W.lawful work) }
 {}
 
-/// The calls of one caller, from a start on: a step ends at most its caller's open call, a begin adds one, and nothing else
-/// changes anybody's calls.
+/// The calls of one caller, from a start on: a step ends its caller's open call or none, a begin
+/// adds one, and nothing else changes anybody's calls.
 pub fn calls_kept<W: Work>(limit: u32, work: W)
     ensures start { StartCalls (setup_for W.many W.size W.meaning limit work) (W.lawful work) }
     ensures steps { StepCalls (setup_for W.many W.size W.meaning limit work) (W.lawful work) }
@@ -39,16 +44,19 @@ pub fn calls_kept<W: Work>(limit: u32, work: W)
     ensures beside { BesideCalls (setup_for W.many W.size W.meaning limit work) (W.lawful work) }
 {}
 
-/// Each event, and so each schedule, keeps the invariant. From every start every schedule leaves a moment with a legal history, of
-/// which recovery gives the state that its durable words name.
+/// Each event, and so each schedule, keeps the invariant. From every start every schedule leaves a
+/// moment with a legal history, of which recovery gives the state that its durable words name; and
+/// no durable word is other than one that its cell has held.
 pub fn every_moment<W: Work>(limit: u32, work: W)
     ensures kept { EventKept (setup_for W.many W.size W.meaning limit work) (W.lawful work) }
     ensures runs { ScheduleKept (setup_for W.many W.size W.meaning limit work) (W.lawful work) }
+    ensures durables { EveryDurable (setup_for W.many W.size W.meaning limit work) (W.lawful work) }
     ensures sound { EveryMoment (setup_for W.many W.size W.meaning limit work) (W.lawful work) }
 {}
 
-/// Of every schedule the calls of each caller are those that its events begin. Each ends with an outcome that is in the history,
-/// and each turn of an open call is a step of it.
+/// Of every schedule the calls of each caller are those that its events begin. Each ends with an
+/// outcome that is in the history, none goes back behind the one before, and each turn of an open
+/// call is a step of it.
 pub fn every_call<W: Work>(limit: u32, work: W)
     ensures calls { EveryCall (setup_for W.many W.size W.meaning limit work) (W.lawful work) }
     ensures turns { EveryTurn (setup_for W.many W.size W.meaning limit work) (W.lawful work) }
@@ -60,13 +68,15 @@ pub fn ends_in_time<W: Work>(limit: u32, work: W)
     ensures in_time { EndsInTime (setup_for W.many W.size W.meaning limit work) (W.lawful work) }
 {}
 
-/// A table's first words hold its start, and its machines are idle. Zeros are a start that may be, with no call behind it.
+/// A table's first words hold its start, and its machines are idle. Zeros are a start that may be,
+/// with no call behind it, and so is what recovery makes of the durable words of any moment.
 pub fn starts<W: Work>(limit: u32, work: W)
     ensures words { FirstWords (setup_for W.many W.size W.meaning limit work) }
     ensures machines { FirstMachines (setup_for W.many W.size W.meaning limit work) }
-    ensures zeros { MayStart (setup_for W.many W.size W.meaning limit work) (W.lawful work) (zeros (setup_for W.many W.size W.meaning limit work)) }
+    ensures zeros { ZerosMayStart (setup_for W.many W.size W.meaning limit work) (W.lawful work) }
     ensures zero_words { ZeroWords (setup_for W.many W.size W.meaning limit work) }
     ensures zero_tickets { ZeroTickets (setup_for W.many W.size W.meaning limit work) }
+    ensures restarts { Restarts (setup_for W.many W.size W.meaning limit work) (W.lawful work) }
 {}
 
 /// What holds of a machine by itself, on any table.
@@ -79,8 +89,8 @@ pub fn machines()
     ensures turns { TurnIsStep }
 {}
 
-/// What holds of a history by itself: how its batches are numbered, what stands in a longer one, and that the beginning of a legal
-/// history is legal.
+/// What holds of a history by itself: how its batches are numbered, what stands in a longer one,
+/// and that the beginning of a legal history is legal.
 pub fn histories()
     ensures first { FirstState }
     ensures numbered { BatchesNumbered }
