@@ -87,7 +87,7 @@ module _ (S : Setup) (Lawful : List ℕ → Type 0) (B : Start) (w : World) (g :
   counted_stands (StoreLog x) a = (logs x x a.0, a.1)
   counted_stands (RaiseLog x) a = (logs (x + 1) x a.0, a.1)
   counted_stands StoreRequest a = logs (length (log_words m.log)) (length (log_words m.log)) a
-  counted_stands RaiseRequest a = (stored (length (log_words m.log)) (length (log_words m.log)) a.0, a.1)
+  counted_stands RaiseRequest a = (stored (length (log_words m.log)) (length (log_words m.log)) a.0, a.1, a.2)
   counted_stands ExchangeCurrent a = (stored (length (log_words m.log)) (length (log_words m.log)) a.0, a.1, a.2)
   counted_stands RaiseCurrent a = applies 0 a
   counted_stands (LoadTarget j) a = (applies j a.0, a.1, a.2)

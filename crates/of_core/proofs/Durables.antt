@@ -2,6 +2,7 @@
 use Rattle.std.proofs.Common.{◌≡◌, ℕ, ◌+◌, ◌*◌, ◌-◌, ◌<◌, ◌≤◌, ◌⊎◌, inl, inr, List, length, get_or, set, max, sym, ◌∙◌, ap, subst, arith, Bool, true, false}
 use Rattle.std.proofs.lemmas.Bool.{cases_eq, cases_lt, cases_order}
 use Rattle.std.proofs.lemmas.List.{get_or-set_same, get_or-set_other, set-get_or, get_or_default}
+use Rattle.of_cell.specs.declared.word.TheConstants.{PAYLOADS}
 use Rattle.of_cell.specs.Words.{word, seq, pay}
 use Rattle.of_cell.proofs.Order.{word_eta, word_later, seq_less, seq_mono, word_next}
 use Rattle.of_core.specs.declared.place.Place.{Place}
@@ -204,7 +205,7 @@ module _ (S : Setup) (Lawful : List ℕ → Type 0) (B : Start) (w : World) (g :
     current_held : Applies S B w.words w.batches i m 0 → (word m.seq m.owner ≤ durable_word S w.words 0) ⊎ (word m.seq m.owner ≡ get_or w.words 0 0)
     current_held a = go (cases_order m.seq (last w.words))
       where
-        small : m.owner < 4294967296
+        small : m.owner < PAYLOADS
         small = omega (arith, owner_in 0 a, g.shared.few)
 
         below : m.seq ≤ risen S w.words → (m.seq ≡ risen S w.words) ⊎ ((m.seq < risen S w.words) ⊎ (risen S w.words < m.seq)) → word m.seq m.owner ≤ durable_word S w.words 0

@@ -4,6 +4,8 @@ use Rattle.std.specs.List.{All}
 use Rattle.std.proofs.lemmas.Bool.{cases_eq, cases_lt}
 use Rattle.std.proofs.lemmas.List.{append-nil, length-append, take_all, take-append-le, get_or-set_same, get_or-set_other, get_or_default}
 use Rattle.std.proofs.lemmas.List.Elements.{All-append}
+use Rattle.of_mem.specs.declared.work.TheConstants.{MOST_INSTRS}
+use Rattle.of_cell.specs.declared.word.TheConstants.{PAYLOADS}
 use Rattle.of_mem.specs.Meaning.{Sound}
 use Rattle.of_core.specs.Table.{Setup, base, size, durable_at, durable_word}
 use Rattle.of_core.specs.Machine.{no_machine}
@@ -116,8 +118,8 @@ module _ (S : Setup) (first : World) where
         subst (λ (xs : List Event). AllStood xs (run S w (d ∷ ds))) (append_assoc es (d ∷ []) ds)
         (stood_run ds (es ++ d ∷ []) (happens S w d) (event_good S Lawful B w g sound d s.0) s.1 (stood_after es w g h d s.0))
 
-pub every_durable : (S : Setup) (Lawful : List ℕ → Type 0) → Sound S.meaning Lawful (base S) S.cells → (B : Start) → MayStart S Lawful B → 0 < S.callers → S.callers < 4294967296 → base S ≤ S.cells
-    → (total : ℕ) → size S + size S + S.callers * (S.instrs + 1) ≤ total → S.instrs ≤ 16 → S.cells < 4294967296
+pub every_durable : (S : Setup) (Lawful : List ℕ → Type 0) → Sound S.meaning Lawful (base S) S.cells → (B : Start) → MayStart S Lawful B → 0 < S.callers → S.callers < PAYLOADS → base S ≤ S.cells
+    → (total : ℕ) → size S + size S + S.callers * (S.instrs + 1) ≤ total → S.instrs ≤ MOST_INSTRS → S.cells < PAYLOADS
     → (es : List Event) → IsSchedule S (opening S B total) es → (c : ℕ) → c < size S → HasStood S (opening S B total) es c (durable_word S (run S (opening S B total) es).words c)
 every_durable S Lawful sound B may some few own_in total room narrow little es s =
     (stood_run S (opening S B total) Lawful sound B es [] (opening S B total) (start_good S Lawful sound B may some few own_in total room narrow little) s at_first).durables

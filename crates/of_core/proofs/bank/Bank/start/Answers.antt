@@ -1,4 +1,4 @@
-use Rattle.std.proofs.Common.{◌≡◌, ℕ, length, arith, ap, ◌∙◌, sym, length-append}
+use Rattle.std.proofs.Common.{◌≡◌, ℕ, length, arith, ap, subst, ◌∙◌, sym, length-append}
 use Rattle.of_cell.specs.Cells.{table_words as cell_words}
 use Rattle.of_core.specs.Table.{Setup, setup_of}
 use Rattle.of_core.specs.World.{Start}
