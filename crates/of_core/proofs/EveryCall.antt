@@ -1,6 +1,8 @@
 -- The calls of one caller at every moment of every schedule.
 use Rattle.std.proofs.Common.{◌≡◌, ℕ, ◌+◌, ◌*◌, ◌<◌, ◌≤◌, List, [], ◌∷◌, ◌++◌, refl, sym, ◌∙◌, ap, subst, arith, true, false}
 use Rattle.std.proofs.lemmas.List.{append_assoc, append-nil}
+use Rattle.of_mem.specs.declared.work.TheConstants.{MOST_INSTRS}
+use Rattle.of_cell.specs.declared.word.TheConstants.{PAYLOADS}
 use Rattle.of_mem.specs.Meaning.{Sound}
 use Rattle.of_core.specs.declared.place.Outcome.{Outcome}
 use Rattle.of_core.specs.Table.{Setup, base, size}
@@ -52,22 +54,25 @@ module _ (S : Setup) (Lawful : List ℕ → Type 0) (sound : Sound S.meaning Law
       )
 
   -- from a start
-  module _ (may_start : MayStart S Lawful B) (some : 0 < S.callers) (few : S.callers < 4294967296) (own_in : base S ≤ S.cells) (total : ℕ) (room : size S + size S + S.callers * (S.instrs + 1) ≤ total) (narrow : S.instrs ≤ 16) (little : S.cells < 4294967296) where
+  module _ (may_start : MayStart S Lawful B) (some : 0 < S.callers) (few : S.callers < PAYLOADS) (own_in : base S ≤ S.cells) (total : ℕ) (room : size S + size S + S.callers * (S.instrs + 1) ≤ total) (narrow : S.instrs ≤ MOST_INSTRS) (little : S.cells < PAYLOADS) where
     good : Good S Lawful B (opening S B total)
     good = start_good S Lawful sound B may_start some few own_in total room narrow little
 
     here : machine (opening S B total) i ≡ idle S i (start_ticket S B i)
     here = idle_at S (start_ticket S B) i no_machine member
 
-    no_calls : Calls S B (start_ticket S B i) (opening S B total) i [] []
+    pub no_calls : Calls S B (start_ticket S B i) (opening S B total) i [] []
     no_calls = record {
       made = ap (λ (d : Data). d.made) here ∙ omega arith;
       idle = λ q. refl;
       open_call = λ q. let z : true ≡ false = sym (ap (λ (d : Data). is_idle d.place) here) ∙ q in cc;
+      unanswered = λ q. ap (λ (d : Data). d.answer) here;
       last = λ q. ap (λ (d : Data). d.answer) here;
       each = λ x l. absurd (omega arith);
       reads = λ k r l. absurd (omega arith);
       calls = λ k l u. absurd (omega (arith, l, u));
+      rising = λ x y l u. absurd (omega (arith, u));
+      reads_from = λ x l. absurd (omega (arith, l));
     }
 
     pub every_call : (es : List Event) → IsSchedule S (opening S B total) es → Calls S B (start_ticket S B i) (run S (opening S B total) es) i (operations es i) (outcomes S (opening S B total) es i)

@@ -4,20 +4,16 @@ use Rattle.std.specs.Option.{option_map}
 use Rattle.std.specs.List.{find, range_with_len}
 use Rattle.std.proofs.lemmas.Bool.{cases_eq, and_parts, eq-eqb, ne_eqb, lt-ltb, le-leb, ltb-true, ltb-false, eqb-true}
 use Rattle.of_cell.specs.Words.{word, seq, pay}
-use Rattle.of_cell.specs.Cells.{data_cell}
 use Rattle.of_cell.proofs.Order.{seq_word, pay_word}
-use Rattle.of_recover.specs.Row.{IsDurableRow, current_seq, current_owner, is_open}
+use Rattle.of_recover.specs.Row.{current_owner, is_open}
 use Rattle.of_recover.specs.Log.{log_word, entry_count, entry_value, names, first_naming}
-use Rattle.of_recover.specs.Recovered.{replayed_data, recovered_data, recovered}
-use Rattle.of_recover.proofs.Kept.{data_at}
-use Rattle.of_recover.proofs.Agreeing.{recovered_data-same}
-use Rattle.of_core.specs.Table.{Setup, size, request_at, request_of, durable_word, durable_request, durable_cell, last, holder, risen}
+use Rattle.of_recover.specs.Recovered.{replayed_data, recovered_data}
+use Rattle.of_core.specs.Table.{Setup, request_at, request_of, durable_word, durable_request, durable_cell, last, holder, risen}
 use Rattle.of_core.specs.Machine.{log_words}
 use Rattle.of_core.specs.World.{World, Start}
 use Rattle.of_core.specs.History.{batch, at}
 use Rattle.of_core.specs.Shared.{Opened, IsLog}
 use Rattle.of_core.specs.Invariant.{Core}
-use Rattle.of_core.specs.Claim.{IsSound}
 use Rattle.of_core.proofs.States.{old, named_at, unnamed}
 use Rattle.of_core.proofs.Logs.{length-log_words, words_at}
 use Rattle.of_core.proofs.Assembling.{logs_of}
@@ -192,11 +188,3 @@ module _ (S : Setup) (Lawful : List ℕ → Type 0) (B : Start) (w : World) (g :
       go : (b : Bool) → is_open S.callers row ≡ b → (if b then replayed_data S.callers S.cells row (entry_count S.callers S.cells row) a else durable_cell S w.words a) ≡ at B w.batches d a
       go true e = replayed e a l
       go false e = shut e a l
-
--- A list of the durable words recovers to the state of the durable sequence, and names it.
-module _ (S : Setup) (B : Start) (w : World) (sound : IsSound S B w) (durable : List ℕ) (all : IsDurableRow S.callers S.cells durable) (there : (c : ℕ) → c < size S → get_or durable c 0 ≡ durable_word S w.words c) where
-  pub list_recovers : (a : ℕ) → a < S.cells → a < 4294967296 → get_or (recovered S.callers S.cells durable) (data_cell S.callers a) 0 ≡ at B w.batches (risen S w.words) a
-  list_recovers a l m = data_at S.callers S.cells durable all a l ∙ recovered_data-same S.callers S.cells (λ c. get_or durable c 0) (durable_word S w.words) there a l m ∙ sound.recovers a l
-
-  pub list_seq : current_seq (λ c. get_or durable c 0) ≡ risen S w.words
-  list_seq = ap seq (there 0 (omega arith))

@@ -1,15 +1,16 @@
 -- Worked schedules, computed by the definitions.
-use Rattle.std.proofs.Common.{◌≡◌, [], ◌∷◌, length, Some, true, false, refl}
+use Rattle.std.proofs.Common.{◌≡◌, ℕ, [], ◌∷◌, length, get_or, Some, true, false, refl, arith}
 use Rattle.of_cell.specs.Words.{word, seq, pay}
 use Rattle.of_mem.specs.Meaning.{marked}
 use Rattle.of_core.specs.declared.place.Place.TheVariants.{LoadCurrent, RaiseClosed, StoreAnnouncement}
 use Rattle.of_core.specs.declared.place.Outcome.TheVariants.{Answered, Spent}
-use Rattle.of_core.specs.Table.{current_word}
+use Rattle.of_core.specs.Table.{current_word, cell}
 use Rattle.of_core.specs.Steps.{want, took}
-use Rattle.of_core.specs.World.{added, answered}
-use Rattle.of_core.specs.Events.{machine, turns}
-use Rattle.of_core.specs.Starts.{first_cells, first_words}
-use Rattle.of_core.specs.Calls.{operations, steps_told}
+use Rattle.of_core.specs.World.{Start, added, answered}
+use Rattle.of_core.specs.History.{state}
+use Rattle.of_core.specs.Events.{machine, turns, zeros}
+use Rattle.of_core.specs.Starts.{first_cells, first_words, recovered_start}
+use Rattle.of_core.specs.Calls.{operations, steps_told, Beyond}
 use Rattle.of_core.specs.Least.{least_read, least_call}
 use Rattle.of_core.specs.Worked.{registers, first_key, table_with, alone, overtaken, read_and_store, two_calls, behind_one, reply_with}
 
@@ -72,3 +73,23 @@ starts_behind = (refl, refl, refl)
 starts_renumbered : ((machine (behind_one 0 10 48) 0).made ≡ 2) × ((machine (behind_one 0 10 48) 0).answer ≡ Some (Answered 1 true (reply_with (0 ∷ [])) 48))
 unfolding want took added answered word seq pay marked first_cells first_words
 starts_renumbered = (refl, refl)
+
+-- a crash behind the exchange alone leaves the start from before, and one behind the raise of the
+-- current-transaction word leaves a start at which the store was made, though its cell isn't yet
+abbrev crashed : (turns : ℕ) → Start
+crashed k = recovered_start (table_with 1 registers) (zeros (table_with 1 registers)) (alone 1 registers (7 ∷ []) k)
+
+restarts_before : ((crashed 29).seq ≡ 0) × (get_or (crashed 29).cells 19 0 ≡ 0)
+unfolding want took added answered word seq pay marked first_cells first_words state
+restarts_before = (refl, refl)
+
+restarts_behind : ((crashed 30).seq ≡ 1) × (get_or (crashed 30).cells 0 0 ≡ word 1 1) × (get_or (crashed 30).cells 19 0 ≡ word 1 7) × (cell (table_with 1 registers) (alone 1 registers (7 ∷ []) 30).words 19 ≡ 0)
+unfolding want took added answered word seq pay marked first_cells first_words state
+restarts_behind = (refl, refl, refl, refl)
+
+-- a read may be of the state that was read before, and a batch that runs a call is a newer one
+read_again : Beyond 1 (Answered 1 false (reply_with []) 3)
+read_again = omega arith
+
+never_run_again : Beyond 1 (Answered 1 true (reply_with []) 48) → ⊥
+never_run_again newer = omega (arith, newer)

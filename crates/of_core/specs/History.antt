@@ -31,6 +31,18 @@ no_batch = record { owner = 0; log = []; calls = []; announcements = λ c. 0 }
 unfoldable pub batch : Start → List Batch → ℕ → Batch
 batch B bs k = get_or bs (k - B.seq - 1) no_batch
 
+-- so it is of the calls of each batch
+abbrev pub EachBatch : Start → List Batch → (List Call → Type 0) → Type 0
+EachBatch B bs P = (k : ℕ) → B.seq < k → k ≤ B.seq + length bs → P (batch B bs k).calls
+
+-- so it is of each call in the batches
+abbrev pub EachCall : Start → List Batch → (Call → Type 0) → Type 0
+EachCall B bs P = EachBatch B bs (All P)
+
+-- a call of caller i is older than the one with this ticket
+abbrev pub IsOlderCall : (i ticket : ℕ) → Call → Type 0
+IsOlderCall i ticket c = c.caller ≡ i → c.ticket < ticket
+
 -- a data word after batch k
 abbrev pub at : Start → List Batch → ℕ → ℕ → ℕ
 at B bs k a = get_or (state B bs k) a 0
@@ -75,11 +87,13 @@ InRow S i a = (ticket_cell S i ≤ a) × (a < ticket_cell S i + (S.instrs + 2))
 pub record Shows (S : Setup) (B : Start) (bs : List Batch) (k j : ℕ) (c : Call) : Type 0 where
   pub ticket : at B bs k (ticket_cell S c.caller) ≡ word j c.ticket
   pub shape : pay (at B bs k (shape_cell S c.caller)) ≡ c.raw.shape
-  pub replies : (y : ℕ) → y < S.instrs → marked c.raw.shape y ≡ true → pay (at B bs k (reply_cell S c.caller y)) ≡ get_or c.raw.values y 0
+  pub replies : (y : ℕ) → y < S.instrs → marked c.raw.shape y ≡ true
+      → pay (at B bs k (reply_cell S c.caller y)) ≡ get_or c.raw.values y 0
 
 -- caller i has no call in batches lo + 1 to hi
 abbrev pub Absent : Start → List Batch → ℕ → ℕ → ℕ → Type 0
-Absent B bs i lo hi = (k : ℕ) → lo < k → k ≤ hi → All (λ (c : Call). c.caller ≡ i → ⊥) (batch B bs k).calls
+Absent B bs i lo hi = (k : ℕ) → lo < k → k ≤ hi
+    → All (λ (c : Call). c.caller ≡ i → ⊥) (batch B bs k).calls
 
 -- the last call of caller i in the batches up to k, and that its own cells show it
 pub record LastCall (S : Setup) (B : Start) (bs : List Batch) (k i : ℕ) : Type 0 where
@@ -93,20 +107,27 @@ pub record LastCall (S : Setup) (B : Start) (bs : List Batch) (k i : ℕ) : Type
   pub absent : Absent B bs i number k
   pub old : (a : ℕ) → InRow S i a → seq (at B bs k a) ≤ number
 
--- the own cells of caller i in state k hold its last call in the batches up to k, or are the start's where it has none
+-- the own cells of caller i in state k hold its last call in the batches up to k, or are the
+-- start's where it has none
 abbrev pub Last : Setup → Start → List Batch → ℕ → ℕ → Type 0
-Last S B bs k i = (Absent B bs i B.seq k × ((a : ℕ) → InRow S i a → at B bs k a ≡ at B bs B.seq a)) ⊎ LastCall S B bs k i
+Last S B bs k i =
+    (Absent B bs i B.seq k × ((a : ℕ) → InRow S i a → at B bs k a ≡ at B bs B.seq a))
+    ⊎ LastCall S B bs k i
 
 -- the callers of a batch's calls rise
 abbrev pub Rising : List Call → Type 0
-Rising cs = (j k : ℕ) → j < k → k < length cs → (get_or cs j no_call).caller < (get_or cs k no_call).caller
+Rising cs = (j k : ℕ) → j < k → k < length cs
+    → (get_or cs j no_call).caller < (get_or cs k no_call).caller
 
 -- the two replies are the same where they have numbers
 abbrev pub SameReply : Setup → RawReply → RawReply → Type 0
-SameReply S r q = (r.shape ≡ q.shape) × ((y : ℕ) → y < S.instrs → marked r.shape y ≡ true → get_or r.values y 0 ≡ get_or q.values y 0)
+SameReply S r q = (r.shape ≡ q.shape)
+    × ((y : ℕ) → y < S.instrs → marked r.shape y ≡ true
+    → get_or r.values y 0 ≡ get_or q.values y 0)
 
 -- the calls have this one, with this reply
-pub record HasCall (S : Setup) (cs : List Call) (i t : ℕ) (op : List ℕ) (r : RawReply) : Type 0 where
+pub record HasCall (S : Setup) (cs : List Call) (i t : ℕ) (op : List ℕ) (r : RawReply)
+    : Type 0 where
   pub place : ℕ
   pub among : place < length cs
   pub caller : (get_or cs place no_call).caller ≡ i

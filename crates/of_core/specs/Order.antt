@@ -1,4 +1,5 @@
--- The order of one caller's calls: reads that were answered without being announced stand between its calls in the batches.
+-- The order of one caller's calls: reads that were answered without being announced stand between
+-- its calls in the batches.
 use Rattle.std.specs.Prelude.{◌≡◌, ℕ, ◌+◌, ◌<◌, ◌≤◌, ◌⊎◌, List, [], length, Bool, true, false}
 use Rattle.std.specs.List.{All}
 use Rattle.std.proofs.Common.{get_or}
@@ -9,7 +10,8 @@ use Rattle.of_core.specs.Machine.{Call, Data, is_idle}
 use Rattle.of_core.specs.World.{World, Start, Batch, Read}
 use Rattle.of_core.specs.History.{batch, ticket_in, numbers}
 
--- the read is of an operation that only reads, and its reply is the meaning on the state at its sequence, which is at most d
+-- the read is of an operation that only reads, and its reply is the meaning on the state at its
+-- sequence, which is at most d
 pub record IsRead (S : Setup) (B : Start) (bs : List Batch) (d : ℕ) (r : Read) : Type 0 where
   pub caller : r.caller < S.callers
   pub from : B.seq ≤ r.seq
@@ -20,20 +22,27 @@ pub record IsRead (S : Setup) (B : Start) (bs : List Batch) (d : ℕ) (r : Read)
 abbrev pub no_read : Read
 no_read = record { caller = 0; ticket = 0; op = []; raw = record { shape = 0; values = [] }; seq = 0 }
 
--- of two reads of one caller the later answered is the later made, and has read no older state
-abbrev pub Successive : List Read → Type 0
-Successive rs = (j k : ℕ) → j < k → k < length rs → (get_or rs j no_read).caller ≡ (get_or rs k no_read).caller
-    → ((get_or rs j no_read).ticket < (get_or rs k no_read).ticket) × ((get_or rs j no_read).seq ≤ (get_or rs k no_read).seq)
+-- of two reads of one caller the second is the later made, and has read no older state
+abbrev pub Follows : (first second : Read) → Type 0
+Follows r q = r.caller ≡ q.caller → (r.ticket < q.ticket) × (r.seq ≤ q.seq)
 
--- of a call in batch k and a read of one caller the one made first stands first; a batch stands before the reads of its state
+-- reads stand in the order of their answers
+abbrev pub Successive : List Read → Type 0
+Successive rs = (j k : ℕ) → j < k → k < length rs → Follows (get_or rs j no_read) (get_or rs k no_read)
+
+-- of a call in batch k and a read of one caller the one made first stands first; a batch stands
+-- before the reads of its state
 abbrev pub InOrder : ℕ → Call → Read → Type 0
-InOrder k c r = c.caller ≡ r.caller → ((c.ticket < r.ticket) × (k ≤ r.seq)) ⊎ ((r.ticket < c.ticket) × (r.seq < k))
+InOrder k c r = c.caller ≡ r.caller
+    → ((c.ticket < r.ticket) × (k ≤ r.seq)) ⊎ ((r.ticket < c.ticket) × (r.seq < k))
 
 -- each read is lawful, and the calls of each caller stand in the order in which it made them
-pub record Ordered (S : Setup) (B : Start) (ws : List ℕ) (bs : List Batch) (rs : List Read) : Type 0 where
+pub record Ordered (S : Setup) (B : Start) (ws : List ℕ) (bs : List Batch) (rs : List Read)
+    : Type 0 where
   pub reads : All (IsRead S B bs (risen S ws)) rs
   pub successive : Successive rs
-  pub apart : (k : ℕ) → B.seq < k → k ≤ B.seq + length bs → All (λ (c : Call). All (InOrder k c) rs) (batch B bs k).calls
+  pub apart : (k : ℕ) → B.seq < k → k ≤ B.seq + length bs
+      → All (λ (c : Call). All (InOrder k c) rs) (batch B bs k).calls
 
 -- a machine that has loaded the current-transaction word for a try of its read
 abbrev pub IsTrying : Data → Place → Type 0
@@ -58,8 +67,10 @@ OlderBy m r false = r.ticket < m.made
 abbrev pub IsOlder : Data → Place → Read → Type 0
 IsOlder m p r = OlderBy m r (is_idle p)
 
--- what a machine has behind it: its caller's reads are older, and in a try none of them, and no call of its caller in a batch, is newer than the state that is read
-pub record Behind (S : Setup) (B : Start) (ws : List ℕ) (bs : List Batch) (rs : List Read) (i : ℕ) (m : Data) (p : Place) : Type 0 where
+-- what a machine has behind it: its caller's reads are older, and in a try none of them, and no
+-- call of its caller in a batch, is newer than the state that is read
+pub record Behind (S : Setup) (B : Start) (ws : List ℕ) (bs : List Batch) (rs : List Read) (i : ℕ)
+    (m : Data) (p : Place) : Type 0 where
   pub older : All (λ (r : Read). r.caller ≡ i → IsOlder m p r) rs
   pub seen : IsTrying m p → All (λ (r : Read). r.caller ≡ i → r.seq ≤ m.seq) rs
   pub still : IsTrying m p → ticket_in S B bs m.seq i ≡ ticket_in S B bs (last ws) i
@@ -67,4 +78,5 @@ pub record Behind (S : Setup) (B : Start) (ws : List ℕ) (bs : List Batch) (rs 
 -- the order of calls in a world, and what each machine needs to keep it
 pub record Order (S : Setup) (B : Start) (w : World) : Type 0 where
   pub ordered : Ordered S B w.words w.batches w.reads
-  pub behind : (i : ℕ) (m : Data) → i < S.callers → get_or w.machines i m ≡ m → Behind S B w.words w.batches w.reads i m m.place
+  pub behind : (i : ℕ) (m : Data) → i < S.callers → get_or w.machines i m ≡ m
+      → Behind S B w.words w.batches w.reads i m m.place

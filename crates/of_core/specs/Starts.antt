@@ -1,11 +1,13 @@
--- Where a table starts: its words at a start, and the start that a durable row is.
-use Rattle.std.specs.Prelude.{◌≡◌, ℕ, ◌+◌, ◌*◌, ◌-◌, List, ◌∷◌, ◌++◌, length, slice_range}
+-- Where a table starts: its words at a start, the start that a durable row is, and the one that
+-- recovery finds.
+use Rattle.std.specs.Prelude.{◌≡◌, ℕ, ◌+◌, ◌*◌, ◌-◌, ◌<◌, List, ◌∷◌, ◌++◌, length, slice_range}
 use Rattle.std.proofs.Common.{get_or, set, replicate, zero, suc}
 use Rattle.of_cell.specs.Words.{word, seq, pay}
 use Rattle.of_cell.specs.Cells.{data_cell, durable_cells}
 use Rattle.of_recover.specs.Recovered.{recovered}
-use Rattle.of_core.specs.Table.{Setup}
-use Rattle.of_core.specs.World.{Start}
+use Rattle.of_core.specs.Table.{Setup, size, durable_word, risen}
+use Rattle.of_core.specs.World.{World, Start}
+use Rattle.of_core.specs.History.{state}
 use Rattle.of_core.specs.Shared.{MayStart}
 
 -- the request of a start's owner: closed, where there is a transaction behind the start
@@ -13,17 +15,40 @@ abbrev pub closed_at : ℕ → ℕ
 closed_at zero = 0
 closed_at (suc s) = word (suc s) 1
 
--- the cells at a start: its current-transaction word and its data words, its owner's request closed, and 0 everywhere else
+-- the cells at a start: its current-transaction word and its data words, its owner's request
+-- closed, and 0 everywhere else
 unfoldable pub first_cells : (callers cells : ℕ) → Start → List ℕ
-first_cells callers cells B = (word B.seq B.owner ∷ set (replicate callers 0) B.owner (closed_at B.seq)) ++ (B.cells ++ replicate (callers * (2 * cells + 1)) 0)
+first_cells callers cells B =
+    (word B.seq B.owner ∷ set (replicate callers 0) B.owner (closed_at B.seq))
+    ++ (B.cells ++ replicate (callers * (2 * cells + 1)) 0)
 
 -- the words at a start: the cells, their durable words, which are the same, and 0 behind them
 unfoldable pub first_words : (callers cells : ℕ) → Start → (words : ℕ) → List ℕ
-first_words callers cells B n = first_cells callers cells B ++ (first_cells callers cells B ++ replicate (n - (durable_cells callers cells + durable_cells callers cells)) 0)
+first_words callers cells B n =
+    first_cells callers cells B
+    ++ (first_cells callers cells B
+    ++ replicate (n - (durable_cells callers cells + durable_cells callers cells)) 0)
 
 -- the start that a durable row is
 abbrev pub start_of : (callers cells : ℕ) → List ℕ → Start
-start_of callers cells row = record { seq = seq (get_or row 0 0); owner = pay (get_or row 0 0); cells = slice_range row (data_cell callers 0) (data_cell callers 0 + cells) }
+start_of callers cells row = record {
+  seq = seq (get_or row 0 0);
+  owner = pay (get_or row 0 0);
+  cells = slice_range row (data_cell callers 0) (data_cell callers 0 + cells);
+}
+
+-- the row is the durable words, cell by cell
+pub record IsDurable (S : Setup) (ws row : List ℕ) : Type 0 where
+  pub long : length row ≡ size S
+  pub each : (c : ℕ) → c < size S → get_or row c 0 ≡ durable_word S ws c
+
+-- the start that recovery finds: the durable sequence, its owner, and the state after its batch
+abbrev pub recovered_start : Setup → Start → World → Start
+recovered_start S B w = record {
+  seq = risen S w.words;
+  owner = pay (durable_word S w.words 0);
+  cells = state B w.batches (risen S w.words);
+}
 
 -- a durable row of which recovery changes nothing, and which a table may start from
 pub record IsStartRow (S : Setup) (Lawful : List ℕ → Type 0) (row : List ℕ) : Type 0 where
