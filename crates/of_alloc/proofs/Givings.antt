@@ -1,6 +1,7 @@
 -- Giving a block back to a free list.
 use Rattle.std.proofs.Common.{◌≡◌, ℕ, ◌+◌, ◌<◌, ◌≤◌, ◌≢◌, sym, ◌∙◌, subst, arith, List, [], ◌∷◌}
 use Rattle.std.specs.List.{AllByRecursion as Each}
+use Rattle.of_mem.specs.declared.plot.TheConstants.{MOST_BLOCKS}
 use Rattle.of_mem.specs.Places.{fresh_at, free_at, cells_at}
 use Rattle.of_mem.specs.Pad.{Pad}
 use Rattle.of_mem.specs.Programs.{changed, Inside, IsPartOf, RunsAs}
@@ -43,11 +44,11 @@ module _ (o blocks : ℕ) (m : ℕ → ℕ) (free : List ℕ) (b : ℕ) (h : IsF
     cells = other;
   }
 
-  inside : blocks ≤ 512 → Inside o (cells_at o blocks) (give_program o b) m
+  inside : blocks ≤ MOST_BLOCKS → Inside o (cells_at o blocks) (give_program o b) m
   inside few = (omega arith, omega arith, (omega arith, omega (arith, out.0, h.few), free_small o blocks m free h few, (omega arith, omega arith, omega (arith, out.0, h.few), tt)))
 
-  given_to : blocks ≤ 512 → (p q : Pad) → IsPartOf p m → RunsAs (give_program o b) p tt q → (n : ℕ → ℕ) × IsPartOf q n × IsGiven o blocks m free b n
+  given_to : blocks ≤ MOST_BLOCKS → (p q : Pad) → IsPartOf p m → RunsAs (give_program o b) p tt q → (n : ℕ → ℕ) × IsPartOf q n × IsGiven o blocks m free b n
   given_to few p q is e = (given, (run_ended o (cells_at o blocks) (give_program o b) p q m tt is (inside few) e).part, is_given)
 
-pub gives_to : (o blocks : ℕ) → blocks ≤ 512 → (b : ℕ) (p q : Pad) → RunsAs (give_program o b) p tt q → GivesTo o blocks p b q
+pub gives_to : (o blocks : ℕ) → blocks ≤ MOST_BLOCKS → (b : ℕ) (p q : Pad) → RunsAs (give_program o b) p tt q → GivesTo o blocks p b q
 gives_to o blocks few b p q e m free is h out = given_to o blocks m free b h out few p q is e

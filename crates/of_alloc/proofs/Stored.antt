@@ -1,6 +1,7 @@
 -- Taking a block where the cells stand for a store.
 use Rattle.std.proofs.Common.{◌≡◌, ℕ, ◌<◌, ◌≤◌, sym, ◌∙◌, ap, subst, arith, ltb, true, false, Option, Some, None, [], length}
 use Rattle.std.proofs.lemmas.Bool.{lt-ltb, le-ltb}
+use Rattle.of_mem.specs.declared.plot.TheConstants.{MOST_BLOCKS}
 use Rattle.of_mem.specs.Places.{cells_at}
 use Rattle.of_mem.specs.Pad.{Pad}
 use Rattle.of_mem.specs.Programs.{answer, after, writes, Inside, IsPartOf, RunsAs}
@@ -14,7 +15,7 @@ use Rattle.of_alloc.specs.Took.{Took}
 use Rattle.of_alloc.proofs.Heaped.{TakesOff, take_takes_off, heap_free_list}
 use Rattle.of_alloc.proofs.Takings.{taking}
 
-module _ (o blocks : ℕ) (few : blocks ≤ 512) (m : ℕ → ℕ) (s : Store) (h : Stands o blocks m s) where
+module _ (o blocks : ℕ) (few : blocks ≤ MOST_BLOCKS) (m : ℕ → ℕ) (s : Store) (h : Stands o blocks m s) where
   pub free_list : IsFreeList o blocks m (h.chains 0)
   free_list = heap_free_list o blocks m h.chains h.owner h.heap
 

@@ -2,6 +2,8 @@
 use Rattle.std.proofs.Common.{◌≡◌, ℕ, zero, suc, ◌+◌, ◌-◌, ◌<◌, ◌≤◌, ◌≢◌, refl, sym, ◌∙◌, subst, arith, ltb, Bool, true, false, Option, Some, None, List, [], ◌∷◌}
 use Rattle.std.proofs.lemmas.Bool.{ltb-true, ltb-false}
 use Rattle.std.specs.List.{AllByRecursion as Each}
+use Rattle.of_mem.specs.Numbers.{FitsCell}
+use Rattle.of_mem.specs.declared.plot.TheConstants.{MOST_BLOCKS}
 use Rattle.of_mem.specs.Places.{fresh_at, free_at, cells_at}
 use Rattle.of_mem.specs.Pad.{Pad, newest}
 use Rattle.of_mem.specs.Programs.{Program, answer, after, writes, changed, Inside, IsPartOf, RunsAs}
@@ -18,11 +20,11 @@ front_below o blocks m [] f h e n = absurd (n (sym e ∙ h.linked))
 front_below o blocks m (x ∷ l) f h e n = omega (arith, h.linked.0, h.below.0, h.few)
 
 -- so is what its link leads to
-next_small : (o blocks : ℕ) (m : ℕ → ℕ) (b : ℕ) (l : List ℕ) → IsFreeList o blocks m (b ∷ l) → blocks ≤ 512 → m (link_at o b) < 4294967296
+next_small : (o blocks : ℕ) (m : ℕ → ℕ) (b : ℕ) (l : List ℕ) → IsFreeList o blocks m (b ∷ l) → blocks ≤ MOST_BLOCKS → FitsCell (m (link_at o b))
 next_small o blocks m b [] h few = omega (arith, h.linked.1)
 next_small o blocks m b (x ∷ l) h few = omega (arith, h.linked.1.0, h.below.1.0, h.few)
 
-pub free_small : (o blocks : ℕ) (m : ℕ → ℕ) (free : List ℕ) → IsFreeList o blocks m free → blocks ≤ 512 → m (free_at o) < 4294967296
+pub free_small : (o blocks : ℕ) (m : ℕ → ℕ) (free : List ℕ) → IsFreeList o blocks m free → blocks ≤ MOST_BLOCKS → FitsCell (m (free_at o))
 free_small o blocks m [] h few = omega (arith, h.linked)
 free_small o blocks m (x ∷ l) h few = omega (arith, h.linked.0, h.below.0, h.few)
 
@@ -71,7 +73,7 @@ module _ (o blocks : ℕ) (m : ℕ → ℕ) where
       fresh : changed m (fresh_at o) (m (fresh_at o) + 1) (fresh_at o) ≡ m (fresh_at o) + 1
       fresh = changed_same m (fresh_at o) (m (fresh_at o) + 1)
 
-  module _ (few : blocks ≤ 512) where
+  module _ (few : blocks ≤ MOST_BLOCKS) where
     -- what a taking reads, writes and does, by the pointer that free holds
     pub record Run (free : List ℕ) (f : Program (Option ℕ)) : Type 0 where
       pub inside : Inside o (cells_at o blocks) f m
@@ -103,7 +105,7 @@ module _ (o blocks : ℕ) (m : ℕ → ℕ) where
         let d = run_ended o (cells_at o blocks) (take_program o blocks) p q m r is k.inside e in
         (after (take_program o blocks) m, d.part, subst (λ (x : Option ℕ). Takes o blocks m free x (after (take_program o blocks) m)) (sym d.answers) k.takes)
 
-pub takes_from : (o blocks : ℕ) → blocks ≤ 512 → (p q : Pad) (r : Option ℕ) → RunsAs (take_program o blocks) p r q → TakesFrom o blocks p r q
+pub takes_from : (o blocks : ℕ) → blocks ≤ MOST_BLOCKS → (p q : Pad) (r : Option ℕ) → RunsAs (take_program o blocks) p r q → TakesFrom o blocks p r q
 takes_from o blocks few p q r e m free is h = taken_from o blocks m few free p q r is h e
 
 pub front_read : (o blocks : ℕ) (p : Pad) (m : ℕ → ℕ) (free : List ℕ) (f a : ℕ) → IsPartOf p m → IsFreeList o blocks m free → a ≡ free_at o → newest p a ≡ Some f → f ≢ 0 → f - 1 < blocks

@@ -3,6 +3,7 @@ use Rattle.std.proofs.Common.{◌≡◌, ℕ, ◌+◌, ◌-◌, ◌<◌, ◌≤�
 use Rattle.std.specs.Prelude.{slice_get}
 use Rattle.std.proofs.lemmas.Option.{none-some}
 use Rattle.std.proofs.lemmas.List.{drop_more, take_more_set, take_all, get_or-drop, length-take-le}
+use Rattle.of_mem.specs.declared.plot.TheConstants.{MOST_BLOCKS}
 use Rattle.of_mem.specs.declared.work.RawReply.{RawReply}
 use Rattle.of_mem.specs.Pad.{Pad, newest}
 use Rattle.of_mem.specs.Places.{register_at, cells_at}
@@ -71,7 +72,7 @@ module _ (o blocks : ℕ) where
     pub ran_lacks : (a : ℕ) → run (word_program o blocks (get_or op i 0)) p ≡ Lacks a → run (words_program o blocks n (take i vs) (drop i op)) p ≡ Lacks a
     ran_lacks a e = opened ∙ run_then_needs (word_program o blocks (get_or op i 0)) next p a e
 
-  module _ (few : blocks ≤ 512) (w : ℕ) (p q : Pad) (v : Option ℕ) where
+  module _ (few : blocks ≤ MOST_BLOCKS) (w : ℕ) (p q : Pad) (v : Option ℕ) where
     abbrev program : Program Answer
     program = word_program o blocks w
 

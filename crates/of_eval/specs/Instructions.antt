@@ -4,6 +4,7 @@ use Rattle.std.specs.Prelude.{sum_by}
 use Rattle.std.specs.FinMap as fin
 use Rattle.std.proofs.lemmas.Bool.{cases_eq, ltb-false, ltb-true, lt-leb, le-leb}
 use Rattle.std.proofs.lemmas.List.{get_or-set_same, get_or-set_other}
+use Rattle.of_mem.specs.declared.plot.TheConstants.{MOST_BLOCKS}
 use Rattle.of_mem.specs.Places.{register_at, cells_at}
 use Rattle.of_mem.specs.Programs.{Program, answer, after, changed, Inside, then_do}
 use Rattle.of_mem.specs.Stores.{Stands, things}
@@ -62,7 +63,7 @@ queue_plain s q items l = λ i. record { registers = s.registers; map = s.keys; 
 after_first : {A : Type 0} (o blocks : ℕ) (m : ℕ → ℕ) (f : Program A) (g : A → Program Answer) (e : Effect) → Inside o (cells_at o blocks) f m → Acts o blocks (after f m) (g (answer f m)) e → Acts o blocks m (then_do f g) e
 after_first o blocks m f g e i k = (inside_then o (cells_at o blocks) f g m i k.0, rw (answer_then f g m, after_then f g m) k.1)
 
-module _ (o blocks : ℕ) (few : blocks ≤ 512) (m : ℕ → ℕ) (s : State) (h : IsStored o blocks m s) where
+module _ (o blocks : ℕ) (few : blocks ≤ MOST_BLOCKS) (m : ℕ → ℕ) (s : State) (h : IsStored o blocks m s) where
   abbrev Does : Program Answer → Effect → Type 0
   Does f e = Acts o blocks m f e
 

@@ -17,7 +17,7 @@ mod walk;
 use crate::lawful_cells::fill::begun_store;
 use crate::lawful_cells::own::callers;
 use crate::lawful_cells::walk::{all_met, bucket, free_list, fresh, keys, queue, registers};
-use of_mem::Plot;
+use of_mem::{BUCKETS, Plot};
 use of_script::QUEUES;
 use of_store::Store;
 use std::alloc::{AllocError, Global};
@@ -39,9 +39,6 @@ impl From<AllocError> for LawErr {
         LawErr::Memory
     }
 }
-
-/// How many buckets there are.
-const BUCKETS: u32 = 32;
 
 /// Looks at the cells in their order, and makes the store that they stand for.
 fn looked_at(alloc: Global, plot: &Plot, cells: &[u32]) -> Result<Store, LawErr>

@@ -1,6 +1,7 @@
 pub mod Meaning
 pub mod Pairs
 pub mod Indexed
+pub mod Numbers
 pub mod Pad
 pub mod Places
 pub mod Plots

@@ -1,5 +1,6 @@
 -- Programs that read and write cells, one after the other: what a call over cells reads and writes, and in which order. The cells of a whole memory are a function from their numbers.
 use Rattle.std.specs.Prelude.{◌≡◌, ℕ, cond, eqb, ◌<◌, ◌≤◌, List, [], ◌∷◌, Option, Some, None}
+use Rattle.of_mem.specs.Numbers.{FitsCell}
 use Rattle.of_mem.specs.Pad.{Pad, newest, wrote}
 
 pub data Program (A : Type 0) : Type 0 where
@@ -63,7 +64,7 @@ writes (Write a v f) m = (a, v) ∷ writes f (changed m a v)
 abbrev pub Inside : {A : Type 0} → ℕ → ℕ → Program A → (ℕ → ℕ) → Type 0
 Inside low size (Done r) m = Unit {0}
 Inside low size (Read a k) m = (low ≤ a) × (a < size) × Inside low size (k (m a)) m
-Inside low size (Write a v f) m = (low ≤ a) × (a < size) × (v < 4294967296) × Inside low size f (changed m a v)
+Inside low size (Write a v f) m = (low ≤ a) × (a < size) × FitsCell v × Inside low size f (changed m a v)
 
 -- on every memory it reads and writes no cell before this one
 abbrev pub StaysFrom : {A : Type 0} → ℕ → Program A → Type 0

@@ -10,6 +10,9 @@ use crate::part::{Need, Part};
 /// The most words of an operation, and the most numbers of a reply.
 pub const MOST_INSTRS: usize = 16;
 
+/// The least shape of a script that was aborted: the cause stands in the bits above it.
+pub const LEAST_ABORT: u32 = 1 << 26;
+
 /// A reply as cells hold it: its shape, and a number at each place, 0 where the shape marks none.
 #[derive(Clone, Copy, Debug, PartialEq, Eq)]
 pub struct RawReply {

@@ -1,6 +1,7 @@
 -- What the queues' calls know of the cells that they read.
 use Rattle.std.proofs.Common.{◌≡◌, ℕ, zero, suc, ◌+◌, ◌-◌, ◌<◌, ◌≤◌, ◌≢◌, refl, sym, ◌∙◌, ap, subst, arith, Option, Some, List, [], ◌∷◌, map}
 use Rattle.std.specs.List.{AllByRecursion as Each}
+use Rattle.of_mem.specs.declared.plot.TheConstants.{MOST_BLOCKS}
 use Rattle.of_mem.specs.Places.{fresh_at, free_at, head_at, tail_at, length_at}
 use Rattle.of_mem.specs.Pad.{Pad, newest, wrote}
 use Rattle.of_mem.specs.Programs.{RunsAs, after, changed}
@@ -17,7 +18,7 @@ use Rattle.of_queue.specs.Fronts.{IsFront, IsPopped}
 use Rattle.of_queue.proofs.Pops.{popped}
 
 -- what is known after a block was taken
-pub after_take : (o blocks : ℕ) → blocks ≤ 512 → (q : ℕ) → q < 4 → (p n : Pad) (x : Option ℕ) (b : ℕ) → HasStore o blocks p → RunsAs (take_program o blocks) p x n → x ≡ Some b
+pub after_take : (o blocks : ℕ) → blocks ≤ MOST_BLOCKS → (q : ℕ) → q < 4 → (p n : Pad) (x : Option ℕ) (b : ℕ) → HasStore o blocks p → RunsAs (take_program o blocks) p x n → x ≡ Some b
     → (b < blocks) × ((k : ℕ) → newest n (tail_at o q) ≡ Some k → k ≤ blocks) × ((k : ℕ) → newest n (length_at o q) ≡ Some k → k < 4294967295)
 after_take o blocks few q l p n x b has e is =
     let m = has.0 in

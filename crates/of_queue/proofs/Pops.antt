@@ -2,9 +2,11 @@
 use Rattle.std.proofs.Common.{◌≡◌, ℕ, suc, ◌+◌, ◌-◌, ◌%◌, ◌<◌, ◌≤◌, ◌≢◌, refl, sym, ◌∙◌, ap, subst, arith, Some, List, [], ◌∷◌, length, map}
 use Rattle.std.specs.List.{AllByRecursion as Each}
 use Rattle.std.specs.FinMap as fin
+use Rattle.of_mem.specs.declared.plot.TheConstants.{MOST_BLOCKS}
 use Rattle.of_mem.specs.Places.{register_at, free_at, keys_at, head_at, tail_at, length_at, cells_at}
 use Rattle.of_mem.specs.Programs.{changed, answer, after, Inside, IsPartOf}
-use Rattle.of_mem.specs.Stores.{Store, Stands, IsHeap, IsChain, IsQueue, IsNumber, front_at, link_at, first_at, second_at, total, last_pointer}
+use Rattle.of_mem.specs.Numbers.{IsNumber}
+use Rattle.of_mem.specs.Stores.{Store, Stands, IsHeap, IsChain, IsQueue, front_at, link_at, first_at, second_at, total, last_pointer}
 use Rattle.of_mem.proofs.Changes.{changed_same, changed_other, changed_cases, total_changed, total_changed_past}
 use Rattle.of_mem.proofs.Heaps.{fronts, front_head}
 use Rattle.of_mem.proofs.Moves.{heap_changed, heap_unlink}
@@ -186,7 +188,7 @@ module _ (o blocks : ℕ) (m : ℕ → ℕ) (s : Store) (h : Stands o blocks m s
     items = rw length1 one_item;
   }
 
-  pub front_inside : blocks ≤ 512 → Inside o (cells_at o blocks) (front_program o q b) m
+  pub front_inside : blocks ≤ MOST_BLOCKS → Inside o (cells_at o blocks) (front_program o q b) m
   front_inside few = (
     omega arith,
     omega (arith, below.0),

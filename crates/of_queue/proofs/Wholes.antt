@@ -1,9 +1,11 @@
 -- What the code of the queues does is what a store does: the runs stay inside, and the store changes as it should.
 use Rattle.std.proofs.Common.{◌≡◌, ℕ, suc, ◌+◌, ◌<◌, ◌≤◌, refl, sym, ◌∙◌, ap, subst, arith, Bool, Option, Some, None, List, [], ◌∷◌, map, length}
+use Rattle.of_mem.specs.declared.plot.TheConstants.{MOST_BLOCKS}
 use Rattle.of_mem.specs.Places.{head_at, cells_at}
 use Rattle.of_mem.specs.Pad.{Pad}
 use Rattle.of_mem.specs.Programs.{answer, after, Inside, RunsAs}
-use Rattle.of_mem.specs.Stores.{Store, Stands, IsNumber, IsChain, front_at, first_at}
+use Rattle.of_mem.specs.Numbers.{IsNumber}
+use Rattle.of_mem.specs.Stores.{Store, Stands, IsChain, front_at, first_at}
 use Rattle.of_mem.specs.StoreParts.{Acts, Answers}
 use Rattle.of_mem.proofs.Heaps.{front_head}
 use Rattle.of_mem.proofs.Runs.{answer_then, after_then, inside_then, run_ended}
@@ -15,7 +17,7 @@ use Rattle.of_queue.specs.Means.{has_room, after_push, front_of, after_pop}
 use Rattle.of_queue.proofs.Pushes.{stands, pushes, new_inside}
 use Rattle.of_queue.proofs.Pops.{front_inside, pop_acts}
 
-module _ (o blocks : ℕ) (few : blocks ≤ 512) (m : ℕ → ℕ) (s : Store) (h : Stands o blocks m s) (q : ℕ) (q_in : q < 4) where
+module _ (o blocks : ℕ) (few : blocks ≤ MOST_BLOCKS) (m : ℕ → ℕ) (s : Store) (h : Stands o blocks m s) (q : ℕ) (q_in : q < 4) where
   module _ (v : ℕ) (v_in : IsNumber v) where
     abbrev Pushes : Bool → (ℕ → ℕ) → Type 0
     Pushes r n = (r ≡ has_room blocks s) × Stands o blocks n (after_push blocks q v s)
@@ -58,14 +60,14 @@ module _ (o blocks : ℕ) (few : blocks ≤ 512) (m : ℕ → ℕ) (s : Store) (
   pop_means = by_chain (h.chains (33 + q)) refl
 
 -- what a push does
-pub push_acts : (o blocks : ℕ) → blocks ≤ 512 → (q v : ℕ) → q < 4 → IsNumber v → (p n : Pad) (r : Bool) → RunsAs (push_program o blocks q v) p r n → Acts o blocks p r n (has_room blocks) (after_push blocks q v)
+pub push_acts : (o blocks : ℕ) → blocks ≤ MOST_BLOCKS → (q v : ℕ) → q < 4 → IsNumber v → (p n : Pad) (r : Bool) → RunsAs (push_program o blocks q v) p r n → Acts o blocks p r n (has_room blocks) (after_push blocks q v)
 push_acts o blocks few q v q_in v_in p n r e m s is h =
     let g = push_means o blocks few m s h q q_in v v_in in
     let d = run_ended o (cells_at o blocks) (push_program o blocks q v) p n m r is g.0 e in
     (d.answers ∙ g.1.0, (after (push_program o blocks q v) m, d.part, g.1.1))
 
 -- what a pop does
-pub pop_acts_whole : (o blocks : ℕ) → blocks ≤ 512 → (q : ℕ) → q < 4 → (p n : Pad) (r : Option ℕ) → RunsAs (pop_program o q) p r n → Acts o blocks p r n (λ s. front_of (s.queues q)) (after_pop q)
+pub pop_acts_whole : (o blocks : ℕ) → blocks ≤ MOST_BLOCKS → (q : ℕ) → q < 4 → (p n : Pad) (r : Option ℕ) → RunsAs (pop_program o q) p r n → Acts o blocks p r n (λ s. front_of (s.queues q)) (after_pop q)
 pop_acts_whole o blocks few q q_in p n r e m s is h =
     let g = pop_means o blocks few m s h q q_in in
     let d = run_ended o (cells_at o blocks) (pop_program o q) p n m r is g.0 e in

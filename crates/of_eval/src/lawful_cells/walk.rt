@@ -1,6 +1,7 @@
 //! The walk through the chains.
 
 ghost use Rattle.std.specs.Prelude.{◌≡◌, ◌≢◌, ◌<◌, ◌+◌, ◌↔◌, IsTrue, EachIndex, slice_index, ℕ, List, length, IfOk, IfErr, OnOk, All};
+ghost use Rattle.of_mem.specs.declared.plot.TheConstants.{BUCKETS, QUEUES};
 ghost use Rattle.of_mem.specs.Plots.{base, size};
 ghost use Rattle.of_mem.specs.Places.{fresh_at};
 ghost use Rattle.of_mem.specs.ProgramWork.{memory};
@@ -9,18 +10,18 @@ ghost use Rattle.of_eval.specs.Lawful.{StandsFor};
 ghost use Rattle.of_eval.specs.Faults.{OwnsStand, AreNumbers};
 ghost use Rattle.of_eval.specs.Walking.{NamesFault, HasBegun, Freed, Before, Stepped, StoppedAt};
 
+use crate::lawful_cells::LawErr;
 use crate::lawful_cells::fill::{push, put};
-use crate::lawful_cells::{BUCKETS, LawErr};
-use of_mem::Plot;
+use of_mem::{BUCKETS, Plot};
 use of_script::{GREATEST, REGISTERS};
 use of_store::Store;
 
 // The chains in order: the free list, the buckets, the queues.
-const FREE_LIST: u8 = 0;
+const FREE_CHAIN: u8 = 0;
 
-const FIRST_BUCKET: u8 = 1;
+const FIRST_BUCKET_CHAIN: u8 = FREE_CHAIN + 1;
 
-const FIRST_QUEUE: u8 = 33;
+const FIRST_QUEUE_CHAIN: u8 = FIRST_BUCKET_CHAIN + BUCKETS as u8;
 
 /// Looks at the registers.
 pub(crate) fn registers(plot: &Plot, cells: &[u32]) -> Result<(), LawErr>
@@ -88,7 +89,7 @@ pub(crate) fn free_list(plot: &Plot, cells: &[u32], owners: &mut [u8]) -> Result
     ensures err { IfErr result (NamesFault plot.now cells.now) }
 {
     let mut cell = plot.free();
-    while let Some(block) = next(cells, cell, FREE_LIST, owners)? {
+    while let Some(block) = next(cells, cell, FREE_CHAIN, owners)? {
         cell = plot.block(block, 2);
     }
     Ok(())
@@ -103,13 +104,13 @@ pub(crate) fn bucket(
     store: &mut Store,
 ) -> Result<(), LawErr>
     requires sized { length cells.now ≡ size plot.now }
-    requires b { b < 32 }
+    requires b { b < BUCKETS }
     requires before { Before plot.now cells.now (1 + b) 0 owners.old store.old }
     ensures ok { OnOk result (Before plot.now cells.now (2 + b) 0 owners.new store.new) }
     ensures err { IfErr result (NamesFault plot.now cells.now) }
 {
     let mut cell = plot.bucket(b);
-    while let Some(block) = next(cells, cell, FIRST_BUCKET + b as u8, owners)? {
+    while let Some(block) = next(cells, cell, FIRST_BUCKET_CHAIN + b as u8, owners)? {
         let first = plot.block(block, 0);
         let second = plot.block(block, 1);
         let key = cells[first as usize];
@@ -148,14 +149,14 @@ pub(crate) fn queue(
     store: &mut Store,
 ) -> Result<(), LawErr>
     requires sized { length cells.now ≡ size plot.now }
-    requires q { q < 4 }
+    requires q { q < QUEUES }
     requires before { Before plot.now cells.now (33 + q) (33 + q) owners.old store.old }
     ensures ok { OnOk result (Before plot.now cells.now (34 + q) (34 + q) owners.new store.new) }
     ensures err { IfErr result (NamesFault plot.now cells.now) }
 {
     let mut cell = plot.head(q);
     let mut last = 0;
-    while let Some(block) = next(cells, cell, FIRST_QUEUE + q as u8, owners)? {
+    while let Some(block) = next(cells, cell, FIRST_QUEUE_CHAIN + q as u8, owners)? {
         let first = plot.block(block, 0);
         let item = cells[first as usize];
         if item > GREATEST {
