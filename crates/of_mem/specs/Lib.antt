@@ -8,4 +8,4 @@ pub mod Plots
 pub mod Programs
 pub mod Stores
 pub mod ProgramWork
-pub mod StoreParts
+pub mod Calls

@@ -1,6 +1,8 @@
 -- Programs that read and write cells, one after the other: what a call over cells reads and writes, and in which order. The cells of a whole memory are a function from their numbers.
 use Rattle.std.specs.Prelude.{◌≡◌, ℕ, cond, eqb, ◌<◌, ◌≤◌, List, [], ◌∷◌, Option, Some, None}
+use Rattle.std.specs.Option.{unwrap_or}
 use Rattle.of_mem.specs.Numbers.{FitsCell}
+use Rattle.of_mem.specs.Pairs.{value_at}
 use Rattle.of_mem.specs.Pad.{Pad, newest, wrote}
 
 pub data Program (A : Type 0) : Type 0 where
@@ -41,6 +43,10 @@ NeedsAt f p a = run f p ≡ Lacks a
 -- a function with one value changed, as a memory with one cell written
 unfoldable pub changed : {A : Type 0} → (ℕ → A) → ℕ → A → ℕ → A
 changed m a v x = cond (eqb x a) v (m x)
+
+-- a memory with these pairs written
+unfoldable pub with_writes : (ℕ → ℕ) → List (ℕ × ℕ) → ℕ → ℕ
+with_writes m es a = unwrap_or (value_at es a) (m a)
 
 -- what a program answers on a whole memory
 abbrev pub answer : {A : Type 0} → Program A → (ℕ → ℕ) → A
