@@ -11,7 +11,7 @@ use of_mem::{Need, Part, Plot};
 /// None comes exactly where all blocks are out, and then nothing is written. The error names a cell
 /// that is read and isn't known.
 pub fn take(plot: &Plot, part: &mut Part) -> Result<Option<u32>, Need>
-    requires free { HasFreeList plot.now part.old }
+    requires { HasFreeList plot.now part.old }
     ensures runs { RunsOn (take plot.now) part.old part.new result }
     ensures takes { TakesFrom plot.now part.old part.new result }
 {
@@ -33,7 +33,7 @@ pub fn take(plot: &Plot, part: &mut Part) -> Result<Option<u32>, Need>
 /// Puts a block that is out in front of the free list. The error names a cell that is read and
 /// isn't known.
 pub fn give(plot: &Plot, part: &mut Part, block: u32) -> Result<(), Need>
-    requires out { HasOut plot.now part.old block }
+    requires { HasOut plot.now part.old block }
     ensures runs { RunsOn (give plot.now block) part.old part.new result }
     ensures gives { GivesTo plot.now part.old part.new block result }
 {
