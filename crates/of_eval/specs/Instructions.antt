@@ -11,6 +11,7 @@ use Rattle.of_mem.specs.Stores.{Stands, things}
 use Rattle.of_mem.proofs.Changes.{changed_same, changed_other}
 use Rattle.of_mem.proofs.Runs.{answer_then, after_then, inside_then}
 use Rattle.of_map.specs.MapPrograms.{get_program, put_program, del_program}
+use Rattle.of_map.specs.declared.answers.Put.{Put as PutAnswer}
 use Rattle.of_map.specs.Means.{put_answer, put_store}
 use Rattle.of_map.proofs.Gets.{get_means}
 use Rattle.of_map.proofs.Changes.{put_means}
@@ -131,7 +132,7 @@ module _ (o blocks : ℕ) (few : blocks ≤ MOST_BLOCKS) (m : ℕ → ℕ) (s : 
       after_first o blocks m (put_program o blocks k v) put_answers (effect s (Put k v)) (put_inside o blocks few m (plain s) h.stands k v (omega (arith, k_in)) (omega (arith, v_in)))
       (put_case (fin.get s.keys k) (ltb (things (plain s)) blocks) refl (answer (put_program o blocks k v) m) (after (put_program o blocks k v) m) p.0 p.1)
     where
-      put_case : (old : Option ℕ) (t : Bool) → ltb (things (plain s)) blocks ≡ t → (r : Option (Option ℕ)) (n : ℕ → ℕ) → r ≡ put_answer old t → Stands o blocks n (put_store (plain s) k v old t)
+      put_case : (old : Option ℕ) (t : Bool) → ltb (things (plain s)) blocks ≡ t → (r : PutAnswer) (n : ℕ → ℕ) → r ≡ put_answer old t → Stands o blocks n (put_store (plain s) k v old t)
           → Acts o blocks n (put_answers r) (cond (is_none old && leb s.room (kept s)) (Err NoRoom) (Ok (record s { keys = fin.insert s.keys k v }, old)))
       put_case (Some w) t e r n is stands = rw is (tt, (refl, stands))
       put_case None true e r n is stands = rw (is, not_full e) (tt, (refl, stands))
