@@ -14,9 +14,8 @@ ghost use Rattle.of_map.specs.Means.{IsPair, Puts, after_del};
 
 mod answers;
 
-pub use answers::Put;
-
 use crate::answers::Position;
+pub use answers::Put;
 use of_mem::{BUCKETS, Need, Part, Plot};
 
 /// Where the block of a key stands, None where the key is absent.

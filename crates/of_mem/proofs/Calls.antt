@@ -1,12 +1,12 @@
 -- What a call that ran as a program says, and a call that is made of two.
-use Rattle.std.proofs.Common.{◌≡◌, ◌∙◌, ℕ, sym, subst, Ok}
-use Rattle.std.specs.Prelude.{Result, MatchResult, IfOk}
+use Rattle.std.proofs.Common.{◌≡◌, ◌∙◌, ℕ, subst, Ok}
+use Rattle.std.specs.Prelude.{Result, IfOk}
 use Rattle.std.proofs.lemmas.Result.{MatchResult-weaker}
 use Rattle.of_mem.specs.declared.part.Need.{Need}
 use Rattle.of_mem.specs.declared.plot.Plot.{Plot}
 use Rattle.of_mem.specs.Plots.{base, size}
 use Rattle.of_mem.specs.Pad.{Pad}
-use Rattle.of_mem.specs.Programs.{Program, then_do, RunsAs, NeedsAt, IsPartOf, Inside, answer, after, with_writes}
+use Rattle.of_mem.specs.Programs.{Program, then_do, RunsAs, IsPartOf, Inside, answer, after}
 use Rattle.of_mem.specs.Stores.{Store}
 use Rattle.of_mem.specs.Calls.{RunsOn, StandsFor, Answers, ActsOn, Acts}
 use Rattle.of_mem.proofs.Runs.{run_then_at, run_ended, after_ended}

@@ -1,10 +1,11 @@
 -- What a work means: what an operation does to a lawful list of cells, and how a run that knows only some cells goes.
-use Rattle.std.specs.Prelude.{◌≡◌, ℕ, ◌+◌, ◌*◌, ◌^◌, ◌/◌, ◌%◌, ◌==◌, ◌<◌, ◌≤◌, List, [], ◌∷◌, length, Option, Some, None, Bool, true}
+use Rattle.std.specs.Prelude.{◌≡◌, ℕ, ◌+◌, ◌*◌, ◌^◌, ◌/◌, ◌%◌, ◌==◌, ◌<◌, ◌≤◌, List, [], ◌∷◌, length, Option, Some, None, Bool, true, Result, MatchResult}
 use Rattle.std.specs.List.{All}
 use Rattle.of_cell.specs.declared.shape.TheConstants.{MOST_CALLERS, MOST_DATA_CELLS}
 use Rattle.of_mem.specs.declared.work.TheConstants.{MOST_INSTRS, LEAST_ABORT}
 use Rattle.of_mem.specs.Numbers.{FitsCell}
 use Rattle.std.proofs.Common.{get_or, set, drop}
+use Rattle.of_mem.specs.declared.part.Need.{Need}
 use Rattle.of_mem.specs.declared.work.RawReply.{RawReply}
 
 -- how a run on known cells ends: at a cell that it needs and that isn't known, or with its writes in order of first writing and its reply
@@ -30,6 +31,17 @@ written xs (e ∷ es) = written (set xs e.0 e.1) es
 -- each cell that is known has the list's number
 abbrev pub Agrees : List (Option ℕ) → List ℕ → Type 0
 Agrees known xs = (a v : ℕ) → get_or known a None ≡ Some v → get_or xs a 0 ≡ v
+
+-- the known cells are those of a lawful list of this size
+abbrev pub KnowsSome : (List ℕ → Type 0) → ℕ → List (Option ℕ) → Type 0
+KnowsSome lawful size known = (xs : List ℕ) × (length xs ≡ size) × lawful xs × Agrees known xs
+
+-- the run went as the walk on these known cells: it gave the walk's writes and reply, or named the
+-- cell that the walk needs, with no writes and the reply as before
+abbrev pub RunsAsWalked : Meaning → List (Option ℕ) → List ℕ → Result (Unit {0}) Need → List (ℕ × ℕ) → RawReply → RawReply → Type 0
+RunsAsWalked M known op result script before after =
+    MatchResult result (λ _. M.walk known op ≡ Gives script after)
+    (λ need. (M.walk known op ≡ Needs need.addr) × (script ≡ []) × (after ≡ before))
 
 -- alike from the cell on where the operations' own cells begin
 abbrev pub SameFrom : ℕ → List ℕ → List ℕ → Type 0

@@ -1,8 +1,8 @@
 //! What runs operations on cells.
 
-ghost use Rattle.std.specs.Prelude.{◌≡◌, ◌+◌, ◌*◌, ◌≤◌, ℕ, List, [], length, MatchResult};
+ghost use Rattle.std.specs.Prelude.{◌≡◌, ◌+◌, ◌*◌, ◌≤◌, ℕ, List, [], length};
 ghost use Rattle.of_mem.specs.declared.work.TheConstants.{MOST_INSTRS};
-ghost use Rattle.of_mem.specs.Meaning.{Meaning, Sound, HasRoom, Agrees, Needs, Gives};
+ghost use Rattle.of_mem.specs.Meaning.{Meaning, Sound, HasRoom, KnowsSome, RunsAsWalked};
 ghost use Rattle.of_mem.specs.Pad.{over};
 
 use crate::part::{Need, Part};
@@ -47,13 +47,14 @@ pub trait Work: Copy + Send + Sync {
     /// with the script and the reply in `out`. The error names the cell that the run needs next; then the script has no writes and
     /// `out` is as before.
     fn run(&self, part: &mut Part, op: &[u64], out: &mut RawReply) -> Result<(), Need>
-        requires agrees { (xs : List ℕ) × (length xs ≡ size self.now) × lawful self.now xs × Agrees (over part.old.known part.old.batch) xs }
+        requires agrees { KnowsSome (lawful self.now) (size self.now) (over part.old.known part.old.batch) }
         requires cells { length part.old.known ≡ size self.now }
         requires empty { part.old.script ≡ [] }
         requires some { 1 ≤ length op.now }
         requires few { length op.now ≤ MOST_INSTRS }
         ensures part { part.new ≡ record part.old { script = part.new.script } }
-        ensures walk { MatchResult result (λ _. (meaning self.now).walk (over part.old.known part.old.batch) op.now ≡ Gives part.new.script out.new) (λ need. ((meaning self.now).walk (over part.old.known part.old.batch) op.now ≡ Needs need.addr) × (part.new.script ≡ []) × (out.new ≡ out.old)) };
+        ensures walk { RunsAsWalked (meaning self.now) (over part.old.known part.old.batch) op.now result
+            part.new.script out.old out.new };
 
     /// Whether an operation is known to write nothing.
     fn reads_only(&self, op: &[u64]) -> bool

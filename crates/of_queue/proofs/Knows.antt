@@ -1,7 +1,6 @@
 -- What the queues' calls know of the cells that they read.
-use Rattle.std.proofs.Common.{◌≡◌, ℕ, zero, suc, ◌+◌, ◌-◌, ◌<◌, ◌≤◌, ◌≢◌, refl, sym, ◌∙◌, ap, subst, arith, Option, Some, List, [], ◌∷◌, map, length, Ok}
+use Rattle.std.proofs.Common.{◌≡◌, ℕ, zero, suc, ◌+◌, ◌-◌, ◌<◌, ◌≢◌, refl, sym, ◌∙◌, ap, subst, arith, Option, Some, List, [], ◌∷◌, map, length, Ok}
 use Rattle.std.specs.List.{AllByRecursion as Each}
-use Rattle.of_mem.specs.declared.plot.TheConstants.{MOST_BLOCKS}
 use Rattle.of_mem.specs.Places.{fresh_at, free_at, head_at, tail_at, length_at}
 use Rattle.of_mem.specs.Pad.{Pad, newest, wrote}
 use Rattle.of_mem.specs.Programs.{after, changed}
@@ -71,11 +70,14 @@ pops_out plot p n q b link c k e at is known =
 
 -- a cleared tail leaves the free list, and what is out, as they were
 cleared : (o blocks : ℕ) (m : ℕ → ℕ) (free : List ℕ) (q b : ℕ) → IsFreeList o blocks m free → IsOut o m free b → IsFreeList o blocks (changed m (tail_at o q) 0) free × IsOut o (changed m (tail_at o q) 0) free b
-cleared o blocks m free q b list out = (record {
-  linked = chain_changed o m (tail_at o q) 0 (free_at o) free (λ (e : free_at o ≡ tail_at o q). omega arith) (links free) list.linked;
-  below = subst (λ (f : ℕ). Each (λ x. x < f) free) (sym fresh) list.below;
-  few = rw fresh list.few;
-}, (rw fresh out.0, out.1))
+cleared o blocks m free q b list out = (
+  record {
+    linked = chain_changed o m (tail_at o q) 0 (free_at o) free (λ (e : free_at o ≡ tail_at o q). omega arith) (links free) list.linked;
+    below = subst (λ (f : ℕ). Each (λ x. x < f) free) (sym fresh) list.below;
+    few = rw fresh list.few;
+  },
+  (rw fresh out.0, out.1),
+)
   where
     fresh : changed m (tail_at o q) 0 (fresh_at o) ≡ m (fresh_at o)
     fresh = changed_other m (tail_at o q) 0 (fresh_at o) (λ e. omega arith)

@@ -4,7 +4,7 @@ use Rattle.of_mem.specs.declared.plot.TheConstants.{MOST_BLOCKS}
 use Rattle.std.specs.Prelude.{Result}
 use Rattle.of_mem.specs.Places.{head_at, cells_at}
 use Rattle.of_mem.specs.Pad.{Pad}
-use Rattle.of_mem.specs.Programs.{answer, after, Inside, RunsAs}
+use Rattle.of_mem.specs.Programs.{answer, after, Inside}
 use Rattle.of_mem.specs.Numbers.{IsNumber}
 use Rattle.of_mem.specs.Stores.{Store, Stands, IsChain, front_at, first_at}
 use Rattle.of_mem.specs.declared.part.Need.{Need}

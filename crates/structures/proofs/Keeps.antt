@@ -2,7 +2,7 @@
 use Rattle.std.proofs.Common.{◌≡◌, ℕ, suc, ◌==◌, Bool, true, false, if◌then◌else◌, Option, Some, None, List, [], ◌∷◌, get_or, refl, sym, ◌∙◌, ap, subst, arith}
 use Rattle.std.proofs.lemmas.Bool.Decides.{nat_tests}
 use Rattle.of_mem.specs.Pairs.{value_at, put, put_all, IsAbsent}
-use Rattle.of_mem.specs.Pad.{Pad, newest, wrote, newer}
+use Rattle.of_mem.specs.Pad.{Pad, newest, wrote, newer, kept}
 use Rattle.of_mem.specs.Meaning.{Once}
 use Rattle.of_mem.specs.Programs.{Program, Done, Read, Write, Ran, Lacks, Ends, with_number, run}
 use Rattle.of_mem.specs.declared.plot.Plot.{Plot}
@@ -48,10 +48,6 @@ value_at_put_all es (d ∷ ds) a h = value_at_put_all (put es d.0 d.1) ds a (onc
 newer_of_three : (s b k : Option ℕ) → newer (newer s b) k ≡ newer s (newer b k)
 newer_of_three None b k = refl
 newer_of_three (Some v) b k = refl
-
--- what the batch has after it took over the script's writes
-abbrev pub kept : Pad → Pad
-kept p = record p { batch = put_all p.batch p.script; script = [] }
 
 newest_kept : (p : Pad) (a : ℕ) → Once p.script → newest (kept p) a ≡ newest p a
 unfolding newest

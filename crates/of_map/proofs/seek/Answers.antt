@@ -19,9 +19,13 @@ loop-step-init c = record {
 }
 
 pub returns-then-pointer-eq0 : goal.returns-then-pointer-eq0
-returns-then-pointer-eq0 c = record { known = refl; batch = refl; walk =
-    c.loop-step.invariant.ran ∙ ap (λ (n : ℕ). run (seek_from (base c.args.plot.now) c.args.key n c.loop-step.cell) c.args.part.now) (turn (c.args.plot.now.blocks + 1) c.loop-step.step c.loop-step-test.true)
-    ∙ seek_none (base c.args.plot.now) c.args.key (c.args.plot.now.blocks + 1 - (c.loop-step.step + 1)) c.loop-step.cell c.args.part.now c.in_ok-pointer.pointer c.in_ok-pointer.ensures c.if-pointer-eq0.true }
+returns-then-pointer-eq0 c = record {
+  known = refl;
+  batch = refl;
+  walk =
+      c.loop-step.invariant.ran ∙ ap (λ (n : ℕ). run (seek_from (base c.args.plot.now) c.args.key n c.loop-step.cell) c.args.part.now) (turn (c.args.plot.now.blocks + 1) c.loop-step.step c.loop-step-test.true)
+      ∙ seek_none (base c.args.plot.now) c.args.key (c.args.plot.now.blocks + 1 - (c.loop-step.step + 1)) c.loop-step.cell c.args.part.now c.in_ok-pointer.pointer c.in_ok-pointer.ensures c.if-pointer-eq0.true;
+}
 
 pub block-requires-clause-block : goal.block-requires-clause-block
 block-requires-clause-block c = pointer_below c.args.plot.now c.args.part.now c.loop-step.cell c.in_ok-pointer.pointer c.loop-step.invariant.leads c.in_ok-pointer.ensures c.if-pointer-eq0.false
@@ -32,10 +36,14 @@ read-requires-in-loop-step c =
     omega (arith, c.block.ensures, c.requires.fits)
 
 pub returns-then-found-key : goal.returns-then-found-key
-returns-then-found-key c = record { known = refl; batch = refl; walk =
-    c.loop-step.invariant.ran ∙ ap (λ (n : ℕ). run (seek_from (base c.args.plot.now) c.args.key n c.loop-step.cell) c.args.part.now) (turn (c.args.plot.now.blocks + 1) c.loop-step.step c.loop-step-test.true)
-    ∙ seek_here (base c.args.plot.now) c.args.key (c.args.plot.now.blocks + 1 - (c.loop-step.step + 1)) c.loop-step.cell c.args.part.now c.in_ok-pointer.pointer c.block.result c.in_ok-found.found c.in_ok-pointer.ensures c.if-pointer-eq0.false
-    (c.block.ensures) c.in_ok-found.ensures c.if-found-key.true }
+returns-then-found-key c = record {
+  known = refl;
+  batch = refl;
+  walk =
+      c.loop-step.invariant.ran ∙ ap (λ (n : ℕ). run (seek_from (base c.args.plot.now) c.args.key n c.loop-step.cell) c.args.part.now) (turn (c.args.plot.now.blocks + 1) c.loop-step.step c.loop-step-test.true)
+      ∙ seek_here (base c.args.plot.now) c.args.key (c.args.plot.now.blocks + 1 - (c.loop-step.step + 1)) c.loop-step.cell c.args.part.now c.in_ok-pointer.pointer c.block.result c.in_ok-found.found c.in_ok-pointer.ensures c.if-pointer-eq0.false
+      (c.block.ensures) c.in_ok-found.ensures c.if-found-key.true;
+}
 
 pub block-cell-requires-clause-block : goal.block-cell-requires-clause-block
 block-cell-requires-clause-block c = pointer_below c.args.plot.now c.args.part.now c.loop-step.cell c.in_ok-pointer.pointer c.loop-step.invariant.leads c.in_ok-pointer.ensures c.if-pointer-eq0.false
