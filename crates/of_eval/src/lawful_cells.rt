@@ -22,7 +22,8 @@ use of_script::QUEUES;
 use of_store::Store;
 use std::alloc::{AllocError, Global};
 
-/// Why cells are answered with no store: there is no memory, or they stand for none, and this is the first cell at fault.
+/// Why cells are answered with no store: there is no memory, or they stand for none, and this is
+/// the first cell at fault.
 #[derive(Clone, Copy, Debug, PartialEq, Eq)]
 pub enum LawErr {
     Memory,
@@ -63,9 +64,9 @@ fn looked_at(alloc: Global, plot: &Plot, cells: &[u32]) -> Result<Store, LawErr>
     Ok(store)
 }
 
-/// The store for which the data cells stand, each caller's own cells included. An error that names a cell says that they stand for no
-/// store; the cell is the first at fault: the callers' own cells are looked at first, then registers, the free list, buckets and
-/// queues.
+/// The store for which the data cells stand, each caller's own cells included. An error that names
+/// a cell says that they stand for no store; the cell is the first at fault: the callers' own cells
+/// are looked at first, then registers, the free list, buckets and queues.
 pub fn lawful(alloc: Global, plot: &Plot, cells: &[u32]) -> Result<Store, LawErr>
     requires { length cells.now ≡ size plot.now }
     // What is answered is what the cells stand for.

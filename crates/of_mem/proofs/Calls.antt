@@ -8,7 +8,7 @@ use Rattle.of_mem.specs.Plots.{base, size}
 use Rattle.of_mem.specs.Pad.{Pad}
 use Rattle.of_mem.specs.Programs.{Program, then_do, RunsAs, IsPartOf, Inside, answer, after}
 use Rattle.of_mem.specs.Stores.{Store}
-use Rattle.of_mem.specs.Calls.{RunsOn, StandsFor, Answers, ActsOn, Acts}
+use Rattle.of_mem.specs.Calls.{RunsOn, StandsOn, Answers, ActsOn, Acts}
 use Rattle.of_mem.proofs.Runs.{run_then_at, run_ended, after_ended}
 
 -- the second call goes on where the first one answered r
@@ -29,23 +29,23 @@ so_ok f p q R result h k = MatchResult-weaker result h.walk k (λ _ _. tt)
 pub record Means {A : Type 0} (plot : Plot) (m : ℕ → ℕ) (s : Store) (f : Program A) (to_answer : Store → A) (next : Store → Store) : Type 0 where
   pub inside : Inside (base plot) (size plot) f m
   pub answers : answer f m ≡ to_answer s
-  pub stands : StandsFor plot (after f m) (next s)
+  pub stands : StandsOn plot (after f m) (next s)
 
 -- a call acts on the store as its program does
-pub acts : {A : Type 0} (plot : Plot) (f : Program A) (to_answer : Store → A) (next : Store → Store) → ((m : ℕ → ℕ) (s : Store) → StandsFor plot m s → Means plot m s f to_answer next)
+pub acts : {A : Type 0} (plot : Plot) (f : Program A) (to_answer : Store → A) (next : Store → Store) → ((m : ℕ → ℕ) (s : Store) → StandsOn plot m s → Means plot m s f to_answer next)
     → (p q : Pad) (result : Result A Need) → RunsOn f p q result → Acts plot p q result to_answer next
-acts plot f to_answer next means p q result h = so_ok f p q (λ r. (m : ℕ → ℕ) (s : Store) → IsPartOf p m → StandsFor plot m s → ActsOn plot m s r q to_answer next) result h (λ r e m s is stands.
+acts plot f to_answer next means p q result h = so_ok f p q (λ r. (m : ℕ → ℕ) (s : Store) → IsPartOf p m → StandsOn plot m s → ActsOn plot m s r q to_answer next) result h (λ r e m s is stands.
     let k = means m s stands in
     let d = run_ended (base plot) (size plot) f p q m r is k.inside e in
     let same = after_ended f p q m r is d in
     record {
       answers = d.answers ∙ k.answers;
       part = subst (IsPartOf q) same d.part;
-      stands = subst (λ (n : ℕ → ℕ). StandsFor plot n (next s)) same k.stands;
+      stands = subst (λ (n : ℕ → ℕ). StandsOn plot n (next s)) same k.stands;
     })
 
 -- a call answers what its program answers
-pub answered : {A : Type 0} (plot : Plot) (f : Program A) (to_answer : Store → A) → ((m : ℕ → ℕ) (s : Store) → StandsFor plot m s → Inside (base plot) (size plot) f m × (answer f m ≡ to_answer s))
+pub answered : {A : Type 0} (plot : Plot) (f : Program A) (to_answer : Store → A) → ((m : ℕ → ℕ) (s : Store) → StandsOn plot m s → Inside (base plot) (size plot) f m × (answer f m ≡ to_answer s))
     → (p : Pad) (result : Result A Need) → RunsOn f p p result → Answers plot p result to_answer
-answered plot f to_answer means p result h = so_ok f p p (λ r. (m : ℕ → ℕ) (s : Store) → IsPartOf p m → StandsFor plot m s → r ≡ to_answer s) result h (λ r e m s is stands.
+answered plot f to_answer means p result h = so_ok f p p (λ r. (m : ℕ → ℕ) (s : Store) → IsPartOf p m → StandsOn plot m s → r ≡ to_answer s) result h (λ r e m s is stands.
     let k = means m s stands in (run_ended (base plot) (size plot) f p p m r is k.0 e).answers ∙ k.1)

@@ -15,8 +15,8 @@ pub record RunsOn {A : Type 0} (f : Program A) (before after : Pad) (result : Re
   pub batch : after.batch ≡ before.batch
 
 -- the plot's cells in this memory stand for this store
-abbrev pub StandsFor : Plot → (ℕ → ℕ) → Store → Type 0
-StandsFor plot m s = Stands (base plot) plot.blocks m s
+abbrev pub StandsOn : Plot → (ℕ → ℕ) → Store → Type 0
+StandsOn plot m s = Stands (base plot) plot.blocks m s
 
 -- the partial memory has the plot's cells, and is part of a memory that stands for some store
 pub record HasStore (plot : Plot) (p : Pad) : Type 0 where
@@ -24,21 +24,21 @@ pub record HasStore (plot : Plot) (p : Pad) : Type 0 where
   pub memory : ℕ → ℕ
   pub store : Store
   pub part : IsPartOf p memory
-  pub stands : StandsFor plot memory store
+  pub stands : StandsOn plot memory store
 
 -- whatever the store is, a call that found its cells answers this
 abbrev pub Answers : {A : Type 0} → Plot → Pad → Result A Need → (Store → A) → Type 0
 Answers plot p result answer =
-    IfOk result (λ r. (m : ℕ → ℕ) (s : Store) → IsPartOf p m → StandsFor plot m s → r ≡ answer s)
+    IfOk result (λ r. (m : ℕ → ℕ) (s : Store) → IsPartOf p m → StandsOn plot m s → r ≡ answer s)
 
 -- the call answered this of the store s in the memory m, which, with what the script has written,
 -- stands for the store that comes next
 pub record ActsOn {A : Type 0} (plot : Plot) (m : ℕ → ℕ) (s : Store) (r : A) (after : Pad) (answer : Store → A) (next : Store → Store) : Type 0 where
   pub answers : r ≡ answer s
   pub part : IsPartOf after (with_writes m after.script)
-  pub stands : StandsFor plot (with_writes m after.script) (next s)
+  pub stands : StandsOn plot (with_writes m after.script) (next s)
 
 -- whatever the store is, a call that found its cells does this to it
 abbrev pub Acts : {A : Type 0} → Plot → Pad → Pad → Result A Need → (Store → A) → (Store → Store) → Type 0
 Acts plot before after result answer next =
-    IfOk result (λ r. (m : ℕ → ℕ) (s : Store) → IsPartOf before m → StandsFor plot m s → ActsOn plot m s r after answer next)
+    IfOk result (λ r. (m : ℕ → ℕ) (s : Store) → IsPartOf before m → StandsOn plot m s → ActsOn plot m s r after answer next)

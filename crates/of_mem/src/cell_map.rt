@@ -12,8 +12,8 @@ use std::marker::Model;
 #[derive(Drop)]
 pub struct CellMap {
     entries: Vec<(u32, u32)>,
-    /// At each address that is there, the place of its entry. What stands at another address is left
-    /// over from earlier.
+    /// At each address that is there, the place of its entry. What stands at another address is
+    /// left over from earlier.
     places: Vec<u32>,
 }
 

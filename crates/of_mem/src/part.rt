@@ -38,7 +38,8 @@ impl Model for Part {
 
 #[tactic(auto, using(crate::proofs::Cells::cell_laws), unfolding(crate::specs::Pad::newest, crate::specs::Pad::wrote))]
 impl Part {
-    /// A memory of the cells below `cells` of which nothing is known. The error is that there is no memory.
+    /// A memory of the cells below `cells` of which nothing is known. The error is that there is no
+    /// memory.
     pub fn new(alloc: Global, cells: u32) -> Result<Self, AllocError>
         ensures { IfOk result (λ p. p ≡ unknown cells) }
     {
@@ -60,8 +61,8 @@ impl Part {
         self.known.put(addr, value);
     }
 
-    /// What a cell holds: the script's number, else the batch's, else the known one. The error names
-    /// the cell where there is none.
+    /// What a cell holds: the script's number, else the batch's, else the known one. The error
+    /// names the cell where there is none.
     pub fn read(&self, addr: u32) -> Result<u32, Need>
         requires { addr < length self.now.known }
         ensures { ReadsAt self.now addr result }

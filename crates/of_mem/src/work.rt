@@ -20,8 +20,8 @@ pub struct RawReply {
     pub values: [u32; MOST_INSTRS],
 }
 
-/// What runs operations on cells: the first `callers * (MOST_INSTRS + 2)` cells are the callers' own, and no operation reads or
-/// writes them.
+/// What runs operations on cells: the first `callers * (MOST_INSTRS + 2)` cells are the callers'
+/// own, and no operation reads or writes them.
 pub trait Work: Copy + Send + Sync {
     /// How many callers there are.
     ghost many: { Self → ℕ };
@@ -32,7 +32,8 @@ pub trait Work: Copy + Send + Sync {
     /// Which lists of cells are lawful.
     ghost lawful: { Self → List ℕ → Type 0 };
 
-    /// What an operation does to a list of cells, what it answers, and how it runs where only some cells are known.
+    /// What an operation does to a list of cells, what it answers, and how it runs where only some
+    /// cells are known.
     ghost meaning: { Self → Meaning };
 
     /// The number of callers.
@@ -43,9 +44,9 @@ pub trait Work: Copy + Send + Sync {
     fn cells(&self) -> u32
         ensures { result ≡ size self.now };
 
-    /// Runs an operation of 1 to `MOST_INSTRS` words on what is known, the batch's writes over the known cells. Ok leaves the writes
-    /// with the script and the reply in `out`. The error names the cell that the run needs next; then the script has no writes and
-    /// `out` is as before.
+    /// Runs an operation of 1 to `MOST_INSTRS` words on what is known, the batch's writes over the
+    /// known cells. Ok leaves the writes with the script and the reply in `out`. The error names
+    /// the cell that the run needs next; then the script has no writes and `out` is as before.
     fn run(&self, part: &mut Part, op: &[u64], out: &mut RawReply) -> Result<(), Need>
         requires agrees { KnowsSome (lawful self.now) (size self.now) (over part.old.known part.old.batch) }
         requires cells { length part.old.known ≡ size self.now }

@@ -8,7 +8,7 @@ use Rattle.of_mem.specs.Plots.{base, size}
 use Rattle.of_mem.specs.Pad.{Pad, newest}
 use Rattle.of_mem.specs.Programs.{IsPartOf}
 use Rattle.of_mem.specs.Stores.{Store}
-use Rattle.of_mem.specs.Calls.{StandsFor}
+use Rattle.of_mem.specs.Calls.{StandsOn}
 use Rattle.of_alloc.specs.Blocks.{HasOut}
 
 -- this block of the plot can be put behind the queue, and one item more can be counted
@@ -32,7 +32,7 @@ pub record IsFront (plot : Plot) (p : Pad) (q b : ℕ) : Type 0 where
   pub memory : ℕ → ℕ
   pub store : Store
   pub part : IsPartOf p memory
-  pub stands : StandsFor plot memory store
+  pub stands : StandsOn plot memory store
   pub rest : List ℕ
   pub front : stands.chains (33 + q) ≡ b ∷ rest
 

@@ -61,7 +61,8 @@ fn takes_the_only_block_again(rt: HostRuntime) -> Result<(), Fail> {
     Ok(())
 }
 
-/// What an instruction on keys or queues answers over cells: a number or none, or that there is no room.
+/// What an instruction on keys or queues answers over cells: a number or none, or that there is no
+/// room.
 fn answer(plot: &Plot, part: &mut Part, instr: Instr) -> Result<Result<Option<u32>, Cause>, Need>
     requires stands { HasStore plot.now part.old }
     requires empty { part.old.script ≡ [] }

@@ -56,8 +56,8 @@ pub(crate) fn fresh(plot: &Plot, cells: &[u32]) -> Result<u32, LawErr>
     Ok(fresh)
 }
 
-/// The block to which a pointer cell leads, None at a chain's end. The block becomes its chain's; a block that has a chain already, or
-/// is beyond the table, is a fault of the pointer.
+/// The block to which a pointer cell leads, None at a chain's end. The block becomes its chain's; a
+/// block that has a chain already, or is beyond the table, is a fault of the pointer.
 fn next(cells: &[u32], cell: u32, chain: u8, owners: &mut [u8]) -> Result<Option<u32>, LawErr>
     requires cell { cell < length cells.now }
     requires chain { chain < 255 }
@@ -140,7 +140,8 @@ pub(crate) fn keys(plot: &Plot, cells: &[u32], store: &Store) -> Result<(), LawE
     Ok(())
 }
 
-/// Walks a queue and puts its items into the store, and compares its tail and its length with what was met.
+/// Walks a queue and puts its items into the store, and compares its tail and its length with what
+/// was met.
 pub(crate) fn queue(
     plot: &Plot,
     cells: &[u32],
