@@ -2,10 +2,8 @@
 
 ghost use Rattle.std.specs.Prelude.{◌≡◌, IfOk, IfErr, MatchResult, length};
 ghost use Rattle.of_mem.specs.Plots.{size};
-ghost use Rattle.of_mem.specs.ProgramWork.{memory};
-ghost use Rattle.of_eval.specs.Lawful.{StandsFor};
 ghost use Rattle.of_store.specs.State.{State};
-ghost use Rattle.of_eval.specs.Walking.{NamesFault};
+ghost use Rattle.of_eval.specs.Walking.{NamesFault, CellsStandFor};
 ghost use Rattle.of_eval.specs.declared.lawful_cells.LawErr.TheVariants.{Memory};
 
 mod fill;
@@ -44,7 +42,7 @@ impl From<AllocError> for LawErr {
 /// Looks at the cells in their order, and makes the store that they stand for.
 fn looked_at(alloc: Global, plot: &Plot, cells: &[u32]) -> Result<Store, LawErr>
     requires { length cells.now ≡ size plot.now }
-    ensures ok { IfOk result (λ s. StandsFor plot.now.callers plot.now.instrs plot.now.blocks (memory cells.now) s) }
+    ensures ok { IfOk result (CellsStandFor plot.now cells.now) }
     ensures unlawful { IfErr result (NamesFault plot.now cells.now) }
 {
     callers(plot, cells)?;
@@ -70,11 +68,12 @@ fn looked_at(alloc: Global, plot: &Plot, cells: &[u32]) -> Result<Store, LawErr>
 pub fn lawful(alloc: Global, plot: &Plot, cells: &[u32]) -> Result<Store, LawErr>
     requires { length cells.now ≡ size plot.now }
     // What is answered is what the cells stand for.
-    ensures ok { IfOk result (λ s. StandsFor plot.now.callers plot.now.instrs plot.now.blocks (memory cells.now) s) }
+    ensures ok { IfOk result (CellsStandFor plot.now cells.now) }
     // A cell that is named is the first at fault.
     ensures unlawful { IfErr result (NamesFault plot.now cells.now) }
     // Cells that stand for a store are answered by it, unless memory runs out.
-    ensures only { (s : State) → StandsFor plot.now.callers plot.now.instrs plot.now.blocks (memory cells.now) s → MatchResult result (λ t. t ≡ s) (λ e. e ≡ Memory) }
+    ensures only { (s : State) → CellsStandFor plot.now cells.now s →
+        MatchResult result (λ t. t ≡ s) (λ e. e ≡ Memory) }
 {
     looked_at(alloc, plot, cells)
 }

@@ -22,7 +22,8 @@ pub fn words_mean_script()
 
 /// Cells stand for one store at most.
 pub fn one_store()
-    ensures { (o blocks : ℕ) (m : ℕ → ℕ) (s t : State) → IsStored o blocks m s → IsStored o blocks m t → s ≡ t }
+    ensures { (o blocks : ℕ) (m : ℕ → ℕ) (s t : State) →
+        IsStored o blocks m s → IsStored o blocks m t → s ≡ t }
 {}
 
 /// Cells with a first fault stand for no store: so `lawful` names a cell exactly where they stand

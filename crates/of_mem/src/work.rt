@@ -48,14 +48,15 @@ pub trait Work: Copy + Send + Sync {
     /// known cells. Ok leaves the writes with the script and the reply in `out`. The error names
     /// the cell that the run needs next; then the script has no writes and `out` is as before.
     fn run(&self, part: &mut Part, op: &[u64], out: &mut RawReply) -> Result<(), Need>
-        requires agrees { KnowsSome (lawful self.now) (size self.now) (over part.old.known part.old.batch) }
+        requires agrees { KnowsSome (lawful self.now) (size self.now)
+            (over part.old.known part.old.batch) }
         requires cells { length part.old.known ≡ size self.now }
         requires empty { part.old.script ≡ [] }
         requires some { 1 ≤ length op.now }
         requires few { length op.now ≤ MOST_INSTRS }
         ensures part { part.new ≡ record part.old { script = part.new.script } }
-        ensures walk { RunsAsWalked (meaning self.now) (over part.old.known part.old.batch) op.now result
-            part.new.script out.old out.new };
+        ensures walk { RunsAsWalked (meaning self.now) (over part.old.known part.old.batch)
+            op.now result part.new.script out.old out.new };
 
     /// Whether an operation is known to write nothing.
     fn reads_only(&self, op: &[u64]) -> bool

@@ -5,10 +5,8 @@ ghost use Rattle.of_mem.specs.declared.plot.TheConstants.{BUCKETS, QUEUES};
 ghost use Rattle.of_mem.specs.Plots.{base, size};
 ghost use Rattle.of_mem.specs.Places.{fresh_at};
 ghost use Rattle.of_mem.specs.ProgramWork.{memory};
-ghost use Rattle.of_store.specs.State.{State};
-ghost use Rattle.of_eval.specs.Lawful.{StandsFor};
 ghost use Rattle.of_eval.specs.Faults.{OwnsStand, AreNumbers};
-ghost use Rattle.of_eval.specs.Walking.{NamesFault, HasBegun, Freed, Before, Stepped, StoppedAt};
+ghost use Rattle.of_eval.specs.Walking.{NamesFault, HasBegun, Freed, Before, Stepped, StoppedAt, KeysAreCounted, KeysAreMiscounted, AllAreMet, SomeAreUnmet};
 
 use crate::lawful_cells::LawErr;
 use crate::lawful_cells::fill::{push, put};
@@ -130,8 +128,8 @@ pub(crate) fn bucket(
 /// Compares the count of keys with the keys that were met.
 pub(crate) fn keys(plot: &Plot, cells: &[u32], store: &Store) -> Result<(), LawErr>
     requires sized { length cells.now ≡ size plot.now }
-    ensures ok { OnOk result ((owners : List ℕ) → Before plot.now cells.now 33 0 owners store.now → Before plot.now cells.now 33 33 owners store.now) }
-    ensures err { IfErr result (λ e. (owners : List ℕ) → Before plot.now cells.now 33 0 owners store.now → NamesFault plot.now cells.now e) }
+    ensures ok { OnOk result (KeysAreCounted plot.now cells.now store.now) }
+    ensures err { IfErr result (KeysAreMiscounted plot.now cells.now store.now) }
 {
     let cell = plot.keys();
     if cells[cell as usize] != store.keys() {
@@ -180,8 +178,8 @@ pub(crate) fn queue(
 
 /// Looks for a block that is in no chain.
 pub(crate) fn all_met(plot: &Plot, cells: &[u32], owners: &[u8]) -> Result<(), LawErr>
-    ensures ok { OnOk result ((s : State) → Before plot.now cells.now 37 37 owners.now s → StandsFor plot.now.callers plot.now.instrs plot.now.blocks (memory cells.now) s) }
-    ensures err { IfErr result (λ e. (s : State) → Before plot.now cells.now 37 37 owners.now s → NamesFault plot.now cells.now e) }
+    ensures ok { OnOk result (AllAreMet plot.now cells.now owners.now) }
+    ensures err { IfErr result (SomeAreUnmet plot.now cells.now owners.now) }
 {
     if all_owned(owners) {
         return Ok(());
