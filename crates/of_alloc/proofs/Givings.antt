@@ -1,15 +1,22 @@
 -- Giving a block back to a free list.
 use Rattle.std.proofs.Common.{◌≡◌, ℕ, ◌+◌, ◌<◌, ◌≤◌, ◌≢◌, sym, ◌∙◌, subst, arith, List, [], ◌∷◌}
 use Rattle.std.specs.List.{AllByRecursion as Each}
+use Rattle.of_mem.specs.declared.plot.TheConstants.{MOST_BLOCKS}
+use Rattle.std.specs.Prelude.{Result}
+use Rattle.of_mem.specs.declared.part.Need.{Need}
+use Rattle.of_mem.specs.declared.plot.Plot.{Plot}
+use Rattle.of_mem.specs.Plots.{base}
+use Rattle.of_mem.specs.Calls.{RunsOn}
 use Rattle.of_mem.specs.Places.{fresh_at, free_at, cells_at}
 use Rattle.of_mem.specs.Pad.{Pad}
-use Rattle.of_mem.specs.Programs.{changed, Inside, IsPartOf, RunsAs}
+use Rattle.of_mem.specs.Programs.{changed, with_writes, Inside, IsPartOf, RunsAs}
 use Rattle.of_mem.specs.Stores.{link_at}
 use Rattle.of_mem.proofs.Changes.{changed_same, changed_other}
 use Rattle.of_mem.proofs.Heaps.{chain_copy}
-use Rattle.of_mem.proofs.Runs.{run_ended}
-use Rattle.of_alloc.specs.Blocks.{IsFreeList, IsOut, IsGiven, GivesTo}
-use Rattle.of_alloc.specs.BlockPrograms.{give_program}
+use Rattle.of_mem.proofs.Runs.{run_ended, after_ended}
+use Rattle.of_mem.proofs.Calls.{so_ok}
+use Rattle.of_alloc.specs.Blocks.{IsFreeList, IsOut, IsGiven, GivesOn, GivesTo}
+use Rattle.of_alloc.specs.BlockPrograms.{give, give_program}
 use Rattle.of_alloc.proofs.Takings.{free_small}
 
 module _ (o blocks : ℕ) (m : ℕ → ℕ) (free : List ℕ) (b : ℕ) (h : IsFreeList o blocks m free) (out : IsOut o m free b) where
@@ -43,11 +50,16 @@ module _ (o blocks : ℕ) (m : ℕ → ℕ) (free : List ℕ) (b : ℕ) (h : IsF
     cells = other;
   }
 
-  inside : blocks ≤ 512 → Inside o (cells_at o blocks) (give_program o b) m
+  inside : blocks ≤ MOST_BLOCKS → Inside o (cells_at o blocks) (give_program o b) m
   inside few = (omega arith, omega arith, (omega arith, omega (arith, out.0, h.few), free_small o blocks m free h few, (omega arith, omega arith, omega (arith, out.0, h.few), tt)))
 
-  given_to : blocks ≤ 512 → (p q : Pad) → IsPartOf p m → RunsAs (give_program o b) p tt q → (n : ℕ → ℕ) × IsPartOf q n × IsGiven o blocks m free b n
-  given_to few p q is e = (given, (run_ended o (cells_at o blocks) (give_program o b) p q m tt is (inside few) e).part, is_given)
+  given_on : blocks ≤ MOST_BLOCKS → (p q : Pad) (r : Unit {0}) → IsPartOf p m → RunsAs (give_program o b) p r q → IsPartOf q (with_writes m q.script) × IsGiven o blocks m free b (with_writes m q.script)
+  given_on few p q r is e =
+      let d = run_ended o (cells_at o blocks) (give_program o b) p q m r is (inside few) e in
+      let same = after_ended (give_program o b) p q m r is d in
+      (subst (IsPartOf q) same d.part, subst (IsGiven o blocks m free b) same is_given)
 
-pub gives_to : (o blocks : ℕ) → blocks ≤ 512 → (b : ℕ) (p q : Pad) → RunsAs (give_program o b) p tt q → GivesTo o blocks p b q
-gives_to o blocks few b p q e m free is h out = given_to o blocks m free b h out few p q is e
+-- what a giving that ran does to each free list
+pub gives_to : (plot : Plot) (b : ℕ) (p q : Pad) (result : Result (Unit {0}) Need) → RunsOn (give plot b) p q result → GivesTo plot p q b result
+gives_to plot b p q result h = so_ok (give plot b) p q (λ r. (m : ℕ → ℕ) (free : List ℕ) → IsPartOf p m → IsFreeList (base plot) plot.blocks m free → IsOut (base plot) m free b → GivesOn plot m free b q) result h (λ r e m free is list out.
+    let k = given_on (base plot) plot.blocks m free b list out plot.few_blocks p q r is e in record { part = k.0; given = k.1 })

@@ -1,6 +1,10 @@
 -- Taking a block where the cells stand for a store.
 use Rattle.std.proofs.Common.{◌≡◌, ℕ, ◌<◌, ◌≤◌, sym, ◌∙◌, ap, subst, arith, ltb, true, false, Option, Some, None, [], length}
 use Rattle.std.proofs.lemmas.Bool.{lt-ltb, le-ltb}
+use Rattle.of_mem.specs.declared.plot.TheConstants.{MOST_BLOCKS}
+use Rattle.of_mem.specs.declared.plot.Plot.{Plot}
+use Rattle.of_mem.specs.Plots.{base}
+use Rattle.of_mem.specs.Calls.{HasStore}
 use Rattle.of_mem.specs.Places.{cells_at}
 use Rattle.of_mem.specs.Pad.{Pad}
 use Rattle.of_mem.specs.Programs.{answer, after, writes, Inside, IsPartOf, RunsAs}
@@ -8,13 +12,13 @@ use Rattle.of_mem.specs.Stores.{Store, Stands, things}
 use Rattle.of_mem.proofs.Moves.{out_owner}
 use Rattle.of_mem.proofs.Counts.{all_chains, lengths, counted}
 use Rattle.of_mem.proofs.Runs.{run_ended}
-use Rattle.of_alloc.specs.Blocks.{IsFreeList}
+use Rattle.of_alloc.specs.Blocks.{IsFreeList, HasFreeList}
 use Rattle.of_alloc.specs.BlockPrograms.{take_program}
 use Rattle.of_alloc.specs.Took.{Took}
 use Rattle.of_alloc.proofs.Heaped.{TakesOff, take_takes_off, heap_free_list}
 use Rattle.of_alloc.proofs.Takings.{taking}
 
-module _ (o blocks : ℕ) (few : blocks ≤ 512) (m : ℕ → ℕ) (s : Store) (h : Stands o blocks m s) where
+module _ (o blocks : ℕ) (few : blocks ≤ MOST_BLOCKS) (m : ℕ → ℕ) (s : Store) (h : Stands o blocks m s) where
   pub free_list : IsFreeList o blocks m (h.chains 0)
   free_list = heap_free_list o blocks m h.chains h.owner h.heap
 
@@ -58,3 +62,13 @@ module _ (o blocks : ℕ) (few : blocks ≤ 512) (m : ℕ → ℕ) (s : Store) (
 
   pub took_below : (b : ℕ) (n : ℕ → ℕ) → Took o blocks m h.chains b n → b < blocks
   took_below b n t = omega (arith, (out_owner o blocks n t.chains_after t.owner t.heap b t.out).0, t.heap.few)
+
+-- where there is a store there is a free list
+pub store_free : (plot : Plot) (p : Pad) → HasStore plot p → HasFreeList plot p
+store_free plot p h = record {
+  fits = h.fits;
+  memory = h.memory;
+  free = h.stands.chains 0;
+  part = h.part;
+  list = free_list (base plot) plot.blocks plot.few_blocks h.memory h.store h.stands;
+}

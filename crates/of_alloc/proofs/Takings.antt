@@ -2,15 +2,23 @@
 use Rattle.std.proofs.Common.{◌≡◌, ℕ, zero, suc, ◌+◌, ◌-◌, ◌<◌, ◌≤◌, ◌≢◌, refl, sym, ◌∙◌, subst, arith, ltb, Bool, true, false, Option, Some, None, List, [], ◌∷◌}
 use Rattle.std.proofs.lemmas.Bool.{ltb-true, ltb-false}
 use Rattle.std.specs.List.{AllByRecursion as Each}
+use Rattle.of_mem.specs.Numbers.{FitsCell}
+use Rattle.of_mem.specs.declared.plot.TheConstants.{MOST_BLOCKS}
+use Rattle.std.specs.Prelude.{Result}
+use Rattle.of_mem.specs.declared.part.Need.{Need}
+use Rattle.of_mem.specs.declared.plot.Plot.{Plot}
+use Rattle.of_mem.specs.Plots.{base, size}
+use Rattle.of_mem.specs.Calls.{RunsOn}
 use Rattle.of_mem.specs.Places.{fresh_at, free_at, cells_at}
 use Rattle.of_mem.specs.Pad.{Pad, newest}
-use Rattle.of_mem.specs.Programs.{Program, answer, after, writes, changed, Inside, IsPartOf, RunsAs}
+use Rattle.of_mem.specs.Programs.{Program, answer, after, writes, changed, with_writes, Inside, IsPartOf, RunsAs}
 use Rattle.of_mem.specs.Stores.{link_at}
 use Rattle.of_mem.proofs.Changes.{changed_same, changed_other}
 use Rattle.of_mem.proofs.Heaps.{chain_copy, chain_once}
-use Rattle.of_mem.proofs.Runs.{run_ended}
-use Rattle.of_alloc.specs.Blocks.{IsFreeList, IsTaken, Takes, TakesFrom}
-use Rattle.of_alloc.specs.BlockPrograms.{take_program, with_free, take_fresh}
+use Rattle.of_mem.proofs.Runs.{run_ended, after_ended, unchanged}
+use Rattle.of_mem.proofs.Calls.{so_ok}
+use Rattle.of_alloc.specs.Blocks.{IsFreeList, IsTaken, Takes, HasFreeList, TakesOn, TakesFrom}
+use Rattle.of_alloc.specs.BlockPrograms.{take, take_program, with_free, take_fresh}
 
 -- the front of the free list is a block
 pub front_below : (o blocks : ℕ) (m : ℕ → ℕ) (free : List ℕ) (f : ℕ) → IsFreeList o blocks m free → m (free_at o) ≡ f → f ≢ 0 → f - 1 < blocks
@@ -18,11 +26,11 @@ front_below o blocks m [] f h e n = absurd (n (sym e ∙ h.linked))
 front_below o blocks m (x ∷ l) f h e n = omega (arith, h.linked.0, h.below.0, h.few)
 
 -- so is what its link leads to
-next_small : (o blocks : ℕ) (m : ℕ → ℕ) (b : ℕ) (l : List ℕ) → IsFreeList o blocks m (b ∷ l) → blocks ≤ 512 → m (link_at o b) < 4294967296
+next_small : (o blocks : ℕ) (m : ℕ → ℕ) (b : ℕ) (l : List ℕ) → IsFreeList o blocks m (b ∷ l) → blocks ≤ MOST_BLOCKS → FitsCell (m (link_at o b))
 next_small o blocks m b [] h few = omega (arith, h.linked.1)
 next_small o blocks m b (x ∷ l) h few = omega (arith, h.linked.1.0, h.below.1.0, h.few)
 
-pub free_small : (o blocks : ℕ) (m : ℕ → ℕ) (free : List ℕ) → IsFreeList o blocks m free → blocks ≤ 512 → m (free_at o) < 4294967296
+pub free_small : (o blocks : ℕ) (m : ℕ → ℕ) (free : List ℕ) → IsFreeList o blocks m free → blocks ≤ MOST_BLOCKS → FitsCell (m (free_at o))
 free_small o blocks m [] h few = omega (arith, h.linked)
 free_small o blocks m (x ∷ l) h few = omega (arith, h.linked.0, h.below.0, h.few)
 
@@ -71,7 +79,7 @@ module _ (o blocks : ℕ) (m : ℕ → ℕ) where
       fresh : changed m (fresh_at o) (m (fresh_at o) + 1) (fresh_at o) ≡ m (fresh_at o) + 1
       fresh = changed_same m (fresh_at o) (m (fresh_at o) + 1)
 
-  module _ (few : blocks ≤ 512) where
+  module _ (few : blocks ≤ MOST_BLOCKS) where
     -- what a taking reads, writes and does, by the pointer that free holds
     pub record Run (free : List ℕ) (f : Program (Option ℕ)) : Type 0 where
       pub inside : Inside o (cells_at o blocks) f m
@@ -97,14 +105,23 @@ module _ (o blocks : ℕ) (m : ℕ → ℕ) where
     pub taking : (free : List ℕ) → IsFreeList o blocks m free → Run free (take_program o blocks)
     taking free h = let k = by_front free h (m (free_at o)) refl in record { inside = (omega arith, omega arith, k.inside); takes = k.takes; quiet = k.quiet }
 
-    taken_from : (free : List ℕ) (p q : Pad) (r : Option ℕ) → IsPartOf p m → IsFreeList o blocks m free → RunsAs (take_program o blocks) p r q → (n : ℕ → ℕ) × IsPartOf q n × Takes o blocks m free r n
-    taken_from free p q r is h e =
+    taken_on : (free : List ℕ) (p q : Pad) (r : Option ℕ) → IsPartOf p m → IsFreeList o blocks m free → RunsAs (take_program o blocks) p r q → IsPartOf q (with_writes m q.script) × Takes o blocks m free r (with_writes m q.script)
+    taken_on free p q r is h e =
         let k = taking free h in
         let d = run_ended o (cells_at o blocks) (take_program o blocks) p q m r is k.inside e in
-        (after (take_program o blocks) m, d.part, subst (λ (x : Option ℕ). Takes o blocks m free x (after (take_program o blocks) m)) (sym d.answers) k.takes)
+        let same = after_ended (take_program o blocks) p q m r is d in
+        (subst (IsPartOf q) same d.part, subst (Takes o blocks m free r) same (subst (λ (x : Option ℕ). Takes o blocks m free x (after (take_program o blocks) m)) (sym d.answers) k.takes))
 
-pub takes_from : (o blocks : ℕ) → blocks ≤ 512 → (p q : Pad) (r : Option ℕ) → RunsAs (take_program o blocks) p r q → TakesFrom o blocks p r q
-takes_from o blocks few p q r e m free is h = taken_from o blocks m few free p q r is h e
+-- what a taking that ran does to each free list
+pub takes_from : (plot : Plot) (p q : Pad) (result : Result (Option ℕ) Need) → HasFreeList plot p → RunsOn (take plot) p q result → TakesFrom plot p q result
+takes_from plot p q result has h = record {
+  takes = so_ok (take plot) p q (λ r. (m : ℕ → ℕ) (free : List ℕ) → IsPartOf p m → IsFreeList (base plot) plot.blocks m free → TakesOn plot m free r q) result h (λ r e m free is list.
+      let k = taken_on (base plot) plot.blocks m plot.few_blocks free p q r is list e in record { part = k.0; takes = k.1 });
+  none = so_ok (take plot) p q (λ r. r ≡ None → q ≡ p) result h (λ r e none.
+      let k = taking (base plot) plot.blocks has.memory plot.few_blocks has.free has.list in
+      let d = run_ended (base plot) (size plot) (take plot) p q has.memory r has.part k.inside e in
+      unchanged (take plot) p q has.memory r d (k.quiet (sym d.answers ∙ none)));
+}
 
-pub front_read : (o blocks : ℕ) (p : Pad) (m : ℕ → ℕ) (free : List ℕ) (f a : ℕ) → IsPartOf p m → IsFreeList o blocks m free → a ≡ free_at o → newest p a ≡ Some f → f ≢ 0 → f - 1 < blocks
-front_read o blocks p m free f a is h at e n = front_below o blocks m free f h (is (free_at o) f (rw at at e)) n
+pub front_read : (plot : Plot) (p : Pad) (f a : ℕ) → HasFreeList plot p → a ≡ free_at (base plot) → newest p a ≡ Some f → f ≢ 0 → f - 1 < plot.blocks
+front_read plot p f a h at e n = front_below (base plot) plot.blocks h.memory h.free f h.list (h.part (free_at (base plot)) f (rw at at e)) n

@@ -1,5 +1,7 @@
 -- What taking and giving a block reads and writes, and in which order.
 use Rattle.std.specs.Prelude.{ℕ, zero, suc, ◌+◌, Bool, true, false, ltb, Option, Some, None}
+use Rattle.of_mem.specs.declared.plot.Plot.{Plot}
+use Rattle.of_mem.specs.Plots.{base}
 use Rattle.of_mem.specs.Places.{fresh_at, free_at}
 use Rattle.of_mem.specs.Programs.{Program, Done, Read, Write}
 use Rattle.of_mem.specs.Stores.{link_at}
@@ -25,3 +27,11 @@ take_program o blocks = Read (free_at o) (with_free o blocks)
 
 abbrev pub give_program : ℕ → ℕ → Program (Unit {0})
 give_program o b = Read (free_at o) (λ front. Write (link_at o b) front (Write (free_at o) (b + 1) (Done tt)))
+
+-- The programs of the calls on a plot.
+
+abbrev pub take : Plot → Program (Option ℕ)
+take plot = take_program (base plot) plot.blocks
+
+abbrev pub give : Plot → ℕ → Program (Unit {0})
+give plot b = give_program (base plot) b

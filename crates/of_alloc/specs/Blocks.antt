@@ -1,9 +1,12 @@
 -- Which blocks are free and which are out, and what taking and giving one does.
-use Rattle.std.specs.Prelude.{◌≡◌, ◌≢◌, ℕ, ◌<◌, ◌≤◌, ◌↔◌, List, [], ◌∷◌, Option, Some, None}
+use Rattle.std.specs.Prelude.{◌≡◌, ◌≢◌, ℕ, ◌<◌, ◌≤◌, ◌↔◌, List, [], ◌∷◌, length, Option, Some, None, Result, IfOk}
 use Rattle.std.specs.List.{AllByRecursion as Each}
+use Rattle.of_mem.specs.declared.part.Need.{Need}
+use Rattle.of_mem.specs.declared.plot.Plot.{Plot}
+use Rattle.of_mem.specs.Plots.{base, size}
 use Rattle.of_mem.specs.Places.{fresh_at, free_at}
 use Rattle.of_mem.specs.Pad.{Pad}
-use Rattle.of_mem.specs.Programs.{IsPartOf}
+use Rattle.of_mem.specs.Programs.{IsPartOf, with_writes}
 use Rattle.of_mem.specs.Stores.{IsChain, link_at}
 
 -- the free list leads through these blocks, which were all taken once
@@ -38,10 +41,39 @@ pub record IsGiven (o blocks : ℕ) (m : ℕ → ℕ) (free : List ℕ) (b : ℕ
   -- the block's link and free are the only cells that changed
   pub cells : (a : ℕ) → a ≢ link_at o b → a ≢ free_at o → n a ≡ m a
 
--- whatever the free list was, this block was taken, or none
-abbrev pub TakesFrom : ℕ → ℕ → Pad → Option ℕ → Pad → Type 0
-TakesFrom o blocks p r q = (m : ℕ → ℕ) (free : List ℕ) → IsPartOf p m → IsFreeList o blocks m free → (n : ℕ → ℕ) × IsPartOf q n × Takes o blocks m free r n
+-- the partial memory has the plot's cells, and is part of a memory with a free list
+pub record HasFreeList (plot : Plot) (p : Pad) : Type 0 where
+  pub fits : length p.known ≡ size plot
+  pub memory : ℕ → ℕ
+  pub free : List ℕ
+  pub part : IsPartOf p memory
+  pub list : IsFreeList (base plot) plot.blocks memory free
+
+-- and of one in which this block is out
+pub record HasOut (plot : Plot) (p : Pad) (b : ℕ) : Type 0 where
+  pub fits : length p.known ≡ size plot
+  pub memory : ℕ → ℕ
+  pub free : List ℕ
+  pub part : IsPartOf p memory
+  pub list : IsFreeList (base plot) plot.blocks memory free
+  pub out : IsOut (base plot) memory free b
+
+-- the call took this block, or none, from the free list of this memory, which is changed by what the script wrote
+pub record TakesOn (plot : Plot) (m : ℕ → ℕ) (free : List ℕ) (r : Option ℕ) (after : Pad) : Type 0 where
+  pub part : IsPartOf after (with_writes m after.script)
+  pub takes : Takes (base plot) plot.blocks m free r (with_writes m after.script)
+
+-- whatever the free list was, a block was taken from it, or none, and then nothing was written
+pub record TakesFrom (plot : Plot) (before after : Pad) (result : Result (Option ℕ) Need) : Type 0 where
+  pub takes : IfOk result (λ r. (m : ℕ → ℕ) (free : List ℕ) → IsPartOf before m → IsFreeList (base plot) plot.blocks m free → TakesOn plot m free r after)
+  pub none : IfOk result (λ r. r ≡ None → after ≡ before)
+
+-- the call gave this block back to the free list of this memory, which is changed by what the script wrote
+pub record GivesOn (plot : Plot) (m : ℕ → ℕ) (free : List ℕ) (b : ℕ) (after : Pad) : Type 0 where
+  pub part : IsPartOf after (with_writes m after.script)
+  pub given : IsGiven (base plot) plot.blocks m free b (with_writes m after.script)
 
 -- whatever the free list was, the block that was out is in front of it
-abbrev pub GivesTo : ℕ → ℕ → Pad → ℕ → Pad → Type 0
-GivesTo o blocks p b q = (m : ℕ → ℕ) (free : List ℕ) → IsPartOf p m → IsFreeList o blocks m free → IsOut o m free b → (n : ℕ → ℕ) × IsPartOf q n × IsGiven o blocks m free b n
+abbrev pub GivesTo : Plot → Pad → Pad → ℕ → Result (Unit {0}) Need → Type 0
+GivesTo plot before after b result =
+    IfOk result (λ r. (m : ℕ → ℕ) (free : List ℕ) → IsPartOf before m → IsFreeList (base plot) plot.blocks m free → IsOut (base plot) m free b → GivesOn plot m free b after)

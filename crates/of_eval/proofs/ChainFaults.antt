@@ -3,7 +3,8 @@ use Rattle.std.proofs.Common.{◌≡◌, ℕ, zero, suc, ◌+◌, ◌%◌, ◌<�
 use Rattle.std.specs.List.{AllByRecursion as Each}
 use Rattle.std.proofs.lemmas.Bool.{cases_eq, cases_lt}
 use Rattle.of_mem.specs.Places.{fresh_at, keys_at}
-use Rattle.of_mem.specs.Stores.{IsChain, IsBucket, IsNumber, front_at, first_at, second_at, last_pointer, total}
+use Rattle.of_mem.specs.Numbers.{IsNumber}
+use Rattle.of_mem.specs.Stores.{IsChain, IsBucket, front_at, first_at, second_at, last_pointer, total}
 use Rattle.of_mem.proofs.Heaps.{each_left, each_right, chain_apart, same_chain}
 use Rattle.of_mem.proofs.Frames.{bucket_split}
 use Rattle.of_eval.specs.Faults.{Has, IsMet, IsNoKey, Passed, Counted, ChainFault, CountFault, here}

@@ -7,7 +7,8 @@ use Rattle.of_mem.specs.declared.plot.Plot.{Plot}
 use Rattle.of_mem.specs.Places.{fresh_at, keys_at}
 use Rattle.of_mem.specs.Plots.{base}
 use Rattle.of_mem.specs.ProgramWork.{memory}
-use Rattle.of_mem.specs.Stores.{IsNumber, Stands, first_at, total}
+use Rattle.of_mem.specs.Numbers.{IsNumber}
+use Rattle.of_mem.specs.Stores.{Stands, first_at, total}
 use Rattle.of_store.specs.State.{State}
 use Rattle.of_eval.specs.Stored.{plain}
 use Rattle.of_eval.specs.Lawful.{StandsFor}

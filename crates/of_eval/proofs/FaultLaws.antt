@@ -3,7 +3,8 @@ use Rattle.std.proofs.Common.{◌≡◌, ℕ, ◌+◌, ◌≤◌, List, [], ◌�
 use Rattle.std.specs.List.{AllByRecursion as Each}
 use Rattle.std.specs.FinMap as fin
 use Rattle.of_mem.specs.Places.{base_of, fresh_at, keys_at}
-use Rattle.of_mem.specs.Stores.{Store, Stands, IsNumber, first_at, total}
+use Rattle.of_mem.specs.Numbers.{IsNumber}
+use Rattle.of_mem.specs.Stores.{Store, Stands, first_at, total}
 use Rattle.of_mem.proofs.Counts.{lengths}
 use Rattle.of_store.specs.State.{State}
 use Rattle.of_eval.specs.Stored.{plain}

@@ -8,7 +8,8 @@ use Rattle.std.proofs.lemmas.List.{append-nil, length-map, map-append, get_or-se
 use Rattle.of_mem.specs.declared.plot.Plot.{Plot}
 use Rattle.of_mem.specs.Plots.{base}
 use Rattle.of_mem.specs.ProgramWork.{memory}
-use Rattle.of_mem.specs.Stores.{IsBucket, IsNumber, first_at, second_at, value_in, total}
+use Rattle.of_mem.specs.Numbers.{IsNumber}
+use Rattle.of_mem.specs.Stores.{IsBucket, first_at, second_at, value_in, total}
 use Rattle.of_mem.proofs.Changes.{changed_same, changed_other, changed_cases, total_changed, total_changed_past}
 use Rattle.of_mem.proofs.Frames.{none_value, value_without}
 use Rattle.of_mem.proofs.Heaps.{each_append}

@@ -3,7 +3,8 @@ use Rattle.std.proofs.Common.{◌≡◌, ℕ, suc, ◌+◌, ◌<◌, ◌≤◌, 
 use Rattle.std.specs.List.{AllByRecursion as Each, AllPairs}
 use Rattle.std.proofs.lemmas.Bool.{cases_eq, cases_lt}
 use Rattle.of_mem.specs.Places.{base_of, register_at, fresh_at, tail_at, length_at}
-use Rattle.of_mem.specs.Stores.{IsBucket, IsNumber, front_at, first_at, second_at, link_at, cell_after, last_pointer}
+use Rattle.of_mem.specs.Numbers.{IsNumber}
+use Rattle.of_mem.specs.Stores.{IsBucket, front_at, first_at, second_at, link_at, cell_after, last_pointer}
 use Rattle.of_mem.proofs.Heaps.{each_right}
 use Rattle.of_eval.specs.Lawful.{OwnStand}
 use Rattle.of_eval.specs.Faults.{Has, IsPath, IsMet, IsNoKey, LeadsOn, OwnFault, Begun, Passed, Counted, ChainFault, CountFault, IsFirstFault, here}

@@ -6,8 +6,10 @@ use Rattle.std.proofs.lemmas.Bool.{lt-ltb, le-ltb, ltb-true, false≢true}
 use Rattle.of_mem.specs.declared.work.RawReply.{RawReply}
 use Rattle.of_mem.specs.Pairs.{value_at}
 use Rattle.of_mem.specs.Pad.{Pad, newest, newer, over}
+use Rattle.of_mem.specs.declared.plot.Plot.{Plot}
+use Rattle.of_mem.specs.Plots.{base}
 use Rattle.of_mem.specs.Places.{cells_at, register_at, fresh_at, keys_at, tail_at, length_at}
-use Rattle.of_mem.specs.Programs.{Program, Ran, Lacks, Ends, run}
+use Rattle.of_mem.specs.Programs.{Program, Ran, Lacks, Ends, run, IsPartOf}
 use Rattle.of_mem.specs.Meaning.{Needs, Gives, Agrees}
 use Rattle.of_mem.specs.ProgramWork.{memory, fresh_pad, walked}
 use Rattle.of_mem.specs.Stores.{Store, Stands, front_at, link_at, first_at, second_at}
@@ -19,10 +21,11 @@ use Rattle.of_mem.proofs.Sounds.{part_fresh}
 use Rattle.of_script.specs.declared.instr.TheConstants.{MOST_INSTRS}
 use Rattle.of_script.specs.declared.instr.Reply.{Reply}
 use Rattle.of_script.specs.declared.instr.Abort.{Abort}
+use Rattle.of_store.specs.State.{State}
 use Rattle.of_eval.specs.declared.scripts.Scripts.{Scripts}
 use Rattle.of_eval.specs.Shapes.{IsWhole, cells_of, mask_of, abort_part}
 use Rattle.of_eval.specs.ShapeLaws.{code_some, mask_width}
-use Rattle.of_eval.specs.Stored.{plain, HasState}
+use Rattle.of_eval.specs.Stored.{plain, IsStored, HasState}
 use Rattle.of_eval.specs.ScriptPrograms.{script_program}
 use Rattle.of_eval.specs.Scripts.{store_at, cells_in, LawfulCells, is_success, scripts_meaning}
 use Rattle.of_eval.specs.SoundScripts.{script_run}
@@ -127,7 +130,8 @@ module _ (w : Scripts) (p : Pad) (a : IsPartOfLawful w p) (size : length p.known
       go true k = a.3 x v (sym (newest_over x (ltb-true x (cells_in w) k)) ∙ e)
       go false k = ap (λ (y : Option ℕ). unwrap_or y 0) e
 
-  pub has_state : HasState (store_at w) w.blocks p
+  -- it is part of a memory that stands for the list's store
+  pub has_state : (m : ℕ → ℕ) × (s : State) × IsPartOf p m × IsStored (store_at w) w.blocks m s
   has_state = (whole, a.2.0, is_part, record { state = a.2.1.state; stands = stands_below (store_at w) w.blocks (memory a.0) whole (λ x l k. inside x k) (plain a.2.0) a.2.1.stands })
 
   module _ (op : List ℕ) where
@@ -146,9 +150,14 @@ module _ (w : Scripts) (p : Pad) (a : IsPartOfLawful w p) (size : length p.known
     pub walk_needs : (x : ℕ) → run program p ≡ Lacks x → (scripts_meaning w).walk (over p.known p.batch) op ≡ Needs x
     walk_needs x e = alike_needs is_success (run program (fresh_pad (over p.known p.batch))) x (subst (RunsAlike (run program (fresh_pad (over p.known p.batch)))) e alike)
 
--- the same place by another name
-pub state_at : (o at blocks many : ℕ) (p : Pad) → o ≡ at → blocks ≡ many → HasState at many p → HasState o blocks p
-state_at o at blocks many p e f h = rw (e, f) h
+  -- so it is on the work's plot
+  pub state_on : (plot : Plot) → base plot ≡ store_at w → plot.blocks ≡ w.blocks → HasState plot p
+  state_on plot e f =
+      let h = has_state in
+      record { fits = size_is ∙ sym (λ i. cells_at (e i) (f i)); memory = h.0; state = h.1; part = h.2; stored = rw (e, f) h.3 }
+    where
+      size_is : length p.known ≡ cells_in w
+      size_is = size
 
 pub run_at : (o at blocks many : ℕ) (op : List ℕ) (p : Pad) (x : Ran RawReply) → o ≡ at → blocks ≡ many → run (script_program o blocks op) p ≡ x → run (script_program at many op) p ≡ x
 run_at o at blocks many op p x e f h = rw (← e, ← f) h

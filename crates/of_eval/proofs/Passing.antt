@@ -7,7 +7,8 @@ use Rattle.of_mem.specs.Places.{fresh_at, keys_at}
 use Rattle.of_mem.specs.Plots.{base}
 use Rattle.of_mem.specs.ProgramWork.{memory}
 use Rattle.of_mem.specs.Programs.{changed}
-use Rattle.of_mem.specs.Stores.{IsChain, IsBucket, IsNumber, front_at, first_at, link_at, cell_after}
+use Rattle.of_mem.specs.Numbers.{IsNumber}
+use Rattle.of_mem.specs.Stores.{IsChain, IsBucket, front_at, first_at, link_at, cell_after}
 use Rattle.of_mem.proofs.Changes.{changed_same, changed_other, changed_cases, total_changed_past}
 use Rattle.of_mem.proofs.Heaps.{each_append}
 use Rattle.of_eval.specs.declared.lawful_cells.LawErr.{LawErr}

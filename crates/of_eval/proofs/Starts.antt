@@ -3,6 +3,7 @@ use Rattle.std.proofs.Common.{◌≡◌, ℕ, ◌≤◌, inl, inr, sym, ◌∙�
 use Rattle.std.proofs.lemmas.Bool.{cases_lt}
 use Rattle.std.proofs.lemmas.Option.{none-some}
 use Rattle.std.proofs.lemmas.List.{length-replicate, get_or-replicate, get_or_past}
+use Rattle.of_mem.specs.declared.plot.TheConstants.{MOST_BLOCKS}
 use Rattle.of_mem.specs.Pad.{Pad, over}
 use Rattle.of_mem.specs.Places.{cells_at}
 use Rattle.of_mem.specs.Meaning.{Agrees}
@@ -17,7 +18,7 @@ all_same n x a = elim (cases_lt a n) [
   | inr l ↦ get_or_past (replicate n x) a x (omega (arith, length-replicate n x, l))
 ]
 
-pub nothing_known : (o : ℕ) (blocks : ℕ) (n : ℕ) (p : Pad) → p ≡ record { known = replicate n None; batch = []; script = [] } → blocks ≤ 512
+pub nothing_known : (o : ℕ) (blocks : ℕ) (n : ℕ) (p : Pad) → p ≡ record { known = replicate n None; batch = []; script = [] } → blocks ≤ MOST_BLOCKS
     → (xs : List ℕ) × (length xs ≡ cells_at o blocks) × StandsForSome o blocks (memory xs) × Agrees (over p.known p.batch) xs
 nothing_known o blocks n p e few = (
   replicate (cells_at o blocks) 0,

@@ -3,6 +3,7 @@ use Rattle.std.proofs.Common.{◌≡◌, ℕ, ◌<◌, ◌≤◌, inl, inr, refl
 use Rattle.std.proofs.lemmas.Bool.{cases_eq, cases_lt}
 use Rattle.std.proofs.lemmas.Option.{none-some}
 use Rattle.std.proofs.lemmas.List.{length-replicate, get_or-replicate, get_or_past, get_or-set_same, get_or-set_other}
+use Rattle.of_mem.specs.declared.plot.TheConstants.{MOST_BLOCKS}
 use Rattle.of_mem.specs.Pad.{Pad, over}
 use Rattle.of_mem.specs.Places.{cells_at}
 use Rattle.of_mem.specs.Meaning.{Agrees}
@@ -43,7 +44,7 @@ zeros_learn n a p q h l e = subst (KnowsZeros n) (sym e) (record {
   script = h.script;
 })
 
-pub zeros_agree : (o blocks n : ℕ) (p : Pad) → KnowsZeros n p → blocks ≤ 512 → (xs : List ℕ) × (length xs ≡ cells_at o blocks) × StandsForSome o blocks (memory xs) × Agrees (over p.known p.batch) xs
+pub zeros_agree : (o blocks n : ℕ) (p : Pad) → KnowsZeros n p → blocks ≤ MOST_BLOCKS → (xs : List ℕ) × (length xs ≡ cells_at o blocks) × StandsForSome o blocks (memory xs) × Agrees (over p.known p.batch) xs
 zeros_agree o blocks n p h few = (
   replicate (cells_at o blocks) 0,
   length-replicate (cells_at o blocks) 0,

@@ -5,7 +5,8 @@ use Rattle.of_script.specs.declared.instr.Reply.{Reply}
 use Rattle.of_script.specs.declared.instr.TheConstants.{MOST_INSTRS, REGISTERS}
 use Rattle.of_mem.specs.declared.work.RawReply.{RawReply}
 use Rattle.of_mem.specs.Places.{base_of, ticket_at, shape_at, reply_at, register_at, fresh_at, keys_at, tail_at, length_at}
-use Rattle.of_mem.specs.Stores.{IsChain, IsBucket, IsNumber, front_at, first_at, second_at, link_at, cell_after, last_pointer, total}
+use Rattle.of_mem.specs.Numbers.{IsNumber}
+use Rattle.of_mem.specs.Stores.{IsChain, IsBucket, front_at, first_at, second_at, link_at, cell_after, last_pointer, total}
 use Rattle.of_eval.specs.declared.lawful_cells.LawErr.{LawErr}
 use Rattle.of_eval.specs.declared.lawful_cells.LawErr.TheVariants.{Memory, Unlawful}
 use Rattle.of_eval.specs.Shapes.{IsHeldBy}

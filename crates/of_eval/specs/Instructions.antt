@@ -4,12 +4,14 @@ use Rattle.std.specs.Prelude.{sum_by}
 use Rattle.std.specs.FinMap as fin
 use Rattle.std.proofs.lemmas.Bool.{cases_eq, ltb-false, ltb-true, lt-leb, le-leb}
 use Rattle.std.proofs.lemmas.List.{get_or-set_same, get_or-set_other}
+use Rattle.of_mem.specs.declared.plot.TheConstants.{MOST_BLOCKS}
 use Rattle.of_mem.specs.Places.{register_at, cells_at}
 use Rattle.of_mem.specs.Programs.{Program, answer, after, changed, Inside, then_do}
 use Rattle.of_mem.specs.Stores.{Stands, things}
 use Rattle.of_mem.proofs.Changes.{changed_same, changed_other}
 use Rattle.of_mem.proofs.Runs.{answer_then, after_then, inside_then}
 use Rattle.of_map.specs.MapPrograms.{get_program, put_program, del_program}
+use Rattle.of_map.specs.declared.answers.Put.{Put as PutAnswer}
 use Rattle.of_map.specs.Means.{put_answer, put_store}
 use Rattle.of_map.proofs.Gets.{get_means}
 use Rattle.of_map.proofs.Changes.{put_means}
@@ -62,7 +64,7 @@ queue_plain s q items l = λ i. record { registers = s.registers; map = s.keys; 
 after_first : {A : Type 0} (o blocks : ℕ) (m : ℕ → ℕ) (f : Program A) (g : A → Program Answer) (e : Effect) → Inside o (cells_at o blocks) f m → Acts o blocks (after f m) (g (answer f m)) e → Acts o blocks m (then_do f g) e
 after_first o blocks m f g e i k = (inside_then o (cells_at o blocks) f g m i k.0, rw (answer_then f g m, after_then f g m) k.1)
 
-module _ (o blocks : ℕ) (few : blocks ≤ 512) (m : ℕ → ℕ) (s : State) (h : IsStored o blocks m s) where
+module _ (o blocks : ℕ) (few : blocks ≤ MOST_BLOCKS) (m : ℕ → ℕ) (s : State) (h : IsStored o blocks m s) where
   abbrev Does : Program Answer → Effect → Type 0
   Does f e = Acts o blocks m f e
 
@@ -130,7 +132,7 @@ module _ (o blocks : ℕ) (few : blocks ≤ 512) (m : ℕ → ℕ) (s : State) (
       after_first o blocks m (put_program o blocks k v) put_answers (effect s (Put k v)) (put_inside o blocks few m (plain s) h.stands k v (omega (arith, k_in)) (omega (arith, v_in)))
       (put_case (fin.get s.keys k) (ltb (things (plain s)) blocks) refl (answer (put_program o blocks k v) m) (after (put_program o blocks k v) m) p.0 p.1)
     where
-      put_case : (old : Option ℕ) (t : Bool) → ltb (things (plain s)) blocks ≡ t → (r : Option (Option ℕ)) (n : ℕ → ℕ) → r ≡ put_answer old t → Stands o blocks n (put_store (plain s) k v old t)
+      put_case : (old : Option ℕ) (t : Bool) → ltb (things (plain s)) blocks ≡ t → (r : PutAnswer) (n : ℕ → ℕ) → r ≡ put_answer old t → Stands o blocks n (put_store (plain s) k v old t)
           → Acts o blocks n (put_answers r) (cond (is_none old && leb s.room (kept s)) (Err NoRoom) (Ok (record s { keys = fin.insert s.keys k v }, old)))
       put_case (Some w) t e r n is stands = rw is (tt, (refl, stands))
       put_case None true e r n is stands = rw (is, not_full e) (tt, (refl, stands))

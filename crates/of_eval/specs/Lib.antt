@@ -4,6 +4,7 @@ pub mod Reading
 pub mod Stored
 pub mod Words
 pub mod ScriptPrograms
+pub mod Calls
 pub mod Scripts
 pub mod Registers
 pub mod Instructions

@@ -5,6 +5,7 @@ use Rattle.std.specs.Option.{unwrap_or}
 use Rattle.std.proofs.Math.Nat.{div-div-eq-div-mul}
 use Rattle.std.proofs.lemmas.Bool.Decides.{nat_tests}
 use Rattle.std.proofs.lemmas.List.{length-map, length-replicate}
+use Rattle.of_mem.specs.Numbers.{FitsCell}
 use Rattle.of_mem.specs.Meaning.{marked}
 use Rattle.of_mem.specs.ProgramWork.{IsReply}
 use Rattle.of_mem.proofs.Writes.{all_each}
@@ -38,10 +39,10 @@ bit_of (v ∷ vs) x (suc k) (suc j) l =
     ap (λ (d : ℕ). (mask_of (v ∷ vs) + x * 2 ^ suc k) / d % 2) f ∙ ap (λ (q : ℕ). q % 2) (sym (div-div-eq-div-mul (mask_of (v ∷ vs) + x * 2 ^ suc k) 2 (2 ^ j))) ∙ ap (λ (q : ℕ). q / 2 ^ j % 2) half ∙ bit_of vs x k j (omega arith)
 
 -- a marked place has a number
-marked_has : (vs : List (Option ℕ)) (shape x : ℕ) → shape ≡ mask_of vs + x * 2 ^ 16 → (j : ℕ) → j < 16 → marked shape j ≡ true → mark (get_or vs j None) ≡ 1
+marked_has : (vs : List (Option ℕ)) (shape x : ℕ) → shape ≡ mask_of vs + x * 2 ^ MOST_INSTRS → (j : ℕ) → j < MOST_INSTRS → marked shape j ≡ true → mark (get_or vs j None) ≡ 1
 unfolding marked
 marked_has vs shape x e j l h =
-    let b : shape / 2 ^ j % 2 ≡ mark (get_or vs j None) = ap (λ (q : ℕ). q / 2 ^ j % 2) e ∙ bit_of vs x 16 j l in
+    let b : shape / 2 ^ j % 2 ≡ mark (get_or vs j None) = ap (λ (q : ℕ). q / 2 ^ j % 2) e ∙ bit_of vs x MOST_INSTRS j l in
     let k : shape / 2 ^ j % 2 ≡ 1 = grind (arith, nat_tests) in
     sym b ∙ k
 
@@ -52,11 +53,11 @@ none_past [] zero j h = absurd (omega (arith, h))
 none_past [] (suc k) zero h = absurd (omega (arith, h))
 none_past [] (suc k) (suc j) h = absurd (let r : j < 0 = none_past [] k j h in omega (arith, r))
 
-word_small : (v : Option ℕ) → IsSmall v → unwrap_or v 0 < 4294967296
+word_small : (v : Option ℕ) → IsSmall v → FitsCell (unwrap_or v 0)
 word_small None h = omega arith
 word_small (Some v) h = omega (arith, h)
 
-words_small : (vs : List (Option ℕ)) (k : ℕ) → Each IsSmall vs → Each (λ (n : ℕ). n < 4294967296) (map (λ v. unwrap_or v 0) (vs ++ replicate k None))
+words_small : (vs : List (Option ℕ)) (k : ℕ) → Each IsSmall vs → Each FitsCell (map (λ v. unwrap_or v 0) (vs ++ replicate k None))
 words_small [] zero h = tt
 words_small [] (suc k) h = (omega arith, words_small [] k tt)
 words_small (v ∷ vs) k h = (word_small v h.0, words_small vs k h.1)
@@ -64,7 +65,7 @@ words_small (v ∷ vs) k h = (word_small v h.0, words_small vs k h.1)
 pub full_width : (vs : List (Option ℕ)) → length vs ≤ MOST_INSTRS → length (vs ++ replicate (MOST_INSTRS - length vs) None) ≡ MOST_INSTRS
 full_width vs l = length-append vs (replicate (MOST_INSTRS - length vs) None) ∙ ap (λ (n : ℕ). length vs + n) (length-replicate (MOST_INSTRS - length vs) None) ∙ omega (arith, l)
 
-pub mask_all : (vs : List (Option ℕ)) → length vs ≡ MOST_INSTRS → mask_of vs < 65536
+pub mask_all : (vs : List (Option ℕ)) → length vs ≡ MOST_INSTRS → mask_of vs < 2 ^ MOST_INSTRS
 mask_all vs e = let k : mask_of vs < 2 ^ length vs = mask_width vs in let q : mask_of vs < 2 ^ MOST_INSTRS = subst (λ (n : ℕ). mask_of vs < 2 ^ n) e k in omega (arith, q)
 
 -- so many words, the first of an operation
@@ -72,16 +73,16 @@ pub reply_fits : (op ws : List ℕ) (x : Outcome) → length ws ≤ MOST_INSTRS 
 reply_fits op ws (Ok e) few part h =
     let vs = e.1 ++ replicate (MOST_INSTRS - length e.1) None in
     let wide : length vs ≡ MOST_INSTRS = full_width e.1 (omega (arith, few, h.0)) in
-    let small : mask_of vs < 65536 = mask_all vs wide in
+    let small : mask_of vs < 2 ^ MOST_INSTRS = mask_all vs wide in
     record {
       shape = omega (arith, small, few);
-      values = all_each (λ (n : ℕ). n < 4294967296) (map (λ v. unwrap_or v 0) vs) (words_small e.1 (MOST_INSTRS - length e.1) h.1);
+      values = all_each FitsCell (map (λ v. unwrap_or v 0) vs) (words_small e.1 (MOST_INSTRS - length e.1) h.1);
       marks = λ j l m. (omega (arith, small, few), omega (arith, part, h.0, none_past e.1 (MOST_INSTRS - length e.1) j (marked_has vs (mask_of vs + length ws * 2 ^ 16 + 0) (length ws) (omega arith) j l m)), omega (arith, length-map vs (λ (v : Option ℕ). unwrap_or v 0), wide, few, h.0, none_past e.1 (MOST_INSTRS - length e.1) j (marked_has vs (mask_of vs + length ws * 2 ^ 16 + 0) (length ws) (omega arith) j l m)));
     }
 reply_fits op ws (Err p) few part h =
     let code = code_some p.1 in
     record {
       shape = omega (arith, h, few, code.1);
-      values = all_each (λ (n : ℕ). n < 4294967296) (map (λ v. unwrap_or v 0) (replicate MOST_INSTRS None)) (words_small [] MOST_INSTRS tt);
+      values = all_each FitsCell (map (λ v. unwrap_or v 0) (replicate MOST_INSTRS None)) (words_small [] MOST_INSTRS tt);
       marks = λ j l m. absurd (let r : j < 0 = none_past [] MOST_INSTRS j (marked_has (replicate MOST_INSTRS None) (shape_of (reply_to (length ws) (Aborted (0 + p.0) p.1))) (length ws + p.0 * 32 + code_of p.1 * 1024) (omega arith) j l m) in omega (arith, r));
     }

@@ -4,7 +4,8 @@ use Rattle.std.proofs.lemmas.Bool.{cases_eq}
 use Rattle.std.proofs.lemmas.List.{get_or-set_same, get_or-set_other}
 use Rattle.of_mem.specs.Places.{register_at, keys_at, tail_at, length_at}
 use Rattle.of_mem.specs.Programs.{changed}
-use Rattle.of_mem.specs.Stores.{Store, Stands, IsNumber, first_at, second_at}
+use Rattle.of_mem.specs.Numbers.{IsNumber}
+use Rattle.of_mem.specs.Stores.{Store, Stands, first_at, second_at}
 use Rattle.of_mem.proofs.Changes.{changed_same, changed_other}
 use Rattle.of_mem.proofs.Heaps.{front_below}
 use Rattle.of_mem.proofs.Frames.{SameBlocks, value_same, bucket_same, queue_same}

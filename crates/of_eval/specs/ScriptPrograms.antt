@@ -3,6 +3,8 @@ use Rattle.std.specs.Prelude.{ℕ, ◌+◌, ◌-◌, Bool, true, false, List, []
 use Rattle.of_mem.specs.declared.work.RawReply.{RawReply}
 use Rattle.of_mem.specs.Places.{register_at}
 use Rattle.of_mem.specs.Programs.{Program, Done, Read, Write, then_do}
+use Rattle.of_map.specs.declared.answers.Put.{Put as PutAnswer}
+use Rattle.of_map.specs.declared.answers.Put.TheVariants.{Full, New, Over}
 use Rattle.of_map.specs.MapPrograms.{get_program, put_program, del_program, count_program}
 use Rattle.of_queue.specs.QueuePrograms.{push_program, pop_program, len_program}
 use Rattle.of_script.specs.declared.instr.Instr.{Instr}
@@ -50,9 +52,10 @@ sub_from o r v n = sub_unless o r (n - v) (nat_lt n v)
 
 -- Keys and queues: no room, and a value that differs.
 
-abbrev pub put_answers : Option (Option ℕ) → Program Answer
-put_answers None = aborts NoRoom
-put_answers (Some before) = answers before
+abbrev pub put_answers : PutAnswer → Program Answer
+put_answers Full = aborts NoRoom
+put_answers New = answers None
+put_answers (Over before) = answers (Some before)
 
 abbrev pub answers_if : Cause → Bool → Program Answer
 answers_if cause true = answers None

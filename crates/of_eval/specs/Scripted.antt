@@ -2,6 +2,7 @@
 use Rattle.std.proofs.Common.{◌≡◌, ℕ, suc, ◌+◌, ◌<◌, ◌≤◌, refl, sym, ◌∙◌, ap, subst, arith, Option, Some, None, Ok, Err, List, [], ◌∷◌, ◌++◌, length, length-append}
 use Rattle.std.specs.List.{AllByRecursion as Each}
 use Rattle.std.proofs.lemmas.List.{append_assoc, append-nil}
+use Rattle.of_mem.specs.declared.plot.TheConstants.{MOST_BLOCKS}
 use Rattle.of_mem.specs.declared.work.RawReply.{RawReply}
 use Rattle.of_mem.specs.Places.{cells_at}
 use Rattle.of_mem.specs.Programs.{Program, answer, after, Inside, then_do}
@@ -71,7 +72,7 @@ pub instr_leaves : (s : State) (w : ℕ) (i : Option Instr) → instr_at w ≡ i
 instr_leaves s w None e h = tt
 instr_leaves s w (Some i) e h = effect_leaves s i h (instr_at_takes w i e).range
 
-module _ (o blocks : ℕ) (few : blocks ≤ 512) where
+module _ (o blocks : ℕ) (few : blocks ≤ MOST_BLOCKS) where
   pub word_acts : (m : ℕ → ℕ) (s : State) → IsStored o blocks m s → (w : ℕ) (i : Option Instr) → instr_at w ≡ i → Acts o blocks m (program_of o blocks i) (effect_of s i)
   word_acts m s h w None e = (tt, refl)
   word_acts m s h w (Some i) e = instr_acts o blocks few m s h i (instr_at_takes w i e).range

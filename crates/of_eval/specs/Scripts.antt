@@ -1,7 +1,7 @@
 -- Scripts as a work: what is lawful, and what an operation means.
-use Rattle.std.specs.Prelude.{ℕ, ◌^◌, Bool, true, false, ◌&&◌, List, [], ◌∷◌, length, nat_lt, nat_le, Option, Some, None}
+use Rattle.std.specs.Prelude.{ℕ, Bool, true, false, ◌&&◌, List, [], ◌∷◌, length, nat_lt, nat_le, Option, Some, None}
 use Rattle.of_mem.specs.declared.work.RawReply.{RawReply}
-use Rattle.of_mem.specs.declared.work.TheConstants.{MOST_INSTRS}
+use Rattle.of_mem.specs.declared.work.TheConstants.{MOST_INSTRS, LEAST_ABORT}
 use Rattle.of_mem.specs.Places.{base_of, cells_at}
 use Rattle.of_mem.specs.Meaning.{Meaning}
 use Rattle.of_mem.specs.ProgramWork.{memory, meaning_of}
@@ -27,9 +27,9 @@ StandsForSome o blocks m = (s : State) × IsStored o blocks m s
 abbrev pub LawfulCells : Scripts → List ℕ → Type 0
 LawfulCells w xs = StandsForSome (store_at w) w.blocks (memory xs)
 
--- the reply is no abort: an abort's cause stands in the highest bits
+-- the reply is no abort
 abbrev pub is_success : RawReply → Bool
-is_success r = nat_lt r.shape (2 ^ 26)
+is_success r = nat_lt r.shape LEAST_ABORT
 
 abbrev pub instr_reads : Option Instr → Bool
 instr_reads None = false

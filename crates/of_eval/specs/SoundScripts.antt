@@ -1,13 +1,14 @@
 -- Scripts keep the rules of a work.
 use Rattle.std.proofs.Common.{◌≡◌, ℕ, zero, suc, ◌*◌, ◌≤◌, true, leb, ◌&&◌, refl, sym, ◌∙◌, ap, subst, arith, List, [], ◌∷◌, length, take, replicate, get_or, Ok, Err, length-take, ◌+◌}
 use Rattle.std.proofs.lemmas.Bool.{ltb-true}
+use Rattle.of_mem.specs.declared.plot.TheConstants.{MOST_BLOCKS}
 use Rattle.of_mem.specs.Programs.{answer, after}
 use Rattle.of_mem.specs.Stores.{Store, Stands}
 use Rattle.of_mem.specs.Meaning.{Sound, HasRoom}
 use Rattle.of_mem.specs.ProgramWork.{IsReply}
 use Rattle.of_mem.proofs.Standing.{empty_stands, stands_from}
 use Rattle.of_mem.proofs.Sounds.{sound}
-use Rattle.of_script.specs.declared.instr.TheConstants.{MOST_INSTRS}
+use Rattle.of_script.specs.declared.instr.TheConstants.{MOST_INSTRS, REGISTERS}
 use Rattle.of_script.proofs.Numbers.{both}
 use Rattle.of_store.specs.State.{State, Outcome, empty_store}
 use Rattle.of_store.proofs.Keeps.{empty_is}
@@ -24,7 +25,7 @@ use Rattle.of_eval.specs.Staying.{words_stay, words_only}
 use Rattle.of_eval.specs.ShapeLaws.{code_some}
 
 -- memory of zeros stands for the empty store
-pub empty_is_stored : (o blocks : ℕ) → blocks ≤ 512 → (m : ℕ → ℕ) → ((a : ℕ) → m a ≡ 0) → IsStored o blocks m (empty_store blocks)
+pub empty_is_stored : (o blocks : ℕ) → blocks ≤ MOST_BLOCKS → (m : ℕ → ℕ) → ((a : ℕ) → m a ≡ 0) → IsStored o blocks m (empty_store blocks)
 empty_is_stored o blocks few m z = record { state = empty_is blocks few; stands = subst (Stands o blocks m) same (empty_stands o blocks m z) }
   where
     none : (q n : ℕ) → ◌≡◌ {A = List ℕ} [] (get_or (replicate n []) q [])
@@ -32,10 +33,10 @@ empty_is_stored o blocks few m z = record { state = empty_is blocks few; stands 
     none zero (suc n) = refl
     none (suc q) (suc n) = none q n
 
-    same : ◌≡◌ {A = Store} (record { registers = replicate 16 0; map = (empty_store blocks).keys; queues = λ q. []; room = blocks }) (plain (empty_store blocks))
-    same = λ i. record { registers = replicate 16 0; map = (empty_store blocks).keys; queues = λ q. none q 4 i; room = blocks }
+    same : ◌≡◌ {A = Store} (record { registers = replicate REGISTERS 0; map = (empty_store blocks).keys; queues = λ q. []; room = blocks }) (plain (empty_store blocks))
+    same = λ i. record { registers = replicate REGISTERS 0; map = (empty_store blocks).keys; queues = λ q. none q 4 i; room = blocks }
 
-module _ (o blocks : ℕ) (few : blocks ≤ 512) where
+module _ (o blocks : ℕ) (few : blocks ≤ MOST_BLOCKS) where
   abbrev first : List ℕ → List ℕ
   first op = take MOST_INSTRS op
 

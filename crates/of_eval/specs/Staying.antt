@@ -4,6 +4,8 @@ use Rattle.std.proofs.lemmas.Bool.{false≢true}
 use Rattle.of_mem.specs.declared.work.RawReply.{RawReply}
 use Rattle.of_mem.specs.Programs.{Program, StaysFrom, OnlyReads}
 use Rattle.of_mem.proofs.Runs.{stays_then, reads_then}
+use Rattle.of_map.specs.declared.answers.Put.{Put as PutAnswer}
+use Rattle.of_map.specs.declared.answers.Put.TheVariants.{Full, New, Over}
 use Rattle.of_map.specs.MapPrograms.{get_program, put_program, del_program}
 use Rattle.of_map.proofs.Staying.{get_stays, get_reads, put_stays, del_stays}
 use Rattle.of_queue.specs.QueuePrograms.{push_program, pop_program}
@@ -21,9 +23,10 @@ use Rattle.of_eval.specs.Scripts.{instr_reads, words_read}
 use Rattle.of_eval.specs.ScriptPrograms.{Answer, answers, put_answers, answers_if, need_answers, add_unless, sub_unless, instr_program, program_of, word_program, go_on, words_program}
 
 module _ (o blocks : ℕ) where
-  put_after : (r : Option (Option ℕ)) → StaysFrom o (put_answers r)
-  put_after None = tt
-  put_after (Some r) = tt
+  put_after : (r : PutAnswer) → StaysFrom o (put_answers r)
+  put_after Full = tt
+  put_after New = tt
+  put_after (Over w) = tt
 
   room_after : (t : Bool) → StaysFrom o (answers_if NoRoom t)
   room_after true = tt

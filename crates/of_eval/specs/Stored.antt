@@ -1,5 +1,7 @@
 -- The store of scripts for which data cells stand.
-use Rattle.std.specs.Prelude.{ℕ}
+use Rattle.std.specs.Prelude.{◌≡◌, ℕ, length}
+use Rattle.of_mem.specs.declared.plot.Plot.{Plot}
+use Rattle.of_mem.specs.Plots.{base, size}
 use Rattle.of_mem.specs.Pad.{Pad}
 use Rattle.of_mem.specs.Programs.{IsPartOf}
 use Rattle.of_mem.specs.Stores.{Store, Stands}
@@ -14,6 +16,10 @@ pub record IsStored (o blocks : ℕ) (m : ℕ → ℕ) (s : State) : Type 0 wher
   pub state : IsState s
   pub stands : Stands o blocks m (plain s)
 
--- the partial memory is part of one that stands for a store
-abbrev pub HasState : ℕ → ℕ → Pad → Type 0
-HasState o blocks p = (m : ℕ → ℕ) × (s : State) × IsPartOf p m × IsStored o blocks m s
+-- the partial memory has the plot's cells, and is part of a memory that stands for some store
+pub record HasState (plot : Plot) (p : Pad) : Type 0 where
+  pub fits : length p.known ≡ size plot
+  pub memory : ℕ → ℕ
+  pub state : State
+  pub part : IsPartOf p memory
+  pub stored : IsStored (base plot) plot.blocks memory state

@@ -10,11 +10,16 @@ use Rattle.of_mem.specs.Stores.{first_at, value_in, total}
 use Rattle.of_store.specs.State.{State, IsState, queue}
 use Rattle.of_eval.specs.declared.lawful_cells.LawErr.{LawErr}
 use Rattle.of_eval.specs.declared.lawful_cells.LawErr.TheVariants.{Memory, Unlawful}
+use Rattle.of_eval.specs.Lawful.{StandsFor}
 use Rattle.of_eval.specs.Faults.{IsFirstFault, Begun, Passed, Counted, Has, IsMet, AtCell}
 
 -- an error that names a cell names the first one at fault
 abbrev pub NamesFault : Plot → List ℕ → LawErr → Type 0
 NamesFault p cells e = AtCell (IsFirstFault p.callers p.instrs p.blocks (memory cells)) e
+
+-- the cells stand for this store, those of the callers included
+abbrev pub CellsStandFor : Plot → List ℕ → State → Type 0
+CellsStandFor p cells s = StandsFor p.callers p.instrs p.blocks (memory cells) s
 
 -- what is looked at before the chains is sound
 abbrev pub HasBegun : Plot → List ℕ → Type 0
@@ -78,3 +83,19 @@ Stepped cells cell chain before after (Some b) = (memory cells cell ≡ b + 1) �
 abbrev pub StoppedAt : List ℕ → ℕ → List ℕ → LawErr → Type 0
 StoppedAt cells cell owners Memory = ⊥
 StoppedAt cells cell owners (Unlawful at) = (at ≡ cell) × ((b : ℕ) × (memory cells cell ≡ b + 1) × ((length owners ≤ b) ⊎ (get_or owners b 0 ≢ 0)))
+
+-- a walk that came to the queues found the keys counted rightly
+abbrev pub KeysAreCounted : Plot → List ℕ → State → Type 0
+KeysAreCounted p cells s = (owners : List ℕ) → Before p cells 33 0 owners s → Before p cells 33 33 owners s
+
+-- or wrongly
+abbrev pub KeysAreMiscounted : Plot → List ℕ → State → LawErr → Type 0
+KeysAreMiscounted p cells s e = (owners : List ℕ) → Before p cells 33 0 owners s → NamesFault p cells e
+
+-- a walk through all chains met every block
+abbrev pub AllAreMet : Plot → List ℕ → List ℕ → Type 0
+AllAreMet p cells owners = (s : State) → Before p cells 37 37 owners s → CellsStandFor p cells s
+
+-- or not every one
+abbrev pub SomeAreUnmet : Plot → List ℕ → List ℕ → LawErr → Type 0
+SomeAreUnmet p cells owners e = (s : State) → Before p cells 37 37 owners s → NamesFault p cells e

@@ -1,11 +1,16 @@
 -- What the words of an operation mean: those of a script are that script, and a word that is no instruction aborts at its place.
-use Rattle.std.specs.Prelude.{ℕ, ◌-◌, List, [], ◌∷◌, ◌++◌, length, replicate, Option, Some, None, Ok, Err}
+use Rattle.std.specs.Prelude.{ℕ, ◌≤◌, ◌-◌, List, [], ◌∷◌, ◌++◌, length, replicate, Option, Some, None, Ok, Err}
 use Rattle.of_script.specs.declared.instr.Instr.{Instr}
 use Rattle.of_script.specs.declared.instr.Cause.TheVariants.{BadOp}
 use Rattle.of_script.specs.declared.instr.Reply.{Reply}
 use Rattle.of_script.specs.declared.instr.TheConstants.{MOST_INSTRS}
 use Rattle.of_script.specs.Reading.{instr_at}
 use Rattle.of_store.specs.State.{State, Effect, effect, Outcome, then_on, settled, Response, Answered, Aborted}
+
+-- an operation has one to the most words
+pub record IsOperation (op : List ℕ) : Type 0 where
+  pub some : 1 ≤ length op
+  pub few : length op ≤ MOST_INSTRS
 
 abbrev pub effect_of : State → Option Instr → Effect
 effect_of s None = Err BadOp

@@ -2,10 +2,8 @@
 
 ghost use Rattle.std.specs.Prelude.{◌≡◌, IfOk, IfErr, MatchResult, length};
 ghost use Rattle.of_mem.specs.Plots.{size};
-ghost use Rattle.of_mem.specs.ProgramWork.{memory};
-ghost use Rattle.of_eval.specs.Lawful.{StandsFor};
 ghost use Rattle.of_store.specs.State.{State};
-ghost use Rattle.of_eval.specs.Walking.{NamesFault};
+ghost use Rattle.of_eval.specs.Walking.{NamesFault, CellsStandFor};
 ghost use Rattle.of_eval.specs.declared.lawful_cells.LawErr.TheVariants.{Memory};
 
 mod fill;
@@ -17,12 +15,13 @@ mod walk;
 use crate::lawful_cells::fill::begun_store;
 use crate::lawful_cells::own::callers;
 use crate::lawful_cells::walk::{all_met, bucket, free_list, fresh, keys, queue, registers};
-use of_mem::Plot;
+use of_mem::{BUCKETS, Plot};
 use of_script::QUEUES;
 use of_store::Store;
 use std::alloc::{AllocError, Global};
 
-/// Why cells are answered with no store: there is no memory, or they stand for none, and this is the first cell at fault.
+/// Why cells are answered with no store: there is no memory, or they stand for none, and this is
+/// the first cell at fault.
 #[derive(Clone, Copy, Debug, PartialEq, Eq)]
 pub enum LawErr {
     Memory,
@@ -40,13 +39,10 @@ impl From<AllocError> for LawErr {
     }
 }
 
-/// How many buckets there are.
-const BUCKETS: u32 = 32;
-
 /// Looks at the cells in their order, and makes the store that they stand for.
 fn looked_at(alloc: Global, plot: &Plot, cells: &[u32]) -> Result<Store, LawErr>
     requires { length cells.now ≡ size plot.now }
-    ensures ok { IfOk result (λ s. StandsFor plot.now.callers plot.now.instrs plot.now.blocks (memory cells.now) s) }
+    ensures ok { IfOk result (CellsStandFor plot.now cells.now) }
     ensures unlawful { IfErr result (NamesFault plot.now cells.now) }
 {
     callers(plot, cells)?;
@@ -66,17 +62,18 @@ fn looked_at(alloc: Global, plot: &Plot, cells: &[u32]) -> Result<Store, LawErr>
     Ok(store)
 }
 
-/// The store for which the data cells stand, each caller's own cells included. An error that names a cell says that they stand for no
-/// store; the cell is the first at fault: the callers' own cells are looked at first, then registers, the free list, buckets and
-/// queues.
+/// The store for which the data cells stand, each caller's own cells included. An error that names
+/// a cell says that they stand for no store; the cell is the first at fault: the callers' own cells
+/// are looked at first, then registers, the free list, buckets and queues.
 pub fn lawful(alloc: Global, plot: &Plot, cells: &[u32]) -> Result<Store, LawErr>
     requires { length cells.now ≡ size plot.now }
     // What is answered is what the cells stand for.
-    ensures ok { IfOk result (λ s. StandsFor plot.now.callers plot.now.instrs plot.now.blocks (memory cells.now) s) }
+    ensures ok { IfOk result (CellsStandFor plot.now cells.now) }
     // A cell that is named is the first at fault.
     ensures unlawful { IfErr result (NamesFault plot.now cells.now) }
     // Cells that stand for a store are answered by it, unless memory runs out.
-    ensures only { (s : State) → StandsFor plot.now.callers plot.now.instrs plot.now.blocks (memory cells.now) s → MatchResult result (λ t. t ≡ s) (λ e. e ≡ Memory) }
+    ensures only { (s : State) → CellsStandFor plot.now cells.now s →
+        MatchResult result (λ t. t ≡ s) (λ e. e ≡ Memory) }
 {
     looked_at(alloc, plot, cells)
 }

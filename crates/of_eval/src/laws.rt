@@ -8,8 +8,9 @@ ghost use Rattle.of_eval.specs.Stored.{IsStored};
 
 use crate::scripts::Scripts;
 
-/// Over cells that stand for a store, an operation leads to cells that stand for the store after its words, and answers what they
-/// answer: they run in order, and a word that is no instruction aborts.
+/// Over cells that stand for a store, an operation leads to cells that stand for the store after
+/// its words, and answers what they answer: they run in order, and a word that is no instruction
+/// aborts.
 pub fn operations_mean_words(work: Scripts)
     ensures { MeansWords work }
 {}
@@ -21,10 +22,12 @@ pub fn words_mean_script()
 
 /// Cells stand for one store at most.
 pub fn one_store()
-    ensures { (o blocks : ℕ) (m : ℕ → ℕ) (s t : State) → IsStored o blocks m s → IsStored o blocks m t → s ≡ t }
+    ensures { (o blocks : ℕ) (m : ℕ → ℕ) (s t : State) →
+        IsStored o blocks m s → IsStored o blocks m t → s ≡ t }
 {}
 
-/// Cells with a first fault stand for no store: so `lawful` names a cell exactly where they stand for none.
+/// Cells with a first fault stand for no store: so `lawful` names a cell exactly where they stand
+/// for none.
 pub fn faults_exclude_stores()
     ensures { FaultsExclude }
 {}

@@ -1,21 +1,24 @@
 //! Scripts as a work.
 
 ghost use Rattle.std.specs.Prelude.{◌≡◌, ◌≤◌};
+ghost use Rattle.of_cell.specs.declared.shape.TheConstants.{MOST_CALLERS};
+ghost use Rattle.of_mem.specs.declared.plot.TheConstants.{MOST_BLOCKS};
 
 use crate::reply::reply_cells;
 use crate::walk::run_words;
 use of_mem::{MOST_INSTRS, Need, Part, Plot, RawReply, Work};
 use of_script::from_words;
 
-/// What runs scripts on cells: so many callers, 1 to 16, and room for so many keys and items, at most 512. An operation is the words of
-/// a script; a word that is no instruction aborts at its place.
+/// What runs scripts on cells: so many callers, 1 to `MOST_CALLERS` of of_cell, and room for so
+/// many keys and items, at most `MOST_BLOCKS` of of_mem. An operation is the words of a script; a
+/// word that is no instruction aborts at its place.
 #[derive(Clone, Copy, Debug, PartialEq, Eq)]
 pub struct Scripts {
     pub callers: u32,
     pub blocks: u32,
     pub ghost some_callers: { 1 ≤ callers },
-    pub ghost few_callers: { callers ≤ 16 },
-    pub ghost few_blocks: { blocks ≤ 512 },
+    pub ghost few_callers: { callers ≤ MOST_CALLERS },
+    pub ghost few_blocks: { blocks ≤ MOST_BLOCKS },
 }
 
 impl Scripts {

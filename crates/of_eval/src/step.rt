@@ -1,14 +1,15 @@
 //! One instruction over cells.
 
-ghost use Rattle.std.specs.Prelude.{◌≡◌, ◌<◌, ◌≤◌, length, IfSome, MatchResult};
-ghost use Rattle.of_mem.specs.Plots.{base, size};
-ghost use Rattle.of_mem.specs.Programs.{Done, RunsAs, NeedsAt};
-ghost use Rattle.of_mem.specs.StoreParts.{HasStore};
+ghost use Rattle.std.specs.Prelude.{◌≡◌, IfSome};
+ghost use Rattle.of_mem.specs.Calls.{RunsOn, HasStore};
+ghost use Rattle.of_mem.specs.Programs.{Done};
 ghost use Rattle.of_script.specs.Language.{InRange};
 ghost use Rattle.of_script.specs.Reading.{instr_at};
-ghost use Rattle.of_script.specs.declared.instr.Instr.TheVariants.{Load, Store, Add, Sub, Get, Put, Del, Need as Needs, Push, Pop, Len, Count};
-ghost use Rattle.of_eval.specs.ScriptPrograms.{instr_program, word_program, need_answers};
+ghost use Rattle.of_script.specs.declared.instr.Instr.TheVariants.{Load, Store, Add, Sub, Get, Put as PutAt, Del, Need as Needs, Push, Pop, Len, Count};
+ghost use Rattle.of_eval.specs.ScriptPrograms.{need_answers};
+ghost use Rattle.of_eval.specs.Calls.{step, run_word};
 
+use of_map::Put;
 use of_mem::{Need, Part, Plot};
 use of_script::{Cause, GREATEST, Instr, from_words};
 
@@ -24,13 +25,11 @@ fn decode(word: u64) -> Option<Instr>
     Some(script.at(0))
 }
 
-/// Runs one word, which aborts where it is no instruction. The error names a cell that is read and isn't known.
-pub(crate) fn word(plot: &Plot, part: &mut Part, word: u64) -> Result<Answer, Need>
-    requires fits { length part.old.known ≡ size plot.now }
-    requires stands { HasStore (base plot.now) plot.now.blocks part.old }
-    ensures walk { MatchResult result (λ r. RunsAs (word_program (base plot.now) plot.now.blocks word) part.old r part.new) (λ need. NeedsAt (word_program (base plot.now) plot.now.blocks word) part.old need.addr) }
-    ensures known { part.new.known ≡ part.old.known }
-    ensures batch { part.new.batch ≡ part.old.batch }
+/// Runs one word, which aborts where it is no instruction. The error names a cell that is read and
+/// isn't known.
+pub(crate) fn run_word(plot: &Plot, part: &mut Part, word: u64) -> Result<Answer, Need>
+    requires { HasStore plot.now part.old }
+    ensures { RunsOn (run_word plot.now word) part.old part.new result }
 {
     match decode(word) {
         None => Ok(Err(Cause::BadOp)),
@@ -40,12 +39,9 @@ pub(crate) fn word(plot: &Plot, part: &mut Part, word: u64) -> Result<Answer, Ne
 
 /// Runs one instruction.
 fn step(plot: &Plot, part: &mut Part, instr: Instr) -> Result<Answer, Need>
-    requires fits { length part.old.known ≡ size plot.now }
-    requires stands { HasStore (base plot.now) plot.now.blocks part.old }
+    requires stands { HasStore plot.now part.old }
     requires range { InRange instr }
-    ensures walk { MatchResult result (λ r. RunsAs (instr_program (base plot.now) plot.now.blocks instr) part.old r part.new) (λ need. NeedsAt (instr_program (base plot.now) plot.now.blocks instr) part.old need.addr) }
-    ensures known { part.new.known ≡ part.old.known }
-    ensures batch { part.new.batch ≡ part.old.batch }
+    ensures { RunsOn (step plot.now instr) part.old part.new result }
 {
     match instr {
         Instr::Load { reg } => load(plot, part, reg),
@@ -66,9 +62,9 @@ fn step(plot: &Plot, part: &mut Part, instr: Instr) -> Result<Answer, Need>
 /// Answers a register.
 #[tactic(auto, using(of_mem::proofs::Runs::run_then_gives, of_mem::proofs::Runs::run_then_needs))]
 fn load(plot: &Plot, part: &Part, reg: u8) -> Result<Answer, Need>
-    requires fits { length part.now.known ≡ size plot.now }
-    requires reg { reg < 16 }
-    ensures { MatchResult result (λ r. RunsAs (instr_program (base plot.now) plot.now.blocks (Load reg)) part.now r part.now) (λ need. NeedsAt (instr_program (base plot.now) plot.now.blocks (Load reg)) part.now need.addr) }
+    requires stands { HasStore plot.now part.now }
+    requires range { InRange (Load reg) }
+    ensures { RunsOn (step plot.now (Load reg)) part.now part.now result }
 {
     let value = part.read(plot.register(u32::from(reg)))?;
     Ok(Ok(Some(value)))
@@ -77,12 +73,9 @@ fn load(plot: &Plot, part: &Part, reg: u8) -> Result<Answer, Need>
 /// Writes a register.
 #[tactic(auto, using(of_mem::proofs::Runs::run_then_gives, of_mem::proofs::Runs::run_then_needs))]
 fn store(plot: &Plot, part: &mut Part, reg: u8, value: u32) -> Result<Answer, Need>
-    requires fits { length part.old.known ≡ size plot.now }
-    requires stands { HasStore (base plot.now) plot.now.blocks part.old }
-    requires reg { reg < 16 }
-    ensures walk { MatchResult result (λ r. RunsAs (instr_program (base plot.now) plot.now.blocks (Store reg value)) part.old r part.new) (λ need. NeedsAt (instr_program (base plot.now) plot.now.blocks (Store reg value)) part.old need.addr) }
-    ensures known { part.new.known ≡ part.old.known }
-    ensures batch { part.new.batch ≡ part.old.batch }
+    requires stands { HasStore plot.now part.old }
+    requires range { InRange (Store reg value) }
+    ensures { RunsOn (step plot.now (Store reg value)) part.old part.new result }
 {
     part.write(plot.register(u32::from(reg)), value);
     Ok(Ok(None))
@@ -91,13 +84,9 @@ fn store(plot: &Plot, part: &mut Part, reg: u8, value: u32) -> Result<Answer, Ne
 /// Adds to a register.
 #[tactic(auto, using(of_mem::proofs::Runs::run_then_gives, of_mem::proofs::Runs::run_then_needs))]
 fn add(plot: &Plot, part: &mut Part, reg: u8, value: u32) -> Result<Answer, Need>
-    requires fits { length part.old.known ≡ size plot.now }
-    requires stands { HasStore (base plot.now) plot.now.blocks part.old }
-    requires reg { reg < 16 }
-    requires value { value < 2147483648 }
-    ensures walk { MatchResult result (λ r. RunsAs (instr_program (base plot.now) plot.now.blocks (Add reg value)) part.old r part.new) (λ need. NeedsAt (instr_program (base plot.now) plot.now.blocks (Add reg value)) part.old need.addr) }
-    ensures known { part.new.known ≡ part.old.known }
-    ensures batch { part.new.batch ≡ part.old.batch }
+    requires stands { HasStore plot.now part.old }
+    requires range { InRange (Add reg value) }
+    ensures { RunsOn (step plot.now (Add reg value)) part.old part.new result }
 {
     let cell = plot.register(u32::from(reg));
     let sum = part.read(cell)? + value;
@@ -111,12 +100,9 @@ fn add(plot: &Plot, part: &mut Part, reg: u8, value: u32) -> Result<Answer, Need
 /// Takes off a register.
 #[tactic(auto, using(of_mem::proofs::Runs::run_then_gives, of_mem::proofs::Runs::run_then_needs))]
 fn sub(plot: &Plot, part: &mut Part, reg: u8, value: u32) -> Result<Answer, Need>
-    requires fits { length part.old.known ≡ size plot.now }
-    requires stands { HasStore (base plot.now) plot.now.blocks part.old }
-    requires reg { reg < 16 }
-    ensures walk { MatchResult result (λ r. RunsAs (instr_program (base plot.now) plot.now.blocks (Sub reg value)) part.old r part.new) (λ need. NeedsAt (instr_program (base plot.now) plot.now.blocks (Sub reg value)) part.old need.addr) }
-    ensures known { part.new.known ≡ part.old.known }
-    ensures batch { part.new.batch ≡ part.old.batch }
+    requires stands { HasStore plot.now part.old }
+    requires range { InRange (Sub reg value) }
+    ensures { RunsOn (step plot.now (Sub reg value)) part.old part.new result }
 {
     let cell = plot.register(u32::from(reg));
     let before = part.read(cell)?;
@@ -130,9 +116,8 @@ fn sub(plot: &Plot, part: &mut Part, reg: u8, value: u32) -> Result<Answer, Need
 /// Answers the value at a key.
 #[tactic(auto, using(of_mem::proofs::Runs::run_then_gives, of_mem::proofs::Runs::run_then_needs))]
 fn get(plot: &Plot, part: &Part, key: u32) -> Result<Answer, Need>
-    requires fits { length part.now.known ≡ size plot.now }
-    requires stands { HasStore (base plot.now) plot.now.blocks part.now }
-    ensures { MatchResult result (λ r. RunsAs (instr_program (base plot.now) plot.now.blocks (Get key)) part.now r part.now) (λ need. NeedsAt (instr_program (base plot.now) plot.now.blocks (Get key)) part.now need.addr) }
+    requires { HasStore plot.now part.now }
+    ensures { RunsOn (step plot.now (Get key)) part.now part.now result }
 {
     let value = of_map::get(plot, part, key)?;
     Ok(Ok(value))
@@ -141,28 +126,22 @@ fn get(plot: &Plot, part: &Part, key: u32) -> Result<Answer, Need>
 /// Puts a value at a key.
 #[tactic(auto, using(of_mem::proofs::Runs::run_then_gives, of_mem::proofs::Runs::run_then_needs))]
 fn put(plot: &Plot, part: &mut Part, key: u32, value: u32) -> Result<Answer, Need>
-    requires fits { length part.old.known ≡ size plot.now }
-    requires stands { HasStore (base plot.now) plot.now.blocks part.old }
-    requires key { key < 2147483648 }
-    requires value { value < 2147483648 }
-    ensures walk { MatchResult result (λ r. RunsAs (instr_program (base plot.now) plot.now.blocks (Put key value)) part.old r part.new) (λ need. NeedsAt (instr_program (base plot.now) plot.now.blocks (Put key value)) part.old need.addr) }
-    ensures known { part.new.known ≡ part.old.known }
-    ensures batch { part.new.batch ≡ part.old.batch }
+    requires stands { HasStore plot.now part.old }
+    requires range { InRange (PutAt key value) }
+    ensures { RunsOn (step plot.now (PutAt key value)) part.old part.new result }
 {
     match of_map::put(plot, part, key, value)? {
-        None => Ok(Err(Cause::NoRoom)),
-        Some(before) => Ok(Ok(before)),
+        Put::Full => Ok(Err(Cause::NoRoom)),
+        Put::New => Ok(Ok(None)),
+        Put::Over(before) => Ok(Ok(Some(before))),
     }
 }
 
 /// Deletes a key.
 #[tactic(auto, using(of_mem::proofs::Runs::run_then_gives, of_mem::proofs::Runs::run_then_needs))]
 fn del(plot: &Plot, part: &mut Part, key: u32) -> Result<Answer, Need>
-    requires fits { length part.old.known ≡ size plot.now }
-    requires stands { HasStore (base plot.now) plot.now.blocks part.old }
-    ensures walk { MatchResult result (λ r. RunsAs (instr_program (base plot.now) plot.now.blocks (Del key)) part.old r part.new) (λ need. NeedsAt (instr_program (base plot.now) plot.now.blocks (Del key)) part.old need.addr) }
-    ensures known { part.new.known ≡ part.old.known }
-    ensures batch { part.new.batch ≡ part.old.batch }
+    requires { HasStore plot.now part.old }
+    ensures { RunsOn (step plot.now (Del key)) part.old part.new result }
 {
     let value = of_map::del(plot, part, key)?;
     Ok(Ok(value))
@@ -171,9 +150,8 @@ fn del(plot: &Plot, part: &mut Part, key: u32) -> Result<Answer, Need>
 /// Aborts unless the value at a key is this one.
 #[tactic(auto, using(of_mem::proofs::Runs::run_then_gives, of_mem::proofs::Runs::run_then_needs))]
 fn need(plot: &Plot, part: &Part, key: u32, value: u32) -> Result<Answer, Need>
-    requires fits { length part.now.known ≡ size plot.now }
-    requires stands { HasStore (base plot.now) plot.now.blocks part.now }
-    ensures { MatchResult result (λ r. RunsAs (instr_program (base plot.now) plot.now.blocks (Needs key value)) part.now r part.now) (λ need. NeedsAt (instr_program (base plot.now) plot.now.blocks (Needs key value)) part.now need.addr) }
+    requires { HasStore plot.now part.now }
+    ensures { RunsOn (step plot.now (Needs key value)) part.now part.now result }
 {
     let found = of_map::get(plot, part, key)?;
     Ok(compare(found, value))
@@ -192,13 +170,9 @@ fn compare(found: Option<u32>, value: u32) -> Answer
 /// Puts an item behind a queue.
 #[tactic(auto, using(of_mem::proofs::Runs::run_then_gives, of_mem::proofs::Runs::run_then_needs))]
 fn push(plot: &Plot, part: &mut Part, queue: u8, value: u32) -> Result<Answer, Need>
-    requires fits { length part.old.known ≡ size plot.now }
-    requires stands { HasStore (base plot.now) plot.now.blocks part.old }
-    requires queue { queue < 4 }
-    requires value { value < 2147483648 }
-    ensures walk { MatchResult result (λ r. RunsAs (instr_program (base plot.now) plot.now.blocks (Push queue value)) part.old r part.new) (λ need. NeedsAt (instr_program (base plot.now) plot.now.blocks (Push queue value)) part.old need.addr) }
-    ensures known { part.new.known ≡ part.old.known }
-    ensures batch { part.new.batch ≡ part.old.batch }
+    requires stands { HasStore plot.now part.old }
+    requires range { InRange (Push queue value) }
+    ensures { RunsOn (step plot.now (Push queue value)) part.old part.new result }
 {
     if of_queue::push(plot, part, u32::from(queue), value)? {
         return Ok(Ok(None));
@@ -209,12 +183,9 @@ fn push(plot: &Plot, part: &mut Part, queue: u8, value: u32) -> Result<Answer, N
 /// Takes the front item of a queue.
 #[tactic(auto, using(of_mem::proofs::Runs::run_then_gives, of_mem::proofs::Runs::run_then_needs))]
 fn pop(plot: &Plot, part: &mut Part, queue: u8) -> Result<Answer, Need>
-    requires fits { length part.old.known ≡ size plot.now }
-    requires stands { HasStore (base plot.now) plot.now.blocks part.old }
-    requires queue { queue < 4 }
-    ensures walk { MatchResult result (λ r. RunsAs (instr_program (base plot.now) plot.now.blocks (Pop queue)) part.old r part.new) (λ need. NeedsAt (instr_program (base plot.now) plot.now.blocks (Pop queue)) part.old need.addr) }
-    ensures known { part.new.known ≡ part.old.known }
-    ensures batch { part.new.batch ≡ part.old.batch }
+    requires stands { HasStore plot.now part.old }
+    requires range { InRange (Pop queue) }
+    ensures { RunsOn (step plot.now (Pop queue)) part.old part.new result }
 {
     let item = of_queue::pop(plot, part, u32::from(queue))?;
     Ok(Ok(item))
@@ -223,10 +194,9 @@ fn pop(plot: &Plot, part: &mut Part, queue: u8) -> Result<Answer, Need>
 /// Answers the length of a queue.
 #[tactic(auto, using(of_mem::proofs::Runs::run_then_gives, of_mem::proofs::Runs::run_then_needs))]
 fn len(plot: &Plot, part: &Part, queue: u8) -> Result<Answer, Need>
-    requires fits { length part.now.known ≡ size plot.now }
-    requires stands { HasStore (base plot.now) plot.now.blocks part.now }
-    requires queue { queue < 4 }
-    ensures { MatchResult result (λ r. RunsAs (instr_program (base plot.now) plot.now.blocks (Len queue)) part.now r part.now) (λ need. NeedsAt (instr_program (base plot.now) plot.now.blocks (Len queue)) part.now need.addr) }
+    requires stands { HasStore plot.now part.now }
+    requires range { InRange (Len queue) }
+    ensures { RunsOn (step plot.now (Len queue)) part.now part.now result }
 {
     let items = of_queue::len(plot, part, u32::from(queue))?;
     Ok(Ok(Some(items)))
@@ -235,9 +205,8 @@ fn len(plot: &Plot, part: &Part, queue: u8) -> Result<Answer, Need>
 /// Answers the number of keys.
 #[tactic(auto, using(of_mem::proofs::Runs::run_then_gives, of_mem::proofs::Runs::run_then_needs))]
 fn count(plot: &Plot, part: &Part) -> Result<Answer, Need>
-    requires fits { length part.now.known ≡ size plot.now }
-    requires stands { HasStore (base plot.now) plot.now.blocks part.now }
-    ensures { MatchResult result (λ r. RunsAs (instr_program (base plot.now) plot.now.blocks (Count)) part.now r part.now) (λ need. NeedsAt (instr_program (base plot.now) plot.now.blocks (Count)) part.now need.addr) }
+    requires { HasStore plot.now part.now }
+    ensures { RunsOn (step plot.now Count) part.now part.now result }
 {
     let keys = of_map::count(plot, part)?;
     Ok(Ok(Some(keys)))

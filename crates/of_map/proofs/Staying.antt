@@ -5,6 +5,7 @@ use Rattle.of_mem.specs.Programs.{StaysFrom, OnlyReads}
 use Rattle.of_mem.proofs.Runs.{stays_then, stays_after, reads_then}
 use Rattle.of_alloc.specs.BlockPrograms.{take_program}
 use Rattle.of_alloc.proofs.Staying.{take_stays}
+use Rattle.of_map.specs.declared.answers.Position.{Position}
 use Rattle.of_map.specs.MapPrograms.{seek_program, got, get_program, put_new, put_found, put_program, del_found, del_program, count_program}
 use Rattle.of_map.proofs.Seeks.{seek_stays, seek_yields, IsFrom}
 
@@ -12,7 +13,7 @@ module _ (o blocks key : ℕ) where
   seeking : StaysFrom o (seek_program o blocks key) × OnlyReads (seek_program o blocks key)
   seeking = seek_stays o key (blocks + 1) (bucket_at o (key % 32)) (omega arith)
 
-  got_stays : (r : Option (ℕ × ℕ)) → StaysFrom o (got o r) × OnlyReads (got o r)
+  got_stays : (r : Option Position) → StaysFrom o (got o r) × OnlyReads (got o r)
   got_stays None = (tt, tt)
   got_stays (Some r) = ((omega arith, λ v. tt), λ v. tt)
 
@@ -26,14 +27,14 @@ module _ (o blocks key : ℕ) where
   new_stays v None = tt
   new_stays v (Some b) = (omega arith, (omega arith, (omega arith, λ front. (omega arith, (omega arith, (omega arith, λ n. (omega arith, tt)))))))
 
-  put_found_stays : (v : ℕ) (r : Option (ℕ × ℕ)) → StaysFrom o (put_found o blocks key v r)
+  put_found_stays : (v : ℕ) (r : Option Position) → StaysFrom o (put_found o blocks key v r)
   put_found_stays v None = stays_then o (take_program o blocks) (put_new o key v) (take_stays o blocks) (new_stays v)
   put_found_stays v (Some r) = (omega arith, λ w. (omega arith, tt))
 
   pub put_stays : (v : ℕ) → StaysFrom o (put_program o blocks key v)
   put_stays v = stays_then o (seek_program o blocks key) (put_found o blocks key v) seeking.0 (put_found_stays v)
 
-  unlink_stays : (r : Option (ℕ × ℕ)) → IsFrom o r → StaysFrom o (del_found o r)
+  unlink_stays : (r : Option Position) → IsFrom o r → StaysFrom o (del_found o r)
   unlink_stays None l = tt
   unlink_stays (Some r) l = (omega arith, λ v. (omega arith, λ link. (l, (omega arith, λ f. (omega arith, (omega arith, (omega arith, λ n. (omega arith, tt))))))))
 

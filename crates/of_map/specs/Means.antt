@@ -1,16 +1,27 @@
 -- What the calls of the map do to a store.
-use Rattle.std.specs.Prelude.{ℕ, Bool, true, false, ltb, Option, Some, None}
+use Rattle.std.specs.Prelude.{◌≡◌, ℕ, Result, IfOk, Bool, true, false, ltb, Option, Some, None}
 use Rattle.std.specs.FinMap as fin
+use Rattle.of_mem.specs.declared.part.Need.{Need}
+use Rattle.of_mem.specs.declared.plot.Plot.{Plot}
+use Rattle.of_mem.specs.Numbers.{IsNumber}
+use Rattle.of_mem.specs.Pad.{Pad}
 use Rattle.of_mem.specs.Stores.{Store, things}
+use Rattle.of_mem.specs.Calls.{Acts}
+use Rattle.of_map.specs.declared.answers.Put.{Put}
+use Rattle.of_map.specs.declared.answers.Put.TheVariants.{Full, New, Over}
+
+-- a key and its value
+abbrev pub IsPair : ℕ → ℕ → Type 0
+IsPair key v = IsNumber key × IsNumber v
 
 abbrev pub with_put : Store → ℕ → ℕ → Store
 with_put s key v = record s { map = fin.insert s.map key v }
 
--- the value before, or none for a new key; no answer for a new key where there is no room
-abbrev pub put_answer : Option ℕ → Bool → Option (Option ℕ)
-put_answer (Some w) room = Some (Some w)
-put_answer None true = Some None
-put_answer None false = None
+-- what was there before; full for a new key where there is no room
+abbrev pub put_answer : Option ℕ → Bool → Put
+put_answer (Some w) room = Over w
+put_answer None true = New
+put_answer None false = Full
 
 abbrev pub put_store : Store → ℕ → ℕ → Option ℕ → Bool → Store
 put_store s key v (Some w) room = with_put s key v
@@ -18,12 +29,17 @@ put_store s key v None true = with_put s key v
 put_store s key v None false = s
 
 -- what a put answers, in a store with so many blocks
-abbrev pub answer_of_put : ℕ → ℕ → Store → Option (Option ℕ)
+abbrev pub answer_of_put : ℕ → ℕ → Store → Put
 answer_of_put blocks key s = put_answer (fin.get s.map key) (ltb (things s) blocks)
 
 -- the store after it
 abbrev pub after_put : ℕ → ℕ → ℕ → Store → Store
 after_put blocks key v s = put_store s key v (fin.get s.map key) (ltb (things s) blocks)
+
+-- the call put this value at this key, or found no room, and then it wrote nothing
+pub record Puts (plot : Plot) (before after : Pad) (key v : ℕ) (result : Result Put Need) : Type 0 where
+  pub acts : Acts plot before after result (answer_of_put plot.blocks key) (after_put plot.blocks key v)
+  pub full : IfOk result (λ r. r ≡ Full → after ≡ before)
 
 -- the store after a del
 abbrev pub after_del : ℕ → Store → Store

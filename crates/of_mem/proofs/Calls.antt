@@ -1,17 +1,51 @@
--- What a call made of two says, where each runs a program.
-use Rattle.std.proofs.Common.{◌≡◌, ◌∙◌}
-use Rattle.std.specs.Prelude.{Result, MatchResult, IfOk}
+-- What a call that ran as a program says, and a call that is made of two.
+use Rattle.std.proofs.Common.{◌≡◌, ◌∙◌, ℕ, subst, Ok}
+use Rattle.std.specs.Prelude.{Result, IfOk}
 use Rattle.std.proofs.lemmas.Result.{MatchResult-weaker}
 use Rattle.of_mem.specs.declared.part.Need.{Need}
+use Rattle.of_mem.specs.declared.plot.Plot.{Plot}
+use Rattle.of_mem.specs.Plots.{base, size}
 use Rattle.of_mem.specs.Pad.{Pad}
-use Rattle.of_mem.specs.Programs.{Program, then_do, RunsAs, NeedsAt}
-use Rattle.of_mem.proofs.Runs.{run_then_at}
+use Rattle.of_mem.specs.Programs.{Program, then_do, RunsAs, IsPartOf, Inside, answer, after}
+use Rattle.of_mem.specs.Stores.{Store}
+use Rattle.of_mem.specs.Calls.{RunsOn, StandsOn, Answers, ActsOn, Acts}
+use Rattle.of_mem.proofs.Runs.{run_then_at, run_ended, after_ended}
 
 -- the second call goes on where the first one answered r
-pub goes_on : {A B : Type 0} (f : Program A) (g : A → Program B) (p q : Pad) (x r : A) (result : Result B Need) (n : Pad) → RunsAs f p x q → x ≡ r
-    → MatchResult result (λ b. RunsAs (g r) q b n) (λ need. NeedsAt (g r) q need.addr) → MatchResult result (λ b. RunsAs (then_do f g) p b n) (λ need. NeedsAt (then_do f g) p need.addr)
-goes_on f g p q x r result n e is h = let first = run_then_at f g p q x r e is in MatchResult-weaker result h (λ b k. first ∙ k) (λ need k. first ∙ k)
+pub goes_on : {A B : Type 0} (f : Program A) (g : A → Program B) (p q n : Pad) (x r : A) (result : Result B Need) → RunsOn f p q (Ok x) → x ≡ r → RunsOn (g r) q n result → RunsOn (then_do f g) p n result
+goes_on f g p q n x r result first e second =
+    let on = run_then_at f g p q x r first.walk e in
+    record {
+      walk = MatchResult-weaker result second.walk (λ b k. on ∙ k) (λ need k. on ∙ k);
+      known = second.known ∙ first.known;
+      batch = second.batch ∙ first.batch;
+    }
 
--- what a finished run says of the answer
-pub so_ok : {B : Type 0} (f : Program B) (p n : Pad) (R : B → Type 0) (result : Result B Need) → MatchResult result (λ b. RunsAs f p b n) (λ need. NeedsAt f p need.addr) → ((b : B) → RunsAs f p b n → R b) → IfOk result R
-so_ok f p n R result h k = MatchResult-weaker result h k (λ _ _. tt)
+-- what a run to the end says of the answer
+pub so_ok : {A : Type 0} (f : Program A) (p q : Pad) (R : A → Type 0) (result : Result A Need) → RunsOn f p q result → ((r : A) → RunsAs f p r q → R r) → IfOk result R
+so_ok f p q R result h k = MatchResult-weaker result h.walk k (λ _ _. tt)
+
+-- what a program does over each memory that stands for a store
+pub record Means {A : Type 0} (plot : Plot) (m : ℕ → ℕ) (s : Store) (f : Program A) (to_answer : Store → A) (next : Store → Store) : Type 0 where
+  pub inside : Inside (base plot) (size plot) f m
+  pub answers : answer f m ≡ to_answer s
+  pub stands : StandsOn plot (after f m) (next s)
+
+-- a call acts on the store as its program does
+pub acts : {A : Type 0} (plot : Plot) (f : Program A) (to_answer : Store → A) (next : Store → Store) → ((m : ℕ → ℕ) (s : Store) → StandsOn plot m s → Means plot m s f to_answer next)
+    → (p q : Pad) (result : Result A Need) → RunsOn f p q result → Acts plot p q result to_answer next
+acts plot f to_answer next means p q result h = so_ok f p q (λ r. (m : ℕ → ℕ) (s : Store) → IsPartOf p m → StandsOn plot m s → ActsOn plot m s r q to_answer next) result h (λ r e m s is stands.
+    let k = means m s stands in
+    let d = run_ended (base plot) (size plot) f p q m r is k.inside e in
+    let same = after_ended f p q m r is d in
+    record {
+      answers = d.answers ∙ k.answers;
+      part = subst (IsPartOf q) same d.part;
+      stands = subst (λ (n : ℕ → ℕ). StandsOn plot n (next s)) same k.stands;
+    })
+
+-- a call answers what its program answers
+pub answered : {A : Type 0} (plot : Plot) (f : Program A) (to_answer : Store → A) → ((m : ℕ → ℕ) (s : Store) → StandsOn plot m s → Inside (base plot) (size plot) f m × (answer f m ≡ to_answer s))
+    → (p : Pad) (result : Result A Need) → RunsOn f p p result → Answers plot p result to_answer
+answered plot f to_answer means p result h = so_ok f p p (λ r. (m : ℕ → ℕ) (s : Store) → IsPartOf p m → StandsOn plot m s → r ≡ to_answer s) result h (λ r e m s is stands.
+    let k = means m s stands in (run_ended (base plot) (size plot) f p p m r is k.0 e).answers ∙ k.1)

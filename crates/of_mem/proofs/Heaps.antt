@@ -3,6 +3,8 @@ use Rattle.std.proofs.Common.{◌≡◌, ℕ, ◌+◌, ◌*◌, ◌<◌, ◌≤�
 use Rattle.std.specs.List.{AllByRecursion as Each}
 use Rattle.std.proofs.lemmas.Bool.{cases_lt}
 use Rattle.std.proofs.lemmas.Bool.Decides.{nat_tests}
+use Rattle.of_mem.specs.Numbers.{FitsCell}
+use Rattle.of_mem.specs.declared.plot.TheConstants.{MOST_BLOCKS}
 use Rattle.of_mem.specs.Places.{free_at, keys_at, bucket_at, head_at}
 use Rattle.of_mem.specs.Programs.{changed}
 use Rattle.of_mem.specs.Stores.{IsChain, front_at, link_at, cell_after}
@@ -123,7 +125,7 @@ chain_rest o m cell b [] ys h = h.1
 chain_rest o m cell b (x ∷ xs) ys h = chain_rest o m (link_at o x) b xs ys h.1
 
 -- a pointer to a block is a word
-pub pointer_small : (o blocks : ℕ) → blocks ≤ 512 → (m : ℕ → ℕ) (cell : ℕ) (l : List ℕ) → IsChain o m cell l → Each (λ b. b < blocks) l → m cell < 4294967296
+pub pointer_small : (o blocks : ℕ) → blocks ≤ MOST_BLOCKS → (m : ℕ → ℕ) (cell : ℕ) (l : List ℕ) → IsChain o m cell l → Each (λ b. b < blocks) l → FitsCell (m cell)
 pointer_small o blocks few m cell [] h k = omega arith
 pointer_small o blocks few m cell (b ∷ l) h k = omega (arith, h.0, k.0)
 

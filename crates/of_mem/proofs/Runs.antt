@@ -1,11 +1,13 @@
 -- Programs on partial memory and on whole memory: a run on partial memory names a cell that is not known, or it does what the run on the whole memory does.
 use Rattle.std.proofs.Common.{replicate, length, get_or, set, List, [], ◌∷◌, ◌++◌, ◌≡◌, ℕ, ◌<◌, ◌≤◌, ◌≢◌, inl, inr, List, refl, sym, ◌∙◌, ap, subst, arith, true, false, Option, Some, None, ◌==◌}
+use Rattle.std.specs.Option.{unwrap_or}
+use Rattle.std.proofs.lemmas.Option.{none-some}
 use Rattle.std.proofs.lemmas.Bool.{cases_eq, cases_lt}
 use Rattle.std.proofs.lemmas.List.{get_or-replicate, get_or_past, length-replicate, get_or-set_same, get_or-set_other}
 use Rattle.std.proofs.lemmas.Bool.Decides.{nat_tests}
 use Rattle.of_mem.specs.Pairs.{value_at, put, put_all}
 use Rattle.of_mem.specs.Pad.{newer, Pad, newest, wrote}
-use Rattle.of_mem.specs.Programs.{Program, Done, Read, Write, Ran, Lacks, Ends, with_number, run, then_do, changed, answer, after, writes, Inside, StaysFrom, Yields, OnlyReads, IsPartOf}
+use Rattle.of_mem.specs.Programs.{Program, Done, Read, Write, Ran, Lacks, Ends, with_number, run, then_do, changed, answer, after, writes, with_writes, Inside, StaysFrom, Yields, OnlyReads, IsPartOf}
 use Rattle.of_mem.proofs.Changes.{changed_same, changed_other}
 use Rattle.of_mem.proofs.Indexed.{value_at_put}
 
@@ -81,6 +83,55 @@ run_ended low size f p q m r h i e = subst (Follows low size f p m) e (run_follo
 -- a run that lacks a cell
 pub run_lacks : {A : Type 0} (low size : ℕ) (f : Program A) (p : Pad) (m : ℕ → ℕ) (a : ℕ) → IsPartOf p m → Inside low size f m → run f p ≡ Lacks a → (low ≤ a) × (a < size) × (newest p a ≡ None)
 run_lacks low size f p m a h i e = subst (Follows low size f p m) e (run_follows low size f p m h i)
+
+-- A memory after a program is the memory with what the script wrote.
+
+-- a cell stays among pairs over which others are put
+stays_there : (es ds : List (ℕ × ℕ)) (a : ℕ) → value_at es a ≢ None → value_at (put_all es ds) a ≢ None
+stays_there es [] a h = h
+stays_there es (d ∷ ds) a h = stays_there (put es d.0 d.1) ds a (elim (cases_eq a d.0) [
+  | inl e ↦ λ (n : value_at (put es d.0 d.1) a ≡ None). none-some d.1 (sym (subst (λ (x : ℕ). value_at (put es d.0 d.1) x ≡ None) e n) ∙ value_at_same es d.0 d.1)
+  | inr n ↦ λ (k : value_at (put es d.0 d.1) a ≡ None). h (sym (value_at_other es d.0 d.1 a n) ∙ k)
+])
+
+or_same : (o : Option ℕ) (x y : ℕ) → o ≢ None → unwrap_or o x ≡ unwrap_or o y
+or_same None x y n = absurd (n refl)
+or_same (Some v) x y n = refl
+
+-- a cell that is written again needs not be written before
+written_over : (m : ℕ → ℕ) (a v : ℕ) (es : List (ℕ × ℕ)) → value_at es a ≢ None → with_writes (changed m a v) es ≡ with_writes m es
+unfolding with_writes
+written_over m a v es there = λ i x. at x i
+  where
+    at : (x : ℕ) → unwrap_or (value_at es x) (changed m a v x) ≡ unwrap_or (value_at es x) (m x)
+    at x = elim (cases_eq x a) [
+      | inl e ↦ or_same (value_at es x) (changed m a v x) (m x) (subst (λ (y : ℕ). value_at es y ≢ None) (sym e) there)
+      | inr n ↦ ap (unwrap_or (value_at es x)) (changed_other m a v x n)
+    ]
+
+or_known : (o : Option ℕ) (x : ℕ) → ((v : ℕ) → o ≡ Some v → x ≡ v) → x ≡ unwrap_or o x
+or_known None x h = refl
+or_known (Some v) x h = h v refl
+
+newest_script : (p : Pad) (a v : ℕ) → value_at p.script a ≡ Some v → newest p a ≡ Some v
+unfolding newest
+newest_script p a v e = rw e refl
+
+-- what the script wrote stands in each memory of which it is part
+pub writes_stand : (p : Pad) (m : ℕ → ℕ) → IsPartOf p m → m ≡ with_writes m p.script
+unfolding with_writes
+writes_stand p m h = λ i a. or_known (value_at p.script a) (m a) (λ v e. h a v (newest_script p a v e)) i
+
+after_writes : {A : Type 0} (f : Program A) (p : Pad) (m : ℕ → ℕ) → IsPartOf p m → after f m ≡ with_writes m (put_all p.script (writes f m))
+unfolding wrote
+after_writes (Done r) p m h = writes_stand p m h
+after_writes (Read a k) p m h = after_writes (k (m a)) p m h
+after_writes (Write a v f) p m h =
+    after_writes f (wrote p a v) (changed m a v) (part_wrote p m a v h)
+    ∙ written_over m a v (put_all (put p.script a v) (writes f (changed m a v))) (stays_there (put p.script a v) (writes f (changed m a v)) a (λ (n : value_at (put p.script a v) a ≡ None). none-some v (sym n ∙ value_at_same p.script a v)))
+
+pub after_ended : {A : Type 0} (f : Program A) (p q : Pad) (m : ℕ → ℕ) (r : A) → IsPartOf p m → Ended f p m r q → after f m ≡ with_writes m q.script
+after_ended f p q m r h d = after_writes f p m h ∙ ap (with_writes m) (sym d.script)
 
 -- One program after the other.
 

@@ -3,6 +3,7 @@ use Rattle.std.proofs.Common.{◌≡◌, ℕ, ◌+◌, ◌-◌, ◌<◌, ◌≤�
 use Rattle.std.specs.List.{AllByRecursion as Each}
 use Rattle.std.proofs.lemmas.Bool.{cases_eq}
 use Rattle.std.proofs.lemmas.List.{get_or-set_same, get_or-set_other, get_or-drop}
+use Rattle.of_mem.specs.Numbers.{FitsCell}
 use Rattle.of_mem.specs.declared.work.RawReply.{RawReply}
 use Rattle.of_mem.specs.Pairs.{put_all}
 use Rattle.of_mem.specs.Pad.{Pad, newest}
@@ -34,7 +35,7 @@ memory-written low size (Write a v f) xs e h =
     subst (λ (n : ℕ → ℕ). memory (written (set xs a v) (writes f n)) ≡ after f n) is g
 
 abbrev IsWrite : ℕ → ℕ → ℕ × ℕ → Type 0
-IsWrite low size e = (low ≤ e.0) × (e.0 < size) × (e.1 < 4294967296)
+IsWrite low size e = (low ≤ e.0) × (e.0 < size) × FitsCell e.1
 
 writes_inside : {A : Type 0} (low size : ℕ) (f : Program A) (m : ℕ → ℕ) → Inside low size f m → Each (IsWrite low size) (writes f m)
 writes_inside low size (Done r) m h = tt

@@ -1,11 +1,12 @@
 -- How the code keeps pairs: each entry's place is noted at its address, and a note counts only where that entry names the address.
 use Rattle.std.specs.Prelude.{◌≡◌, ℕ, ◌<◌, ◌≤◌, List, ◌∷◌, [], ◌++◌, length, Some, None}
 use Rattle.std.proofs.Common.{get_or, set}
+use Rattle.of_mem.specs.Numbers.{FitsCell}
 use Rattle.of_mem.specs.Pairs.{Pairs, value_at, put, address, IsAbsent}
 
 -- the places fit the entries, and the entries' capacity is enough for each address once
 pub record IsIndexed (entries : List (ℕ × ℕ)) (places : List ℕ) (capacity : ℕ) : Type 0 where
-  pub room : length places < 4294967296
+  pub room : FitsCell (length places)
   pub spare : length places ≤ capacity
   pub below : (k : ℕ) → k < length entries → address entries k < length places
   pub found : (k : ℕ) → k < length entries → get_or places (address entries k) 0 ≡ k

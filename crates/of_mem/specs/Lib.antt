@@ -1,10 +1,11 @@
 pub mod Meaning
 pub mod Pairs
 pub mod Indexed
+pub mod Numbers
 pub mod Pad
 pub mod Places
 pub mod Plots
 pub mod Programs
 pub mod Stores
 pub mod ProgramWork
-pub mod StoreParts
+pub mod Calls

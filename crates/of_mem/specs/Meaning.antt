@@ -1,8 +1,11 @@
 -- What a work means: what an operation does to a lawful list of cells, and how a run that knows only some cells goes.
-use Rattle.std.specs.Prelude.{◌≡◌, ℕ, ◌+◌, ◌*◌, ◌^◌, ◌/◌, ◌%◌, ◌==◌, ◌<◌, ◌≤◌, List, [], ◌∷◌, length, Option, Some, None, Bool, true}
+use Rattle.std.specs.Prelude.{◌≡◌, ℕ, ◌+◌, ◌*◌, ◌^◌, ◌/◌, ◌%◌, ◌==◌, ◌<◌, ◌≤◌, List, [], ◌∷◌, length, Option, Some, None, Bool, true, Result, MatchResult}
 use Rattle.std.specs.List.{All}
-use Rattle.of_mem.specs.declared.work.TheConstants.{MOST_INSTRS}
+use Rattle.of_cell.specs.declared.shape.TheConstants.{MOST_CALLERS, MOST_DATA_CELLS}
+use Rattle.of_mem.specs.declared.work.TheConstants.{MOST_INSTRS, LEAST_ABORT}
+use Rattle.of_mem.specs.Numbers.{FitsCell}
 use Rattle.std.proofs.Common.{get_or, set, drop}
+use Rattle.of_mem.specs.declared.part.Need.{Need}
 use Rattle.of_mem.specs.declared.work.RawReply.{RawReply}
 
 -- how a run on known cells ends: at a cell that it needs and that isn't known, or with its writes in order of first writing and its reply
@@ -29,6 +32,17 @@ written xs (e ∷ es) = written (set xs e.0 e.1) es
 abbrev pub Agrees : List (Option ℕ) → List ℕ → Type 0
 Agrees known xs = (a v : ℕ) → get_or known a None ≡ Some v → get_or xs a 0 ≡ v
 
+-- the known cells are those of a lawful list of this size
+abbrev pub KnowsSome : (List ℕ → Type 0) → ℕ → List (Option ℕ) → Type 0
+KnowsSome lawful size known = (xs : List ℕ) × (length xs ≡ size) × lawful xs × Agrees known xs
+
+-- the run went as the walk on these known cells: it gave the walk's writes and reply, or named the
+-- cell that the walk needs, with no writes and the reply as before
+abbrev pub RunsAsWalked : Meaning → List (Option ℕ) → List ℕ → Result (Unit {0}) Need → List (ℕ × ℕ) → RawReply → RawReply → Type 0
+RunsAsWalked M known op result script before after =
+    MatchResult result (λ _. M.walk known op ≡ Gives script after)
+    (λ need. (M.walk known op ≡ Needs need.addr) × (script ≡ []) × (after ≡ before))
+
 -- alike from the cell on where the operations' own cells begin
 abbrev pub SameFrom : ℕ → List ℕ → List ℕ → Type 0
 SameFrom base xs ys = drop base xs ≡ drop base ys
@@ -43,14 +57,14 @@ Once es = (j k : ℕ) → j < length es → k < length es → (get_or es j (0, 0
 
 -- what a finished walk says is so of the list
 pub record Finishes (M : Meaning) (base size : ℕ) (xs op : List ℕ) (es : List (ℕ × ℕ)) (r : RawReply) : Type 0 where
-  pub inside : All (λ (e : ℕ × ℕ). (base ≤ e.0) × (e.0 < size) × (e.1 < 4294967296)) es
+  pub inside : All (λ (e : ℕ × ℕ). (base ≤ e.0) × (e.0 < size) × FitsCell e.1) es
   pub once : Once es
   pub cells : M.cells xs op ≡ written xs es
   pub reply : M.reply xs op ≡ r
-  pub shape : r.shape < 4294967296
-  pub values : All (λ (v : ℕ). v < 4294967296) r.values
+  pub shape : FitsCell r.shape
+  pub values : All FitsCell r.values
   -- a number is marked only for an instruction of a script that wasn't aborted
-  pub marks : (j : ℕ) → j < 16 → marked r.shape j ≡ true → (r.shape < 67108864) × (j < length op) × (j < length r.values)
+  pub marks : (j : ℕ) → j < MOST_INSTRS → marked r.shape j ≡ true → (r.shape < LEAST_ABORT) × (j < length op) × (j < length r.values)
   -- an operation that only reads writes nothing
   pub reads : M.reads_only op ≡ true → es ≡ []
 
@@ -59,12 +73,12 @@ abbrev pub Fits : Meaning → ℕ → ℕ → List (Option ℕ) → List ℕ →
 Fits M base size known xs op (Needs a) = (base ≤ a) × (a < size) × (get_or known a None ≡ None)
 Fits M base size known xs op (Gives es r) = Finishes M base size xs op es r
 
--- there are 1 to 16 callers, and the cells have room for what belongs to them
+-- there are as many callers as there may be, and the cells have room for what belongs to them
 pub record HasRoom (many size : ℕ) : Type 0 where
   pub some : 1 ≤ many
-  pub few : many ≤ 16
+  pub few : many ≤ MOST_CALLERS
   pub own : many * (MOST_INSTRS + 2) ≤ size
-  pub small : size ≤ 4096
+  pub small : size ≤ MOST_DATA_CELLS
 
 -- the rules of a meaning
 pub record Sound (M : Meaning) (lawful : List ℕ → Type 0) (base size : ℕ) : Type 0 where

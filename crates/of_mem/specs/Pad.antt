@@ -1,13 +1,22 @@
 -- Partial memory: what is known of each cell, what a batch wrote over it, and what a script wrote over both.
-use Rattle.std.specs.Prelude.{ℕ, zero, suc, List, [], ◌∷◌, Option, Some, None}
-use Rattle.std.proofs.Common.{get_or, set}
-use Rattle.of_mem.specs.Pairs.{Pairs, value_at, put}
+use Rattle.std.specs.Prelude.{◌≡◌, ℕ, Result, MatchResult, zero, suc, List, [], ◌∷◌, Option, Some, None}
+use Rattle.std.proofs.Common.{get_or, set, replicate}
+use Rattle.of_mem.specs.declared.part.Need.{Need}
+use Rattle.of_mem.specs.Pairs.{Pairs, value_at, put, put_all}
 
 -- the writes of batch and script stand in order of first writing
 pub record Pad : Type 0 where
   pub known : List (Option ℕ)
   pub batch : List (ℕ × ℕ)
   pub script : List (ℕ × ℕ)
+
+-- no cell of so many is known, and nothing is written
+abbrev pub unknown : ℕ → Pad
+unknown n = record { known = replicate n None; batch = []; script = [] }
+
+-- the batch takes over what the script wrote
+abbrev pub kept : Pad → Pad
+kept p = record p { batch = put_all p.batch p.script; script = [] }
 
 -- the newer of two numbers, where there is one
 abbrev pub newer : Option ℕ → Option ℕ → Option ℕ
@@ -18,9 +27,18 @@ newer (Some v) old = Some v
 unfoldable pub newest : Pad → ℕ → Option ℕ
 newest p a = newer (value_at p.script a) (newer (value_at p.batch a) (get_or p.known a None))
 
+-- a cell's number is known
+abbrev pub learnt : Pad → ℕ → ℕ → Pad
+learnt p a v = record p { known = set p.known a (Some v) }
+
 -- the script writes a number
 unfoldable pub wrote : Pad → ℕ → ℕ → Pad
 wrote p a v = record p { script = put p.script a v }
+
+-- the read gave the number that the cell holds, or named the cell where none is known
+abbrev pub ReadsAt : Pad → ℕ → Result ℕ Need → Type 0
+ReadsAt p a result =
+    MatchResult result (λ v. newest p a ≡ Some v) (λ need. (newest p a ≡ None) × (need.addr ≡ a))
 
 -- the known cells with these pairs over them; the first pair for a cell counts
 abbrev pub over : List (Option ℕ) → List (ℕ × ℕ) → List (Option ℕ)

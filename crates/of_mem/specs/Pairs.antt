@@ -1,6 +1,7 @@
 -- Numbers of cells as pairs of address and number, in order of first writing.
 use Rattle.std.specs.Prelude.{◌≡◌, ℕ, ◌<◌, ◌≤◌, ◌==◌, List, [], ◌∷◌, length, Option, Some, None, if◌then◌else◌}
 use Rattle.std.proofs.Common.{get_or}
+use Rattle.of_mem.specs.Numbers.{FitsCell}
 
 pub record Pairs : Type 0 where
   -- addresses are below it
@@ -35,4 +36,4 @@ pub record IsMap (p : Pairs) : Type 0 where
   pub once : (j k : ℕ) → j < length p.entries → k < length p.entries → address p.entries j ≡ address p.entries k → j ≡ k
   pub below : (k : ℕ) → k < length p.entries → address p.entries k < p.room
   pub few : length p.entries ≤ p.room
-  pub room : p.room < 4294967296
+  pub room : FitsCell p.room

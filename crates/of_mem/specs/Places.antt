@@ -1,5 +1,6 @@
 -- Where each data cell stands: o is the first cell behind those of the callers.
 use Rattle.std.specs.Prelude.{ℕ, ◌+◌, ◌*◌}
+use Rattle.of_mem.specs.declared.plot.TheConstants.{FRESH, FREE, KEYS, FIRST_BUCKET, FIRST_QUEUE, FIRST_BLOCK}
 
 -- the first cell behind the cells of the callers
 abbrev pub base_of : ℕ → ℕ → ℕ
@@ -18,28 +19,28 @@ abbrev pub register_at : ℕ → ℕ → ℕ
 register_at o r = o + r
 
 abbrev pub fresh_at : ℕ → ℕ
-fresh_at o = o + 16
+fresh_at o = o + FRESH
 
 abbrev pub free_at : ℕ → ℕ
-free_at o = o + 17
+free_at o = o + FREE
 
 abbrev pub keys_at : ℕ → ℕ
-keys_at o = o + 18
+keys_at o = o + KEYS
 
 abbrev pub bucket_at : ℕ → ℕ → ℕ
-bucket_at o b = o + 19 + b
+bucket_at o b = o + FIRST_BUCKET + b
 
 abbrev pub head_at : ℕ → ℕ → ℕ
-head_at o q = o + 51 + 3 * q
+head_at o q = o + FIRST_QUEUE + 3 * q
 
 abbrev pub tail_at : ℕ → ℕ → ℕ
-tail_at o q = o + 52 + 3 * q
+tail_at o q = o + (FIRST_QUEUE + 1) + 3 * q
 
 abbrev pub length_at : ℕ → ℕ → ℕ
-length_at o q = o + 53 + 3 * q
+length_at o q = o + (FIRST_QUEUE + 2) + 3 * q
 
 abbrev pub block_at : ℕ → ℕ → ℕ → ℕ
-block_at o b field = o + 63 + 3 * b + field
+block_at o b field = o + FIRST_BLOCK + 3 * b + field
 
 abbrev pub cells_at : ℕ → ℕ → ℕ
-cells_at o blocks = o + 63 + 3 * blocks
+cells_at o blocks = o + FIRST_BLOCK + 3 * blocks

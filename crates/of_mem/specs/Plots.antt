@@ -1,6 +1,7 @@
 -- The places of a plot and its sizes.
 use Rattle.std.specs.Prelude.{◌≡◌, ◌<◌, ℕ}
 use Rattle.of_mem.specs.declared.plot.Plot.{Plot}
+use Rattle.of_mem.specs.declared.plot.TheConstants.{REGISTERS, BUCKETS, QUEUES}
 use Rattle.of_mem.specs.Places.{base_of, cells_at, ticket_at, shape_at, reply_at, register_at, fresh_at, free_at, keys_at, bucket_at, head_at, tail_at, length_at, block_at}
 
 -- the first cell behind the cells of the callers
@@ -31,14 +32,14 @@ abbrev pub Has : Plot → Place → Type 0
 Has p (Ticket caller) = caller < p.callers
 Has p (Shape caller) = caller < p.callers
 Has p (Reply caller place) = (caller < p.callers) × (place < p.instrs)
-Has p (Register r) = r < 16
+Has p (Register r) = r < REGISTERS
 Has p Fresh = Unit {0}
 Has p Free = Unit {0}
 Has p Keys = Unit {0}
-Has p (Bucket b) = b < 32
-Has p (Head q) = q < 4
-Has p (Tail q) = q < 4
-Has p (Length q) = q < 4
+Has p (Bucket b) = b < BUCKETS
+Has p (Head q) = q < QUEUES
+Has p (Tail q) = q < QUEUES
+Has p (Length q) = q < QUEUES
 Has p (Block b field) = (b < p.blocks) × (field < 3)
 
 -- the cell at a place

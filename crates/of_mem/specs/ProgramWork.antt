@@ -3,6 +3,8 @@ use Rattle.std.specs.Prelude.{◌≡◌, ℕ, ◌<◌, ◌≤◌, Bool, true, co
 use Rattle.std.specs.List.{All}
 use Rattle.std.proofs.Common.{get_or}
 use Rattle.of_mem.specs.declared.work.RawReply.{RawReply}
+use Rattle.of_mem.specs.declared.work.TheConstants.{MOST_INSTRS, LEAST_ABORT}
+use Rattle.of_mem.specs.Numbers.{FitsCell}
 use Rattle.of_mem.specs.Pad.{Pad}
 use Rattle.of_mem.specs.Programs.{Program, Ran, Lacks, Ends, run, answer, after, writes, Inside, StaysFrom, OnlyReads}
 use Rattle.of_mem.specs.Meaning.{Meaning, Walked, Needs, Gives, written, marked}
@@ -31,9 +33,9 @@ meaning_of keeps reads program = record {
 
 -- a reply of words, whose marked numbers belong to instructions of a script that wasn't aborted
 pub record IsReply (op : List ℕ) (r : RawReply) : Type 0 where
-  pub shape : r.shape < 4294967296
-  pub values : All (λ (v : ℕ). v < 4294967296) r.values
-  pub marks : (j : ℕ) → j < 16 → marked r.shape j ≡ true → (r.shape < 67108864) × (j < length op) × (j < length r.values)
+  pub shape : FitsCell r.shape
+  pub values : All FitsCell r.values
+  pub marks : (j : ℕ) → j < MOST_INSTRS → marked r.shape j ≡ true → (r.shape < LEAST_ABORT) × (j < length op) × (j < length r.values)
 
 -- what is asked of the programs, for a work of this size whose operations begin at this cell and keep memory lawful
 pub record AreSound (keeps : RawReply → Bool) (reads : List ℕ → Bool) (program : List ℕ → Program RawReply) (lawful : (ℕ → ℕ) → Type 0) (low size : ℕ) : Type 0 where

@@ -1,5 +1,8 @@
 -- Programs that read and write cells, one after the other: what a call over cells reads and writes, and in which order. The cells of a whole memory are a function from their numbers.
 use Rattle.std.specs.Prelude.{◌≡◌, ℕ, cond, eqb, ◌<◌, ◌≤◌, List, [], ◌∷◌, Option, Some, None}
+use Rattle.std.specs.Option.{unwrap_or}
+use Rattle.of_mem.specs.Numbers.{FitsCell}
+use Rattle.of_mem.specs.Pairs.{value_at}
 use Rattle.of_mem.specs.Pad.{Pad, newest, wrote}
 
 pub data Program (A : Type 0) : Type 0 where
@@ -41,6 +44,10 @@ NeedsAt f p a = run f p ≡ Lacks a
 unfoldable pub changed : {A : Type 0} → (ℕ → A) → ℕ → A → ℕ → A
 changed m a v x = cond (eqb x a) v (m x)
 
+-- a memory with these pairs written
+unfoldable pub with_writes : (ℕ → ℕ) → List (ℕ × ℕ) → ℕ → ℕ
+with_writes m es a = unwrap_or (value_at es a) (m a)
+
 -- what a program answers on a whole memory
 abbrev pub answer : {A : Type 0} → Program A → (ℕ → ℕ) → A
 answer (Done r) m = r
@@ -63,7 +70,7 @@ writes (Write a v f) m = (a, v) ∷ writes f (changed m a v)
 abbrev pub Inside : {A : Type 0} → ℕ → ℕ → Program A → (ℕ → ℕ) → Type 0
 Inside low size (Done r) m = Unit {0}
 Inside low size (Read a k) m = (low ≤ a) × (a < size) × Inside low size (k (m a)) m
-Inside low size (Write a v f) m = (low ≤ a) × (a < size) × (v < 4294967296) × Inside low size f (changed m a v)
+Inside low size (Write a v f) m = (low ≤ a) × (a < size) × FitsCell v × Inside low size f (changed m a v)
 
 -- on every memory it reads and writes no cell before this one
 abbrev pub StaysFrom : {A : Type 0} → ℕ → Program A → Type 0

@@ -7,11 +7,13 @@ ghost use Rattle.of_mem.specs.Indexed.{Finds, Misses};
 use std::alloc::{AllocError, Global};
 use std::marker::Model;
 
-/// A map from cells to numbers, in order of first writing. Each call but `new` takes the same time, however many cells there are.
+/// A map from cells to numbers, in order of first writing. Each call but `new` takes the same time,
+/// however many cells there are.
 #[derive(Drop)]
 pub struct CellMap {
     entries: Vec<(u32, u32)>,
-    /// At each address that is there, the place of its entry. What stands at another address is left over from earlier.
+    /// At each address that is there, the place of its entry. What stands at another address is
+    /// left over from earlier.
     places: Vec<u32>,
 }
 

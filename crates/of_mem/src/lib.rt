@@ -8,5 +8,5 @@ mod plot;
 mod work;
 
 pub use part::{Need, Part};
-pub use plot::Plot;
-pub use work::{MOST_INSTRS, RawReply, Work};
+pub use plot::{BUCKETS, MOST_BLOCKS, Plot, QUEUES, REGISTERS};
+pub use work::{LEAST_ABORT, MOST_INSTRS, RawReply, Work};

@@ -1,9 +1,7 @@
 //! Partial memory.
 
-ghost use Rattle.std.specs.Prelude.{◌≡◌, ◌<◌, ◌≤◌, Some, None, [], length, slice_set, slice_index_or, IfOk, MatchResult};
-ghost use Rattle.std.proofs.Common.{replicate};
-ghost use Rattle.of_mem.specs.Pairs.{put_all};
-ghost use Rattle.of_mem.specs.Pad.{newest, wrote};
+ghost use Rattle.std.specs.Prelude.{◌≡◌, ◌<◌, ◌≤◌, [], length, slice_index_or, IfOk};
+ghost use Rattle.of_mem.specs.Pad.{unknown, learnt, wrote, kept, ReadsAt};
 
 use crate::cell_map::CellMap;
 use std::alloc::{AllocError, Global};
@@ -15,8 +13,9 @@ pub struct Need {
     pub addr: u32,
 }
 
-/// Partial memory: the cells that are known, what a batch of scripts wrote over them, and what a script wrote over both. A contract
-/// sees what is known of each cell, and the writes of batch and script, each in order of first writing. Only `new` takes memory.
+/// Partial memory: the cells that are known, what a batch of scripts wrote over them, and what a
+/// script wrote over both. A contract sees what is known of each cell, and the writes of batch and
+/// script, each in order of first writing. Only `new` takes memory.
 #[derive(Drop)]
 pub struct Part {
     known: CellMap,
@@ -39,9 +38,10 @@ impl Model for Part {
 
 #[tactic(auto, using(crate::proofs::Cells::cell_laws), unfolding(crate::specs::Pad::newest, crate::specs::Pad::wrote))]
 impl Part {
-    /// A memory of the cells below `cells` of which nothing is known. The error is that there is no memory.
+    /// A memory of the cells below `cells` of which nothing is known. The error is that there is no
+    /// memory.
     pub fn new(alloc: Global, cells: u32) -> Result<Self, AllocError>
-        ensures { IfOk result (λ p. p ≡ record { known = replicate cells None; batch = []; script = [] }) }
+        ensures { IfOk result (λ p. p ≡ unknown cells) }
     {
         let known = CellMap::new(alloc, cells)?;
         let batch = CellMap::new(alloc, cells)?;
@@ -56,15 +56,16 @@ impl Part {
     /// Makes a cell's number known.
     pub fn learn(&mut self, addr: u32, value: u32)
         requires { addr < length self.old.known }
-        ensures { self.new ≡ record self.old { known = slice_set self.old.known addr (Some value) } }
+        ensures { self.new ≡ learnt self.old addr value }
     {
         self.known.put(addr, value);
     }
 
-    /// What a cell holds: the script's number, else the batch's, else the known one. The error names the cell where there is none.
+    /// What a cell holds: the script's number, else the batch's, else the known one. The error
+    /// names the cell where there is none.
     pub fn read(&self, addr: u32) -> Result<u32, Need>
         requires { addr < length self.now.known }
-        ensures { MatchResult result (λ v. newest self.now addr ≡ Some v) (λ need. (newest self.now addr ≡ None) × (need.addr ≡ addr)) }
+        ensures { ReadsAt self.now addr result }
     {
         match self
             .script
@@ -106,7 +107,7 @@ impl Part {
 
     /// Hands what the script wrote to the batch.
     pub fn keep(&mut self)
-        ensures { self.new ≡ record self.old { batch = put_all self.old.batch self.old.script; script = [] } }
+        ensures { self.new ≡ kept self.old }
     {
         for i in 0..self.script.len() {
             let (addr, value) = self.script.entry(i);
@@ -124,7 +125,7 @@ impl Part {
 
     /// Forgets everything.
     pub fn clear(&mut self)
-        ensures { self.new ≡ record { known = replicate (length self.old.known) None; batch = []; script = [] } }
+        ensures { self.new ≡ unknown (length self.old.known) }
     {
         self.known.clear();
         self.batch.clear();

@@ -1,22 +1,52 @@
 //! Where the data cells stand.
 
-ghost use Rattle.std.specs.Prelude.{◌≡◌, ◌<◌, ◌≤◌};
+ghost use Rattle.std.specs.Prelude.{◌≡◌, ◌<◌, ◌≤◌, ◌+◌, ◌*◌};
+ghost use Rattle.of_cell.specs.declared.shape.TheConstants.{MOST_CALLERS};
+ghost use Rattle.of_mem.specs.declared.work.TheConstants.{MOST_INSTRS};
+ghost use Rattle.of_mem.specs.declared.plot.TheConstants.{REGISTERS, BUCKETS, QUEUES, MOST_BLOCKS};
 
-/// Where the data cells stand: first those of each caller (its ticket, its reply's shape and its reply's numbers), then the store
-/// (registers, what the allocator counts, buckets, queues) and last the blocks.
+/// How many registers a store has.
+pub const REGISTERS: u32 = 16;
+
+/// How many buckets its keys are spread over.
+pub const BUCKETS: u32 = 32;
+
+/// How many queues it has.
+pub const QUEUES: u32 = 4;
+
+/// The most blocks that it has.
+pub const MOST_BLOCKS: u32 = 512;
+
+// How far behind the callers' cells the store's parts begin: the registers first, then the cells
+// that the allocator and the map count with.
+const FRESH: u32 = REGISTERS;
+
+const FREE: u32 = FRESH + 1;
+
+const KEYS: u32 = FREE + 1;
+
+const FIRST_BUCKET: u32 = KEYS + 1;
+
+const FIRST_QUEUE: u32 = FIRST_BUCKET + BUCKETS;
+
+const FIRST_BLOCK: u32 = FIRST_QUEUE + 3 * QUEUES;
+
+/// Where the data cells stand: first those of each caller (its ticket, its reply's shape and its
+/// reply's numbers), then the store (registers, what the allocator counts, buckets, queues) and
+/// last the blocks.
 #[derive(Clone, Copy, Debug, PartialEq, Eq)]
 pub struct Plot {
-    /// How many callers there are, 1 to 16.
+    /// How many callers there are, 1 to `MOST_CALLERS` of of_cell.
     pub callers: u32,
-    /// The most instructions of a script, 1 to 16.
+    /// The most instructions of a script, 1 to `MOST_INSTRS`.
     pub instrs: u32,
-    /// How many blocks there are, at most 512.
+    /// How many blocks there are, at most `MOST_BLOCKS`.
     pub blocks: u32,
     pub ghost some_callers: { 1 ≤ callers },
-    pub ghost few_callers: { callers ≤ 16 },
+    pub ghost few_callers: { callers ≤ MOST_CALLERS },
     pub ghost some_instrs: { 1 ≤ instrs },
-    pub ghost few_instrs: { instrs ≤ 16 },
-    pub ghost few_blocks: { blocks ≤ 512 },
+    pub ghost few_instrs: { instrs ≤ MOST_INSTRS },
+    pub ghost few_blocks: { blocks ≤ MOST_BLOCKS },
 }
 
 impl Plot {
@@ -27,7 +57,7 @@ impl Plot {
     fn row(&self, caller: u32) -> u32
         requires { caller ≤ self.now.callers }
         ensures value { result ≡ ticket_at self.now.instrs caller }
-        ensures small { result ≤ 288 }
+        ensures small { result ≤ MOST_CALLERS * (MOST_INSTRS + 2) }
     {
         caller * (self.instrs + 2)
     }
@@ -35,7 +65,7 @@ impl Plot {
     /// The first cell behind those of the callers.
     pub fn base(&self) -> u32
         ensures value { result ≡ base self.now }
-        ensures small { result ≤ 288 }
+        ensures small { result ≤ MOST_CALLERS * (MOST_INSTRS + 2) }
     {
         self.row(self.callers)
     }
@@ -44,7 +74,7 @@ impl Plot {
     pub fn cells(&self) -> u32
         ensures { result ≡ size self.now }
     {
-        self.base() + 63 + 3 * self.blocks
+        self.base() + FIRST_BLOCK + 3 * self.blocks
     }
 
     /// The cell of a caller's ticket.
@@ -74,7 +104,7 @@ impl Plot {
 
     /// The cell of a register.
     pub fn register(&self, r: u32) -> u32
-        requires { r < 16 }
+        requires { r < REGISTERS }
         ensures { result ≡ register_at (base self.now) r }
     {
         self.base() + r
@@ -84,53 +114,53 @@ impl Plot {
     pub fn fresh(&self) -> u32
         ensures { result ≡ fresh_at (base self.now) }
     {
-        self.base() + 16
+        self.base() + FRESH
     }
 
     /// The front of the free list.
     pub fn free(&self) -> u32
         ensures { result ≡ free_at (base self.now) }
     {
-        self.base() + 17
+        self.base() + FREE
     }
 
     /// The cell that counts the keys.
     pub fn keys(&self) -> u32
         ensures { result ≡ keys_at (base self.now) }
     {
-        self.base() + 18
+        self.base() + KEYS
     }
 
     /// The front of a bucket.
     pub fn bucket(&self, b: u32) -> u32
-        requires { b < 32 }
+        requires { b < BUCKETS }
         ensures { result ≡ bucket_at (base self.now) b }
     {
-        self.base() + 19 + b
+        self.base() + FIRST_BUCKET + b
     }
 
     /// The front of a queue.
     pub fn head(&self, q: u32) -> u32
-        requires { q < 4 }
+        requires { q < QUEUES }
         ensures { result ≡ head_at (base self.now) q }
     {
-        self.base() + 51 + 3 * q
+        self.base() + FIRST_QUEUE + 3 * q
     }
 
     /// The cell that points to a queue's last block.
     pub fn tail(&self, q: u32) -> u32
-        requires { q < 4 }
+        requires { q < QUEUES }
         ensures { result ≡ tail_at (base self.now) q }
     {
-        self.base() + 52 + 3 * q
+        self.base() + FIRST_QUEUE + 3 * q + 1
     }
 
     /// The cell that counts a queue's items.
     pub fn length(&self, q: u32) -> u32
-        requires { q < 4 }
+        requires { q < QUEUES }
         ensures { result ≡ length_at (base self.now) q }
     {
-        self.base() + 53 + 3 * q
+        self.base() + FIRST_QUEUE + 3 * q + 2
     }
 
     /// A cell of a block: its first, its second or its link, fields 0, 1 and 2.
@@ -139,7 +169,7 @@ impl Plot {
         requires field { field < 3 }
         ensures { result ≡ block_at (base self.now) b field }
     {
-        self.base() + 63 + 3 * b + field
+        self.base() + FIRST_BLOCK + 3 * b + field
     }
 }
 

@@ -1,14 +1,17 @@
 //! What runs operations on cells.
 
-ghost use Rattle.std.specs.Prelude.{◌≡◌, ◌+◌, ◌*◌, ◌≤◌, ℕ, List, [], length, MatchResult};
+ghost use Rattle.std.specs.Prelude.{◌≡◌, ◌+◌, ◌*◌, ◌≤◌, ℕ, List, [], length};
 ghost use Rattle.of_mem.specs.declared.work.TheConstants.{MOST_INSTRS};
-ghost use Rattle.of_mem.specs.Meaning.{Meaning, Sound, HasRoom, Agrees, Needs, Gives};
+ghost use Rattle.of_mem.specs.Meaning.{Meaning, Sound, HasRoom, KnowsSome, RunsAsWalked};
 ghost use Rattle.of_mem.specs.Pad.{over};
 
 use crate::part::{Need, Part};
 
 /// The most words of an operation, and the most numbers of a reply.
 pub const MOST_INSTRS: usize = 16;
+
+/// The least shape of a script that was aborted: the cause stands in the bits above it.
+pub const LEAST_ABORT: u32 = 1 << 26;
 
 /// A reply as cells hold it: its shape, and a number at each place, 0 where the shape marks none.
 #[derive(Clone, Copy, Debug, PartialEq, Eq)]
@@ -17,8 +20,8 @@ pub struct RawReply {
     pub values: [u32; MOST_INSTRS],
 }
 
-/// What runs operations on cells: the first `callers * (MOST_INSTRS + 2)` cells are the callers' own, and no operation reads or
-/// writes them.
+/// What runs operations on cells: the first `callers * (MOST_INSTRS + 2)` cells are the callers'
+/// own, and no operation reads or writes them.
 pub trait Work: Copy + Send + Sync {
     /// How many callers there are.
     ghost many: { Self → ℕ };
@@ -29,7 +32,8 @@ pub trait Work: Copy + Send + Sync {
     /// Which lists of cells are lawful.
     ghost lawful: { Self → List ℕ → Type 0 };
 
-    /// What an operation does to a list of cells, what it answers, and how it runs where only some cells are known.
+    /// What an operation does to a list of cells, what it answers, and how it runs where only some
+    /// cells are known.
     ghost meaning: { Self → Meaning };
 
     /// The number of callers.
@@ -40,17 +44,19 @@ pub trait Work: Copy + Send + Sync {
     fn cells(&self) -> u32
         ensures { result ≡ size self.now };
 
-    /// Runs an operation of 1 to `MOST_INSTRS` words on what is known, the batch's writes over the known cells. Ok leaves the writes
-    /// with the script and the reply in `out`. The error names the cell that the run needs next; then the script has no writes and
-    /// `out` is as before.
+    /// Runs an operation of 1 to `MOST_INSTRS` words on what is known, the batch's writes over the
+    /// known cells. Ok leaves the writes with the script and the reply in `out`. The error names
+    /// the cell that the run needs next; then the script has no writes and `out` is as before.
     fn run(&self, part: &mut Part, op: &[u64], out: &mut RawReply) -> Result<(), Need>
-        requires agrees { (xs : List ℕ) × (length xs ≡ size self.now) × lawful self.now xs × Agrees (over part.old.known part.old.batch) xs }
+        requires agrees { KnowsSome (lawful self.now) (size self.now)
+            (over part.old.known part.old.batch) }
         requires cells { length part.old.known ≡ size self.now }
         requires empty { part.old.script ≡ [] }
         requires some { 1 ≤ length op.now }
         requires few { length op.now ≤ MOST_INSTRS }
         ensures part { part.new ≡ record part.old { script = part.new.script } }
-        ensures walk { MatchResult result (λ _. (meaning self.now).walk (over part.old.known part.old.batch) op.now ≡ Gives part.new.script out.new) (λ need. ((meaning self.now).walk (over part.old.known part.old.batch) op.now ≡ Needs need.addr) × (part.new.script ≡ []) × (out.new ≡ out.old)) };
+        ensures walk { RunsAsWalked (meaning self.now) (over part.old.known part.old.batch)
+            op.now result part.new.script out.old out.new };
 
     /// Whether an operation is known to write nothing.
     fn reads_only(&self, op: &[u64]) -> bool

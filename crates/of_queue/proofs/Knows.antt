@@ -1,33 +1,38 @@
 -- What the queues' calls know of the cells that they read.
-use Rattle.std.proofs.Common.{◌≡◌, ℕ, zero, suc, ◌+◌, ◌-◌, ◌<◌, ◌≤◌, ◌≢◌, refl, sym, ◌∙◌, ap, subst, arith, Option, Some, List, [], ◌∷◌, map}
+use Rattle.std.proofs.Common.{◌≡◌, ℕ, zero, suc, ◌+◌, ◌-◌, ◌<◌, ◌≢◌, refl, sym, ◌∙◌, ap, subst, arith, Option, Some, List, [], ◌∷◌, map, length, Ok}
 use Rattle.std.specs.List.{AllByRecursion as Each}
 use Rattle.of_mem.specs.Places.{fresh_at, free_at, head_at, tail_at, length_at}
 use Rattle.of_mem.specs.Pad.{Pad, newest, wrote}
-use Rattle.of_mem.specs.Programs.{RunsAs, after, changed}
-use Rattle.of_mem.specs.Stores.{Stands, IsChain, front_at, first_at, link_at}
-use Rattle.of_mem.specs.StoreParts.{HasStore}
+use Rattle.of_mem.specs.Programs.{after, changed}
+use Rattle.of_mem.specs.Stores.{IsChain, front_at, first_at, link_at}
+use Rattle.of_mem.specs.declared.plot.Plot.{Plot}
+use Rattle.of_mem.specs.Plots.{base}
+use Rattle.of_mem.specs.Calls.{RunsOn, HasStore}
 use Rattle.of_mem.proofs.Changes.{changed_other}
 use Rattle.of_mem.proofs.Counts.{tail_small, length_small}
 use Rattle.of_mem.proofs.Heaps.{front_head, chain_changed}
 use Rattle.of_mem.proofs.Runs.{part_wrote}
-use Rattle.of_alloc.specs.BlockPrograms.{take_program}
+use Rattle.of_alloc.specs.Blocks.{IsFreeList, IsOut}
+use Rattle.of_alloc.specs.BlockPrograms.{take}
 use Rattle.of_alloc.proofs.Stored.{took, took_below}
 use Rattle.of_queue.specs.QueuePrograms.{last_cell}
-use Rattle.of_queue.specs.Fronts.{IsFront, IsPopped}
+use Rattle.of_queue.specs.Fronts.{CanAppend, IsFront, IsPopped}
 use Rattle.of_queue.proofs.Pops.{popped}
 
 -- what is known after a block was taken
-pub after_take : (o blocks : ℕ) → blocks ≤ 512 → (q : ℕ) → q < 4 → (p n : Pad) (x : Option ℕ) (b : ℕ) → HasStore o blocks p → RunsAs (take_program o blocks) p x n → x ≡ Some b
-    → (b < blocks) × ((k : ℕ) → newest n (tail_at o q) ≡ Some k → k ≤ blocks) × ((k : ℕ) → newest n (length_at o q) ≡ Some k → k < 4294967295)
-after_take o blocks few q l p n x b has e is =
-    let m = has.0 in
-    let s = has.1 in
-    let h = has.3 in
-    let t = took o blocks few m s h p n x b has.2 e is in (
-      took_below o blocks few m s h b (after (take_program o blocks) m) t.0,
-      (λ k w. let y : m (tail_at o q) ≡ k = sym (t.0.cells (tail_at o q) (λ e. omega arith) (λ e. omega arith)) ∙ t.1 (tail_at o q) k w in omega (arith, tail_small o blocks m s h q l)),
-      (λ k w. let y : m (length_at o q) ≡ k = sym (t.0.cells (length_at o q) (λ e. omega arith) (λ e. omega arith)) ∙ t.1 (length_at o q) k w in omega (arith, length_small o blocks m s h q l)),
-    )
+pub after_take : (plot : Plot) (q : ℕ) → q < 4 → (p n : Pad) (x : Option ℕ) (b : ℕ) → HasStore plot p → RunsOn (take plot) p n (Ok x) → x ≡ Some b → CanAppend plot n q b
+after_take plot q l p n x b has e is =
+    let o = base plot in
+    let m = has.memory in
+    let h = has.stands in
+    let t = took o plot.blocks plot.few_blocks m has.store h p n x b has.part e.walk is in
+    record {
+      fits = ap length e.known ∙ has.fits;
+      queue = l;
+      below = took_below o plot.blocks plot.few_blocks m has.store h b (after (take plot) m) t.0;
+      tail = λ k w. let y : m (tail_at o q) ≡ k = sym (t.0.cells (tail_at o q) (λ e. omega arith) (λ e. omega arith)) ∙ t.1 (tail_at o q) k w in omega (arith, tail_small o plot.blocks m has.store h q l);
+      items = λ k w. let y : m (length_at o q) ≡ k = sym (t.0.cells (length_at o q) (λ e. omega arith) (λ e. omega arith)) ∙ t.1 (length_at o q) k w in omega (arith, length_small o plot.blocks m has.store h q l);
+    }
 
 -- the last pointer cell of a queue is no length
 pub last_apart : (o q tail : ℕ) → q < 4 → length_at o q ≢ last_cell o q tail
@@ -35,49 +40,60 @@ last_apart o q zero l e = omega arith
 last_apart o q (suc t) l e = omega arith
 
 -- the front of a queue that isn't empty
-pub front_is : (o blocks : ℕ) (p : Pad) (q f a : ℕ) → q < 4 → HasStore o blocks p → a ≡ head_at o q → newest p a ≡ Some f → f ≢ 0 → IsFront o blocks p q (f - 1)
-front_is o blocks p q f a l has at e n = go (h.chains (33 + q)) refl
+pub front_is : (plot : Plot) (p : Pad) (q f a : ℕ) → q < 4 → HasStore plot p → a ≡ head_at (base plot) q → newest p a ≡ Some f → f ≢ 0 → IsFront plot p q (f - 1)
+front_is plot p q f a l has at e n = go (has.stands.chains (33 + q)) refl
   where
-    h : Stands o blocks has.0 has.1
-    h = has.3
+    head : has.memory (front_at (base plot) (33 + q)) ≡ f
+    head = rw front_head (has.part (head_at (base plot) q) f (rw at at e))
 
-    head : has.0 (front_at o (33 + q)) ≡ f
-    head = rw front_head (has.2 (head_at o q) f (rw at at e))
-
-    go : (l : List ℕ) → h.chains (33 + q) ≡ l → IsFront o blocks p q (f - 1)
-    go [] is = absurd (n (sym head ∙ subst (IsChain o has.0 (front_at o (33 + q))) is (h.heap.linked (33 + q) (omega arith))))
+    go : (l : List ℕ) → has.stands.chains (33 + q) ≡ l → IsFront plot p q (f - 1)
+    go [] is = absurd (n (sym head ∙ subst (IsChain (base plot) has.memory (front_at (base plot) (33 + q))) is (has.stands.heap.linked (33 + q) (omega arith))))
     go (b ∷ rest) is =
-        let first : has.0 (front_at o (33 + q)) ≡ b + 1 = (subst (IsChain o has.0 (front_at o (33 + q))) is (h.heap.linked (33 + q) (omega arith))).0 in
+        let first : has.memory (front_at (base plot) (33 + q)) ≡ b + 1 = (subst (IsChain (base plot) has.memory (front_at (base plot) (33 + q))) is (has.stands.heap.linked (33 + q) (omega arith))).0 in
         let same : b ≡ f - 1 = omega (arith, head) in
-        record { memory = has.0; store = has.1; part = has.2; stands = h; rest = rest; front = rw (← same) is }
+        record { fits = has.fits; queue = l; memory = has.memory; store = has.store; part = has.part; stands = has.stands; rest = rest; front = rw (← same) is }
 
 -- the write that takes a queue's front block out of it
-pub pops_out : (o blocks : ℕ) (p n : Pad) (q b link c : ℕ) → q < 4 → IsFront o blocks p q b → newest p (link_at o b) ≡ Some link → c ≡ head_at o q → n ≡ wrote p c link → IsPopped o blocks n q b
-pops_out o blocks p n q b link c l k e at is =
+pub pops_out : (plot : Plot) (p n : Pad) (q b link c : ℕ) → IsFront plot p q b → newest p (link_at (base plot) b) ≡ Some link → c ≡ head_at (base plot) q → n ≡ wrote p c link → n.known ≡ p.known → IsPopped plot n q b
+pops_out plot p n q b link c k e at is known =
+    let o = base plot in
     let m = k.memory in
     let same : m (link_at o b) ≡ link = k.part (link_at o b) link e in
     let f : ℕ → ℕ = λ (x : ℕ). m (first_at o x) in
-    let has : k.store.queues q ≡ f b ∷ map f k.rest = sym (k.stands.holds.queues q l).listed ∙ ap (map f) k.front in
-    rw (is, at, ← same) (popped o blocks m k.store k.stands q b k.rest (map f k.rest) l k.front has p k.part)
+    let has : k.store.queues q ≡ f b ∷ map f k.rest = sym (k.stands.holds.queues q k.queue).listed ∙ ap (map f) k.front in
+    let u = popped o plot.blocks m k.store k.stands q b k.rest (map f k.rest) k.queue k.front has p k.part in
+    record {
+      queue = k.queue;
+      block = record { fits = ap length known ∙ k.fits; memory = _; free = _; part = rw (is, at, ← same) u.0; list = u.1; out = u.2 };
+      items = u.3;
+    }
 
--- the block is still out after the tail was cleared
-pub popped_tail : (o blocks : ℕ) (p n : Pad) (q b c : ℕ) → q < 4 → IsPopped o blocks p q b → c ≡ tail_at o q → n ≡ wrote p c 0 → IsPopped o blocks n q b
-popped_tail o blocks p n q b c l k at is = rw (is, at) (record {
-  memory = changed k.memory (tail_at o q) 0;
-  part = part_wrote p k.memory (tail_at o q) 0 k.part;
-  free = k.free;
-  list = record {
-    linked = chain_changed o k.memory (tail_at o q) 0 (free_at o) k.free (λ (e : free_at o ≡ tail_at o q). omega arith) (links k.free) k.list.linked;
-    below = subst (λ (f : ℕ). Each (λ x. x < f) k.free) (sym fresh) k.list.below;
-    few = rw fresh k.list.few;
-  };
-  out = (rw fresh k.out.0, k.out.1);
-  items = rw (changed_other k.memory (tail_at o q) 0 (length_at o q) (λ e. omega arith)) k.items;
-})
+-- a cleared tail leaves the free list, and what is out, as they were
+cleared : (o blocks : ℕ) (m : ℕ → ℕ) (free : List ℕ) (q b : ℕ) → IsFreeList o blocks m free → IsOut o m free b → IsFreeList o blocks (changed m (tail_at o q) 0) free × IsOut o (changed m (tail_at o q) 0) free b
+cleared o blocks m free q b list out = (
+  record {
+    linked = chain_changed o m (tail_at o q) 0 (free_at o) free (λ (e : free_at o ≡ tail_at o q). omega arith) (links free) list.linked;
+    below = subst (λ (f : ℕ). Each (λ x. x < f) free) (sym fresh) list.below;
+    few = rw fresh list.few;
+  },
+  (rw fresh out.0, out.1),
+)
   where
-    fresh : changed k.memory (tail_at o q) 0 (fresh_at o) ≡ k.memory (fresh_at o)
-    fresh = changed_other k.memory (tail_at o q) 0 (fresh_at o) (λ e. omega arith)
+    fresh : changed m (tail_at o q) 0 (fresh_at o) ≡ m (fresh_at o)
+    fresh = changed_other m (tail_at o q) 0 (fresh_at o) (λ e. omega arith)
 
     links : (l : List ℕ) → Each (λ x. link_at o x ≢ tail_at o q) l
     links [] = tt
     links (x ∷ l) = ((λ (e : link_at o x ≡ tail_at o q). omega arith), links l)
+
+-- the block is still out after the tail was cleared
+pub popped_tail : (plot : Plot) (p n : Pad) (q b c : ℕ) → IsPopped plot p q b → c ≡ tail_at (base plot) q → n ≡ wrote p c 0 → n.known ≡ p.known → IsPopped plot n q b
+popped_tail plot p n q b c k at is known =
+    let o = base plot in
+    let h = k.block in
+    let u = cleared o plot.blocks h.memory h.free q b h.list h.out in
+    record {
+      queue = k.queue;
+      block = record { fits = ap length known ∙ h.fits; memory = _; free = _; part = rw (is, at) (part_wrote p h.memory (tail_at o q) 0 h.part); list = u.0; out = u.1 };
+      items = rw (changed_other h.memory (tail_at o q) 0 (length_at o q) (λ e. omega arith)) k.items;
+    }

@@ -2,9 +2,11 @@
 use Rattle.std.proofs.Common.{◌≡◌, ℕ, suc, ◌+◌, ◌-◌, ◌%◌, ◌<◌, ◌≤◌, ◌≢◌, refl, sym, ◌∙◌, ap, subst, arith, Some, List, [], ◌∷◌, length, map}
 use Rattle.std.specs.List.{AllByRecursion as Each}
 use Rattle.std.specs.FinMap as fin
+use Rattle.of_mem.specs.declared.plot.TheConstants.{MOST_BLOCKS}
 use Rattle.of_mem.specs.Places.{register_at, free_at, keys_at, head_at, tail_at, length_at, cells_at}
 use Rattle.of_mem.specs.Programs.{changed, answer, after, Inside, IsPartOf}
-use Rattle.of_mem.specs.Stores.{Store, Stands, IsHeap, IsChain, IsQueue, IsNumber, front_at, link_at, first_at, second_at, total, last_pointer}
+use Rattle.of_mem.specs.Numbers.{IsNumber}
+use Rattle.of_mem.specs.Stores.{Store, Stands, IsHeap, IsChain, IsQueue, front_at, link_at, first_at, second_at, total, last_pointer}
 use Rattle.of_mem.proofs.Changes.{changed_same, changed_other, changed_cases, total_changed, total_changed_past}
 use Rattle.of_mem.proofs.Heaps.{fronts, front_head}
 use Rattle.of_mem.proofs.Moves.{heap_changed, heap_unlink}
@@ -13,10 +15,10 @@ use Rattle.of_mem.specs.Pad.{Pad, wrote}
 use Rattle.of_mem.proofs.Counts.{blocks_below, length_small}
 use Rattle.of_mem.proofs.Heaps.{pointer_small}
 use Rattle.of_mem.proofs.Runs.{part_wrote}
+use Rattle.of_alloc.specs.Blocks.{IsFreeList, IsOut}
 use Rattle.of_alloc.proofs.Heaped.{give_heap, heap_free_list, heap_out}
 use Rattle.of_alloc.proofs.Takings.{free_small}
 use Rattle.of_queue.specs.QueuePrograms.{drop_block, new_end, front_program}
-use Rattle.of_queue.specs.Fronts.{IsPopped}
 use Rattle.of_queue.specs.Means.{front_of, after_pop}
 
 -- the memory after the head was moved, with the tail set to 0 where nothing is left
@@ -176,17 +178,15 @@ module _ (o blocks : ℕ) (m : ℕ → ℕ) (s : Store) (h : Stands o blocks m s
   one_item : 1 ≤ m (length_at o q)
   one_item = omega (arith, (h.holds.queues q q_in).counted, ap length has)
 
-  pub popped : (p : Pad) → IsPartOf p m → IsPopped o blocks (wrote p (head_at o q) (m (link_at o b))) q b
-  popped p part = record {
-    memory = m1;
-    part = subst (λ (c : ℕ). IsPartOf (wrote p c (m (link_at o b))) m1) head_is (part_wrote p m (front_at o (33 + q)) (m (link_at o b)) part);
-    free = chains1 0;
-    list = heap_free_list o blocks m1 chains1 (changed h.owner b 37) heap1;
-    out = heap_out o blocks m1 chains1 (changed h.owner b 37) b heap1 (changed_same (changed h.chains (33 + q) rest) 37 (b ∷ []));
-    items = rw length1 one_item;
-  }
+  pub popped : (p : Pad) → IsPartOf p m → IsPartOf (wrote p (head_at o q) (m (link_at o b))) m1 × IsFreeList o blocks m1 (chains1 0) × IsOut o m1 (chains1 0) b × (1 ≤ m1 (length_at o q))
+  popped p part = (
+    subst (λ (c : ℕ). IsPartOf (wrote p c (m (link_at o b))) m1) head_is (part_wrote p m (front_at o (33 + q)) (m (link_at o b)) part),
+    heap_free_list o blocks m1 chains1 (changed h.owner b 37) heap1,
+    heap_out o blocks m1 chains1 (changed h.owner b 37) b heap1 (changed_same (changed h.chains (33 + q) rest) 37 (b ∷ [])),
+    rw length1 one_item,
+  )
 
-  pub front_inside : blocks ≤ 512 → Inside o (cells_at o blocks) (front_program o q b) m
+  pub front_inside : blocks ≤ MOST_BLOCKS → Inside o (cells_at o blocks) (front_program o q b) m
   front_inside few = (
     omega arith,
     omega (arith, below.0),

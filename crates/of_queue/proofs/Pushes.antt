@@ -3,9 +3,11 @@ use Rattle.std.proofs.Common.{◌≡◌, ℕ, zero, suc, ◌+◌, ◌%◌, ◌<�
 use Rattle.std.specs.List.{AllByRecursion as Each}
 use Rattle.std.specs.FinMap as fin
 use Rattle.std.proofs.lemmas.List.{map-append}
+use Rattle.of_mem.specs.declared.plot.TheConstants.{MOST_BLOCKS}
 use Rattle.of_mem.specs.Places.{register_at, fresh_at, free_at, keys_at, head_at, tail_at, length_at, cells_at}
 use Rattle.of_mem.specs.Programs.{changed, answer, after, Inside}
-use Rattle.of_mem.specs.Stores.{Store, Stands, IsHeap, IsQueue, IsNumber, front_at, link_at, first_at, second_at, cell_after, total, last_pointer}
+use Rattle.of_mem.specs.Numbers.{IsNumber}
+use Rattle.of_mem.specs.Stores.{Store, Stands, IsHeap, IsQueue, front_at, link_at, first_at, second_at, cell_after, total, last_pointer}
 use Rattle.of_mem.proofs.Changes.{changed_same, changed_other, changed_cases, total_changed_past}
 use Rattle.of_mem.proofs.Heaps.{fronts, front_head, front_below, each_weaker, each_append, cell_in, all_links}
 use Rattle.of_mem.proofs.Moves.{heap_changed, heap_changed_out, heap_append, blocks_apart, out_owner}
@@ -186,7 +188,7 @@ module _ (o blocks : ℕ) (m : ℕ → ℕ) (s : Store) (h : Stands o blocks m s
   cell_inside (suc p) l = (omega arith, omega arith)
 
   -- they are inside, and each number is a word
-  pub new_inside : blocks ≤ 512 → Inside o (cells_at o blocks) (push_new o q v (Some b)) m1
+  pub new_inside : blocks ≤ MOST_BLOCKS → Inside o (cells_at o blocks) (push_new o q v (Some b)) m1
   new_inside few =
       let b_in : b < blocks = omega (arith, out.0, t.heap.few) in
       let c = cell_inside (m3 (tail_at o q)) below_tail in

@@ -1,5 +1,5 @@
 -- The calls of a queue read and write nothing before the first cell of the store; len writes nothing.
-use Rattle.std.proofs.Common.{ℕ, zero, suc, ◌+◌, ◌*◌, ◌≤◌, Option, Some, None, arith}
+use Rattle.std.proofs.Common.{ℕ, zero, suc, Option, Some, None, arith}
 use Rattle.of_mem.specs.Programs.{StaysFrom, OnlyReads}
 use Rattle.of_mem.proofs.Runs.{stays_then}
 use Rattle.of_alloc.specs.BlockPrograms.{take_program}

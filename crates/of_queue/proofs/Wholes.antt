@@ -1,21 +1,28 @@
 -- What the code of the queues does is what a store does: the runs stay inside, and the store changes as it should.
 use Rattle.std.proofs.Common.{◌≡◌, ℕ, suc, ◌+◌, ◌<◌, ◌≤◌, refl, sym, ◌∙◌, ap, subst, arith, Bool, Option, Some, None, List, [], ◌∷◌, map, length}
+use Rattle.of_mem.specs.declared.plot.TheConstants.{MOST_BLOCKS}
+use Rattle.std.specs.Prelude.{Result}
 use Rattle.of_mem.specs.Places.{head_at, cells_at}
 use Rattle.of_mem.specs.Pad.{Pad}
-use Rattle.of_mem.specs.Programs.{answer, after, Inside, RunsAs}
-use Rattle.of_mem.specs.Stores.{Store, Stands, IsNumber, IsChain, front_at, first_at}
-use Rattle.of_mem.specs.StoreParts.{Acts, Answers}
+use Rattle.of_mem.specs.Programs.{answer, after, Inside}
+use Rattle.of_mem.specs.Numbers.{IsNumber}
+use Rattle.of_mem.specs.Stores.{Store, Stands, IsChain, front_at, first_at}
+use Rattle.of_mem.specs.declared.part.Need.{Need}
+use Rattle.of_mem.specs.declared.plot.Plot.{Plot}
+use Rattle.of_mem.specs.Plots.{base}
+use Rattle.of_mem.specs.Calls.{RunsOn, Acts, Answers}
+use Rattle.of_mem.proofs.Calls.{acts, answered}
 use Rattle.of_mem.proofs.Heaps.{front_head}
-use Rattle.of_mem.proofs.Runs.{answer_then, after_then, inside_then, run_ended}
+use Rattle.of_mem.proofs.Runs.{answer_then, after_then, inside_then}
 use Rattle.of_alloc.specs.BlockPrograms.{take_program}
 use Rattle.of_alloc.proofs.Heaped.{TakesOff}
 use Rattle.of_alloc.proofs.Stored.{take_inside, takes_off, room_left, none_left}
-use Rattle.of_queue.specs.QueuePrograms.{push_new, push_program, with_head, pop_program, len_program}
-use Rattle.of_queue.specs.Means.{has_room, after_push, front_of, after_pop}
+use Rattle.of_queue.specs.QueuePrograms.{push_new, push_program, with_head, pop_program, push, pop, len}
+use Rattle.of_queue.specs.Means.{IsItem, has_room, after_push, front_of, front_item, after_pop}
 use Rattle.of_queue.proofs.Pushes.{stands, pushes, new_inside}
 use Rattle.of_queue.proofs.Pops.{front_inside, pop_acts}
 
-module _ (o blocks : ℕ) (few : blocks ≤ 512) (m : ℕ → ℕ) (s : Store) (h : Stands o blocks m s) (q : ℕ) (q_in : q < 4) where
+module _ (o blocks : ℕ) (few : blocks ≤ MOST_BLOCKS) (m : ℕ → ℕ) (s : Store) (h : Stands o blocks m s) (q : ℕ) (q_in : q < 4) where
   module _ (v : ℕ) (v_in : IsNumber v) where
     abbrev Pushes : Bool → (ℕ → ℕ) → Type 0
     Pushes r n = (r ≡ has_room blocks s) × Stands o blocks n (after_push blocks q v s)
@@ -58,19 +65,17 @@ module _ (o blocks : ℕ) (few : blocks ≤ 512) (m : ℕ → ℕ) (s : Store) (
   pop_means = by_chain (h.chains (33 + q)) refl
 
 -- what a push does
-pub push_acts : (o blocks : ℕ) → blocks ≤ 512 → (q v : ℕ) → q < 4 → IsNumber v → (p n : Pad) (r : Bool) → RunsAs (push_program o blocks q v) p r n → Acts o blocks p r n (has_room blocks) (after_push blocks q v)
-push_acts o blocks few q v q_in v_in p n r e m s is h =
-    let g = push_means o blocks few m s h q q_in v v_in in
-    let d = run_ended o (cells_at o blocks) (push_program o blocks q v) p n m r is g.0 e in
-    (d.answers ∙ g.1.0, (after (push_program o blocks q v) m, d.part, g.1.1))
+pub push_acts : (plot : Plot) (q v : ℕ) → IsItem q v → (p n : Pad) (result : Result Bool Need) → RunsOn (push plot q v) p n result → Acts plot p n result (has_room plot.blocks) (after_push plot.blocks q v)
+push_acts plot q v item p n result = acts plot (push plot q v) (has_room plot.blocks) (after_push plot.blocks q v) (λ m s h.
+    let g = push_means (base plot) plot.blocks plot.few_blocks m s h q item.0 v item.1 in
+    record { inside = g.0; answers = g.1.0; stands = g.1.1 }) p n result
 
 -- what a pop does
-pub pop_acts_whole : (o blocks : ℕ) → blocks ≤ 512 → (q : ℕ) → q < 4 → (p n : Pad) (r : Option ℕ) → RunsAs (pop_program o q) p r n → Acts o blocks p r n (λ s. front_of (s.queues q)) (after_pop q)
-pop_acts_whole o blocks few q q_in p n r e m s is h =
-    let g = pop_means o blocks few m s h q q_in in
-    let d = run_ended o (cells_at o blocks) (pop_program o q) p n m r is g.0 e in
-    (d.answers ∙ g.1.0, (after (pop_program o q) m, d.part, g.1.1))
+pub pop_acts_whole : (plot : Plot) (q : ℕ) → q < 4 → (p n : Pad) (result : Result (Option ℕ) Need) → RunsOn (pop plot q) p n result → Acts plot p n result (front_item q) (after_pop q)
+pop_acts_whole plot q q_in p n result = acts plot (pop plot q) (front_item q) (after_pop q) (λ m s h.
+    let g = pop_means (base plot) plot.blocks plot.few_blocks m s h q q_in in
+    record { inside = g.0; answers = g.1.0; stands = g.1.1 }) p n result
 
 -- what len answers
-pub len_answers : (o blocks q : ℕ) → q < 4 → (p : Pad) (r : ℕ) → RunsAs (len_program o q) p r p → Answers o blocks p r (λ s. length (s.queues q))
-len_answers o blocks q q_in p r e m s is h = (run_ended o (cells_at o blocks) (len_program o q) p p m r is (omega arith, omega (arith, q_in), tt) e).answers ∙ (h.holds.queues q q_in).counted
+pub len_answers : (plot : Plot) (q : ℕ) → q < 4 → (p : Pad) (result : Result ℕ Need) → RunsOn (len plot q) p p result → Answers plot p result (λ s. length (s.queues q))
+len_answers plot q q_in p result = answered plot (len plot q) (λ s. length (s.queues q)) (λ m s h. ((omega arith, omega (arith, q_in), tt), (h.holds.queues q q_in).counted)) p result

@@ -1,7 +1,17 @@
 -- What the calls of a queue do to a store.
-use Rattle.std.specs.Prelude.{ℕ, Bool, true, false, ltb, List, [], ◌∷◌, ◌++◌, Option, Some, None}
+use Rattle.std.specs.Prelude.{◌≡◌, ◌<◌, ℕ, Result, IfOk, Bool, true, false, ltb, List, [], ◌∷◌, ◌++◌, Option, Some, None}
 use Rattle.of_mem.specs.Programs.{changed}
+use Rattle.of_mem.specs.declared.part.Need.{Need}
+use Rattle.of_mem.specs.declared.plot.Plot.{Plot}
+use Rattle.of_mem.specs.declared.plot.TheConstants.{QUEUES}
+use Rattle.of_mem.specs.Numbers.{IsNumber}
+use Rattle.of_mem.specs.Pad.{Pad}
 use Rattle.of_mem.specs.Stores.{Store, things}
+use Rattle.of_mem.specs.Calls.{Acts}
+
+-- a queue, and a number for it
+abbrev pub IsItem : ℕ → ℕ → Type 0
+IsItem q v = (q < QUEUES) × IsNumber v
 
 abbrev pub with_queue : Store → ℕ → List ℕ → Store
 with_queue s q items = record s { queues = changed s.queues q items }
@@ -18,9 +28,18 @@ push_store s q v false = s
 abbrev pub after_push : ℕ → ℕ → ℕ → Store → Store
 after_push blocks q v s = push_store s q v (has_room blocks s)
 
+-- the call put the item behind this queue, or found no room, and then it wrote nothing
+pub record Pushes (plot : Plot) (before after : Pad) (q v : ℕ) (result : Result Bool Need) : Type 0 where
+  pub acts : Acts plot before after result (has_room plot.blocks) (after_push plot.blocks q v)
+  pub full : IfOk result (λ r. r ≡ false → after ≡ before)
+
 abbrev pub front_of : List ℕ → Option ℕ
 front_of [] = None
 front_of (v ∷ items) = Some v
+
+-- the item at the front of a queue
+abbrev pub front_item : ℕ → Store → Option ℕ
+front_item q s = front_of (s.queues q)
 
 abbrev pub pop_store : Store → ℕ → List ℕ → Store
 pop_store s q [] = s

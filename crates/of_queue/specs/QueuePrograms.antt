@@ -1,5 +1,7 @@
 -- What the calls of a queue read and write, and in which order.
 use Rattle.std.specs.Prelude.{ℕ, zero, suc, ◌+◌, ◌-◌, Bool, true, false, Option, Some, None}
+use Rattle.of_mem.specs.declared.plot.Plot.{Plot}
+use Rattle.of_mem.specs.Plots.{base}
 use Rattle.of_mem.specs.Places.{head_at, tail_at, length_at}
 use Rattle.of_mem.specs.Stores.{first_at, link_at}
 use Rattle.of_mem.specs.Programs.{Program, Done, Read, Write, then_do}
@@ -66,3 +68,29 @@ pop_program o q = Read (head_at o q) (with_head o q)
 
 abbrev pub len_program : ℕ → ℕ → Program ℕ
 len_program o q = Read (length_at o q) Done
+
+-- The programs of the calls on a plot.
+
+abbrev pub push : Plot → ℕ → ℕ → Program Bool
+push plot q v = push_program (base plot) plot.blocks q v
+
+abbrev pub append : Plot → ℕ → ℕ → ℕ → Program Bool
+append plot q v b = push_new (base plot) q v (Some b)
+
+abbrev pub pop : Plot → ℕ → Program (Option ℕ)
+pop plot q = pop_program (base plot) q
+
+abbrev pub pop_front : Plot → ℕ → ℕ → Program (Option ℕ)
+pop_front plot q b = front_program (base plot) q b
+
+abbrev pub close : Plot → ℕ → ℕ → ℕ → ℕ → Program (Option ℕ)
+close plot q b v link = new_end (base plot) q b v link
+
+abbrev pub give_back : Plot → ℕ → ℕ → ℕ → Program (Option ℕ)
+give_back plot q b v = drop_block (base plot) q b v
+
+abbrev pub count_down : Plot → ℕ → ℕ → Program (Option ℕ)
+count_down plot q v = given (base plot) q v tt
+
+abbrev pub len : Plot → ℕ → Program ℕ
+len plot q = len_program (base plot) q

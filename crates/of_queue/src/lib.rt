@@ -1,31 +1,26 @@
 //! The queues over cells: chains of blocks with a head, a tail and a length.
 #![tactic(auto)]
 
-ghost use Rattle.std.specs.Prelude.{◌≡◌, ◌<◌, ◌≤◌, ℕ, Some, None, false, true, length, MatchResult, IfOk};
+ghost use Rattle.std.specs.Prelude.{◌≡◌, ◌<◌, ◌≤◌, ℕ, Some, false, true, length, IfOk};
+ghost use Rattle.of_mem.specs.declared.plot.TheConstants.{QUEUES};
 ghost use Rattle.of_mem.specs.Plots.{base, size};
-ghost use Rattle.of_mem.specs.Places.{tail_at, length_at};
+ghost use Rattle.of_mem.specs.Places.{length_at};
 ghost use Rattle.of_mem.specs.Pad.{newest};
-ghost use Rattle.of_mem.specs.Programs.{RunsAs, NeedsAt};
-ghost use Rattle.of_mem.specs.StoreParts.{HasStore, Answers, Acts};
-ghost use Rattle.of_queue.specs.QueuePrograms.{last_cell as last_cell_of, push_new, push_program, given, drop_block, new_end, front_program, pop_program, len_program};
-ghost use Rattle.of_queue.specs.Fronts.{IsFront, IsPopped};
-ghost use Rattle.of_queue.specs.Means.{has_room, after_push, front_of, after_pop};
+ghost use Rattle.of_mem.specs.Calls.{RunsOn, HasStore, Answers, Acts};
+ghost use Rattle.of_queue.specs.QueuePrograms.{last_cell as last_cell_of, push, append, pop, pop_front, close, give_back, count_down, len};
+ghost use Rattle.of_queue.specs.Fronts.{CanAppend, CanCount, IsFront, IsPopped};
+ghost use Rattle.of_queue.specs.Means.{IsItem, Pushes, front_item, after_pop};
 
 use of_mem::{Need, Part, Plot};
 
-/// Puts an item behind a queue. False comes exactly where no block is free, and then nothing is written. The error names a cell that is
-/// read and isn't known.
+/// Puts an item behind a queue. False comes exactly where no block is free, and then nothing is
+/// written. The error names a cell that is read and isn't known.
 #[tactic(auto, using(of_mem::proofs::Runs::run_then_needs))]
 pub fn push(plot: &Plot, part: &mut Part, queue: u32, value: u32) -> Result<bool, Need>
-    requires fits { length part.old.known ≡ size plot.now }
-    requires stands { HasStore (base plot.now) plot.now.blocks part.old }
-    requires queue { queue < 4 }
-    requires value { value < 2147483648 }
-    ensures walk { MatchResult result (λ r. RunsAs (push_program (base plot.now) plot.now.blocks queue value) part.old r part.new) (λ need. NeedsAt (push_program (base plot.now) plot.now.blocks queue value) part.old need.addr) }
-    ensures acts { IfOk result (λ r. Acts (base plot.now) plot.now.blocks part.old r part.new (has_room plot.now.blocks) (after_push plot.now.blocks queue value)) }
-    ensures full { IfOk result (λ r. r ≡ false → part.new ≡ part.old) }
-    ensures known { part.new.known ≡ part.old.known }
-    ensures batch { part.new.batch ≡ part.old.batch }
+    requires stands { HasStore plot.now part.old }
+    requires item { IsItem queue value }
+    ensures runs { RunsOn (push plot.now queue value) part.old part.new result }
+    ensures pushes { Pushes plot.now part.old part.new queue value result }
 {
     match of_alloc::take(plot, part)? {
         None => Ok(false),
@@ -35,15 +30,9 @@ pub fn push(plot: &Plot, part: &mut Part, queue: u32, value: u32) -> Result<bool
 
 /// Makes a block that was taken the last of its queue.
 fn append(plot: &Plot, part: &mut Part, queue: u32, value: u32, block: u32) -> Result<bool, Need>
-    requires fits { length part.old.known ≡ size plot.now }
-    requires queue { queue < 4 }
-    requires block { block < plot.now.blocks }
-    requires tail { (t : ℕ) → newest part.old (tail_at (base plot.now) queue) ≡ Some t → t ≤ plot.now.blocks }
-    requires items { (n : ℕ) → newest part.old (length_at (base plot.now) queue) ≡ Some n → n < 4294967295 }
-    ensures walk { MatchResult result (λ r. RunsAs (push_new (base plot.now) queue value (Some block)) part.old r part.new) (λ need. NeedsAt (push_new (base plot.now) queue value (Some block)) part.old need.addr) }
+    requires { CanAppend plot.now part.old queue block }
+    ensures runs { RunsOn (append plot.now queue value block) part.old part.new result }
     ensures pushed { IfOk result (λ r. r ≡ true) }
-    ensures known { part.new.known ≡ part.old.known }
-    ensures batch { part.new.batch ≡ part.old.batch }
 {
     part.write(plot.block(block, 0), value);
     part.write(plot.block(block, 2), 0);
@@ -57,7 +46,7 @@ fn append(plot: &Plot, part: &mut Part, queue: u32, value: u32, block: u32) -> R
 
 /// The pointer cell behind a queue's last block: its link, or the head of an empty queue.
 fn last_cell(plot: &Plot, queue: u32, tail: u32) -> u32
-    requires queue { queue < 4 }
+    requires queue { queue < QUEUES }
     requires tail { tail ≤ plot.now.blocks }
     ensures value { result ≡ last_cell_of (base plot.now) queue tail }
     ensures below { result < size plot.now }
@@ -69,15 +58,13 @@ fn last_cell(plot: &Plot, queue: u32, tail: u32) -> u32
     }
 }
 
-/// Takes the front item of a queue. None comes exactly where the queue is empty. The error names a cell that is read and isn't known.
+/// Takes the front item of a queue. None comes exactly where the queue is empty. The error names a
+/// cell that is read and isn't known.
 pub fn pop(plot: &Plot, part: &mut Part, queue: u32) -> Result<Option<u32>, Need>
-    requires fits { length part.old.known ≡ size plot.now }
-    requires stands { HasStore (base plot.now) plot.now.blocks part.old }
-    requires queue { queue < 4 }
-    ensures walk { MatchResult result (λ r. RunsAs (pop_program (base plot.now) queue) part.old r part.new) (λ need. NeedsAt (pop_program (base plot.now) queue) part.old need.addr) }
-    ensures acts { IfOk result (λ r. Acts (base plot.now) plot.now.blocks part.old r part.new (λ s. front_of (s.queues queue)) (after_pop queue)) }
-    ensures known { part.new.known ≡ part.old.known }
-    ensures batch { part.new.batch ≡ part.old.batch }
+    requires stands { HasStore plot.now part.old }
+    requires queue { queue < QUEUES }
+    ensures runs { RunsOn (pop plot.now queue) part.old part.new result }
+    ensures acts { Acts plot.now part.old part.new result (front_item queue) (after_pop queue) }
 {
     let head = part.read(plot.head(queue))?;
     if head == 0 {
@@ -88,12 +75,8 @@ pub fn pop(plot: &Plot, part: &mut Part, queue: u32) -> Result<Option<u32>, Need
 
 /// Takes a queue's front block out of it.
 fn pop_front(plot: &Plot, part: &mut Part, queue: u32, block: u32) -> Result<Option<u32>, Need>
-    requires fits { length part.old.known ≡ size plot.now }
-    requires queue { queue < 4 }
-    requires front { IsFront (base plot.now) plot.now.blocks part.old queue block }
-    ensures walk { MatchResult result (λ r. RunsAs (front_program (base plot.now) queue block) part.old r part.new) (λ need. NeedsAt (front_program (base plot.now) queue block) part.old need.addr) }
-    ensures known { part.new.known ≡ part.old.known }
-    ensures batch { part.new.batch ≡ part.old.batch }
+    requires { IsFront plot.now part.old queue block }
+    ensures { RunsOn (pop_front plot.now queue block) part.old part.new result }
 {
     let item = part.read(plot.block(block, 0))?;
     let link = part.read(plot.block(block, 2))?;
@@ -110,12 +93,8 @@ fn close(
     item: u32,
     link: u32,
 ) -> Result<Option<u32>, Need>
-    requires fits { length part.old.known ≡ size plot.now }
-    requires queue { queue < 4 }
-    requires popped { IsPopped (base plot.now) plot.now.blocks part.old queue block }
-    ensures walk { MatchResult result (λ r. RunsAs (new_end (base plot.now) queue block item link) part.old r part.new) (λ need. NeedsAt (new_end (base plot.now) queue block item link) part.old need.addr) }
-    ensures known { part.new.known ≡ part.old.known }
-    ensures batch { part.new.batch ≡ part.old.batch }
+    requires { IsPopped plot.now part.old queue block }
+    ensures { RunsOn (close plot.now queue block item link) part.old part.new result }
 {
     if link == 0 {
         part.write(plot.tail(queue), 0);
@@ -133,12 +112,8 @@ fn give_back(
     block: u32,
     item: u32,
 ) -> Result<Option<u32>, Need>
-    requires fits { length part.old.known ≡ size plot.now }
-    requires queue { queue < 4 }
-    requires popped { IsPopped (base plot.now) plot.now.blocks part.old queue block }
-    ensures walk { MatchResult result (λ r. RunsAs (drop_block (base plot.now) queue block item) part.old r part.new) (λ need. NeedsAt (drop_block (base plot.now) queue block item) part.old need.addr) }
-    ensures known { part.new.known ≡ part.old.known }
-    ensures batch { part.new.batch ≡ part.old.batch }
+    requires { IsPopped plot.now part.old queue block }
+    ensures { RunsOn (give_back plot.now queue block item) part.old part.new result }
 {
     of_alloc::give(plot, part, block)?;
     count_down(plot, part, queue, item)
@@ -146,12 +121,8 @@ fn give_back(
 
 /// Counts one item less.
 fn count_down(plot: &Plot, part: &mut Part, queue: u32, item: u32) -> Result<Option<u32>, Need>
-    requires fits { length part.old.known ≡ size plot.now }
-    requires queue { queue < 4 }
-    requires items { (n : ℕ) → newest part.old (length_at (base plot.now) queue) ≡ Some n → 1 ≤ n }
-    ensures walk { MatchResult result (λ r. RunsAs (given (base plot.now) queue item tt) part.old r part.new) (λ need. NeedsAt (given (base plot.now) queue item tt) part.old need.addr) }
-    ensures known { part.new.known ≡ part.old.known }
-    ensures batch { part.new.batch ≡ part.old.batch }
+    requires { CanCount plot.now part.old queue }
+    ensures { RunsOn (count_down plot.now queue item) part.old part.new result }
 {
     let items = part.read(plot.length(queue))?;
     part.write(plot.length(queue), items - 1);
@@ -160,11 +131,10 @@ fn count_down(plot: &Plot, part: &mut Part, queue: u32, item: u32) -> Result<Opt
 
 /// The number of items of a queue. The error names the cell that counts them where it isn't known.
 pub fn len(plot: &Plot, part: &Part, queue: u32) -> Result<u32, Need>
-    requires fits { length part.now.known ≡ size plot.now }
-    requires stands { HasStore (base plot.now) plot.now.blocks part.now }
-    requires queue { queue < 4 }
-    ensures walk { MatchResult result (λ r. RunsAs (len_program (base plot.now) queue) part.now r part.now) (λ need. NeedsAt (len_program (base plot.now) queue) part.now need.addr) }
-    ensures answers { IfOk result (λ r. Answers (base plot.now) plot.now.blocks part.now r (λ s. length (s.queues queue))) }
+    requires stands { HasStore plot.now part.now }
+    requires queue { queue < QUEUES }
+    ensures runs { RunsOn (len plot.now queue) part.now part.now result }
+    ensures answers { Answers plot.now part.now result (λ s. length (s.queues queue)) }
 {
     part.read(plot.length(queue))
 }

@@ -2,10 +2,11 @@
 use Rattle.std.proofs.Common.{◌≡◌, ℕ, suc, ◌==◌, Bool, true, false, if◌then◌else◌, Option, Some, None, List, [], ◌∷◌, get_or, refl, sym, ◌∙◌, ap, subst, arith}
 use Rattle.std.proofs.lemmas.Bool.Decides.{nat_tests}
 use Rattle.of_mem.specs.Pairs.{value_at, put, put_all, IsAbsent}
-use Rattle.of_mem.specs.Pad.{Pad, newest, wrote, newer}
+use Rattle.of_mem.specs.Pad.{Pad, newest, wrote, newer, kept}
 use Rattle.of_mem.specs.Meaning.{Once}
 use Rattle.of_mem.specs.Programs.{Program, Done, Read, Write, Ran, Lacks, Ends, with_number, run}
-use Rattle.of_mem.specs.StoreParts.{HasStore}
+use Rattle.of_mem.specs.declared.plot.Plot.{Plot}
+use Rattle.of_mem.specs.Calls.{HasStore}
 use Rattle.of_mem.proofs.Indexed.{value_at-absent, value_at_put}
 use Rattle.of_mem.proofs.Writes.{once_put}
 
@@ -48,13 +49,9 @@ newer_of_three : (s b k : Option ℕ) → newer (newer s b) k ≡ newer s (newer
 newer_of_three None b k = refl
 newer_of_three (Some v) b k = refl
 
--- what the batch has after it took over the script's writes
-abbrev pub kept : Pad → Pad
-kept p = record p { batch = put_all p.batch p.script; script = [] }
-
 newest_kept : (p : Pad) (a : ℕ) → Once p.script → newest (kept p) a ≡ newest p a
 unfolding newest
 newest_kept p a h = ap (λ (x : Option ℕ). newer x (get_or p.known a None)) (value_at_put_all p.batch p.script a h) ∙ newer_of_three (value_at p.script a) (value_at p.batch a) (get_or p.known a None)
 
-pub kept_store : (o blocks : ℕ) (p q : Pad) → Once p.script → q ≡ kept p → HasStore o blocks p → HasStore o blocks q
-kept_store o blocks p q h e s = subst (HasStore o blocks) (sym e) (s.0, s.1, (λ a v g. s.2 a v (sym (newest_kept p a h) ∙ g)), s.3)
+pub kept_store : (plot : Plot) (p q : Pad) → Once p.script → q ≡ kept p → HasStore plot p → HasStore plot q
+kept_store plot p q h e s = subst (HasStore plot) (sym e) (record { fits = s.fits; memory = s.memory; store = s.store; part = λ a v g. s.part a v (sym (newest_kept p a h) ∙ g); stands = s.stands })

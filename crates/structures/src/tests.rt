@@ -2,10 +2,11 @@ ghost use Rattle.std.specs.Prelude.{◌≡◌, ℕ, List, [], length, IfOk};
 ghost use Rattle.of_mem.specs.Plots.{base, size};
 ghost use Rattle.of_mem.specs.Meaning.{Once};
 ghost use Rattle.of_mem.specs.Programs.{IsPartOf};
-ghost use Rattle.of_mem.specs.StoreParts.{HasStore};
-ghost use Rattle.of_alloc.specs.Blocks.{IsFreeList};
+ghost use Rattle.of_mem.specs.Calls.{HasStore};
+ghost use Rattle.of_alloc.specs.Blocks.{HasFreeList};
 ghost use Rattle.of_script.specs.Language.{InRange};
 
+use of_map::Put;
 use of_mem::{Need, Part, Plot};
 use of_script::{Abort, Cause, Instr, MOST_INSTRS, Reply, parse};
 use of_store::Store;
@@ -27,9 +28,8 @@ fn zeros(alloc: Global, cells: u32) -> Result<Part, AllocError>
 
 /// The memory of an empty store, where all blocks are free.
 fn memory(alloc: Global, plot: &Plot) -> Result<Part, AllocError>
-    ensures fits { IfOk result (λ p. length p.known ≡ size plot.now) }
-    ensures free { IfOk result (λ p. (m : ℕ → ℕ) × (free : List ℕ) × IsPartOf p m × IsFreeList (base plot.now) plot.now.blocks m free) }
-    ensures stands { IfOk result (λ p. HasStore (base plot.now) plot.now.blocks p) }
+    ensures free { IfOk result (HasFreeList plot.now) }
+    ensures stands { IfOk result (HasStore plot.now) }
     ensures empty { IfOk result (λ p. p.script ≡ []) }
 {
     let part = zeros(alloc, plot.cells())?;
@@ -38,8 +38,7 @@ fn memory(alloc: Global, plot: &Plot) -> Result<Part, AllocError>
 
 /// What two takes answer, and a third after the first one's block was given back.
 fn takes(plot: &Plot, part: &mut Part) -> Result<[Option<u32>; 3], Need>
-    requires fits { length part.old.known ≡ size plot.now }
-    requires free { (m : ℕ → ℕ) × (free : List ℕ) × IsPartOf part.old m × IsFreeList (base plot.now) plot.now.blocks m free }
+    requires { HasFreeList plot.now part.old }
 {
     let Some(block) = of_alloc::take(plot, part)? else {
         return Ok([None; 3]);
@@ -62,20 +61,24 @@ fn takes_the_only_block_again(rt: HostRuntime) -> Result<(), Fail> {
     Ok(())
 }
 
-/// What an instruction on keys or queues answers over cells: a number or none, or that there is no room.
+/// What an instruction on keys or queues answers over cells: a number or none, or that there is no
+/// room.
 fn answer(plot: &Plot, part: &mut Part, instr: Instr) -> Result<Result<Option<u32>, Cause>, Need>
-    requires fits { length part.old.known ≡ size plot.now }
-    requires stands { HasStore (base plot.now) plot.now.blocks part.old }
+    requires stands { HasStore plot.now part.old }
     requires empty { part.old.script ≡ [] }
     requires instr { InRange instr }
-    ensures stands { IfOk result (λ _. HasStore (base plot.now) plot.now.blocks part.new) }
+    ensures stands { IfOk result (λ _. HasStore plot.now part.new) }
     ensures once { IfOk result (λ _. Once part.new.script) }
     ensures known { part.new.known ≡ part.old.known }
 {
     match instr {
         Instr::Get { key } => Ok(Ok(of_map::get(plot, part, key)?)),
         Instr::Put { key, value } => {
-            Ok(of_map::put(plot, part, key, value)?.ok_or(Cause::NoRoom))
+            Ok(match of_map::put(plot, part, key, value)? {
+                Put::Full => Err(Cause::NoRoom),
+                Put::New => Ok(None),
+                Put::Over(before) => Ok(Some(before)),
+            })
         }
         Instr::Del { key } => Ok(Ok(of_map::del(plot, part, key)?)),
         Instr::Count => Ok(Ok(Some(of_map::count(plot, part)?))),
@@ -112,11 +115,10 @@ fn reply(answer: Result<Option<u32>, Cause>) -> Reply {
 
 /// Runs a script of one instruction over cells, and hands what it wrote to the batch.
 fn run(plot: &Plot, part: &mut Part, instr: Instr) -> Result<Reply, Need>
-    requires fits { length part.old.known ≡ size plot.now }
-    requires stands { HasStore (base plot.now) plot.now.blocks part.old }
+    requires stands { HasStore plot.now part.old }
     requires empty { part.old.script ≡ [] }
     requires instr { InRange instr }
-    ensures stands { IfOk result (λ _. HasStore (base plot.now) plot.now.blocks part.new) }
+    ensures stands { IfOk result (λ _. HasStore plot.now part.new) }
     ensures empty { IfOk result (λ _. part.new.script ≡ []) }
     ensures known { part.new.known ≡ part.old.known }
 {

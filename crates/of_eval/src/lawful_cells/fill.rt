@@ -2,6 +2,7 @@
 
 ghost use Rattle.std.specs.Prelude.{◌≡◌, ◌≤◌, ◌<◌, None, [], ◌∷◌, ◌++◌, length, IfOk, OnOk};
 ghost use Rattle.std.specs.FinMap as fm;
+ghost use Rattle.of_mem.specs.declared.plot.TheConstants.{QUEUES};
 ghost use Rattle.of_mem.specs.Plots.{base, size};
 ghost use Rattle.of_mem.specs.ProgramWork.{memory};
 ghost use Rattle.of_script.specs.Language.{InRange, greatest};
@@ -36,7 +37,7 @@ pub(crate) fn put(store: &mut Store, key: u32, value: u32) -> Result<(), AllocEr
 
 /// Puts an item behind a queue, where there is room for it.
 pub(crate) fn push(store: &mut Store, q: u32, item: u32) -> Result<(), AllocError>
-    requires q { q < 4 }
+    requires q { q < QUEUES }
     requires item { item ≤ greatest }
     requires room { kept store.old < store.old.room }
     ensures { OnOk result (store.new ≡ with_queue store.old q (queue store.old q ++ item ∷ [])) }

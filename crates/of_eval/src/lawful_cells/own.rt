@@ -59,7 +59,8 @@ fn numbers(plot: &Plot, cells: &[u32], caller: u32, reply: &Reply) -> Result<(),
     requires sized { length cells.now ≡ size plot.now }
     requires caller { caller < plot.now.callers }
     requires called { memory cells.now (ticket_at plot.now.instrs caller) ≢ 0 }
-    requires shape { IsShapeOf plot.now.instrs (memory cells.now (shape_at plot.now.instrs caller)) reply.now }
+    requires shape { IsShapeOf plot.now.instrs
+        (memory cells.now (shape_at plot.now.instrs caller)) reply.now }
     ensures ok { OnOk result (OwnStand plot.now.instrs (memory cells.now) caller) }
     ensures err { IfErr result (AtCell (OwnFault plot.now.instrs (memory cells.now) caller)) }
 {

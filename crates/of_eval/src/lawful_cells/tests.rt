@@ -1,6 +1,7 @@
-//! Cells that stand for a store, and cells at fault. With one caller and scripts of 16 instructions the registers begin at cell 18; fresh
-//! is cell 34, the free list's front 35, the keys' count 36, the buckets' fronts begin at 37, the queues' heads, tails and lengths at
-//! 69, and the blocks at 81.
+//! Cells that stand for a store, and cells at fault. With one caller and scripts of 16 instructions
+//! the registers begin at cell 18; fresh is cell 34, the free list's front 35, the keys' count 36,
+//! the buckets' fronts begin at 37, the queues' heads, tails and lengths at 69, and the blocks at
+//! 81.
 
 use crate::lawful_cells::{LawErr, lawful};
 use crate::scripts::Scripts;

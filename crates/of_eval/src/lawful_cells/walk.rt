@@ -1,26 +1,25 @@
 //! The walk through the chains.
 
 ghost use Rattle.std.specs.Prelude.{◌≡◌, ◌≢◌, ◌<◌, ◌+◌, ◌↔◌, IsTrue, EachIndex, slice_index, ℕ, List, length, IfOk, IfErr, OnOk, All};
+ghost use Rattle.of_mem.specs.declared.plot.TheConstants.{BUCKETS, QUEUES};
 ghost use Rattle.of_mem.specs.Plots.{base, size};
 ghost use Rattle.of_mem.specs.Places.{fresh_at};
 ghost use Rattle.of_mem.specs.ProgramWork.{memory};
-ghost use Rattle.of_store.specs.State.{State};
-ghost use Rattle.of_eval.specs.Lawful.{StandsFor};
 ghost use Rattle.of_eval.specs.Faults.{OwnsStand, AreNumbers};
-ghost use Rattle.of_eval.specs.Walking.{NamesFault, HasBegun, Freed, Before, Stepped, StoppedAt};
+ghost use Rattle.of_eval.specs.Walking.{NamesFault, HasBegun, Freed, Before, Stepped, StoppedAt, KeysAreCounted, KeysAreMiscounted, AllAreMet, SomeAreUnmet};
 
+use crate::lawful_cells::LawErr;
 use crate::lawful_cells::fill::{push, put};
-use crate::lawful_cells::{BUCKETS, LawErr};
-use of_mem::Plot;
+use of_mem::{BUCKETS, Plot};
 use of_script::{GREATEST, REGISTERS};
 use of_store::Store;
 
 // The chains in order: the free list, the buckets, the queues.
-const FREE_LIST: u8 = 0;
+const FREE_CHAIN: u8 = 0;
 
-const FIRST_BUCKET: u8 = 1;
+const FIRST_BUCKET_CHAIN: u8 = FREE_CHAIN + 1;
 
-const FIRST_QUEUE: u8 = 33;
+const FIRST_QUEUE_CHAIN: u8 = FIRST_BUCKET_CHAIN + BUCKETS as u8;
 
 /// Looks at the registers.
 pub(crate) fn registers(plot: &Plot, cells: &[u32]) -> Result<(), LawErr>
@@ -55,8 +54,8 @@ pub(crate) fn fresh(plot: &Plot, cells: &[u32]) -> Result<u32, LawErr>
     Ok(fresh)
 }
 
-/// The block to which a pointer cell leads, None at a chain's end. The block becomes its chain's; a block that has a chain already, or
-/// is beyond the table, is a fault of the pointer.
+/// The block to which a pointer cell leads, None at a chain's end. The block becomes its chain's; a
+/// block that has a chain already, or is beyond the table, is a fault of the pointer.
 fn next(cells: &[u32], cell: u32, chain: u8, owners: &mut [u8]) -> Result<Option<u32>, LawErr>
     requires cell { cell < length cells.now }
     requires chain { chain < 255 }
@@ -88,7 +87,7 @@ pub(crate) fn free_list(plot: &Plot, cells: &[u32], owners: &mut [u8]) -> Result
     ensures err { IfErr result (NamesFault plot.now cells.now) }
 {
     let mut cell = plot.free();
-    while let Some(block) = next(cells, cell, FREE_LIST, owners)? {
+    while let Some(block) = next(cells, cell, FREE_CHAIN, owners)? {
         cell = plot.block(block, 2);
     }
     Ok(())
@@ -103,13 +102,13 @@ pub(crate) fn bucket(
     store: &mut Store,
 ) -> Result<(), LawErr>
     requires sized { length cells.now ≡ size plot.now }
-    requires b { b < 32 }
+    requires b { b < BUCKETS }
     requires before { Before plot.now cells.now (1 + b) 0 owners.old store.old }
     ensures ok { OnOk result (Before plot.now cells.now (2 + b) 0 owners.new store.new) }
     ensures err { IfErr result (NamesFault plot.now cells.now) }
 {
     let mut cell = plot.bucket(b);
-    while let Some(block) = next(cells, cell, FIRST_BUCKET + b as u8, owners)? {
+    while let Some(block) = next(cells, cell, FIRST_BUCKET_CHAIN + b as u8, owners)? {
         let first = plot.block(block, 0);
         let second = plot.block(block, 1);
         let key = cells[first as usize];
@@ -129,8 +128,8 @@ pub(crate) fn bucket(
 /// Compares the count of keys with the keys that were met.
 pub(crate) fn keys(plot: &Plot, cells: &[u32], store: &Store) -> Result<(), LawErr>
     requires sized { length cells.now ≡ size plot.now }
-    ensures ok { OnOk result ((owners : List ℕ) → Before plot.now cells.now 33 0 owners store.now → Before plot.now cells.now 33 33 owners store.now) }
-    ensures err { IfErr result (λ e. (owners : List ℕ) → Before plot.now cells.now 33 0 owners store.now → NamesFault plot.now cells.now e) }
+    ensures ok { OnOk result (KeysAreCounted plot.now cells.now store.now) }
+    ensures err { IfErr result (KeysAreMiscounted plot.now cells.now store.now) }
 {
     let cell = plot.keys();
     if cells[cell as usize] != store.keys() {
@@ -139,7 +138,8 @@ pub(crate) fn keys(plot: &Plot, cells: &[u32], store: &Store) -> Result<(), LawE
     Ok(())
 }
 
-/// Walks a queue and puts its items into the store, and compares its tail and its length with what was met.
+/// Walks a queue and puts its items into the store, and compares its tail and its length with what
+/// was met.
 pub(crate) fn queue(
     plot: &Plot,
     cells: &[u32],
@@ -148,14 +148,14 @@ pub(crate) fn queue(
     store: &mut Store,
 ) -> Result<(), LawErr>
     requires sized { length cells.now ≡ size plot.now }
-    requires q { q < 4 }
+    requires q { q < QUEUES }
     requires before { Before plot.now cells.now (33 + q) (33 + q) owners.old store.old }
     ensures ok { OnOk result (Before plot.now cells.now (34 + q) (34 + q) owners.new store.new) }
     ensures err { IfErr result (NamesFault plot.now cells.now) }
 {
     let mut cell = plot.head(q);
     let mut last = 0;
-    while let Some(block) = next(cells, cell, FIRST_QUEUE + q as u8, owners)? {
+    while let Some(block) = next(cells, cell, FIRST_QUEUE_CHAIN + q as u8, owners)? {
         let first = plot.block(block, 0);
         let item = cells[first as usize];
         if item > GREATEST {
@@ -178,8 +178,8 @@ pub(crate) fn queue(
 
 /// Looks for a block that is in no chain.
 pub(crate) fn all_met(plot: &Plot, cells: &[u32], owners: &[u8]) -> Result<(), LawErr>
-    ensures ok { OnOk result ((s : State) → Before plot.now cells.now 37 37 owners.now s → StandsFor plot.now.callers plot.now.instrs plot.now.blocks (memory cells.now) s) }
-    ensures err { IfErr result (λ e. (s : State) → Before plot.now cells.now 37 37 owners.now s → NamesFault plot.now cells.now e) }
+    ensures ok { OnOk result (AllAreMet plot.now cells.now owners.now) }
+    ensures err { IfErr result (SomeAreUnmet plot.now cells.now owners.now) }
 {
     if all_owned(owners) {
         return Ok(());

@@ -1,40 +1,33 @@
-use Rattle.std.proofs.Common.{false}
+use Rattle.std.proofs.Common.{Some, None, Ok, false, rules}
 use Rattle.of_mem.specs.Plots.{base}
-use Rattle.of_mem.specs.StoreParts.{Acts}
-use Rattle.of_mem.proofs.Calls.{goes_on, so_ok}
-use Rattle.of_alloc.specs.BlockPrograms.{take_program}
-use Rattle.of_alloc.proofs.Stored.{free_list}
-use Rattle.of_queue.specs.QueuePrograms.{push_new, push_program}
-use Rattle.of_queue.specs.Means.{has_room, after_push}
+use Rattle.of_mem.proofs.Calls.{goes_on}
+use Rattle.of_alloc.specs.BlockPrograms.{take}
+use Rattle.of_alloc.proofs.Stored.{store_free}
+use Rattle.of_queue.specs.QueuePrograms.{push_new}
 use Rattle.of_queue.proofs.Knows.{after_take}
 use Rattle.of_queue.proofs.Wholes.{push_acts}
 use Rattle.of_queue.proofs.push.Goals as goal
-use Rattle.std.proofs.Common.{Some, None, Ok, refl}
 
-pub take-requires-clause-free : goal.take-requires-clause-free
-take-requires-clause-free c = let s = c.requires.stands in (s.0, s.3.chains 0, s.2, free_list (base c.args.plot.now) c.args.plot.now.blocks c.args.plot.now.few_blocks s.0 s.1 s.3)
+pub take-requires : goal.take-requires
+take-requires c = store_free c.args.plot.now c.args.part.now c.requires.stands
 
-pub append-requires-clause-block : goal.append-requires-clause-block
-append-requires-clause-block c = (after_take (base c.args.plot.now) c.args.plot.now.blocks c.args.plot.now.few_blocks c.args.queue c.requires.queue c.args.part.now c.take.new.part c.in_ok-take.field-0 c.in-Some.block c.requires.stands c.in_ok-take.ensures.walk c.in-Some.is).0
+pub append-requires : goal.append-requires
+append-requires c = after_take c.args.plot.now c.args.queue c.requires.item.0 c.args.part.now c.take.new.part _ c.in-Some.block c.requires.stands c.in_ok-take.ensures.runs c.in-Some.is
 
-pub append-requires-clause-tail : goal.append-requires-clause-tail
-append-requires-clause-tail c = (after_take (base c.args.plot.now) c.args.plot.now.blocks c.args.plot.now.few_blocks c.args.queue c.requires.queue c.args.part.now c.take.new.part c.in_ok-take.field-0 c.in-Some.block c.requires.stands c.in_ok-take.ensures.walk c.in-Some.is).1
+pub returns-in-None-clause-runs : goal.returns-in-None-clause-runs
+returns-in-None-clause-runs c = goes_on (take c.args.plot.now) (push_new (base c.args.plot.now) c.args.queue c.args.value) _ _ _ _ None (Ok false) c.in_ok-take.ensures.runs c.in-None.is (search rules)
 
-pub append-requires-clause-items : goal.append-requires-clause-items
-append-requires-clause-items c = (after_take (base c.args.plot.now) c.args.plot.now.blocks c.args.plot.now.few_blocks c.args.queue c.requires.queue c.args.part.now c.take.new.part c.in_ok-take.field-0 c.in-Some.block c.requires.stands c.in_ok-take.ensures.walk c.in-Some.is).2
+pub returns-in-None-clause-pushes : goal.returns-in-None-clause-pushes
+returns-in-None-clause-pushes c = record {
+  acts = push_acts c.args.plot.now c.args.queue c.args.value c.requires.item _ _ _ (returns-in-None-clause-runs c);
+  full = λ _. c.in_ok-take.ensures.takes.none c.in-None.is;
+}
 
-pub returns-in-None-clause-walk : goal.returns-in-None-clause-walk
-returns-in-None-clause-walk c =
-    goes_on (take_program (base c.args.plot.now) c.args.plot.now.blocks) (push_new (base c.args.plot.now) c.args.queue c.args.value) c.args.part.now c.take.new.part c.in_ok-take.field-0 None (Ok false) c.take.new.part c.in_ok-take.ensures.walk c.in-None.is refl
+pub returns-in-Some-clause-runs : goal.returns-in-Some-clause-runs
+returns-in-Some-clause-runs c = goes_on (take c.args.plot.now) (push_new (base c.args.plot.now) c.args.queue c.args.value) _ _ _ _ (Some c.in-Some.block) c.append.result c.in_ok-take.ensures.runs c.in-Some.is c.append.ensures.runs
 
-pub returns-in-None-clause-acts : goal.returns-in-None-clause-acts
-returns-in-None-clause-acts c = push_acts (base c.args.plot.now) c.args.plot.now.blocks c.args.plot.now.few_blocks c.args.queue c.args.value c.requires.queue c.requires.value c.args.part.now c.take.new.part false (returns-in-None-clause-walk c)
-
-pub returns-in-Some-clause-walk : goal.returns-in-Some-clause-walk
-returns-in-Some-clause-walk c =
-    goes_on (take_program (base c.args.plot.now) c.args.plot.now.blocks) (push_new (base c.args.plot.now) c.args.queue c.args.value) c.args.part.now c.take.new.part c.in_ok-take.field-0 (Some c.in-Some.block) c.append.result c.append.new.part c.in_ok-take.ensures.walk c.in-Some.is c.append.ensures.walk
-
-pub returns-in-Some-clause-acts : goal.returns-in-Some-clause-acts
-returns-in-Some-clause-acts c =
-    so_ok (push_program (base c.args.plot.now) c.args.plot.now.blocks c.args.queue c.args.value) c.args.part.now c.append.new.part (λ r. Acts (base c.args.plot.now) c.args.plot.now.blocks c.args.part.now r c.append.new.part (has_room c.args.plot.now.blocks) (after_push c.args.plot.now.blocks c.args.queue c.args.value)) c.append.result (returns-in-Some-clause-walk c)
-    (λ r e. push_acts (base c.args.plot.now) c.args.plot.now.blocks c.args.plot.now.few_blocks c.args.queue c.args.value c.requires.queue c.requires.value c.args.part.now c.append.new.part r e)
+pub returns-in-Some-clause-pushes : goal.returns-in-Some-clause-pushes
+returns-in-Some-clause-pushes c = record {
+  acts = push_acts c.args.plot.now c.args.queue c.args.value c.requires.item _ _ _ (returns-in-Some-clause-runs c);
+  full = search rules;
+}

@@ -11,7 +11,7 @@ abbrev pub invariant-loop-i : goal.invariant-loop-i
 invariant-loop-i l = record {
   ran : run (words_program (base l.fn.plot) l.fn.plot.blocks (length l.fn.op) [] l.fn.op) l.fn.part
       ≡ run (words_program (base l.fn.plot) l.fn.plot.blocks (length l.fn.op) (take l.i l.values) (drop l.i l.fn.op)) l.part;
-  stands : HasState (base l.fn.plot) l.fn.plot.blocks l.part;
+  stands : HasState l.fn.plot l.part;
   known : l.part.known ≡ l.fn.part.known;
   batch : l.part.batch ≡ l.fn.part.batch;
   width : length l.values ≡ MOST_INSTRS;

@@ -1,11 +1,9 @@
-use Rattle.std.proofs.Common.{◌≡◌, [], length}
-use Rattle.of_mem.specs.Plots.{base, size}
-use Rattle.of_mem.specs.StoreParts.{HasStore}
+use Rattle.std.proofs.Common.{◌≡◌, []}
+use Rattle.of_mem.specs.Calls.{HasStore}
 use Rattle.structures.proofs.tests.answers_as_the_plain_store.Given as goal
 
 abbrev pub invariant-loop-round : goal.invariant-loop-round
 invariant-loop-round g l = record {
-  fits : length l.part.known ≡ size l.plot;
-  stands : HasStore (base l.plot) l.plot.blocks l.part;
+  stands : HasStore l.plot l.part;
   empty : l.part.script ≡ [];
 }

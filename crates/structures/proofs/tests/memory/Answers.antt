@@ -1,10 +1,10 @@
-use Rattle.of_mem.specs.Plots.{base}
+use Rattle.std.proofs.Common.{rules}
 use Rattle.structures.proofs.Blocks.{free_at_first}
 use Rattle.structures.proofs.Stores.{empty_at_first}
 use Rattle.structures.proofs.tests.memory.Goals as goal
 
 pub returns-clause-free : goal.returns-clause-free
-returns-clause-free c = free_at_first (base c.args.plot.now) c.args.plot.now.blocks c.in_ok-part.part c.in_ok-part.ensures.zeros
+returns-clause-free c = free_at_first c.args.plot.now c.in_ok-part.part (search rules) c.in_ok-part.ensures.zeros
 
 pub returns-clause-stands : goal.returns-clause-stands
-returns-clause-stands c = empty_at_first (base c.args.plot.now) c.args.plot.now.blocks c.in_ok-part.part c.in_ok-part.ensures.zeros
+returns-clause-stands c = empty_at_first c.args.plot.now c.in_ok-part.part (search rules) c.in_ok-part.ensures.zeros

@@ -1,6 +1,5 @@
-use Rattle.of_mem.specs.Plots.{base}
 use Rattle.structures.proofs.Keeps.{kept_store}
 use Rattle.structures.proofs.tests.run.Goals as goal
 
 pub returns-clause-stands : goal.returns-clause-stands
-returns-clause-stands c = kept_store (base c.args.plot.now) c.args.plot.now.blocks c.answer.new.part c.keep.new.self c.in_ok-answer.ensures.once c.keep.ensures c.in_ok-answer.ensures.stands
+returns-clause-stands c = kept_store c.args.plot.now c.answer.new.part c.keep.new.self c.in_ok-answer.ensures.once c.keep.ensures c.in_ok-answer.ensures.stands

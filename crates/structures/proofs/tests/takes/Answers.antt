@@ -1,13 +1,14 @@
-use Rattle.of_mem.specs.Plots.{base}
 use Rattle.structures.proofs.Blocks.{first_out, gave}
 use Rattle.structures.proofs.tests.takes.Goals as goal
 
-pub give-requires-clause-out : goal.give-requires-clause-out
-give-requires-clause-out c =
-    first_out (base c.args.plot.now) c.args.plot.now.blocks c.args.part.now c.take.new.part c.take-2.new.part c.in_ok-block.field-0 c.in_ok-second.second c.in-Some.block c.in-Some.is c.requires.free c.in_ok-block.ensures.takes c.in_ok-second.ensures.takes
+pub give-requires : goal.give-requires
+give-requires c =
+    first_out c.args.plot.now c.args.part.now c.take.new.part c.take-2.new.part c.in_ok-block.field-0 c.in_ok-second.second c.in-Some.block c.in-Some.is c.requires
+    c.in_ok-block.ensures.runs c.in_ok-block.ensures.takes c.in_ok-second.ensures.runs c.in_ok-second.ensures.takes
 
-pub take-requires-3-clause-free : goal.take-requires-3-clause-free
-take-requires-3-clause-free c =
-    gave (base c.args.plot.now) c.args.plot.now.blocks c.take-2.new.part c.give.new.part c.in-Some.block
-    (first_out (base c.args.plot.now) c.args.plot.now.blocks c.args.part.now c.take.new.part c.take-2.new.part c.in_ok-block.field-0 c.in_ok-second.second c.in-Some.block c.in-Some.is c.requires.free c.in_ok-block.ensures.takes c.in_ok-second.ensures.takes)
-    c.in_ok-give.ensures.gives
+pub take-requires-3 : goal.take-requires-3
+take-requires-3 c =
+    gave c.args.plot.now c.take-2.new.part c.give.new.part c.in-Some.block
+    (first_out c.args.plot.now c.args.part.now c.take.new.part c.take-2.new.part c.in_ok-block.field-0 c.in_ok-second.second c.in-Some.block c.in-Some.is c.requires
+    c.in_ok-block.ensures.runs c.in_ok-block.ensures.takes c.in_ok-second.ensures.runs c.in_ok-second.ensures.takes)
+    c.in_ok-give.ensures.runs c.in_ok-give.ensures.gives

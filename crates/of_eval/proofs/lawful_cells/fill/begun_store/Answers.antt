@@ -1,6 +1,6 @@
 use Rattle.std.proofs.Common.{ℕ, ◌≡◌, ◌<◌, ◌+◌, get_or, sym, arith, ap, subst}
 use Rattle.of_mem.specs.ProgramWork.{memory}
-use Rattle.of_mem.specs.Stores.{IsNumber}
+use Rattle.of_mem.specs.Numbers.{IsNumber}
 use Rattle.of_store.specs.State.{State}
 use Rattle.of_eval.specs.Walking.{HasRegisters}
 use Rattle.of_eval.proofs.FillSteps.{registers_none, registers_more}

@@ -1,5 +1,5 @@
 use Rattle.std.proofs.Common.{ℕ, arith, sym, subst, ◌∙◌}
-use Rattle.of_mem.specs.Stores.{IsNumber}
+use Rattle.of_mem.specs.Numbers.{IsNumber}
 use Rattle.of_mem.specs.ProgramWork.{memory}
 use Rattle.of_eval.specs.Faults.OwnFault.{GreatReply}
 use Rattle.of_eval.proofs.OwnCells.{numbers_hold}

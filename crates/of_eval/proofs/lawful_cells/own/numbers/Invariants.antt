@@ -1,7 +1,7 @@
 use Rattle.std.proofs.Common.{ℕ, ◌<◌}
 use Rattle.of_mem.specs.Places.{reply_at}
 use Rattle.of_mem.specs.ProgramWork.{memory}
-use Rattle.of_mem.specs.Stores.{IsNumber}
+use Rattle.of_mem.specs.Numbers.{IsNumber}
 use Rattle.of_eval.specs.Faults.{HasNumber}
 use Rattle.of_eval.proofs.lawful_cells.own.numbers.Given as goal
 

@@ -1,6 +1,6 @@
 use Rattle.std.proofs.Common.{ℕ, sym, subst, arith}
 use Rattle.of_mem.specs.ProgramWork.{memory}
-use Rattle.of_mem.specs.Stores.{IsNumber}
+use Rattle.of_mem.specs.Numbers.{IsNumber}
 use Rattle.of_eval.specs.Faults.IsFirstFault.{Register}
 use Rattle.of_eval.proofs.lawful_cells.walk.registers.Goals as goal
 

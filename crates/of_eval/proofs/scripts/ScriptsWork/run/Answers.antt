@@ -4,18 +4,17 @@ use Rattle.of_mem.specs.Places.{base_of}
 use Rattle.of_mem.specs.Plots.{base}
 use Rattle.of_eval.specs.Scripts.{store_at}
 use Rattle.of_eval.specs.Shapes.{cells_of}
-use Rattle.of_eval.proofs.Overlay.{has_state, state_at, run_at, walk_gives, walk_needs, kept_when, dropped_when}
+use Rattle.of_eval.proofs.Overlay.{state_on, run_at, walk_gives, walk_needs, kept_when, dropped_when}
 use Rattle.of_eval.proofs.scripts.ScriptsWork.run.Goals as goal
 use Rattle.of_eval.proofs.scripts.ScriptsWork.run.Goals.{then-is_some, else-is_some}
 
 pub run_words-requires-clause-stands : goal.run_words-requires-clause-stands
-run_words-requires-clause-stands c = state_at (base c.plot.result) (store_at c.args.self.now) c.plot.result.blocks c.args.self.now.blocks c.args.part.now (λ i. base_of (c.plot.ensures.callers i) (c.plot.ensures.instrs i)) c.plot.ensures.blocks
-    (has_state c.args.self.now c.args.part.now c.requires.agrees c.requires.cells c.requires.empty)
+run_words-requires-clause-stands c = state_on c.args.self.now c.args.part.now c.requires.agrees c.requires.cells c.requires.empty c.plot.result (λ i. base_of (c.plot.ensures.callers i) (c.plot.ensures.instrs i)) c.plot.ensures.blocks
 
 pub returns-after-is_some-clause-walk : goal.returns-after-is_some-clause-walk
 returns-after-is_some-clause-walk c =
     walk_gives c.args.self.now c.args.part.now c.requires.agrees c.requires.cells c.requires.empty c.args.op.now (cells_of c.in-Ok.reply) c.run_words.new.part
-    (run_at (base c.plot.result) (store_at c.args.self.now) c.plot.result.blocks c.args.self.now.blocks c.args.op.now c.args.part.now _ (λ i. base_of (c.plot.ensures.callers i) (c.plot.ensures.instrs i)) c.plot.ensures.blocks c.in-Ok.ensures.walk)
+    (run_at (base c.plot.result) (store_at c.args.self.now) c.plot.result.blocks c.args.self.now.blocks c.args.op.now c.args.part.now _ (λ i. base_of (c.plot.ensures.callers i) (c.plot.ensures.instrs i)) c.plot.ensures.blocks c.in-Ok.ensures.runs.walk)
     ∙ elim c.if-is_some.branch [
       | then-is_some w ↦ dropped_when c.in-Ok.reply c.reply_cells.result c.run_words.new.part c.if-is_some.part c.in-Ok.ensures.whole (sym c.is_some.ensures ∙ w.if-is_some.true) (ap (λ (p : Pad). p.script) (w.part-is ∙ w.undo.ensures)) c.reply_cells.ensures
       | else-is_some w ↦ kept_when c.in-Ok.reply c.reply_cells.result c.run_words.new.part c.if-is_some.part c.in-Ok.ensures.whole (sym c.is_some.ensures ∙ w.if-is_some.false) w.part-is c.reply_cells.ensures
@@ -24,7 +23,7 @@ returns-after-is_some-clause-walk c =
 pub returns-in-Err-clause-walk : goal.returns-in-Err-clause-walk
 returns-in-Err-clause-walk c = (
   walk_needs c.args.self.now c.args.part.now c.requires.agrees c.requires.cells c.requires.empty c.args.op.now c.in-Err.need.addr
-      (run_at (base c.plot.result) (store_at c.args.self.now) c.plot.result.blocks c.args.self.now.blocks c.args.op.now c.args.part.now _ (λ i. base_of (c.plot.ensures.callers i) (c.plot.ensures.instrs i)) c.plot.ensures.blocks c.in-Err.ensures.walk),
+      (run_at (base c.plot.result) (store_at c.args.self.now) c.plot.result.blocks c.args.self.now.blocks c.args.op.now c.args.part.now _ (λ i. base_of (c.plot.ensures.callers i) (c.plot.ensures.instrs i)) c.plot.ensures.blocks c.in-Err.ensures.runs.walk),
   ap (λ (p : Pad). p.script) c.undo-in-Err.ensures,
   refl,
 )

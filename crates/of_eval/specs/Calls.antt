@@ -1,0 +1,25 @@
+-- The programs of the calls that run scripts on a plot.
+use Rattle.std.specs.Prelude.{ℕ, List, Result, Ok, Err}
+use Rattle.of_mem.specs.declared.part.Need.{Need}
+use Rattle.of_mem.specs.declared.plot.Plot.{Plot}
+use Rattle.of_mem.specs.declared.work.RawReply.{RawReply}
+use Rattle.of_mem.specs.Plots.{base}
+use Rattle.of_mem.specs.Programs.{Program}
+use Rattle.of_script.specs.declared.instr.Instr.{Instr}
+use Rattle.of_script.specs.declared.instr.Reply.{Reply}
+use Rattle.of_eval.specs.Shapes.{cells_of}
+use Rattle.of_eval.specs.ScriptPrograms.{Answer, instr_program, word_program, script_program}
+
+abbrev pub step : Plot → Instr → Program Answer
+step plot i = instr_program (base plot) plot.blocks i
+
+abbrev pub run_word : Plot → ℕ → Program Answer
+run_word plot w = word_program (base plot) plot.blocks w
+
+abbrev pub script : Plot → List ℕ → Program RawReply
+script plot op = script_program (base plot) plot.blocks op
+
+-- the same result, with the reply as cells hold it
+abbrev pub in_cells : Result Reply Need → Result RawReply Need
+in_cells (Ok r) = Ok (cells_of r)
+in_cells (Err need) = Err need

@@ -1,0 +1,20 @@
+//! What the calls of the map answer.
+
+/// Where the block of a key stands.
+#[derive(Clone, Copy, Debug, PartialEq, Eq)]
+pub(crate) struct Position {
+    /// The cell that points to the block.
+    pub cell: u32,
+    pub block: u32,
+}
+
+/// What a put answers.
+#[derive(Clone, Copy, Debug, PartialEq, Eq)]
+pub enum Put {
+    /// The key was absent, and no block is free: nothing was written.
+    Full,
+    /// The key was absent.
+    New,
+    /// The key had this value.
+    Over(u32),
+}
