@@ -12,3 +12,4 @@ pub mod RecordsHistory
 pub mod RecordsLawful
 pub mod RecordsAllowance
 pub mod Records
+pub mod RecordsReports

@@ -2,6 +2,7 @@
 use Rattle.std.specs.Prelude.{◌≡◌, ℕ, ◌+◌, ◌-◌, ◌==◌, ◌≤◌, ◌<◌, if◌then◌else◌, List, length, map, take, drop}
 use Rattle.std.proofs.Common.{get_or}
 use Rattle.of_eval.specs.Record.{IsLawful}
+use Rattle.of_eval.specs.Reported.{ReportsRun}
 use Rattle.of_plan.specs.declared.answer.Ending.{Ending}
 use Rattle.of_plan.specs.declared.answer.Ending.TheVariants.{Done}
 use Rattle.of_plan.specs.Plan.{Plan, IsPlan, scripts_of}
@@ -57,3 +58,8 @@ pub record IsRunOf (p : Plan) (s : Start) (B : TableStart) (w : World) (e : Run)
 -- what such a run leaves is a lawful record
 abbrev pub RunsAreLawful : Type 0
 RunsAreLawful = (p : Plan) (s : Start) (B : TableStart) (w : World) (e : Run) → IsRunOf p s B w e → (r : Report) × IsLawful p s e r
+
+-- and of its report all holds that holds of every run
+abbrev pub RunsAreReported : Type 0
+RunsAreReported = (p : Plan) (s : Start) (B : TableStart) (w : World) (e : Run) → IsRunOf p s B w e
+    → (r : Report) → IsLawful p s e r → ReportsRun p s e r

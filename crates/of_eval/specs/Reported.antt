@@ -15,8 +15,8 @@ MakeLeastSteps p c x (a ∷ others) = (least_steps p (answer_entry c x a) ≤ a.
 -- the report is that of the run's lawful record
 pub record ReportsRun (p : Plan) (s : Start) (e : Run) (r : Report) : Type 0 where
   pub lawful : IsLawful p s e r
-  -- no sequence is above the plan's limit, where the start's isn't
-  pub within_limit : s.seq ≤ p.limit → r.seq ≤ p.limit
+  -- its sequence is at most the plan's limit
+  pub within_limit : r.seq ≤ p.limit
   -- an entry beyond a caller's answers was announced
   pub announced : (c : ℕ) → c < p.callers → All (λ f. IsTrue f.announced) (drop (length (answers_of e c)) (entries_of r c))
   -- each answered call made its least steps
