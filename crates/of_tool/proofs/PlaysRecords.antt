@@ -20,6 +20,8 @@ use Rattle.of_caller.proofs.RecordsLists.{SpentLast, ends_so}
 use Rattle.of_caller.proofs.RecordsOwn.{idle_or_open, stopped_at}
 use Rattle.of_caller.proofs.RecordsAllowance.{within_steps}
 use Rattle.of_caller.proofs.Records.{run_is_lawful}
+use Rattle.of_caller.proofs.RecordsReports.{run_reports}
+use Rattle.of_eval.specs.Reported.{ReportsRun}
 use Rattle.of_tool.specs.Play.{IsPlayed, play_events}
 use Rattle.of_tool.proofs.PlaysMoments.{sound_here, calls_here, turns_here, open_unspent, idle_steps, words_left}
 use Rattle.of_tool.proofs.PlaysStart.{none_finished, starts_here, calls_of, next_of}
@@ -84,7 +86,11 @@ module _ (p : Plan) (plan : IsPlan p) (es : List Event) (schedule : IsSchedule (
   pub left_is_lawful : (r : Report) × IsLawful p (empty_start p) e r
   left_is_lawful = run_is_lawful p (empty_start p) (zeros (setup_for p)) (moment_after p es) e run_here
 
-  -- and of it each caller keeps to its turns, of which a stopped one has made each in a call
+  -- of its report all holds that holds of every run's
+  pub left_reports : (r : Report) → IsLawful p (empty_start p) e r → ReportsRun p (empty_start p) e r
+  left_reports r lawful = run_reports p (empty_start p) (zeros (setup_for p)) (moment_after p es) e run_here r lawful
+
+  -- and in it each caller keeps to its turns, of which a stopped one has made each in a call
   pub left_keeps_allowance : (r : Report) → IsLawful p (empty_start p) e r → (c : ℕ) → c < p.callers → (state_of (ending_of e c) ≡ stopped → NeverIdle (setup_for p) (opening_for p) es c) → KeepsAllowance p r c (Some (turns c es))
   unfolding run_here
   left_keeps_allowance r lawful c lt busy =
@@ -98,6 +104,10 @@ module _ (p : Plan) (plan : IsPlan p) (es : List Event) (schedule : IsSchedule (
 -- what a plan's own schedule leaves is a lawful record
 pub played_is_lawful : (p : Plan) → IsPlan p → IsSchedule (setup_for p) (opening_for p) (play_events p) → IsOfPlan p (play_events p) → (e : Run) → IsPlayed p e → (r : Report) × IsLawful p (empty_start p) e r
 played_is_lawful p plan schedule of_plan e played = left_is_lawful p plan (play_events p) schedule of_plan (play_spent_last p plan schedule) e played
+
+-- with the report that every run has
+pub played_reports : (p : Plan) → IsPlan p → IsSchedule (setup_for p) (opening_for p) (play_events p) → IsOfPlan p (play_events p) → (e : Run) → IsPlayed p e → (r : Report) → IsLawful p (empty_start p) e r → ReportsRun p (empty_start p) e r
+played_reports p plan schedule of_plan e played = left_reports p plan (play_events p) schedule of_plan (play_spent_last p plan schedule) e played
 
 -- and each caller keeps to its turns in it
 pub played_keeps_allowance : (p : Plan) → IsPlan p → IsSchedule (setup_for p) (opening_for p) (play_events p) → IsOfPlan p (play_events p) → (e : Run) → IsPlayed p e → (r : Report) → IsLawful p (empty_start p) e r
