@@ -19,7 +19,7 @@ use Rattle.of_tool.specs.declared.top.TheConstants.{MOST_INPUT}
 use Rattle.of_tool.specs.Commands.{words_of, IsNoCommand}
 use Rattle.of_tool.specs.Play.{IsPlayed}
 
--- the report of what a plan's schedule leaves: of all that holds of every run's report, and each caller keeps to its turns
+-- the report of what a plan's schedule leaves: it says of that run what holds of every run, and each caller keeps to its turns
 pub record IsPlayedReport (p : Plan) (r : Report) : Type 0 where
   pub run : Run
   pub played : IsPlayed p run
