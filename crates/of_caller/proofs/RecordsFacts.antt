@@ -1,5 +1,5 @@
 -- What is known of a moment of a plan's table, of the calls that led to it and of what a run has left of it: the premises of its record.
-use Rattle.std.proofs.Common.{◌≡◌, ℕ, ◌+◌, ◌<◌, ◌≤◌, ◌⊎◌, false, true, IsTrue, List, [], length, get_or}
+use Rattle.std.proofs.Common.{◌≡◌, ℕ, ◌+◌, ◌<◌, ◌≤◌, ◌⊎◌, false, true, IsTrue, List, [], length, get_or, map, take}
 use Rattle.std.specs.Prelude.{All}
 use Rattle.of_cell.specs.Words.{word}
 use Rattle.of_mem.specs.declared.work.RawReply.{RawReply}
@@ -14,17 +14,20 @@ use Rattle.of_eval.specs.Lawful.{reply_in}
 use Rattle.of_eval.specs.Record.{recovered_word, recovered_number}
 use Rattle.of_plan.specs.Plan.{Plan}
 use Rattle.of_plan.specs.Report.{Start, finished_of}
-use Rattle.of_plan.specs.Ended.{Run}
+use Rattle.of_plan.specs.Legal.{to_do}
+use Rattle.of_plan.specs.Ended.{Run, answers_of, ending_of}
 use Rattle.of_core.specs.declared.place.Outcome.{Outcome}
-use Rattle.of_core.specs.declared.place.Outcome.TheVariants.{Answered}
+use Rattle.of_core.specs.declared.place.Outcome.TheVariants.{Answered, Spent}
 use Rattle.of_core.specs.Table.{risen}
+use Rattle.of_core.specs.Machine.{IsOpen}
 use Rattle.of_core.specs.World.{World, Start as TableStart}
 use Rattle.of_core.specs.History.{Absent}
 use Rattle.of_core.specs.Order.{no_read}
-use Rattle.of_core.specs.Calls.{no_outcome}
+use Rattle.of_core.specs.Events.{machine}
+use Rattle.of_core.specs.Calls.{Calls, no_outcome}
 use Rattle.of_core.specs.Least.{least_read}
 use Rattle.of_caller.specs.Tables.{setup_for}
-use Rattle.of_caller.specs.Runs.{CallerRan}
+use Rattle.of_caller.specs.Runs.{AreNext, TellsCalls}
 use Rattle.of_caller.specs.Moments.{script_of_ticket, store_after}
 use Rattle.of_caller.proofs.RecordsCalls.{call_at, response_at, IsPlace}
 
@@ -72,7 +75,9 @@ pub record HasNone (p : Plan) (s : Start) (B : TableStart) (w : World) (e : Run)
 
 -- of caller c, which has begun these operations, and whose calls have ended so
 pub record CallerFacts (p : Plan) (s : Start) (B : TableStart) (w : World) (e : Run) (c : ℕ) (ops : List (List ℕ)) (outs : List Outcome) : Type 0 where
-  pub ran : CallerRan p s B w e c ops outs
+  pub calls : Calls (setup_for p) B (finished_of s c) w c ops outs
+  pub scripts : AreNext p (finished_of s c) c ops
+  pub tells : TellsCalls p s w e c outs
   pub announced : (x k steps : ℕ) (raw : RawReply) → x < length outs → get_or outs x no_outcome ≡ Answered k true raw steps → IsAnnounced p s B w c (finished_of s c + x + 1) k raw
   pub read : (x k steps : ℕ) (raw : RawReply) → x < length outs → get_or outs x no_outcome ≡ Answered k false raw steps → IsRead p s B w c (finished_of s c + x + 1) k raw
   pub least_reads : (x : ℕ) → x < length ops → All (λ i. IsTrue (reads_only i)) (script_of_ticket p c (finished_of s c + x + 1)) → least_read (setup_for p) (get_or ops x []) ≡ 3
