@@ -1,7 +1,7 @@
 //! Scripts as a work.
 
 ghost use Rattle.std.specs.Prelude.{◌≡◌, ◌≤◌};
-ghost use Rattle.of_cell.specs.declared.shape.TheConstants.{MOST_CALLERS};
+ghost use Rattle.of_mem.specs.declared.work.TheConstants.{MOST_CALLERS};
 ghost use Rattle.of_mem.specs.declared.plot.TheConstants.{MOST_BLOCKS};
 
 use crate::reply::reply_cells;
@@ -9,8 +9,8 @@ use crate::walk::run_words;
 use of_mem::{MOST_INSTRS, Need, Part, Plot, RawReply, Work};
 use of_script::from_words;
 
-/// What runs scripts on cells: so many callers, 1 to `MOST_CALLERS` of of_cell, and room for so
-/// many keys and items, at most `MOST_BLOCKS` of of_mem. An operation is the words of a script; a
+/// What runs scripts on cells: so many callers, 1 to `MOST_CALLERS`, and room for so
+/// many keys and items, at most `MOST_BLOCKS`. An operation is the words of a script; a
 /// word that is no instruction aborts at its place.
 #[derive(Clone, Copy, Debug, PartialEq, Eq)]
 pub struct Scripts {

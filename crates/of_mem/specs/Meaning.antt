@@ -1,8 +1,7 @@
 -- What a work means: what an operation does to a lawful list of cells, and how a run that knows only some cells goes.
 use Rattle.std.specs.Prelude.{◌≡◌, ℕ, ◌+◌, ◌*◌, ◌^◌, ◌/◌, ◌%◌, ◌==◌, ◌<◌, ◌≤◌, List, [], ◌∷◌, length, Option, Some, None, Bool, true, Result, MatchResult}
 use Rattle.std.specs.List.{All}
-use Rattle.of_cell.specs.declared.shape.TheConstants.{MOST_CALLERS, MOST_DATA_CELLS}
-use Rattle.of_mem.specs.declared.work.TheConstants.{MOST_INSTRS, LEAST_ABORT}
+use Rattle.of_mem.specs.declared.work.TheConstants.{MOST_INSTRS, MOST_CALLERS, MOST_DATA_CELLS, LEAST_ABORT}
 use Rattle.of_mem.specs.Numbers.{FitsCell}
 use Rattle.std.proofs.Common.{get_or, set, drop}
 use Rattle.of_mem.specs.declared.part.Need.{Need}

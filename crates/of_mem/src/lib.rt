@@ -9,4 +9,4 @@ mod work;
 
 pub use part::{Need, Part};
 pub use plot::{BUCKETS, MOST_BLOCKS, Plot, QUEUES, REGISTERS};
-pub use work::{LEAST_ABORT, MOST_INSTRS, RawReply, Work};
+pub use work::{LEAST_ABORT, MOST_CALLERS, MOST_DATA_CELLS, MOST_INSTRS, RawReply, Work};

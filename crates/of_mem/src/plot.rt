@@ -1,8 +1,7 @@
 //! Where the data cells stand.
 
 ghost use Rattle.std.specs.Prelude.{◌≡◌, ◌<◌, ◌≤◌, ◌+◌, ◌*◌};
-ghost use Rattle.of_cell.specs.declared.shape.TheConstants.{MOST_CALLERS};
-ghost use Rattle.of_mem.specs.declared.work.TheConstants.{MOST_INSTRS};
+ghost use Rattle.of_mem.specs.declared.work.TheConstants.{MOST_CALLERS, MOST_INSTRS};
 ghost use Rattle.of_mem.specs.declared.plot.TheConstants.{REGISTERS, BUCKETS, QUEUES, MOST_BLOCKS};
 
 /// How many registers a store has.
@@ -36,7 +35,7 @@ const FIRST_BLOCK: u32 = FIRST_QUEUE + 3 * QUEUES;
 /// last the blocks.
 #[derive(Clone, Copy, Debug, PartialEq, Eq)]
 pub struct Plot {
-    /// How many callers there are, 1 to `MOST_CALLERS` of of_cell.
+    /// How many callers there are, 1 to `MOST_CALLERS`.
     pub callers: u32,
     /// The most instructions of a script, 1 to `MOST_INSTRS`.
     pub instrs: u32,

@@ -10,6 +10,12 @@ use crate::part::{Need, Part};
 /// The most words of an operation, and the most numbers of a reply.
 pub const MOST_INSTRS: usize = 16;
 
+/// The most callers, as many as a table of cell words has.
+pub const MOST_CALLERS: u32 = 16;
+
+/// The most data cells, as many as such a table has.
+pub const MOST_DATA_CELLS: u32 = 4096;
+
 /// The least shape of a script that was aborted: the cause stands in the bits above it.
 pub const LEAST_ABORT: u32 = 1 << 26;
 
