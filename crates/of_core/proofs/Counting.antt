@@ -1,12 +1,11 @@
 -- What a place says of its machine it says of the machine with one more step counted.
 use Rattle.std.proofs.Common.{◌≡◌, ℕ, ◌+◌, ◌<◌, List, Bool, true, false, length, refl}
-use Rattle.of_cell.specs.Words.{pay}
 use Rattle.of_core.specs.declared.place.Place.{Place}
 use Rattle.of_core.specs.declared.place.Place.TheVariants.{Idle, TryCurrent, TryRequest, TryCell, StoreScript, StoreAnnouncement, LoadCurrent, LoadRequest, CopyLog, LookAgain, LoadOwnTicket, LoadShape, LoadReply, LoadAnnouncement, LoadTicket, LoadScript, LoadCell, RaiseOld, StoreLog, RaiseLog, StoreRequest, RaiseRequest, ExchangeCurrent, RaiseCurrent, LoadTarget, ExchangeTarget, ReloadTarget, RaiseTarget, CloseRequest, RaiseClosed}
 use Rattle.of_core.specs.Table.{Setup}
 use Rattle.of_core.specs.Machine.{Data, log_words}
 use Rattle.of_core.specs.Steps.{counted_at}
-use Rattle.of_core.specs.World.{World, Batch, Start, one_batch}
+use Rattle.of_core.specs.World.{World, Start, one_batch}
 use Rattle.of_core.specs.History.{state}
 use Rattle.of_core.specs.Rounds.{Trying, Helper, Fresh, Begun, Round, Looks, Past, Finds, ReadUpto}
 use Rattle.of_core.specs.Transaction.{Mode, Applies, Copies, Stored, Logs}

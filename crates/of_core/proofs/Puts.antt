@@ -1,7 +1,7 @@
 -- Filling a log: the puts of write-set and partial memory are those of the definitions, and where no cell stands twice they list the entries one behind the other.
-use Rattle.std.proofs.Common.{◌≡◌, ℕ, zero, suc, ◌+◌, ◌-◌, ◌*◌, ◌/◌, ◌%◌, ◌^◌, ◌<◌, ◌≤◌, ◌==◌, List, [], ◌∷◌, ◌++◌, length, get_or, set, take, drop, Option, Some, None, if◌then◌else◌, Bool, true, false, refl, ap, ◌∙◌, sym, subst, arith, append_assoc, length-append, replicate, ◌⊎◌, inl, inr}
-use Rattle.std.proofs.lemmas.List.{get_or_append_left, get_or_push, append-nil, take_more, length-replicate, get_or-replicate, get_or_past, set_comm, get_or-drop, get_or-take, length-take, length-drop, length-take-le, drop_all, take_all, drop-append-le}
-use Rattle.std.proofs.lemmas.Bool.{cases_lt, cases_eq}
+use Rattle.std.proofs.Common.{◌≡◌, ℕ, zero, suc, ◌+◌, ◌-◌, ◌*◌, ◌/◌, ◌%◌, ◌^◌, ◌<◌, ◌≤◌, ◌==◌, List, [], ◌∷◌, ◌++◌, length, get_or, take, drop, Option, Some, None, if◌then◌else◌, Bool, true, false, refl, ap, ◌∙◌, sym, subst, arith, append_assoc, length-append, replicate, ◌⊎◌, inl, inr}
+use Rattle.std.proofs.lemmas.List.{get_or_append_left, get_or_push, append-nil, take_more, length-replicate, get_or-replicate, get_or_past, get_or-drop, get_or-take, length-take, length-drop, length-take-le, drop_all, take_all, drop-append-le}
+use Rattle.std.proofs.lemmas.Bool.{cases_lt}
 use Rattle.std.proofs.lemmas.Bool.Decides.{nat_tests}
 use Rattle.of_wset.specs.Pairs as wset
 use Rattle.of_cell.specs.declared.word.TheConstants.{PAYLOADS}

@@ -1,5 +1,5 @@
 -- One call as a machine: what it holds.
-use Rattle.std.specs.Prelude.{◌≡◌, ℕ, ◌+◌, ◌*◌, ◌==◌, nat_lt, List, [], ◌∷◌, ◌++◌, length, Option, Some, None, Bool, true, false, if◌then◌else◌}
+use Rattle.std.specs.Prelude.{◌≡◌, ℕ, ◌+◌, nat_lt, List, [], ◌∷◌, ◌++◌, length, Option, Some, None, Bool, true, false, if◌then◌else◌}
 use Rattle.std.proofs.Common.{get_or, set, take, drop, replicate}
 use Rattle.of_cell.specs.Words.{pay}
 use Rattle.of_mem.specs.declared.work.RawReply.{RawReply}

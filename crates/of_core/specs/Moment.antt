@@ -1,5 +1,5 @@
 -- Words and machines of a moment, and what events leave of them.
-use Rattle.std.specs.Prelude.{◌≡◌, ℕ, ◌+◌, ◌<◌, List, [], length, map}
+use Rattle.std.specs.Prelude.{◌≡◌, ℕ, ◌<◌, List, [], length, map}
 use Rattle.std.proofs.Common.{get_or}
 use Rattle.of_cell.specs.Cells as cells
 use Rattle.of_mem.specs.Meaning.{Meaning}

@@ -1,4 +1,4 @@
-use Rattle.std.proofs.Common.{◌≡◌, ◌<◌, ℕ, List, [], length, get_or, ◌∙◌, ap, sym, refl, arith}
+use Rattle.std.proofs.Common.{◌≡◌, ◌<◌, ℕ, List, length, get_or, ◌∙◌, ap, sym, refl, arith}
 use Rattle.of_wset.specs.Pairs.{Pairs}
 use Rattle.of_mem.specs.Pairs.{put}
 use Rattle.of_core.proofs.Puts.{wset_put, put_all_take}
