@@ -29,7 +29,8 @@ use Rattle.of_caller.proofs.RecordsFacts.{CallerFacts}
 use Rattle.of_caller.proofs.RecordsOwn.{own_entries, IsOwnOf, answer_is, own_at}
 use Rattle.of_caller.proofs.RecordsHistory.{moment_history, moment_lines, is_history, line_is, lines_fit}
 
--- of a world, where the callers have begun these operations and their calls have ended so, and of what a run has left of it
+-- of a world, where the callers have begun these operations and their calls have ended so, and of
+-- what a run has left of it
 pub record MomentFacts (p : Plan) (s : Start) (B : TableStart) (w : World) (e : Run) (ops : ℕ → List (List ℕ)) (outs : ℕ → List Outcome) : Type 0 where
   pub plan : IsPlan p
   pub seqs : B.seq ≡ s.seq

@@ -1,4 +1,5 @@
--- From every start every schedule of a plan's next scripts leads to a moment of the plan; and a start at which nothing has happened is left by a run.
+-- From every start every schedule of a plan's next scripts leads to a moment of the plan; and a
+-- start at which nothing has happened is left by a run.
 use Rattle.std.proofs.Common.{◌≡◌, ℕ, zero, suc, ◌<◌, ◌≤◌, inl, inr, List, [], ◌∷◌, length, get_or, map, take, drop, replicate, refl, sym, ap, subst, ◌∙◌, arith}
 use Rattle.std.specs.List.{range_with_len}
 use Rattle.std.proofs.lemmas.List.{length-replicate, length-map}

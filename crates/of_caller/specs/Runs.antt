@@ -11,7 +11,7 @@ use Rattle.of_plan.specs.Plan.{Plan, IsPlan, scripts_of}
 use Rattle.of_plan.specs.Report.{Start, Report, stopped, finished_of}
 use Rattle.of_plan.specs.Legal.{to_do}
 use Rattle.of_plan.specs.Ended.{Run, answers_of, ending_of}
-use Rattle.of_plan.specs.Allowance.{least_steps, KeepsAllowance}
+use Rattle.of_plan.specs.Allowance.{KeepsAllowance}
 use Rattle.of_core.specs.declared.place.Outcome.{Outcome}
 use Rattle.of_core.specs.World.{World, Start as TableStart}
 use Rattle.of_core.specs.Bound.{bound}
@@ -73,7 +73,7 @@ SchedulesAreMoments p =
     → (es : List Event) → IsSchedule (setup_for p) (opening_at p B) es
     → ((c : ℕ) → c < p.callers → AreNext p (finished_of s c) c (operations es c))
     → IsMomentOf p s B (run (setup_for p) (opening_at p B) es)
-        (operations es) (outcomes (setup_for p) (opening_at p B) es)
+    (operations es) (outcomes (setup_for p) (opening_at p B) es)
 
 -- what a start leaves before anything has happened: no answers, and each caller that has a script
 -- left is stopped
