@@ -6,7 +6,6 @@ pub mod StoresRecovered
 pub mod StoresLeast
 pub mod StoresZeros
 pub mod PlansKeepLaws
-pub mod Schedules
 pub mod RecordsLists
 pub mod RecordsCalls
 pub mod RecordsFacts
@@ -17,3 +16,4 @@ pub mod RecordsAllowance
 pub mod Records
 pub mod RecordsReports
 pub mod RecordsReplies
+pub mod Schedules

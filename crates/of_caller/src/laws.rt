@@ -3,18 +3,19 @@
 ghost use Rattle.of_plan.specs.Plan.{IsPlan};
 ghost use Rattle.of_caller.specs.PlanLaws.{KeepsLaws};
 ghost use Rattle.of_caller.specs.Starts.{ZerosAreEmpty};
-ghost use Rattle.of_caller.specs.Runs.{SchedulesAreMoments, RepliesAreHeld, RunsAreLawful, RunsAreReported, RunsKeepAllowances};
+ghost use Rattle.of_caller.specs.Runs.{SchedulesAreMoments, StartsAreRuns, RepliesAreHeld, RunsAreLawful, RunsAreReported, RunsKeepAllowances};
 
 use of_core::laws::{every_call, every_moment, machines, starts, step_kept};
 use of_eval::Scripts;
 use of_plan::Plan;
 
-/// The laws of the protocol hold at the table of a plan. So from every start of the plan its schedules lead to moments of it; a table
-/// of zeros is at its empty start.
+/// The laws of the protocol hold at the table of a plan. So from every start of the plan its schedules lead to moments of it, and what
+/// is left before anything has happened is what a run leaves. A table of zeros is at the plan's empty start.
 pub fn plan_keeps_laws(plan: &Plan)
     ensures plan { IsPlan plan.now }
     ensures laws { KeepsLaws plan.now }
     ensures moments { SchedulesAreMoments plan.now }
+    ensures starts { StartsAreRuns plan.now }
     ensures zeros { ZerosAreEmpty plan.now }
 {
     let limit = plan.limit();
