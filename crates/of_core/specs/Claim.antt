@@ -1,54 +1,61 @@
 -- What every moment claims: its history is legal, each round uses one state, and what recovery reads off the durable words.
-use Rattle.std.specs.Prelude.{ℕ, ◌+◌, ◌-◌, List, length, Option, Some, None, true, false, ◌≡◌, ◌≤◌, ◌<◌, map}
-use Rattle.std.proofs.Common.{take}
-use Rattle.of_cell.specs.Words.{pay}
+use Rattle.std.specs.Prelude.{ℕ, ◌+◌, ◌*◌, ◌-◌, List, length, Option, Some, None, Bool, true, false, ◌≡◌, ◌≤◌, ◌<◌, map}
+use Rattle.std.proofs.Common.{get_or, take}
+use Rattle.of_cell.specs.Words.{seq, pay}
 use Rattle.of_mem.specs.Meaning.{Agrees, SameFrom}
 use Rattle.of_recover.specs.Recovered.{recovered_data}
 use Rattle.of_core.specs.declared.place.Place.{Place}
-use Rattle.of_core.specs.declared.place.Place.TheVariants.{Idle, TryCurrent, TryRequest, TryCell, StoreScript, StoreAnnouncement, LoadCurrent, LoadRequest, CopyLog, LookAgain, LoadOwnTicket, LoadShape, LoadReply, LoadAnnouncement, LoadTicket, LoadScript, LoadCell, RaiseOld, StoreLog, RaiseLog, StoreRequest, RaiseRequest, ExchangeCurrent, RaiseCurrent, LoadTarget, ExchangeTarget, ReloadTarget, RaiseTarget, CloseRequest, RaiseClosed}
+use Rattle.of_core.specs.declared.place.Place.TheVariants.{Idle, TryCell, LoadOwnTicket, LoadShape, LoadReply, LoadAnnouncement, LoadTicket, LoadScript, LoadCell, RaiseOld, StoreLog, RaiseLog, StoreRequest, RaiseRequest, ExchangeCurrent}
 use Rattle.of_core.specs.declared.place.Outcome.{Outcome}
 use Rattle.of_core.specs.declared.place.Outcome.TheVariants.{Answered, Spent}
 use Rattle.std.specs.List.{All}
-use Rattle.of_core.specs.Table.{Setup, base, durable_word, risen}
+use Rattle.of_core.specs.Table.{Setup, base, size, request_at, data_at, log_at, durable_word, risen}
 use Rattle.of_core.specs.Machine.{Call, Data, IsOpen}
 use Rattle.of_core.specs.World.{World, Start, Batch, Read}
 use Rattle.of_core.specs.Order.{Ordered}
-use Rattle.of_core.specs.History.{batch, at, numbers, replay, ticket_in, Legal, Last, Rising, HasCall}
+use Rattle.of_core.specs.Shared.{Held, IsRequest, IsLogWord}
+use Rattle.of_core.specs.Rounds.{Finds, ReadUpto}
+use Rattle.of_core.specs.Invariant.{HeldAsCurrent}
+use Rattle.of_core.specs.History.{state, batch, at, numbers, replay, ticket_in, Legal, Last, Rising, HasCall}
 use Rattle.of_core.specs.Bound.{bound}
 use Rattle.of_core.specs.Events.{machine}
 
--- a machine in a round has loaded cells of one state alone
-abbrev pub UsesOne : Start → World → Data → Place → Type 0
-UsesOne B w m Idle = Unit {0}
-UsesOne B w m TryCurrent = Unit {0}
-UsesOne B w m TryRequest = Unit {0}
-UsesOne B w m (TryCell x) = Agrees m.known (numbers B w.batches m.seq)
-UsesOne B w m (StoreScript j) = Unit {0}
-UsesOne B w m StoreAnnouncement = Unit {0}
-UsesOne B w m LoadCurrent = Unit {0}
-UsesOne B w m LoadRequest = Unit {0}
-UsesOne B w m (CopyLog x) = Unit {0}
-UsesOne B w m LookAgain = Unit {0}
-UsesOne B w m LoadOwnTicket = Agrees m.known (numbers B w.batches m.seq)
-UsesOne B w m LoadShape = Agrees m.known (numbers B w.batches m.seq)
-UsesOne B w m (LoadReply j) = Agrees m.known (numbers B w.batches m.seq)
-UsesOne B w m LoadAnnouncement = Agrees m.known (numbers B w.batches m.seq)
-UsesOne B w m LoadTicket = Agrees m.known (numbers B w.batches m.seq)
-UsesOne B w m (LoadScript j) = Agrees m.known (numbers B w.batches m.seq)
-UsesOne B w m (LoadCell x) = Agrees m.known (numbers B w.batches m.seq)
-UsesOne B w m RaiseOld = Agrees m.known (numbers B w.batches m.seq)
-UsesOne B w m (StoreLog x) = Agrees m.known (numbers B w.batches m.seq)
-UsesOne B w m (RaiseLog x) = Agrees m.known (numbers B w.batches m.seq)
-UsesOne B w m StoreRequest = Agrees m.known (numbers B w.batches m.seq)
-UsesOne B w m RaiseRequest = Agrees m.known (numbers B w.batches m.seq)
-UsesOne B w m ExchangeCurrent = Agrees m.known (numbers B w.batches m.seq)
-UsesOne B w m RaiseCurrent = Unit {0}
-UsesOne B w m (LoadTarget j) = Unit {0}
-UsesOne B w m (ExchangeTarget j f) = Unit {0}
-UsesOne B w m (ReloadTarget j) = Unit {0}
-UsesOne B w m (RaiseTarget j f) = Unit {0}
-UsesOne B w m CloseRequest = Unit {0}
-UsesOne B w m RaiseClosed = Unit {0}
+-- the places of a round, or of a try, behind its first load of a cell of the state
+abbrev pub knows_state : Place → Bool
+knows_state (TryCell a) = true
+knows_state LoadOwnTicket = true
+knows_state LoadShape = true
+knows_state (LoadReply j) = true
+knows_state LoadAnnouncement = true
+knows_state LoadTicket = true
+knows_state (LoadScript j) = true
+knows_state (LoadCell a) = true
+knows_state RaiseOld = true
+knows_state (StoreLog x) = true
+knows_state (RaiseLog x) = true
+knows_state StoreRequest = true
+knows_state RaiseRequest = true
+knows_state ExchangeCurrent = true
+knows_state p = false
+
+-- what was loaded of the own cells of caller i, of which its answer is read, is of the state
+abbrev pub ReadsOwn : Setup → (state : List ℕ) → (i : ℕ) → Data → Place → Type 0
+ReadsOwn S st i m LoadShape = Finds S st i m
+ReadsOwn S st i m (LoadReply j) = Finds S st i m × ReadUpto S st i m j
+ReadsOwn S st i m p = Unit {0}
+
+-- a round or a try has used the cells of one state alone: what is known of cells, and what was loaded of the own ones
+pub record UsesOne (S : Setup) (B : Start) (w : World) (i : ℕ) (m : Data) : Type 0 where
+  pub known : knows_state m.place ≡ true → Agrees m.known (numbers B w.batches m.seq)
+  pub own : ReadsOwn S (state B w.batches m.seq) i m m.place
+
+-- A word that the cell c has held, as the history tells it: the current-transaction word names a batch and its owner, a request is open or closes a batch of its caller,
+-- a data word is of some state, and a log word of a batch's sequence is of that batch's log.
+pub record HasHeld (S : Setup) (B : Start) (ws : List ℕ) (bs : List Batch) (c v : ℕ) : Type 0 where
+  pub current : c ≡ 0 → HeldAsCurrent B ws bs v
+  pub request : (j : ℕ) → j < S.callers → c ≡ request_at j → IsRequest B ws bs j v
+  pub data_word : (a : ℕ) → a < S.cells → c ≡ data_at S a → Held B ws bs a v
+  pub log : (j x : ℕ) → j < S.callers → x < 2 * S.cells + 1 → c ≡ log_at S j x → IsLogWord B ws bs j x v
 
 -- the read's reply is its meaning on the replay of the batches up to its sequence
 abbrev pub ReadMeets : Setup → Start → List Batch → Read → Type 0
@@ -84,11 +91,21 @@ pub record IsSound (S : Setup) (B : Start) (w : World) : Type 0 where
   pub order : Ordered S B w.words w.batches w.reads
   -- recovery of the durable words gives the state after the batches up to the durable sequence, and each caller's own cells in it hold its last call
   pub recovers : (a : ℕ) → a < S.cells → recovered_data S.callers S.cells (durable_word S w.words) a ≡ at B w.batches (risen S w.words) a
+  -- no recovered word is newer than that sequence
+  pub old : (a : ℕ) → a < S.cells → seq (recovered_data S.callers S.cells (durable_word S w.words) a) ≤ risen S w.words
+  -- which is no older than the start, and no newer than the last batch
   pub from : B.seq ≤ risen S w.words
   pub reaches : risen S w.words ≤ B.seq + length w.batches
+  -- its owner is a caller
+  pub owner : pay (durable_word S w.words 0) < S.callers
+  -- no batch is above the limit
+  pub limit : B.seq + length w.batches ≤ S.limit
+  -- each durable word is at most its cell's, which is one that its cell has held
+  pub low : (c : ℕ) → c < size S → durable_word S w.words c ≤ get_or w.words c 0
+  pub held : (c : ℕ) → c < size S → HasHeld S B w.words w.batches c (durable_word S w.words c)
   pub own : (i : ℕ) → i < S.callers → Last S B w.batches (risen S w.words) i
   -- each round and each try has used the cells of one state alone
-  pub one : (i : ℕ) → i < S.callers → UsesOne B w (machine w i) (machine w i).place
+  pub one : (i : ℕ) → i < S.callers → UsesOne S B w i (machine w i)
   -- no call makes more steps than the bound
   pub within : (i : ℕ) → i < S.callers → (machine w i).steps ≤ bound S
   -- each idle machine's last outcome is in the history, at the durable sequence at most
