@@ -1,5 +1,5 @@
 -- A bank's words and machines stay those of a moment.
-use Rattle.std.proofs.Common.{◌≡◌, ℕ, zero, suc, ◌+◌, ◌<◌, ◌≤◌, List, [], ◌∷◌, ◌++◌, length, get_or, set, replicate, Option, max, refl, sym, ◌∙◌, ap, arith, length-append, length-set, ◌⊎◌, inl, inr}
+use Rattle.std.proofs.Common.{◌≡◌, ℕ, zero, suc, ◌+◌, ◌<◌, ◌≤◌, List, [], ◌∷◌, ◌++◌, length, get_or, set, Option, max, refl, sym, ◌∙◌, ap, arith, length-append, length-set, ◌⊎◌, inl, inr}
 use Rattle.std.proofs.lemmas.List.{get_or_default, get_or_push, get_or_append_left, get_or-map, length-map, map-set, map-append, get_or-set_same, get_or-set_other, set-get_or}
 use Rattle.std.proofs.lemmas.Bool.{cases_eq}
 use Rattle.of_mem.specs.Meaning.{Meaning, Sound}

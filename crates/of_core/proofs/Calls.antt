@@ -15,8 +15,11 @@ use Rattle.of_core.specs.History.{batch}
 use Rattle.of_core.specs.Order.{no_read}
 use Rattle.of_core.specs.Seen.{ended_at}
 use Rattle.of_core.specs.Events.{machine}
-use Rattle.of_core.specs.Calls.{no_outcome, last_from, Stood, Calls}
+use Rattle.of_core.specs.Facts.{ReadsFrom}
+use Rattle.of_core.specs.Calls.{no_outcome, last_from, seq_of, Beyond, NotRun, Stood, IsOutcome, WasBegun, Calls}
+use Rattle.of_core.proofs.Idle.{idle_reads}
 use Rattle.of_core.proofs.Ordering.{idle_is}
+use Rattle.of_core.proofs.StepTaken.{opened_reads}
 
 -- the second list begins with the first
 abbrev pub Extends : {X : Type 0} → List X → List X → Type 0
@@ -41,27 +44,32 @@ pub none_ended : (d : Data) (p : Place) → IsOpen p → ended_at p d ≡ None
 none_ended d Idle o = cc
 none_ended d p o = refl
 
--- a read is an outcome of its caller
-abbrev pub Among : ℕ → ℕ → List (List ℕ) → List Outcome → Read → Type 0
-Among before i ops outs r = r.caller ≡ i → (x : ℕ) × (steps : ℕ) × (x < length outs) × (r.ticket ≡ before + x + 1) × (r.op ≡ get_or ops x []) × (get_or outs x no_outcome ≡ Answered r.seq false r.raw steps)
-
--- a call of a batch is one that its caller has begun, with its words
-abbrev pub Words : ℕ → ℕ → List (List ℕ) → Call → Type 0
-Words before i ops c = c.caller ≡ i → (before < c.ticket) × (c.ticket ≤ before + length ops) × (c.op ≡ get_or ops (c.ticket - before - 1) [])
-
 module _ (S : Setup) (B : Start) where
   -- the history of the first moment stands in the second
   pub record Grows (w v : World) : Type 0 where
     pub reach : risen S w.words ≤ B.seq + length w.batches
     pub rise : risen S w.words ≤ risen S v.words
     pub limit : risen S v.words ≤ S.limit
+    pub few : B.seq + length v.batches ≤ S.limit
     pub batches : (k : ℕ) → B.seq < k → k ≤ B.seq + length w.batches → batch B v.batches k ≡ batch B w.batches k
     pub reads : Extends w.reads v.reads
 
-  stood_grows : (w v : World) → Grows w v → (i t : ℕ) (op : List ℕ) (o : Outcome) → Stood S B w i t op o → Stood S B v i t op o
+  -- no more batches stand where the limit was reached
+  not_run_grows : (w v : World) → Grows w v → (i t : ℕ) → S.limit ≤ risen S w.words → NotRun B w i t → NotRun B v i t
+  not_run_grows w v f i t l h k u n =
+      let m : k ≤ B.seq + length w.batches = omega (arith, n, l, f.reach, f.few) in
+      subst (λ (b : Batch). All (λ (c : Call). c.caller ≡ i → c.ticket < t) b.calls) (sym (f.batches k u m)) (h k u m)
+
+  pub stood_grows : (w v : World) → Grows w v → (i t : ℕ) (op : List ℕ) (o : Outcome) → Stood S B w i t op o → Stood S B v i t op o
   stood_grows w v f i t op (Answered s true raw steps) h = (h.0, omega (arith, h.1, f.rise), rw (f.batches s h.0 (omega (arith, h.1, f.reach))) h.2, h.3, h.4)
   stood_grows w v f i t op (Answered s false raw steps) h = (omega (arith, h.0, f.rise), (h.1.0, omega (arith, h.1.1, f.reads.0), f.reads.1 h.1.0 no_read h.1.1 ∙ h.1.2), h.2, h.3, h.4)
-  stood_grows w v f i t op (Spent s) h = (h.0, omega (arith, h.0, h.1, f.rise, f.limit))
+  stood_grows w v f i t op (Spent s) h = (h.0, omega (arith, h.0, h.1, f.rise, f.limit), not_run_grows w v f i t (omega (arith, h.0, h.1)) h.2)
+
+  -- no outcome is above the durable sequence
+  pub stood_low : (w : World) (i t : ℕ) (op : List ℕ) (o : Outcome) → Stood S B w i t op o → seq_of o ≤ risen S w.words
+  stood_low w i t op (Answered s true raw steps) h = h.1
+  stood_low w i t op (Answered s false raw steps) h = h.0
+  stood_low w i t op (Spent s) h = omega (arith, h.1)
 
   -- what stays of the calls of caller i
   module _ (before : ℕ) (w : World) (i : ℕ) (ops : List (List ℕ)) (outs : List Outcome) (c : Calls S B before w i ops outs) where
@@ -72,6 +80,10 @@ module _ (S : Setup) (B : Start) where
         go true e = omega (arith, c.idle (idle_is (machine w i).place e))
         go false e = omega (arith, (c.open_call e).0)
 
+    -- each outcome is of a batch that stands, or of the start
+    pub outcome_low : risen S w.words ≤ B.seq + length w.batches → (x : ℕ) → x < length outs → seq_of (get_or outs x no_outcome) ≤ B.seq + length w.batches
+    outcome_low f x l = let low = stood_low w i (before + x + 1) (get_or ops x []) (get_or outs x no_outcome) (c.each x l) in omega (arith, low, f)
+
     module _ (v : World) (f : Grows w v) (now : List (List ℕ)) (ends : List Outcome) (a : Extends ops now) (b : Extends outs ends) where
       each_stays : (x : ℕ) → x < length outs → Stood S B v i (before + x + 1) (get_or now x []) (get_or ends x no_outcome)
       each_stays x l =
@@ -79,34 +91,37 @@ module _ (S : Setup) (B : Start) where
           (subst (λ (op : List ℕ). Stood S B v i (before + x + 1) op (get_or outs x no_outcome)) (sym (a.1 x [] (omega (arith, l, fewer_outs))))
           (stood_grows w v f i (before + x + 1) (get_or ops x []) (get_or outs x no_outcome) (c.each x l)))
 
-      among_stays : (r : Read) → Among before i ops outs r → Among before i now ends r
+      among_stays : (r : Read) → IsOutcome before i ops outs r → IsOutcome before i now ends r
       among_stays r h q = let p = h q in (p.0, p.1, omega (arith, p.2, b.0), p.3, p.4 ∙ sym (a.1 p.0 [] (omega (arith, p.2, fewer_outs))), b.1 p.0 no_outcome p.2 ∙ p.5)
 
-      reads_stay : (rs : List Read) → v.reads ≡ w.reads ++ rs → All (Among before i now ends) rs → All (Among before i now ends) v.reads
-      reads_stay rs e h = subst (λ (xs : List Read). All (Among before i now ends) xs) (sym e) (All-append (Among before i now ends) w.reads rs (λ k d l. among_stays (get_or w.reads k d) (c.reads k d l)) h)
+      reads_stay : (rs : List Read) → v.reads ≡ w.reads ++ rs → All (IsOutcome before i now ends) rs → All (IsOutcome before i now ends) v.reads
+      reads_stay rs e h = subst (λ (xs : List Read). All (IsOutcome before i now ends) xs) (sym e) (All-append (IsOutcome before i now ends) w.reads rs (λ k d l. among_stays (get_or w.reads k d) (c.reads k d l)) h)
 
-      words_stay : (x : Call) → Words before i ops x → Words before i now x
+      words_stay : (x : Call) → WasBegun before i ops x → WasBegun before i now x
       words_stay x h q = let p = h q in (p.0, omega (arith, p.1, a.0), p.2 ∙ sym (a.1 (x.ticket - before - 1) [] (omega (arith, p.0, p.1))))
 
-      calls_stay : ((k : ℕ) → B.seq + length w.batches < k → k ≤ B.seq + length v.batches → All (Words before i ops) (batch B v.batches k).calls) → (k : ℕ) → B.seq < k → k ≤ B.seq + length v.batches → All (Words before i now) (batch B v.batches k).calls
+      calls_stay : ((k : ℕ) → B.seq + length w.batches < k → k ≤ B.seq + length v.batches → All (WasBegun before i ops) (batch B v.batches k).calls) → (k : ℕ) → B.seq < k → k ≤ B.seq + length v.batches → All (WasBegun before i now) (batch B v.batches k).calls
       calls_stay new k l u y d z = words_stay (get_or (batch B v.batches k).calls y d) (go (cases_lt (B.seq + length w.batches) k))
         where
-          go : (B.seq + length w.batches < k) ⊎ (k ≤ B.seq + length w.batches) → Words before i ops (get_or (batch B v.batches k).calls y d)
+          go : (B.seq + length w.batches < k) ⊎ (k ≤ B.seq + length w.batches) → WasBegun before i ops (get_or (batch B v.batches k).calls y d)
           go (inl t) = new k t u y d z
-          go (inr t) = (subst (λ (x : Batch). All (Words before i ops) x.calls) (sym (f.batches k l t)) (c.calls k l t)) y d z
+          go (inr t) = (subst (λ (x : Batch). All (WasBegun before i ops) x.calls) (sym (f.batches k l t)) (c.calls k l t)) y d z
 
     -- where none of the caller's calls has begun or ended
-    pub stays : (v : World) → Grows w v → (rs : List Read) → v.reads ≡ w.reads ++ rs → All (Among before i ops outs) rs → ((k : ℕ) → B.seq + length w.batches < k → k ≤ B.seq + length v.batches → All (Words before i ops) (batch B v.batches k).calls)
-        → (d : Data) → machine v i ≡ d → d.made ≡ (machine w i).made → (d.place ≡ Idle → ((machine w i).place ≡ Idle) × (d.answer ≡ (machine w i).answer)) → (IsOpen d.place → IsOpen (machine w i).place × (d.op ≡ (machine w i).op))
-        → Calls S B before v i ops outs
-    stays v f rs e all new d x made idle live = record {
+    pub stays : (v : World) → Grows w v → (rs : List Read) → v.reads ≡ w.reads ++ rs → All (IsOutcome before i ops outs) rs → ((k : ℕ) → B.seq + length w.batches < k → k ≤ B.seq + length v.batches → All (WasBegun before i ops) (batch B v.batches k).calls)
+        → (d : Data) → machine v i ≡ d → d.made ≡ (machine w i).made → (d.place ≡ Idle → ((machine w i).place ≡ Idle) × (d.answer ≡ (machine w i).answer)) → (IsOpen d.place → IsOpen (machine w i).place × (d.op ≡ (machine w i).op) × (d.answer ≡ (machine w i).answer))
+        → ((low : ℕ) → low ≤ B.seq + length w.batches → ReadsFrom low (machine w i) → ReadsFrom low d) → Calls S B before v i ops outs
+    stays v f rs e all new d x made idle live from = record {
       made = ap (λ (n : Data). n.made) x ∙ made ∙ c.made;
       idle = λ q. c.idle (idle (ap (λ (n : Data). n.place) (sym x) ∙ q)).0;
       open_call = λ q. let o = live (subst (λ (n : Data). IsOpen n.place) x q) in ((c.open_call o.0).0, ap (λ (n : Data). n.op) x ∙ o.1 ∙ (c.open_call o.0).1);
+      unanswered = λ q. let o = live (subst (λ (n : Data). IsOpen n.place) x q) in ap (λ (n : Data). n.answer) x ∙ o.2 ∙ c.unanswered o.0;
       last = λ q. let o = idle (ap (λ (n : Data). n.place) (sym x) ∙ q) in ap (λ (n : Data). n.answer) x ∙ o.1 ∙ c.last o.0;
       each = each_stays v f ops outs (extends_self ops) (extends_self outs);
       reads = reads_stay v f ops outs (extends_self ops) (extends_self outs) rs e all;
       calls = calls_stay v f ops outs (extends_self ops) (extends_self outs) new;
+      rising = c.rising;
+      reads_from = λ y l. subst (ReadsFrom (seq_of (get_or outs y no_outcome))) (sym x) (from (seq_of (get_or outs y no_outcome)) (outcome_low f.reach y l) (c.reads_from y l));
     }
 
     -- the caller begins a call
@@ -115,10 +130,13 @@ module _ (S : Setup) (B : Start) where
       made = ap (λ (n : Data). n.made) x ∙ omega (arith, sym (ap (λ (n : Data). n.made) own) ∙ c.made, length-append ops (op ∷ []));
       idle = λ q. absurd (closed (S.meaning.reads_only op) (ap (λ (n : Data). n.place) (sym x) ∙ q));
       open_call = λ q. (omega (arith, length-append ops (op ∷ []), all_ended), ap (λ (n : Data). n.op) x ∙ sym (get_or_push ops op [] (length outs) (sym all_ended)));
+      unanswered = λ q. ap (λ (n : Data). n.answer) x;
       last = λ q. absurd (closed (S.meaning.reads_only op) (ap (λ (n : Data). n.place) (sym x) ∙ q));
       each = each_stays v f (ops ++ op ∷ []) outs (extends_push ops op) (extends_self outs);
       reads = reads_stay v f (ops ++ op ∷ []) outs (extends_push ops op) (extends_self outs) [] (e ∙ sym (append-nil w.reads)) (λ k d l. absurd (omega arith));
       calls = calls_stay v f (ops ++ op ∷ []) outs (extends_push ops op) (extends_self outs) (λ k l u. absurd (omega (arith, ap length t)));
+      rising = c.rising;
+      reads_from = λ y l. subst (ReadsFrom (seq_of (get_or outs y no_outcome))) (sym x) (opened_reads S m op (seq_of (get_or outs y no_outcome)));
     }
       where
         all_ended : length outs ≡ length ops
@@ -129,20 +147,31 @@ module _ (S : Setup) (B : Start) where
         closed false q = cc
 
     -- a call of the caller ends
-    pub ends_one : (v : World) → Grows w v → (rs : List Read) → v.reads ≡ w.reads ++ rs → ((k : ℕ) → B.seq + length w.batches < k → k ≤ B.seq + length v.batches → All (Words before i ops) (batch B v.batches k).calls)
+    pub ends_one : (v : World) → Grows w v → (rs : List Read) → v.reads ≡ w.reads ++ rs → ((k : ℕ) → B.seq + length w.batches < k → k ≤ B.seq + length v.batches → All (WasBegun before i ops) (batch B v.batches k).calls)
         → IsOpen (machine w i).place → (d : Data) → machine v i ≡ d → d.made ≡ (machine w i).made → d.op ≡ (machine w i).op → d.place ≡ Idle → (o : Outcome) → d.answer ≡ Some o → Stood S B v i d.made d.op o
+        → ((y : ℕ) → y < length outs → Beyond (seq_of (get_or outs y no_outcome)) o)
         → All (λ (r : Read). (r.ticket ≡ d.made) × (r.op ≡ d.op) × ((steps : ℕ) × (o ≡ Answered r.seq false r.raw steps))) rs → Calls S B before v i ops (outs ++ o ∷ [])
-    ends_one v f rs e new live d x made op rest o answer stood all = record {
+    ends_one v f rs e new live d x made op rest o answer stood beyond all = record {
       made = ap (λ (n : Data). n.made) x ∙ made ∙ c.made;
       idle = λ q. omega (arith, length-append outs (o ∷ []), (c.open_call live).0);
       open_call = λ q. let z : true ≡ false = sym (ap is_idle (ap (λ (n : Data). n.place) x ∙ rest)) ∙ q in cc;
+      unanswered = λ q. let z : true ≡ false = sym (ap is_idle (ap (λ (n : Data). n.place) x ∙ rest)) ∙ q in cc;
       last = λ q. ap (λ (n : Data). n.answer) x ∙ answer ∙ sym (last_push outs None o);
       each = λ y l. at_each y l (cases_lt y (length outs));
       reads = reads_stay v f ops (outs ++ o ∷ []) (extends_self ops) (extends_push outs o) rs e (λ k r l q. let a = all k r l in
           (length outs, a.2.0, omega (arith, length-append outs (o ∷ [])), a.0 ∙ number, a.1 ∙ words, get_or_push outs o no_outcome (length outs) refl ∙ a.2.1));
       calls = calls_stay v f ops (outs ++ o ∷ []) (extends_self ops) (extends_push outs o) new;
+      rising = λ y z u l. rises_at y z u l (cases_lt z (length outs));
+      reads_from = λ y l. subst (ReadsFrom (seq_of (get_or (outs ++ o ∷ []) y no_outcome))) (sym x) (idle_reads d rest (seq_of (get_or (outs ++ o ∷ []) y no_outcome)));
     }
       where
+        -- two outcomes from before, or one from before and the new one
+        rises_at : (y z : ℕ) → y < z → z < length (outs ++ o ∷ []) → (z < length outs) ⊎ (length outs ≤ z) → Beyond (seq_of (get_or (outs ++ o ∷ []) y no_outcome)) (get_or (outs ++ o ∷ []) z no_outcome)
+        rises_at y z u l (inl t) = rw (get_or_append_left outs (o ∷ []) no_outcome y (omega arith), get_or_append_left outs (o ∷ []) no_outcome z t) (c.rising y z u t)
+        rises_at y z u l (inr t) =
+            let n : z ≡ length outs = omega (arith, l, t, length-append outs (o ∷ [])) in
+            rw (get_or_append_left outs (o ∷ []) no_outcome y (omega (arith, u, n)), get_or_push outs o no_outcome z (sym n)) (beyond y (omega (arith, u, n)))
+
         number : d.made ≡ before + length outs + 1
         number = let p = made ∙ c.made in omega (arith, p, (c.open_call live).0)
 

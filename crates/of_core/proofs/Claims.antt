@@ -1,24 +1,27 @@
 -- Whatever meets the invariant meets what every moment claims.
 use Rattle.std.proofs.Common.{◌≡◌, ℕ, ◌+◌, ◌-◌, ◌<◌, ◌≤◌, ◌⊎◌, inl, inr, List, length, get_or, take, refl, sym, ◌∙◌, ap, subst, arith, Option, Some, None, map, true, false}
+use Rattle.std.proofs.lemmas.Bool.{cases_lt}
 use Rattle.std.proofs.lemmas.List.{take_all, length-map, get_or_default}
-use Rattle.of_cell.specs.Words.{pay}
-use Rattle.of_mem.specs.Meaning.{Sound, SameFrom}
+use Rattle.of_cell.specs.Words.{seq, pay}
+use Rattle.of_mem.specs.Meaning.{Sound, SameFrom, Agrees}
+use Rattle.of_recover.specs.Recovered.{recovered_data}
 use Rattle.of_core.specs.declared.place.Place.{Place}
-use Rattle.of_core.specs.declared.place.Place.TheVariants.{Idle, TryCurrent, TryRequest, TryCell, StoreScript, StoreAnnouncement, LoadCurrent, LoadRequest, CopyLog, LookAgain, LoadOwnTicket, LoadShape, LoadReply, LoadAnnouncement, LoadTicket, LoadScript, LoadCell, RaiseOld, StoreLog, RaiseLog, StoreRequest, RaiseRequest, ExchangeCurrent, RaiseCurrent, LoadTarget, ExchangeTarget, ReloadTarget, RaiseTarget, CloseRequest, RaiseClosed}
+use Rattle.of_core.specs.declared.place.Place.TheVariants.{Idle, TryCell, LoadOwnTicket, LoadShape, LoadReply, LoadAnnouncement, LoadTicket, LoadScript, LoadCell, RaiseOld, StoreLog, RaiseLog, StoreRequest, RaiseRequest, ExchangeCurrent}
 use Rattle.of_core.specs.declared.place.Outcome.{Outcome}
 use Rattle.of_core.specs.declared.place.Outcome.TheVariants.{Answered, Spent}
-use Rattle.of_core.specs.Table.{Setup, base, last, risen}
+use Rattle.of_core.specs.Table.{Setup, base, durable_word, durable_cell, last, risen}
 use Rattle.of_core.specs.Machine.{Data, Call, no_machine}
 use Rattle.of_core.specs.World.{World, Start}
-use Rattle.of_core.specs.History.{state, batch, numbers, ticket_in, replay}
-use Rattle.of_core.specs.Shared.{Opened}
+use Rattle.of_core.specs.History.{state, batch, at, numbers, ticket_in, replay}
+use Rattle.of_core.specs.Shared.{Opened, Held, IsRequest, IsLogWord}
 use Rattle.of_core.specs.Invariant.{Core, At, Told, Rests}
 use Rattle.of_core.specs.Bound.{bound, Within, Told_within}
+use Rattle.of_core.specs.Least.{Late}
 use Rattle.of_core.specs.Events.{machine}
 use Rattle.of_core.specs.World.{Read}
 use Rattle.of_core.specs.Order.{IsRead, Order}
-use Rattle.of_core.specs.Claim.{ReadMeets, UsesOne, IsTold, IsBegun, IsSound}
-use Rattle.of_core.proofs.States.{state_length}
+use Rattle.of_core.specs.Claim.{ReadMeets, knows_state, ReadsOwn, UsesOne, HasHeld, IsTold, IsBegun, IsSound}
+use Rattle.of_core.proofs.States.{state_length, old}
 use Rattle.of_core.proofs.Assembling.{logs_of}
 use Rattle.of_core.proofs.Recovery.{claim}
 use Rattle.of_core.proofs.Tickets.{ticket_upto, tickets_grow, tickets_rise}
@@ -43,8 +46,8 @@ module _ (S : Setup) (Lawful : List ℕ → Type 0) (sound : Sound S.meaning Law
         same : SameFrom (base S) (numbers B w.batches r.seq) (replay S.meaning (map pay B.cells) (take (r.seq - B.seq) w.batches))
         same = rw back at (upto S Lawful sound B w g (r.seq - B.seq) (omega (arith, p.upto))).0
 
-    pub is_sound : ((i : ℕ) (m : Data) → i < S.callers → get_or w.machines i m ≡ m → Within S m m.place) → Order S B w → IsSound S B w
-    is_sound within order =
+    pub is_sound : ((i : ℕ) (m : Data) → i < S.callers → get_or w.machines i m ≡ m → Within S m m.place) → ((i : ℕ) (m : Data) → i < S.callers → get_or w.machines i m ≡ m → Late S m m.place) → Order S B w → IsSound S B w
+    is_sound within late order =
         let t : take (length w.batches) w.batches ≡ w.batches = take_all (length w.batches) w.batches (omega arith) in
         record {
           legal = rw t at (upto S Lawful sound B w g (length w.batches) (omega arith)).1;
@@ -53,13 +56,20 @@ module _ (S : Setup) (Lawful : List ℕ → Type 0) (sound : Sound S.meaning Law
           recovers = claim S Lawful B w g;
           from = g.shared.durable.from;
           reaches = reach g.shared.durable.step;
+          old = old_words;
+          owner = owner_in (cases_lt (risen S w.words) (B.seq + 1));
+          limit = omega (arith, g.shared.counted.count, g.shared.counted.limit);
+          low = g.shared.durable.low;
+          held = λ c l. held c;
           some = g.shared.stands.some;
           rising = g.shared.stands.ordered;
           order = order.ordered;
           reads = λ k d l. read_meets (get_or w.reads k d) (order.ordered.reads k d l) (reach g.shared.durable.step);
           tickets = tickets_rise S Lawful B w.batches g.shared.stands;
           own = λ i h. g.shared.stands.last (risen S w.words) i g.shared.durable.from (reach g.shared.durable.step) h;
-          one = λ i h. uses i (machine w i) (machine w i).place (g.each i (machine w i) h (own i h));
+          one = λ i h. uses i (machine w i) (g.each i (machine w i) h (own i h));
+          members = g.members;
+          at_rest = λ i h q. (late i (machine w i) h (own i h)).rests q;
           within = λ i h. let t = within i (machine w i) h (own i h) in less (machine w i).steps _ (bound S) t.steps;
           answered = λ i h q. told_is i (machine w i) h (machine w i).answer ((within i (machine w i) h (own i h)).told q) (at_idle i h q).told;
         }
@@ -114,34 +124,54 @@ module _ (S : Setup) (Lawful : List ℕ → Type 0) (sound : Sound S.meaning Law
             before : ticket_in S B w.batches (k - 1) c.caller < c.ticket
             before = let e : k - 1 + 1 ≡ k = omega arith in (rw e at (g.shared.stands.rises (k - 1) (omega arith) (omega arith))) y d v
 
-        uses : (i : ℕ) (m : Data) (p : Place) → At S B w.words w.batches i m p → UsesOne B w m p
-        uses i m Idle a = tt
-        uses i m TryCurrent a = tt
-        uses i m TryRequest a = tt
-        uses i m (TryCell x) a = a.3.agrees
-        uses i m (StoreScript j) a = tt
-        uses i m StoreAnnouncement a = tt
-        uses i m LoadCurrent a = tt
-        uses i m LoadRequest a = tt
-        uses i m (CopyLog x) a = tt
-        uses i m LookAgain a = tt
-        uses i m LoadOwnTicket a = a.0.agrees
-        uses i m LoadShape a = a.0.agrees
-        uses i m (LoadReply j) a = a.0.agrees
-        uses i m LoadAnnouncement a = a.0.looks.agrees
-        uses i m LoadTicket a = a.0.looks.agrees
-        uses i m (LoadScript j) a = a.0.looks.agrees
-        uses i m (LoadCell x) a = a.0.looks.agrees
-        uses i m RaiseOld a = a.0.looks.agrees
-        uses i m (StoreLog x) a = a.0.stored.past.looks.agrees
-        uses i m (RaiseLog x) a = a.0.stored.past.looks.agrees
-        uses i m StoreRequest a = a.stored.past.looks.agrees
-        uses i m RaiseRequest a = a.0.past.looks.agrees
-        uses i m ExchangeCurrent a = a.0.past.looks.agrees
-        uses i m RaiseCurrent a = tt
-        uses i m (LoadTarget j) a = tt
-        uses i m (ExchangeTarget j f) a = tt
-        uses i m (ReloadTarget j) a = tt
-        uses i m (RaiseTarget j f) a = tt
-        uses i m CloseRequest a = tt
-        uses i m RaiseClosed a = tt
+        knows : (i : ℕ) (m : Data) (p : Place) → At S B w.words w.batches i m p → knows_state p ≡ true → Agrees m.known (numbers B w.batches m.seq)
+        knows i m (TryCell x) a q = a.3.agrees
+        knows i m LoadOwnTicket a q = a.0.agrees
+        knows i m LoadShape a q = a.0.agrees
+        knows i m (LoadReply j) a q = a.0.agrees
+        knows i m LoadAnnouncement a q = a.0.looks.agrees
+        knows i m LoadTicket a q = a.0.looks.agrees
+        knows i m (LoadScript j) a q = a.0.looks.agrees
+        knows i m (LoadCell x) a q = a.0.looks.agrees
+        knows i m RaiseOld a q = a.0.looks.agrees
+        knows i m (StoreLog x) a q = a.0.stored.past.looks.agrees
+        knows i m (RaiseLog x) a q = a.0.stored.past.looks.agrees
+        knows i m StoreRequest a q = a.stored.past.looks.agrees
+        knows i m RaiseRequest a q = a.0.past.looks.agrees
+        knows i m ExchangeCurrent a q = a.0.past.looks.agrees
+        knows i m p a q = cc
+
+        reads_own : (i : ℕ) (m : Data) (p : Place) → At S B w.words w.batches i m p → ReadsOwn S (state B w.batches m.seq) i m p
+        reads_own i m LoadShape a = a.2
+        reads_own i m (LoadReply j) a = (a.2, a.3)
+        reads_own i m p a = tt
+
+        uses : (i : ℕ) (m : Data) → At S B w.words w.batches i m m.place → UsesOne S B w i m
+        uses i m a = record { known = knows i m m.place a; own = reads_own i m m.place a }
+
+        upto_last : risen S w.words ≤ last w.words
+        upto_last = go g.shared.durable.step
+          where
+            go : (last w.words ≡ risen S w.words) ⊎ ((last w.words ≡ risen S w.words + 1) × Opened B w.words) → risen S w.words ≤ last w.words
+            go (inl q) = omega (arith, q)
+            go (inr q) = omega (arith, q.0)
+
+        -- the durable owner is a batch's, or the start's
+        owner_in : (risen S w.words < B.seq + 1) ⊎ (B.seq + 1 ≤ risen S w.words) → pay (durable_word S w.words 0) < S.callers
+        owner_in (inl q) = rw (g.shared.durable.first (omega (arith, q, g.shared.durable.from))) g.shared.start.owner_in
+        owner_in (inr q) = rw (g.shared.durable.owner (omega (arith, q))) (g.shared.counted.owners (risen S w.words) (omega (arith, q)) upto_last)
+
+        old_words : (a : ℕ) → a < S.cells → seq (recovered_data S.callers S.cells (durable_word S w.words) a) ≤ risen S w.words
+        old_words a l = rw (claim S Lawful B w g a l) (old S B w.batches g.shared.start (logs_of S Lawful B w g) (risen S w.words) a g.shared.durable.from (reach g.shared.durable.step) l)
+
+        data_held : (a : ℕ) → (durable_cell S w.words a ≡ at B w.batches (risen S w.words) a) ⊎ (Opened B w.words × (last w.words ≡ risen S w.words) × (durable_cell S w.words a ≡ at B w.batches (risen S w.words - 1) a)) → Held B w.words w.batches a (durable_cell S w.words a)
+        data_held a (inl q) = (risen S w.words, g.shared.durable.from, upto_last, q)
+        data_held a (inr q) = (risen S w.words - 1, omega (arith, q.0.any, q.1), omega (arith, upto_last), q.2)
+
+        held : (c : ℕ) → HasHeld S B w.words w.batches c (durable_word S w.words c)
+        held c = record {
+          current = λ q. rw q (g.shared.durable.from, g.shared.durable.owner, g.shared.durable.first);
+          request = λ j l q. subst (λ (x : ℕ). IsRequest B w.words w.batches j (durable_word S w.words x)) (sym q) (g.shared.kinds.dur_requests j l);
+          data_word = λ a l q. subst (λ (x : ℕ). Held B w.words w.batches a (durable_word S w.words x)) (sym q) (data_held a (g.shared.durable.cells a l));
+          log = λ j x l u q. subst (λ (y : ℕ). IsLogWord B w.words w.batches j x (durable_word S w.words y)) (sym q) (g.shared.kinds.dur_logs j x l u);
+        }

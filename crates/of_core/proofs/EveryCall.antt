@@ -59,15 +59,18 @@ module _ (S : Setup) (Lawful : List ℕ → Type 0) (sound : Sound S.meaning Law
     here : machine (opening S B total) i ≡ idle S i (start_ticket S B i)
     here = idle_at S (start_ticket S B) i no_machine member
 
-    no_calls : Calls S B (start_ticket S B i) (opening S B total) i [] []
+    pub no_calls : Calls S B (start_ticket S B i) (opening S B total) i [] []
     no_calls = record {
       made = ap (λ (d : Data). d.made) here ∙ omega arith;
       idle = λ q. refl;
       open_call = λ q. let z : true ≡ false = sym (ap (λ (d : Data). is_idle d.place) here) ∙ q in cc;
+      unanswered = λ q. ap (λ (d : Data). d.answer) here;
       last = λ q. ap (λ (d : Data). d.answer) here;
       each = λ x l. absurd (omega arith);
       reads = λ k r l. absurd (omega arith);
       calls = λ k l u. absurd (omega (arith, l, u));
+      rising = λ x y l u. absurd (omega (arith, u));
+      reads_from = λ x l. absurd (omega (arith, l));
     }
 
     pub every_call : (es : List Event) → IsSchedule S (opening S B total) es → Calls S B (start_ticket S B i) (run S (opening S B total) es) i (operations es i) (outcomes S (opening S B total) es i)

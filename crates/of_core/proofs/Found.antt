@@ -1,10 +1,11 @@
 -- A step is the same whatever number a store is said to have found.
-use Rattle.std.proofs.Common.{◌≡◌, ℕ, List, ◌++◌, get_or, set, refl, ◌∙◌, ap}
+use Rattle.std.proofs.Common.{◌≡◌, ℕ, List, ◌++◌, get_or, set, refl, sym, ◌∙◌, ap}
 use Rattle.of_core.specs.declared.place.Place.{Place}
 use Rattle.of_core.specs.declared.place.Place.TheVariants.{Idle, TryCurrent, TryRequest, TryCell, StoreScript, StoreAnnouncement, LoadCurrent, LoadRequest, CopyLog, LookAgain, LoadOwnTicket, LoadShape, LoadReply, LoadAnnouncement, LoadTicket, LoadScript, LoadCell, RaiseOld, StoreLog, RaiseLog, StoreRequest, RaiseRequest, ExchangeCurrent, RaiseCurrent, LoadTarget, ExchangeTarget, ReloadTarget, RaiseTarget, CloseRequest, RaiseClosed}
 use Rattle.of_core.specs.Table.{Setup}
 use Rattle.of_core.specs.Machine.{Data}
 use Rattle.of_core.specs.Steps.{want, want_at, word_of, took, took_at, words_after, FoundBy, finds}
+use Rattle.of_core.specs.Events.{Turns, machine, happens}
 use Rattle.of_core.specs.World.{World, Batch, added, answered, answers_at, commits_at, stepped, stepped_at}
 
 module _ (S : Setup) (ws : List ℕ) (m : Data) (n : ℕ) where
@@ -93,3 +94,9 @@ unfolding want took added answered
 stepped_is S i m n w e =
     let r = same_step S w.words m n m.place e in
     ap (λ (d : Data). world_after S i m w d (commits_at S w.words m n m.place)) r.0 ∙ ap (λ (bs : List Batch). world_after S i m w (took_at S m (get_or w.words (word_of (want_at S m m.place)) 0) m.place) bs) r.1
+
+-- a turn is the step of its caller's machine, whatever number a store is said to find
+pub turn_is_step : (S : Setup) (w : World) (i n : ℕ) → FoundBy (want S (machine w i)) w.words n → happens S w (Turns i) ≡ stepped S i (machine w i) n w
+turn_is_step S w i n f =
+    let m : Data = machine w i in
+    stepped_is S i m (finds S w.words m) w (found_now S w.words m) ∙ sym (stepped_is S i m n w f)

@@ -20,4 +20,4 @@ module _ (S : Setup) (Lawful : List ℕ → Type 0) (sound : Sound S.meaning Law
       → (es : List Event) → IsSchedule S (opening S B total) es → IsSound S B (run S (opening S B total) es)
   every_moment may_start some few own_in total room narrow little es s =
       let g = run_good es (opening S B total) (start_good S Lawful sound B may_start some few own_in total room narrow little) s in
-      is_sound S Lawful sound B (run S (opening S B total) es) g.core g.within g.order
+      is_sound S Lawful sound B (run S (opening S B total) es) g.core g.within g.late g.order

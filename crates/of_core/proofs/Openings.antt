@@ -1,12 +1,12 @@
 -- A table at its start, with idle machines, meets the invariant.
-use Rattle.std.proofs.Common.{◌≡◌, ℕ, zero, suc, ◌+◌, ◌*◌, ◌<◌, ◌≤◌, ◌⊎◌, inl, inr, List, [], ◌∷◌, length, get_or, max, refl, sym, ◌∙◌, ap, subst, arith, map}
+use Rattle.std.proofs.Common.{◌≡◌, ℕ, zero, suc, ◌+◌, ◌*◌, ◌<◌, ◌≤◌, inl, List, [], ◌∷◌, length, get_or, refl, sym, ◌∙◌, ap, subst, arith}
 use Rattle.of_cell.specs.Words.{seq, pay}
 use Rattle.of_cell.proofs.Order.{seq_word, pay_word, seq_zero, pay_zero}
 use Rattle.of_mem.specs.Meaning.{Sound}
 use Rattle.of_core.specs.Table.{Setup, base, size, durable_at, request_at, data_at, log_at, script_at, ticket_cell, request_of, announcement_of, last, risen}
 use Rattle.of_core.specs.Machine.{Data, idle}
 use Rattle.of_core.specs.World.{Start}
-use Rattle.of_core.specs.History.{at, state, ticket_in}
+use Rattle.of_core.specs.History.{at, ticket_in}
 use Rattle.of_core.specs.Shared.{MayStart}
 use Rattle.of_core.specs.Order.{Order, Behind}
 use Rattle.of_core.specs.Facts.{rests}

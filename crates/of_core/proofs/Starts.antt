@@ -11,6 +11,7 @@ use Rattle.of_core.specs.Table.{Setup, base, size, durable_at, ticket_cell}
 use Rattle.of_core.specs.World.{Start}
 use Rattle.of_core.specs.Shared.{IsStart, MayStart}
 use Rattle.of_core.specs.Events.{zeros, start_ticket}
+use Rattle.of_core.specs.Laws.{HoldsStart}
 use Rattle.of_core.specs.Starts.{closed_at, first_cells, first_words, start_of}
 
 -- a list of zeros has 0 everywhere
@@ -104,6 +105,16 @@ module _ (S : Setup) (B : Start) (start : IsStart S B) where
     pub words_long : size S + size S ≤ total → length (first_words S.callers S.cells B total) ≡ total
     unfolding first_words
     words_long l = omega (arith, length-append (first_cells S.callers S.cells B) (first_cells S.callers S.cells B ++ rest), length-append (first_cells S.callers S.cells B) rest, length-replicate {A = ℕ} (total - (size S + size S)) 0, cells_long)
+
+-- the words hold the start
+pub words_hold : (S : Setup) (B : Start) → IsStart S B → (n : ℕ) → size S + size S ≤ n → HoldsStart S B (first_words S.callers S.cells B n) n
+words_hold S B start n room = record {
+  long = words_long S B start n room;
+  current = word_is S B start n 0 (omega arith) ∙ first_is S B start;
+  cells = λ a l. word_is S B start n (S.callers + 1 + a) (omega arith) ∙ cell_is S B start a l;
+  durable = λ c l. durable_is S B start n c l ∙ sym (word_is S B start n c l);
+  behind = behind_is S B start n;
+}
 
 -- the start of zeros is a start, and its words are 0
 module _ (S : Setup) where

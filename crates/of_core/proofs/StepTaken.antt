@@ -1,5 +1,5 @@
 -- What the step of an open call is, in a world that meets the invariant.
-use Rattle.std.proofs.Common.{◌≡◌, ℕ, ◌+◌, ◌<◌, List, [], ◌∷◌, length, get_or, refl, sym, ◌∙◌, ap, subst, arith, Option, Some, None, Bool, true, false}
+use Rattle.std.proofs.Common.{◌≡◌, ℕ, ◌+◌, ◌<◌, List, [], ◌∷◌, length, get_or, refl, sym, ◌∙◌, ap, subst, arith, Option, Some, None, Bool, true, false, ◌≤◌, ◌⊎◌, inl, inr}
 use Rattle.of_cell.specs.Words.{seq}
 use Rattle.of_cell.proofs.Order.{seq_word}
 use Rattle.of_core.specs.declared.place.Place.{Place}
@@ -7,10 +7,11 @@ use Rattle.of_core.specs.declared.place.Place.TheVariants.{Idle, TryCurrent, Try
 use Rattle.of_core.specs.declared.place.Outcome.{Outcome}
 use Rattle.of_core.specs.declared.place.Outcome.TheVariants.{Answered, Spent}
 use Rattle.of_core.specs.Table.{Setup, last}
-use Rattle.of_core.specs.Machine.{Data, IsOpen, is_idle}
+use Rattle.of_core.specs.Machine.{Data, IsOpen, is_idle, opened, first_place}
 use Rattle.of_core.specs.Steps.{want, want_at, took, took_at, FoundBy}
 use Rattle.of_core.specs.World.{World, Start, Batch, Read, added, answered, answers_by, answers_at, read_of, commits_at}
-use Rattle.of_core.specs.Facts.{Facts, Step, CountsBy, EndsWith, Tells, loads, rests, loads_at, rests_at}
+use Rattle.of_core.specs.Order.{IsTrying}
+use Rattle.of_core.specs.Facts.{Facts, Step, CountsBy, EndsWith, Tells, ReadsFrom, loads, rests, loads_at, rests_at}
 use Rattle.of_core.specs.Invariant.{At, Good}
 use Rattle.of_core.proofs.StepFacts.{step_facts}
 
@@ -60,6 +61,15 @@ one_answer d false false e f = cc
 same_read : (c t : ℕ) (op : List ℕ) (r : Read) → c ≡ r.caller → t ≡ r.ticket → op ≡ r.op → record { caller = c; ticket = t; op = op; raw = r.raw; seq = r.seq } ∷ [] ≡ r ∷ []
 same_read c t op r e f q = rw (e, f, q) refl
 
+-- a call that has just begun has loaded nothing
+pub opened_reads : (S : Setup) (m : Data) (op : List ℕ) (low : ℕ) → ReadsFrom low (opened S m op)
+unfolding ReadsFrom
+opened_reads S m op low = go (S.meaning.reads_only op)
+  where
+    go : (b : Bool) → IsTrying (opened S m op) (first_place b) → low ≤ m.seq
+    go true t = absurd t
+    go false t = absurd t
+
 module _ (S : Setup) (Lawful : List ℕ → Type 0) (B : Start) (w : World) (g : Good S Lawful B w) (i : ℕ) (m : Data) (h : i < S.callers) (own : get_or w.machines i m ≡ m) (o : IsOpen m.place) (n : ℕ) where
   a : At S B w.words w.batches i m m.place
   a = g.core.each i m h own
@@ -87,7 +97,7 @@ module _ (S : Setup) (Lawful : List ℕ → Type 0) (B : Start) (w : World) (g :
   goes_on q = let c : CountsBy S m m.place d false = subst (λ (b : Bool). CountsBy S m m.place d b) q facts.counts in (c.0, c.1, no_answer d (is_idle m.place) (is_idle d.place) o q)
 
   ends : d.place ≡ Idle → (x : Outcome) × (d.answer ≡ Some x) × Tells S m d x
-  unfolding rests answered
+  unfolding rests answered ReadsFrom
   ends q = go d.answer refl c.0
     where
       ended : is_idle d.place ≡ true
@@ -105,18 +115,27 @@ module _ (S : Setup) (Lawful : List ℕ → Type 0) (B : Start) (w : World) (g :
       go (Some (Answered s false raw k)) e t = (
         Answered s false raw k,
         e,
-        (omega (arith, t.1, c.1), t.2, answer (Some (Answered s false raw k)) e ∙ same_read d.caller d.made d.op (record { caller = m.caller; ticket = m.made; op = m.op; raw = raw; seq = s }) facts.caller facts.made facts.op),
+        (omega (arith, t.1, c.1), t.2, answer (Some (Answered s false raw k)) e ∙ same_read d.caller d.made d.op (record { caller = m.caller; ticket = m.made; op = m.op; raw = raw; seq = s }) facts.caller facts.made facts.op, λ low r. omega (arith, r t.0, t.1)),
       )
       go (Some (Spent s)) e t = (Spent s, e, (omega (arith, t.0, c.1), t.1, answer (Some (Spent s)) e))
 
+  -- a try goes on at the state that it loaded, and a new one loads the last
+  goes_from : FoundBy (want_at S m m.place) w.words n → (low : ℕ) → low ≤ B.seq + length w.batches → (IsTrying m m.place → low ≤ m.seq) → IsTrying d d.place → low ≤ d.seq
+  goes_from f low l r t = go (facts.trying t)
+    where
+      go : (IsTrying m m.place × (d.seq ≡ m.seq)) ⊎ ((m.place ≡ TryCurrent) × (d.seq ≡ seq n)) → low ≤ d.seq
+      go (inl q) = omega (arith, r q.0, q.1)
+      go (inr q) = let z : seq n ≡ B.seq + length w.batches = ap seq (loaded_word S w.words m n m.place (ap loads_at q.0) f) ∙ g.core.shared.counted.count in omega (arith, l, q.1, z)
+
   pub step_taken : FoundBy (want S m) w.words n → Step S B w m n (took S m n) (added S w.words m n)
-  unfolding want took added loads rests answered
+  unfolding want took added loads rests answered ReadsFrom
   step_taken f = record {
     caller = facts.caller;
     made = facts.made;
     op = facts.op;
     finds_last = λ q. (ap seq (loaded_word S w.words m n m.place q f) ∙ g.core.shared.counted.count, (facts.loads q).0, (facts.loads q).1);
     rests_on = facts.rests;
+    reads_from = goes_from f;
     few = facts.few;
     owner = facts.owner;
     commits = behind_last f;

@@ -1,95 +1,146 @@
--- What every moment claims: its history is legal, each round uses one state, and what recovery reads off the durable words.
-use Rattle.std.specs.Prelude.{ℕ, ◌+◌, ◌-◌, List, length, Option, Some, None, true, false, ◌≡◌, ◌≤◌, ◌<◌, map}
-use Rattle.std.proofs.Common.{take}
-use Rattle.of_cell.specs.Words.{pay}
+-- What every moment claims: its history is legal, each round uses one state, and what recovery
+-- reads off the durable words.
+use Rattle.std.specs.Prelude.{ℕ, ◌+◌, ◌*◌, ◌-◌, List, length, Option, Some, None, Bool, true, false, ◌≡◌, ◌≤◌, ◌<◌, map}
+use Rattle.std.proofs.Common.{get_or, take}
+use Rattle.of_cell.specs.Words.{seq, pay}
 use Rattle.of_mem.specs.Meaning.{Agrees, SameFrom}
 use Rattle.of_recover.specs.Recovered.{recovered_data}
 use Rattle.of_core.specs.declared.place.Place.{Place}
-use Rattle.of_core.specs.declared.place.Place.TheVariants.{Idle, TryCurrent, TryRequest, TryCell, StoreScript, StoreAnnouncement, LoadCurrent, LoadRequest, CopyLog, LookAgain, LoadOwnTicket, LoadShape, LoadReply, LoadAnnouncement, LoadTicket, LoadScript, LoadCell, RaiseOld, StoreLog, RaiseLog, StoreRequest, RaiseRequest, ExchangeCurrent, RaiseCurrent, LoadTarget, ExchangeTarget, ReloadTarget, RaiseTarget, CloseRequest, RaiseClosed}
+use Rattle.of_core.specs.declared.place.Place.TheVariants.{Idle, TryCell, LoadOwnTicket, LoadShape, LoadReply, LoadAnnouncement, LoadTicket, LoadScript, LoadCell, RaiseOld, StoreLog, RaiseLog, StoreRequest, RaiseRequest, ExchangeCurrent}
 use Rattle.of_core.specs.declared.place.Outcome.{Outcome}
 use Rattle.of_core.specs.declared.place.Outcome.TheVariants.{Answered, Spent}
 use Rattle.std.specs.List.{All}
-use Rattle.of_core.specs.Table.{Setup, base, durable_word, risen}
+use Rattle.of_core.specs.Table.{Setup, base, size, request_at, data_at, log_at, durable_word, risen}
 use Rattle.of_core.specs.Machine.{Call, Data, IsOpen}
 use Rattle.of_core.specs.World.{World, Start, Batch, Read}
 use Rattle.of_core.specs.Order.{Ordered}
-use Rattle.of_core.specs.History.{batch, at, numbers, replay, ticket_in, Legal, Last, Rising, HasCall}
+use Rattle.of_core.specs.Shared.{Held, IsRequest, IsLogWord}
+use Rattle.of_core.specs.Rounds.{Finds, ReadUpto}
+use Rattle.of_core.specs.Invariant.{HeldAsCurrent}
+use Rattle.of_core.specs.History.{state, batch, EachBatch, EachCall, IsOlderCall, at, numbers, replay, ticket_in, Legal, Last, Rising, HasCall}
 use Rattle.of_core.specs.Bound.{bound}
 use Rattle.of_core.specs.Events.{machine}
 
--- a machine in a round has loaded cells of one state alone
-abbrev pub UsesOne : Start → World → Data → Place → Type 0
-UsesOne B w m Idle = Unit {0}
-UsesOne B w m TryCurrent = Unit {0}
-UsesOne B w m TryRequest = Unit {0}
-UsesOne B w m (TryCell x) = Agrees m.known (numbers B w.batches m.seq)
-UsesOne B w m (StoreScript j) = Unit {0}
-UsesOne B w m StoreAnnouncement = Unit {0}
-UsesOne B w m LoadCurrent = Unit {0}
-UsesOne B w m LoadRequest = Unit {0}
-UsesOne B w m (CopyLog x) = Unit {0}
-UsesOne B w m LookAgain = Unit {0}
-UsesOne B w m LoadOwnTicket = Agrees m.known (numbers B w.batches m.seq)
-UsesOne B w m LoadShape = Agrees m.known (numbers B w.batches m.seq)
-UsesOne B w m (LoadReply j) = Agrees m.known (numbers B w.batches m.seq)
-UsesOne B w m LoadAnnouncement = Agrees m.known (numbers B w.batches m.seq)
-UsesOne B w m LoadTicket = Agrees m.known (numbers B w.batches m.seq)
-UsesOne B w m (LoadScript j) = Agrees m.known (numbers B w.batches m.seq)
-UsesOne B w m (LoadCell x) = Agrees m.known (numbers B w.batches m.seq)
-UsesOne B w m RaiseOld = Agrees m.known (numbers B w.batches m.seq)
-UsesOne B w m (StoreLog x) = Agrees m.known (numbers B w.batches m.seq)
-UsesOne B w m (RaiseLog x) = Agrees m.known (numbers B w.batches m.seq)
-UsesOne B w m StoreRequest = Agrees m.known (numbers B w.batches m.seq)
-UsesOne B w m RaiseRequest = Agrees m.known (numbers B w.batches m.seq)
-UsesOne B w m ExchangeCurrent = Agrees m.known (numbers B w.batches m.seq)
-UsesOne B w m RaiseCurrent = Unit {0}
-UsesOne B w m (LoadTarget j) = Unit {0}
-UsesOne B w m (ExchangeTarget j f) = Unit {0}
-UsesOne B w m (ReloadTarget j) = Unit {0}
-UsesOne B w m (RaiseTarget j f) = Unit {0}
-UsesOne B w m CloseRequest = Unit {0}
-UsesOne B w m RaiseClosed = Unit {0}
+-- the places of a round or a try at which what is known of cells is of its state
+abbrev pub knows_state : Place → Bool
+knows_state (TryCell a) = true
+knows_state LoadOwnTicket = true
+knows_state LoadShape = true
+knows_state (LoadReply j) = true
+knows_state LoadAnnouncement = true
+knows_state LoadTicket = true
+knows_state (LoadScript j) = true
+knows_state (LoadCell a) = true
+knows_state RaiseOld = true
+knows_state (StoreLog x) = true
+knows_state (RaiseLog x) = true
+knows_state StoreRequest = true
+knows_state RaiseRequest = true
+knows_state ExchangeCurrent = true
+knows_state p = false
+
+-- what was loaded of the own cells of caller i, of which its answer is read, is of the state
+abbrev pub ReadsOwn : Setup → (state : List ℕ) → (i : ℕ) → Data → Place → Type 0
+ReadsOwn S st i m LoadShape = Finds S st i m
+ReadsOwn S st i m (LoadReply j) = Finds S st i m × ReadUpto S st i m j
+ReadsOwn S st i m p = Unit {0}
+
+-- a round or a try has used the cells of one state alone: what is known of cells, and what was
+-- loaded of the own ones
+pub record UsesOne (S : Setup) (B : Start) (w : World) (i : ℕ) (m : Data) : Type 0 where
+  pub known : knows_state m.place ≡ true → Agrees m.known (numbers B w.batches m.seq)
+  pub own : ReadsOwn S (state B w.batches m.seq) i m m.place
+
+-- A word that the cell c has held, as the history tells it: the current-transaction word names a
+-- batch and its owner, a request is open or closes a batch of its caller, a data word is of some
+-- state, and a log word of a batch's sequence is of that batch's log.
+pub record HasHeld (S : Setup) (B : Start) (ws : List ℕ) (bs : List Batch) (c v : ℕ) : Type 0 where
+  pub current : c ≡ 0 → HeldAsCurrent B ws bs v
+  pub request : (j : ℕ) → j < S.callers → c ≡ request_at j → IsRequest B ws bs j v
+  pub data_word : (a : ℕ) → a < S.cells → c ≡ data_at S a → Held B ws bs a v
+  pub log : (j x : ℕ) → j < S.callers → x < 2 * S.cells + 1 → c ≡ log_at S j x
+      → IsLogWord B ws bs j x v
+
+-- the numbers after the first n batches, by replay of their calls
+abbrev pub replayed : Setup → Start → List Batch → (n : ℕ) → List ℕ
+replayed S B bs n = replay S.meaning (map pay B.cells) (take n bs)
 
 -- the read's reply is its meaning on the replay of the batches up to its sequence
 abbrev pub ReadMeets : Setup → Start → List Batch → Read → Type 0
-ReadMeets S B bs r = S.meaning.reply (replay S.meaning (map pay B.cells) (take (r.seq - B.seq) bs)) r.op ≡ r.raw
+ReadMeets S B bs r = S.meaning.reply (replayed S B bs (r.seq - B.seq)) r.op ≡ r.raw
 
--- what an answer says of the history
+-- what the last answer of caller i says of the history: a read's is the meaning on the state at its
+-- sequence, a batch has an announced call, and a spent call is in no batch
 abbrev pub IsTold : Setup → Start → World → ℕ → Data → Option Outcome → Type 0
 IsTold S B w i m None = Unit {0}
-IsTold S B w i m (Some (Answered s false raw steps)) = (steps ≤ bound S) × (B.seq ≤ s) × (s ≤ risen S w.words) × (S.meaning.reply (numbers B w.batches s) m.op ≡ raw) × (S.meaning.reads_only m.op ≡ true)
-IsTold S B w i m (Some (Answered s true raw steps)) = (steps ≤ bound S) × (B.seq < s) × (s ≤ risen S w.words) × HasCall S (batch B w.batches s).calls i m.made m.op raw
-IsTold S B w i m (Some (Spent s)) = (s ≡ S.limit) × (B.seq + length w.batches ≡ s) × ((k : ℕ) → B.seq < k → k ≤ s → All (λ (c : Call). c.caller ≡ i → c.ticket < m.made) (batch B w.batches k).calls) × (s ≤ risen S w.words)
+IsTold S B w i m (Some (Answered s false raw steps)) =
+    (steps ≤ bound S) × (B.seq ≤ s) × (s ≤ risen S w.words)
+    × (S.meaning.reply (numbers B w.batches s) m.op ≡ raw) × (S.meaning.reads_only m.op ≡ true)
+IsTold S B w i m (Some (Answered s true raw steps)) =
+    (steps ≤ bound S) × (B.seq < s) × (s ≤ risen S w.words)
+    × HasCall S (batch B w.batches s).calls i m.made m.op raw
+IsTold S B w i m (Some (Spent s)) =
+    (s ≡ S.limit) × (B.seq + length w.batches ≡ s)
+    × ((k : ℕ) → B.seq < k → k ≤ s → All (IsOlderCall i m.made) (batch B w.batches k).calls)
+    × (s ≤ risen S w.words)
 
--- a call in a batch is one that its caller has begun; where it is the caller's open call, it is there with that call's words
+-- a call in a batch is one that its caller has begun; where it is the caller's open call, it is
+-- there with that call's words
 abbrev pub IsBegun : Setup → Start → World → Call → Type 0
-IsBegun S B w c = (c.caller < S.callers) × (ticket_in S B w.batches B.seq c.caller < c.ticket) × (c.ticket ≤ (machine w c.caller).made)
-    × (IsOpen (machine w c.caller).place → c.ticket ≡ (machine w c.caller).made → c.op ≡ (machine w c.caller).op)
+IsBegun S B w c =
+    let m : Data = machine w c.caller in
+    (c.caller < S.callers) × (ticket_in S B w.batches B.seq c.caller < c.ticket)
+    × (c.ticket ≤ m.made) × (IsOpen m.place → c.ticket ≡ m.made → c.op ≡ m.op)
+
+-- of two calls of one caller the second is the newer
+abbrev pub IsNewer : Call → Call → Type 0
+IsNewer c d = d.caller ≡ c.caller → c.ticket < d.ticket
 
 -- what is claimed of a moment
 pub record IsSound (S : Setup) (B : Start) (w : World) : Type 0 where
-  -- the history is legal: the calls of the batches, in order, have the replies that they meet, and the reads theirs
+  -- the history is legal: the calls of the batches, in order, have the replies that they meet, and
+  -- the reads theirs
   pub legal : Legal S.meaning (map pay B.cells) w.batches
   pub reads : All (ReadMeets S B w.batches) w.reads
-  -- apart from the callers' own cells the state behind each batch is what the calls up to it lead to
-  pub state : (k : ℕ) → k ≤ length w.batches → SameFrom (base S) (numbers B w.batches (B.seq + k)) (replay S.meaning (map pay B.cells) (take k w.batches))
+  -- apart from the callers' own cells the state behind each batch is what the calls up to it lead
+  -- to
+  pub state : (k : ℕ) → k ≤ length w.batches
+      → SameFrom (base S) (numbers B w.batches (B.seq + k)) (replayed S B w.batches k)
   -- each call in a batch was begun by its caller
-  pub begun : (k : ℕ) → B.seq < k → k ≤ B.seq + length w.batches → All (IsBegun S B w) (batch B w.batches k).calls
+  pub begun : EachCall B w.batches (IsBegun S B w)
   -- no batch is empty, a batch's calls stand by caller, and each caller's tickets rise
-  pub some : (k : ℕ) → B.seq < k → k ≤ B.seq + length w.batches → 0 < length (batch B w.batches k).calls
-  pub rising : (k : ℕ) → B.seq < k → k ≤ B.seq + length w.batches → Rising (batch B w.batches k).calls
+  pub some : EachBatch B w.batches (λ cs. 0 < length cs)
+  pub rising : EachBatch B w.batches Rising
   pub tickets : (j k : ℕ) → B.seq < j → j < k → k ≤ B.seq + length w.batches
-      → All (λ (c : Call). All (λ (d : Call). d.caller ≡ c.caller → c.ticket < d.ticket) (batch B w.batches k).calls) (batch B w.batches j).calls
-  -- each caller's calls, in batches and read, stand in the order in which it made them, and no read is newer than the durable sequence
+      → All (λ c. All (IsNewer c) (batch B w.batches k).calls) (batch B w.batches j).calls
+  -- each caller's calls, in batches and read, stand in the order in which it made them, and no read
+  -- is newer than the durable sequence
   pub order : Ordered S B w.words w.batches w.reads
-  -- recovery of the durable words gives the state after the batches up to the durable sequence, and each caller's own cells in it hold its last call
-  pub recovers : (a : ℕ) → a < S.cells → recovered_data S.callers S.cells (durable_word S w.words) a ≡ at B w.batches (risen S w.words) a
+  -- recovery of the durable words gives the state after the batches up to the durable sequence
+  pub recovers : (a : ℕ) → a < S.cells
+      → recovered_data S.callers S.cells (durable_word S w.words) a ≡ at B w.batches (risen S w.words) a
+  -- in which each caller's own cells hold its last call
+  pub own : (i : ℕ) → i < S.callers → Last S B w.batches (risen S w.words) i
+  -- and no word is newer
+  pub old : (a : ℕ) → a < S.cells
+      → seq (recovered_data S.callers S.cells (durable_word S w.words) a) ≤ risen S w.words
+  -- the durable sequence is no older than the start, and no newer than the last batch
   pub from : B.seq ≤ risen S w.words
   pub reaches : risen S w.words ≤ B.seq + length w.batches
-  pub own : (i : ℕ) → i < S.callers → Last S B w.batches (risen S w.words) i
+  -- its owner is a caller
+  pub owner : pay (durable_word S w.words 0) < S.callers
+  -- no batch is above the limit
+  pub limit : B.seq + length w.batches ≤ S.limit
+  -- no durable word is above its cell's, and each is one that its cell has held
+  pub low : (c : ℕ) → c < size S → durable_word S w.words c ≤ get_or w.words c 0
+  pub held : (c : ℕ) → c < size S → HasHeld S B w.words w.batches c (durable_word S w.words c)
   -- each round and each try has used the cells of one state alone
-  pub one : (i : ℕ) → i < S.callers → UsesOne B w (machine w i) (machine w i).place
-  -- no call makes more steps than the bound
+  pub one : (i : ℕ) → i < S.callers → UsesOne S B w i (machine w i)
+  -- each caller has a machine, and no call makes more steps than the bound
+  pub members : length w.machines ≡ S.callers
   pub within : (i : ℕ) → i < S.callers → (machine w i).steps ≤ bound S
+  -- an idle machine has made no step of an open call
+  pub at_rest : (i : ℕ) → i < S.callers → (machine w i).place ≡ Idle → (machine w i).steps ≡ 0
   -- each idle machine's last outcome is in the history, at the durable sequence at most
-  pub answered : (i : ℕ) → i < S.callers → (machine w i).place ≡ Idle → IsTold S B w i (machine w i) (machine w i).answer
+  pub answered : (i : ℕ) → i < S.callers → (machine w i).place ≡ Idle
+      → IsTold S B w i (machine w i) (machine w i).answer

@@ -65,10 +65,18 @@ loads m = loads_at m.place
 unfoldable pub rests : Data → ℕ
 rests m = rests_at m m.place
 
--- what a call's last step answers, where it leads from m to d: no newer state than the machine rested on, and the number of its steps. An unannounced answer is a read of the history
+-- a try that has loaded the current-transaction word reads no older state than this
+unfoldable pub ReadsFrom : (low : ℕ) → Data → Type 0
+ReadsFrom low m = IsTrying m m.place → low ≤ m.seq
+
+-- what a call's last step answers, where it leads from m to d: no newer state than the machine
+-- rested on, and the number of its steps. An unannounced answer is a read of the history, of no
+-- older state than the try reads from
 abbrev pub Tells : Setup → Data → Data → Outcome → Type 0
 Tells S m d (Answered s true raw steps) = (s ≤ rests m) × (steps ≡ m.steps + 1) × (answered m d ≡ [])
-Tells S m d (Answered s false raw steps) = (s ≤ rests m) × (steps ≡ m.steps + 1) × (answered m d ≡ record { caller = m.caller; ticket = m.made; op = m.op; raw = raw; seq = s } ∷ [])
+Tells S m d (Answered s false raw steps) = (s ≤ rests m) × (steps ≡ m.steps + 1)
+    × (answered m d ≡ record { caller = m.caller; ticket = m.made; op = m.op; raw = raw; seq = s } ∷ [])
+    × ((low : ℕ) → ReadsFrom low m → low ≤ s)
 Tells S m d (Spent s) = (s ≤ rests m) × (s ≡ S.limit) × (answered m d ≡ [])
 
 -- the step of an open call, in a world that meets the invariant, found n, led from m to d and committed these batches
@@ -81,6 +89,8 @@ pub record Step (S : Setup) (B : Start) (w : World) (m : Data) (n : ℕ) (d : Da
   pub finds_last : loads m ≡ true → (seq n ≡ B.seq + length w.batches) × (bs ≡ []) × (rests d ≤ seq n)
   -- any other step leaves it on what it rested on, or on the batch that it commits
   pub rests_on : loads m ≡ false → rests d ≤ rests m + length bs
+  -- a try goes on at the state that it reads, or begins at the last one
+  pub reads_from : (low : ℕ) → low ≤ B.seq + length w.batches → ReadsFrom low m → ReadsFrom low d
   -- a step commits at most one batch, which is the caller's, and only behind the last one
   pub few : length bs ≤ 1
   pub owner : All (λ (b : Batch). b.owner ≡ m.caller) bs

@@ -31,6 +31,18 @@ no_batch = record { owner = 0; log = []; calls = []; announcements = λ c. 0 }
 unfoldable pub batch : Start → List Batch → ℕ → Batch
 batch B bs k = get_or bs (k - B.seq - 1) no_batch
 
+-- so it is of the calls of each batch
+abbrev pub EachBatch : Start → List Batch → (List Call → Type 0) → Type 0
+EachBatch B bs P = (k : ℕ) → B.seq < k → k ≤ B.seq + length bs → P (batch B bs k).calls
+
+-- so it is of each call in the batches
+abbrev pub EachCall : Start → List Batch → (Call → Type 0) → Type 0
+EachCall B bs P = EachBatch B bs (All P)
+
+-- a call of caller i is older than the one with this ticket
+abbrev pub IsOlderCall : (i ticket : ℕ) → Call → Type 0
+IsOlderCall i ticket c = c.caller ≡ i → c.ticket < ticket
+
 -- a data word after batch k
 abbrev pub at : Start → List Batch → ℕ → ℕ → ℕ
 at B bs k a = get_or (state B bs k) a 0

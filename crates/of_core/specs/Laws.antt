@@ -1,116 +1,334 @@
--- The laws of all steps and all schedules.
-use Rattle.std.specs.Prelude.{ℕ, ◌+◌, List, ◌++◌, length, ◌≡◌, ◌≤◌, ◌<◌}
+-- The laws of all steps and all schedules: what the contracts of `laws` say.
+use Rattle.std.specs.Prelude.{ℕ, ◌+◌, List, [], ◌∷◌, ◌++◌, length, ◌≡◌, ◌≤◌, ◌<◌, ◌⊎◌, true}
 use Rattle.std.specs.List.{All}
-use Rattle.std.proofs.Common.{get_or, set}
+use Rattle.std.proofs.Common.{get_or, set, take, replicate}
+use Rattle.of_cell.specs.Words.{word}
+use Rattle.of_mem.specs.Meaning.{Meaning}
+use Rattle.of_core.specs.declared.place.Place.{Place}
 use Rattle.of_core.specs.declared.place.Place.TheVariants.{Idle, LoadCurrent}
 use Rattle.of_core.specs.declared.place.Outcome.{Outcome}
-use Rattle.of_core.specs.Table.{Setup, size, table_size}
-use Rattle.of_core.specs.Machine.{Call, Data, IsOpen, idle, opened}
-use Rattle.of_core.specs.Steps.{want, took, FoundBy}
-use Rattle.of_core.specs.World.{World, Start, added, stepped}
-use Rattle.of_core.specs.History.{batch}
-use Rattle.of_core.specs.Facts.{Step, rests}
-use Rattle.of_core.specs.Tries.{Tries}
-use Rattle.of_core.specs.Shared.{MayStart}
+use Rattle.of_core.specs.Table.{Setup, setup_of, size, table_size, cell, durable_word}
+use Rattle.of_core.specs.Machine.{Call, Data, IsOpen, is_idle, idle, opened}
+use Rattle.of_core.specs.Steps.{want, took, finds, FoundBy}
+use Rattle.of_core.specs.World.{World, Start, Batch, added, answered, stepped}
+use Rattle.of_core.specs.History.{state, batch, no_batch, Legal}
+use Rattle.of_core.specs.Facts.{Step, ReadsFrom, rests}
+use Rattle.of_core.specs.Shared.{IsStart, MayStart}
 use Rattle.of_core.specs.Invariant.{Good, IsLoaded}
 use Rattle.of_core.specs.Moves.{Moves}
-use Rattle.of_core.specs.Events.{Event, MayHappen, begun, happens, evicted, run, turns, IsSchedule, StaysOpen, machine, start_ticket, opening}
+use Rattle.of_core.specs.Events.{Event, Turns, MayHappen, begun, happens, evicted, run, turns, IsSchedule, StaysOpen, machine, start_ticket, opening, zeros}
+use Rattle.of_core.specs.Starts.{first_words}
 use Rattle.of_core.specs.Bound.{bound}
 use Rattle.of_core.specs.Claim.{IsSound}
-use Rattle.of_core.specs.Calls.{Calls, TurnsTold, begun_by, ended_by, operations, outcomes}
+use Rattle.of_core.specs.Calls.{Calls, TurnsTold, begun_by, ended_by, ended_in, operations, outcomes}
 
--- the call is the open one of its caller
-abbrev pub IsOpenCall : World → Call → Type 0
-IsOpenCall w c = IsOpen (machine w c.caller).place × (c.ticket ≡ (machine w c.caller).made) × (c.op ≡ (machine w c.caller).op)
+-- the setup of a table for a work, with this limit
+abbrev pub setup_for : {X : Type 0} → (many size : X → ℕ) → (X → Meaning) → (limit : ℕ) → X → Setup
+setup_for many size meaning limit work = setup_of (many work) (size work) limit (meaning work)
+
+-- The forms that laws have.
+
+-- at each machine, in each world that meets the invariant
+abbrev pub EachMachine : Setup → (List ℕ → Type 0) → (Start → World → ℕ → Data → Type 0) → Type 0
+EachMachine S Lawful Law =
+    (B : Start) (w : World) → Good S Lawful B w
+    → (i : ℕ) (m : Data) → i < S.callers → get_or w.machines i m ≡ m → Law B w i m
+
+-- at each step of each machine, which finds n
+abbrev pub EachStep : Setup → (List ℕ → Type 0) → (Start → World → ℕ → Data → ℕ → Type 0) → Type 0
+EachStep S Lawful Law =
+    EachMachine S Lawful (λ B w i m. (n : ℕ) → FoundBy (want S m) w.words n → Law B w i m n)
+
+-- at each begin of a call with these words, by each idle machine
+abbrev pub EachBegin : Setup → (List ℕ → Type 0) → (Start → World → ℕ → Data → List ℕ → Type 0) → Type 0
+EachBegin S Lawful Law = EachMachine S Lawful (λ B w i m. m.place ≡ Idle
+    → (op : List ℕ) → 1 ≤ length op → length op ≤ S.instrs → m.made + 1 < 4294967296 → Law B w i m op)
+
+-- at each word that was loaded for an eviction
+abbrev pub EachLoaded : Setup → (List ℕ → Type 0) → (Start → World → ℕ × ℕ → Type 0) → Type 0
+EachLoaded S Lawful Law =
+    (B : Start) (w : World) → Good S Lawful B w
+    → (e : ℕ × ℕ) → IsLoaded S B w.words w.batches e → Law B w e
+
+-- at each number that is put behind the table's own words
+abbrev pub EachBeside : Setup → (List ℕ → Type 0) → (Start → World → (c v : ℕ) → Type 0) → Type 0
+EachBeside S Lawful Law =
+    (B : Start) (w : World) → Good S Lawful B w → (c v : ℕ) → table_size S ≤ c → Law B w c v
+
+-- at each table of n words that begins at a start
+abbrev pub EachStart : Setup → (List ℕ → Type 0) → (Start → (n : ℕ) → Type 0) → Type 0
+EachStart S Lawful Law = (B : Start) → MayStart S Lawful B → (n : ℕ) → table_size S ≤ n → Law B n
+
+-- at each schedule from each start
+abbrev pub EachSchedule : Setup → (List ℕ → Type 0) → (Start → (n : ℕ) → List Event → Type 0) → Type 0
+EachSchedule S Lawful Law =
+    EachStart S Lawful (λ B n. (es : List Event) → IsSchedule S (opening S B n) es → Law B n es)
+
+-- Steps, whatever their order.
 
 -- each step of each machine keeps the invariant
 abbrev pub StepKept : Setup → (List ℕ → Type 0) → Type 0
-StepKept S Lawful =
-    (B : Start) (w : World) → Good S Lawful B w → (i : ℕ) (m : Data) → i < S.callers → get_or w.machines i m ≡ m → (n : ℕ) → FoundBy (want S m) w.words n
-    → Good S Lawful B (stepped S i m n w)
+StepKept S Lawful = EachStep S Lawful (λ B w i m n. Good S Lawful B (stepped S i m n w))
 
 -- it does to words and history what a step may do to what other machines rely on
 abbrev pub StepMoves : Setup → (List ℕ → Type 0) → Type 0
-StepMoves S Lawful =
-    (B : Start) (w : World) → Good S Lawful B w → (i : ℕ) (m : Data) → i < S.callers → get_or w.machines i m ≡ m → (n : ℕ) → FoundBy (want S m) w.words n
-    → Moves S B i w.words w.batches (stepped S i m n w).words (stepped S i m n w).batches
+StepMoves S Lawful = EachStep S Lawful (λ B w i m n.
+    Moves S B i w.words w.batches (stepped S i m n w).words (stepped S i m n w).batches)
 
 -- a step of an open call is a step, whatever its kind
 abbrev pub StepTaken : Setup → (List ℕ → Type 0) → Type 0
-StepTaken S Lawful =
-    (B : Start) (w : World) → Good S Lawful B w → (i : ℕ) (m : Data) → i < S.callers → get_or w.machines i m ≡ m → IsOpen m.place → (n : ℕ) → FoundBy (want S m) w.words n
-    → Step S B w m n (took S m n) (added S w.words m n)
+StepTaken S Lawful = EachMachine S Lawful (λ B w i m. IsOpen m.place
+    → (n : ℕ) → FoundBy (want S m) w.words n → Step S B w m n (took S m n) (added S w.words m n))
 
--- and a try reads the state that it began at
-abbrev pub StepTries : Setup → (List ℕ → Type 0) → Type 0
-StepTries S Lawful =
-    (B : Start) (w : World) → Good S Lawful B w → (i : ℕ) (m : Data) → i < S.callers → get_or w.machines i m ≡ m → IsOpen m.place → (n : ℕ) → Tries m n (took S m n)
+-- the call is the open one of its caller
+abbrev pub IsOpenCall : World → Call → Type 0
+IsOpenCall w c =
+    let m : Data = machine w c.caller in
+    IsOpen m.place × (c.ticket ≡ m.made) × (c.op ≡ m.op)
 
 -- a call in a batch that a step commits is the open call of its caller
 abbrev pub NewCalls : Setup → (List ℕ → Type 0) → Type 0
-NewCalls S Lawful =
-    (B : Start) (w : World) → Good S Lawful B w → (i : ℕ) (m : Data) → i < S.callers → get_or w.machines i m ≡ m → (n : ℕ) → FoundBy (want S m) w.words n
-    → (k : ℕ) → B.seq + length w.batches < k → k ≤ B.seq + length (stepped S i m n w).batches → All (IsOpenCall w) (batch B (stepped S i m n w).batches k).calls
+NewCalls S Lawful = EachStep S Lawful (λ B w i m n.
+    (k : ℕ) → B.seq + length w.batches < k → k ≤ B.seq + length (stepped S i m n w).batches
+    → All (IsOpenCall w) (batch B (stepped S i m n w).batches k).calls)
 
--- to begin a call keeps the invariant, and the call rests on nothing yet
+-- to begin a call keeps the invariant; the call rests on nothing yet, and no try of it has read
 abbrev pub BeginKept : Setup → (List ℕ → Type 0) → Type 0
-BeginKept S Lawful =
-    (B : Start) (w : World) → Good S Lawful B w → (i : ℕ) (m : Data) → i < S.callers → get_or w.machines i m ≡ m → m.place ≡ Idle
-    → (op : List ℕ) → 1 ≤ length op → length op ≤ S.instrs → m.made + 1 < 4294967296
-    → Good S Lawful B (begun S i m op w) × (rests (opened S m op) ≡ 0)
+BeginKept S Lawful = EachBegin S Lawful (λ B w i m op. Good S Lawful B (begun S i m op w)
+    × (rests (opened S m op) ≡ 0) × ((low : ℕ) → ReadsFrom low (opened S m op)))
 
--- a word that was loaded from its cell may be raised at any later time: it is such a word when it is loaded
+-- a word that was loaded from its cell may be raised at any later time: it is such a word
+-- when it is loaded
 abbrev pub LoadKept : Setup → (List ℕ → Type 0) → Type 0
-LoadKept S Lawful = (B : Start) (w : World) → Good S Lawful B w → (c : ℕ) → c < size S → IsLoaded S B w.words w.batches (c, get_or w.words c 0)
+LoadKept S Lawful =
+    (B : Start) (w : World) → Good S Lawful B w
+    → (c : ℕ) → c < size S → IsLoaded S B w.words w.batches (c, get_or w.words c 0)
 
 -- each step leaves it such a word
 abbrev pub LoadedStays : Setup → (List ℕ → Type 0) → Type 0
-LoadedStays S Lawful =
-    (B : Start) (w : World) → Good S Lawful B w → (i : ℕ) (m : Data) → i < S.callers → get_or w.machines i m ≡ m → (n : ℕ) → FoundBy (want S m) w.words n
-    → (e : ℕ × ℕ) → IsLoaded S B w.words w.batches e → IsLoaded S B (stepped S i m n w).words (stepped S i m n w).batches e
+LoadedStays S Lawful = EachStep S Lawful (λ B w i m n.
+    (e : ℕ × ℕ) → IsLoaded S B w.words w.batches e
+    → IsLoaded S B (stepped S i m n w).words (stepped S i m n w).batches e)
 
 -- and to raise the durable word of its cell to it keeps the invariant, and all other such words
 abbrev pub RaiseKept : Setup → (List ℕ → Type 0) → Type 0
-RaiseKept S Lawful =
-    (B : Start) (w : World) → Good S Lawful B w → (e : ℕ × ℕ) → IsLoaded S B w.words w.batches e
-    → Good S Lawful B (evicted S w e) × ((d : ℕ × ℕ) → IsLoaded S B w.words w.batches d → IsLoaded S B (evicted S w e).words w.batches d)
+RaiseKept S Lawful = EachLoaded S Lawful (λ B w e. Good S Lawful B (evicted S w e)
+    × ((d : ℕ × ℕ) → IsLoaded S B w.words w.batches d
+    → IsLoaded S B (evicted S w e).words w.batches d))
+
+-- no durable word falls by that
+abbrev pub RaiseRises : Setup → (List ℕ → Type 0) → Type 0
+RaiseRises S Lawful = EachLoaded S Lawful (λ B w e.
+    (c : ℕ) → durable_word S w.words c ≤ durable_word S (evicted S w e).words c)
 
 -- words behind the table's own may be anything
 abbrev pub BesideKept : Setup → (List ℕ → Type 0) → Type 0
-BesideKept S Lawful =
-    (B : Start) (w : World) → Good S Lawful B w → (c v : ℕ) → table_size S ≤ c
-    → Good S Lawful B (record w { words = set w.words c v }) × ((e : ℕ × ℕ) → IsLoaded S B w.words w.batches e → IsLoaded S B (set w.words c v) w.batches e)
+BesideKept S Lawful = EachBeside S Lawful (λ B w c v.
+    Good S Lawful B (record w { words = set w.words c v })
+    × ((e : ℕ × ℕ) → IsLoaded S B w.words w.batches e
+    → IsLoaded S B (set w.words c v) w.batches e))
 
--- a table at its start, with idle machines, meets the invariant, and an idle machine rests on nothing
+-- a table at its start, with idle machines, meets the invariant, and an idle machine rests on
+-- nothing
 abbrev pub StartKept : Setup → (List ℕ → Type 0) → Type 0
-StartKept S Lawful = (B : Start) → MayStart S Lawful B → (n : ℕ) → table_size S ≤ n → Good S Lawful B (opening S B n) × ((i made : ℕ) → rests (idle S i made) ≡ 0)
+StartKept S Lawful = EachStart S Lawful (λ B n. Good S Lawful B (opening S B n)
+    × ((i made : ℕ) → rests (idle S i made) ≡ 0))
 
--- whatever meets the invariant has a legal history, and recovery gives the state that its durable words name
+-- whatever meets the invariant has a legal history, and recovery gives the state that its
+-- durable words name
 abbrev pub GoodIsSound : Setup → (List ℕ → Type 0) → Type 0
 GoodIsSound S Lawful = (B : Start) (w : World) → Good S Lawful B w → IsSound S B w
 
--- so does every moment of every schedule from every start
+-- The calls of one caller, step by step.
+
+-- from w to v caller i begins these calls, and these of its calls end
+abbrev pub CallsGrow : Setup → Start → (i : ℕ) → List (List ℕ) → List Outcome → (w v : World) → Type 0
+CallsGrow S B i more ended w v =
+    (before : ℕ) (ops : List (List ℕ)) (outs : List Outcome)
+    → Calls S B before w i ops outs → Calls S B before v i (ops ++ more) (outs ++ ended)
+
+-- from w to v the calls of caller i stay as they are
+abbrev pub CallsStay : Setup → Start → (i : ℕ) → (w v : World) → Type 0
+CallsStay S B i w v =
+    (before : ℕ) (ops : List (List ℕ)) (outs : List Outcome)
+    → Calls S B before w i ops outs → Calls S B before v i ops outs
+
+-- and so do those of all callers but i
+abbrev pub OthersStay : Setup → Start → (i : ℕ) → (w v : World) → Type 0
+OthersStay S B i w v = (j : ℕ) → j < S.callers → (i ≡ j → ⊥) → CallsStay S B j w v
+
+-- at a start each caller has the calls behind it that its ticket counts, and no others
+abbrev pub StartCalls : Setup → (List ℕ → Type 0) → Type 0
+StartCalls S Lawful = EachStart S Lawful (λ B n.
+    (i : ℕ) → i < S.callers → Calls S B (start_ticket S B i) (opening S B n) i [] [])
+
+-- a step ends its caller's open call or none, and changes the calls of nobody else
+abbrev pub StepCalls : Setup → (List ℕ → Type 0) → Type 0
+StepCalls S Lawful = EachStep S Lawful (λ B w i m n.
+    CallsGrow S B i [] (ended_in m (took S m n)) w (stepped S i m n w)
+    × OthersStay S B i w (stepped S i m n w))
+
+-- to begin a call gives its caller one call more, and changes the calls of nobody else
+abbrev pub BeginCalls : Setup → (List ℕ → Type 0) → Type 0
+BeginCalls S Lawful = EachBegin S Lawful (λ B w i m op.
+    CallsGrow S B i (op ∷ []) [] w (begun S i m op w) × OthersStay S B i w (begun S i m op w))
+
+-- to raise a word that was loaded changes nobody's calls
+abbrev pub RaiseCalls : Setup → (List ℕ → Type 0) → Type 0
+RaiseCalls S Lawful = EachLoaded S Lawful (λ B w e.
+    (i : ℕ) → i < S.callers → CallsStay S B i w (evicted S w e))
+
+-- nor do words behind the table's own
+abbrev pub BesideCalls : Setup → (List ℕ → Type 0) → Type 0
+BesideCalls S Lawful = EachBeside S Lawful (λ B w c v.
+    (i : ℕ) → i < S.callers → CallsStay S B i w (record w { words = set w.words c v }))
+
+-- Events and schedules.
+
+-- each event keeps the invariant
+abbrev pub EventKept : Setup → (List ℕ → Type 0) → Type 0
+EventKept S Lawful =
+    (B : Start) (w : World) → Good S Lawful B w
+    → (e : Event) → MayHappen S w e → Good S Lawful B (happens S w e)
+
+-- and so does each schedule
+abbrev pub ScheduleKept : Setup → (List ℕ → Type 0) → Type 0
+ScheduleKept S Lawful =
+    (B : Start) (w : World) → Good S Lawful B w
+    → (es : List Event) → IsSchedule S w es → Good S Lawful B (run S w es)
+
+-- every moment of every schedule from every start has what each moment claims
 abbrev pub EveryMoment : Setup → (List ℕ → Type 0) → Type 0
-EveryMoment S Lawful = (B : Start) → MayStart S Lawful B → (n : ℕ) → table_size S ≤ n → (es : List Event) → IsSchedule S (opening S B n) es → IsSound S B (run S (opening S B n) es)
+EveryMoment S Lawful = EachSchedule S Lawful (λ B n es. IsSound S B (run S (opening S B n) es))
 
 -- every schedule from every start leaves each caller's calls as its events begin and end them
 abbrev pub EveryCall : Setup → (List ℕ → Type 0) → Type 0
-EveryCall S Lawful =
-    (B : Start) → MayStart S Lawful B → (n : ℕ) → table_size S ≤ n → (es : List Event) → IsSchedule S (opening S B n) es → (i : ℕ) → i < S.callers
-    → Calls S B (start_ticket S B i) (run S (opening S B n) es) i (operations es i) (outcomes S (opening S B n) es i)
+EveryCall S Lawful = EachSchedule S Lawful (λ B n es.
+    let w : World = opening S B n in
+    (i : ℕ) → i < S.callers
+    → Calls S B (start_ticket S B i) (run S w es) i (operations es i) (outcomes S w es i))
 
 -- each event leads from the calls before it to those after it
 abbrev pub CallsKept : Setup → (List ℕ → Type 0) → Type 0
 CallsKept S Lawful =
-    (B : Start) (w : World) → Good S Lawful B w → (i before : ℕ) → i < S.callers → (ops : List (List ℕ)) (outs : List Outcome) → Calls S B before w i ops outs
-    → (d : Event) → MayHappen S w d → Calls S B before (happens S w d) i (ops ++ begun_by d i) (outs ++ ended_by S w d i)
+    (B : Start) (w : World) → Good S Lawful B w
+    → (i before : ℕ) → i < S.callers
+    → (ops : List (List ℕ)) (outs : List Outcome) → Calls S B before w i ops outs
+    → (d : Event) → MayHappen S w d
+    → Calls S B before (happens S w d) i (ops ++ begun_by d i) (outs ++ ended_by S w d i)
 
 -- in every schedule from every start the turns of a caller are the steps of its calls
 abbrev pub EveryTurn : Setup → (List ℕ → Type 0) → Type 0
-EveryTurn S Lawful = (B : Start) → MayStart S Lawful B → (n : ℕ) → table_size S ≤ n → (es : List Event) → IsSchedule S (opening S B n) es → (i : ℕ) → i < S.callers → TurnsTold S (opening S B n) es i
+EveryTurn S Lawful = EachSchedule S Lawful (λ B n es.
+    (i : ℕ) → i < S.callers → TurnsTold S (opening S B n) es i)
 
--- a call that stays open has made fewer steps than the bound, so its last one comes in time; and it never begins a fourth round
+-- a call that stays open has made fewer steps than the bound, so its last one comes in time;
+-- and it never begins a fourth round
 abbrev pub EndsInTime : Setup → (List ℕ → Type 0) → Type 0
 EndsInTime S Lawful =
-    (B : Start) (w : World) → Good S Lawful B w → (es : List Event) → IsSchedule S w es → (i : ℕ) → i < S.callers → StaysOpen S w es i
-    → ((machine w i).steps + turns i es < bound S) × ((machine (run S w es) i).place ≡ LoadCurrent → (machine (run S w es) i).rounds ≤ 2)
+    (B : Start) (w : World) → Good S Lawful B w
+    → (es : List Event) → IsSchedule S w es → (i : ℕ) → i < S.callers → StaysOpen S w es i
+    → ((machine w i).steps + turns i es < bound S)
+    × ((machine (run S w es) i).place ≡ LoadCurrent → (machine (run S w es) i).rounds ≤ 2)
+
+-- Starts.
+
+-- the n words hold a start: its current-transaction word and its data words, the same durably,
+-- and 0 behind the durable words
+pub record HoldsStart (S : Setup) (B : Start) (ws : List ℕ) (n : ℕ) : Type 0 where
+  pub long : length ws ≡ n
+  pub current : get_or ws 0 0 ≡ word B.seq B.owner
+  pub cells : (a : ℕ) → a < S.cells → cell S ws a ≡ get_or B.cells a 0
+  pub durable : (c : ℕ) → c < size S → durable_word S ws c ≡ get_or ws c 0
+  pub behind : (c : ℕ) → size S + size S ≤ c → get_or ws c 0 ≡ 0
+
+-- the first words of a table hold its start
+abbrev pub FirstWords : Setup → Type 0
+FirstWords S = (B : Start) → IsStart S B → (n : ℕ) → table_size S ≤ n
+    → HoldsStart S B (first_words S.callers S.cells B n) n
+
+-- its machines are idle, one for each caller, with as many calls behind it as its ticket counts
+abbrev pub FirstMachines : Setup → Type 0
+FirstMachines S = (B : Start) (n : ℕ) →
+    let ms : List Data = (opening S B n).machines in
+    (length ms ≡ S.callers)
+    × ((i : ℕ) (d : Data) → i < S.callers → get_or ms i d ≡ idle S i (start_ticket S B i))
+
+-- zeros are a start that a table may have
+abbrev pub ZerosMayStart : Setup → (List ℕ → Type 0) → Type 0
+ZerosMayStart S Lawful = MayStart S Lawful (zeros S)
+
+-- the first words of a table of zeros are zeros
+abbrev pub ZeroWords : Setup → Type 0
+ZeroWords S = (n : ℕ) → table_size S ≤ n → first_words S.callers S.cells (zeros S) n ≡ replicate n 0
+
+-- and no call stands behind it
+abbrev pub ZeroTickets : Setup → Type 0
+ZeroTickets S = (i : ℕ) → start_ticket S (zeros S) i ≡ 0
+
+-- Machines by themselves.
+
+-- a machine is idle, or a call of it is open
+abbrev pub IdleOrOpen : Type 0
+IdleOrOpen = (p : Place) → (p ≡ Idle) ⊎ IsOpen p
+
+-- the test tells which
+abbrev pub IdleIs : Type 0
+IdleIs = (p : Place) → is_idle p ≡ true → p ≡ Idle
+
+-- a turn leaves an idle machine as it is, and answers nothing
+abbrev pub IdleStays : Type 0
+IdleStays = (S : Setup) (m : Data) (n : ℕ) → m.place ≡ Idle → (took S m n ≡ m) × (answered m m ≡ [])
+
+-- an idle machine rests on nothing, and no try of it has read
+abbrev pub IdleRests : Type 0
+IdleRests = (m : Data) → m.place ≡ Idle → (rests m ≡ 0) × ((low : ℕ) → ReadsFrom low m)
+
+-- a step finds the word that stands there
+abbrev pub FindsWord : Type 0
+FindsWord = (S : Setup) (ws : List ℕ) (m : Data) → FoundBy (want S m) ws (finds S ws m)
+
+-- a turn is the step of its caller's machine, whatever number a store is said to find
+abbrev pub TurnIsStep : Type 0
+TurnIsStep = (S : Setup) (w : World) (i n : ℕ) → FoundBy (want S (machine w i)) w.words n
+    → happens S w (Turns i) ≡ stepped S i (machine w i) n w
+
+-- Histories by themselves.
+
+-- the first state is the start's
+abbrev pub FirstState : Type 0
+FirstState = (B : Start) (bs : List Batch) → state B bs B.seq ≡ B.cells
+
+-- the batches are numbered from the start's sequence on
+abbrev pub BatchesNumbered : Type 0
+BatchesNumbered = (B : Start) (bs : List Batch) (d : ℕ)
+    → batch B bs (B.seq + d + 1) ≡ get_or bs d no_batch
+
+-- the next batch has the next number
+abbrev pub NextBatch : Type 0
+NextBatch = (B : Start) (bs : List Batch) (b : Batch) (k : ℕ)
+    → k ≡ B.seq + length bs + 1 → batch B (bs ++ b ∷ []) k ≡ b
+
+-- a longer history has the same batches, as far as the shorter one goes
+abbrev pub BatchesStand : Type 0
+BatchesStand = (B : Start) (bs cs : List Batch) (k : ℕ)
+    → B.seq < k → k ≤ B.seq + length bs → batch B (bs ++ cs) k ≡ batch B bs k
+
+-- and the same states
+abbrev pub StatesStand : Type 0
+StatesStand = (B : Start) (bs cs : List Batch) (k : ℕ)
+    → k ≤ B.seq + length bs → state B (bs ++ cs) k ≡ state B bs k
+
+-- so has the beginning of a history
+abbrev pub BeginningBatches : Type 0
+BeginningBatches = (B : Start) (bs : List Batch) (n k : ℕ)
+    → B.seq < k → k ≤ B.seq + n → batch B (take n bs) k ≡ batch B bs k
+
+abbrev pub BeginningStates : Type 0
+BeginningStates = (B : Start) (bs : List Batch) (n k : ℕ)
+    → k ≤ B.seq + n → state B (take n bs) k ≡ state B bs k
+
+-- and the beginning of a legal history is legal
+abbrev pub BeginningLegal : Type 0
+BeginningLegal = (M : Meaning) (xs : List ℕ) (bs : List Batch) (n : ℕ)
+    → Legal M xs bs → Legal M xs (take n bs)

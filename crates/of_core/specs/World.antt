@@ -3,7 +3,7 @@ use Rattle.std.specs.Prelude.{ℕ, ◌==◌, List, [], ◌∷◌, ◌++◌, Bool
 use Rattle.std.proofs.Common.{get_or, set}
 use Rattle.of_cell.specs.Words.{word}
 use Rattle.of_core.specs.declared.place.Place.{Place}
-use Rattle.of_core.specs.declared.place.Place.TheVariants.{Idle, TryCurrent, TryRequest, TryCell, StoreScript, StoreAnnouncement, LoadCurrent, LoadRequest, CopyLog, LookAgain, LoadOwnTicket, LoadShape, LoadReply, LoadAnnouncement, LoadTicket, LoadScript, LoadCell, RaiseOld, StoreLog, RaiseLog, StoreRequest, RaiseRequest, ExchangeCurrent, RaiseCurrent, LoadTarget, ExchangeTarget, ReloadTarget, RaiseTarget, CloseRequest, RaiseClosed}
+use Rattle.of_core.specs.declared.place.Place.TheVariants.{ExchangeCurrent}
 use Rattle.of_mem.specs.declared.work.RawReply.{RawReply}
 use Rattle.of_core.specs.declared.place.Outcome.{Outcome}
 use Rattle.of_core.specs.declared.place.Outcome.TheVariants.{Answered, Spent}
@@ -49,38 +49,11 @@ abbrev pub one_batch : Setup → List ℕ → Data → Bool → List Batch
 one_batch S ws m true = record { owner = m.caller; log = m.log; calls = m.calls; announcements = λ c. announcement_of S ws c } ∷ []
 one_batch S ws m false = []
 
--- what a step from a place commits
+-- what a step from a place commits: an exchange of the current-transaction word its batch, and
+-- any other nothing
 abbrev pub commits_at : Setup → List ℕ → Data → ℕ → Place → List Batch
-commits_at S ws m found Idle = []
-commits_at S ws m found TryCurrent = []
-commits_at S ws m found TryRequest = []
-commits_at S ws m found (TryCell a) = []
-commits_at S ws m found (StoreScript j) = []
-commits_at S ws m found StoreAnnouncement = []
-commits_at S ws m found LoadCurrent = []
-commits_at S ws m found LoadRequest = []
-commits_at S ws m found (CopyLog x) = []
-commits_at S ws m found LookAgain = []
-commits_at S ws m found LoadOwnTicket = []
-commits_at S ws m found LoadShape = []
-commits_at S ws m found (LoadReply j) = []
-commits_at S ws m found LoadAnnouncement = []
-commits_at S ws m found LoadTicket = []
-commits_at S ws m found (LoadScript j) = []
-commits_at S ws m found RaiseOld = []
-commits_at S ws m found (StoreLog x) = []
-commits_at S ws m found (RaiseLog x) = []
-commits_at S ws m found RaiseRequest = []
-commits_at S ws m found RaiseCurrent = []
-commits_at S ws m found (ReloadTarget j) = []
-commits_at S ws m found (RaiseTarget j f) = []
-commits_at S ws m found RaiseClosed = []
-commits_at S ws m found (LoadCell a) = []
-commits_at S ws m found StoreRequest = []
 commits_at S ws m found ExchangeCurrent = one_batch S ws m (found == word m.seq m.owner)
-commits_at S ws m found (LoadTarget j) = []
-commits_at S ws m found (ExchangeTarget j f) = []
-commits_at S ws m found CloseRequest = []
+commits_at S ws m found p = []
 
 -- the read that an outcome of the machine is
 abbrev pub read_of : Data → Option Outcome → List Read

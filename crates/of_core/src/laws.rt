@@ -1,41 +1,98 @@
-//! The laws of all steps and all schedules: functions that do nothing, whose contracts are the theorems.
+//! The laws of all steps and all schedules: functions that do nothing, whose contracts are the
+//! theorems.
 
-ghost use Rattle.of_core.specs.Table.{setup_of};
-ghost use Rattle.of_core.specs.Laws.{StepKept, StepMoves, StepTaken, StepTries, NewCalls, BeginKept, LoadKept, LoadedStays, RaiseKept, BesideKept, StartKept, GoodIsSound, EveryMoment, EveryCall, EveryTurn, CallsKept, EndsInTime};
+ghost use Rattle.of_core.specs.Laws.{setup_for};
+ghost use Rattle.of_core.specs.Laws.{StepKept, StepMoves, StepTaken, NewCalls, BeginKept};
+ghost use Rattle.of_core.specs.Laws.{LoadKept, LoadedStays, RaiseKept, RaiseRises, BesideKept};
+ghost use Rattle.of_core.specs.Laws.{StartKept, GoodIsSound};
+ghost use Rattle.of_core.specs.Laws.{StartCalls, StepCalls, BeginCalls, RaiseCalls, BesideCalls};
+ghost use Rattle.of_core.specs.Laws.{EventKept, ScheduleKept, EveryMoment};
+ghost use Rattle.of_core.specs.Laws.{EveryCall, EveryTurn, CallsKept, EndsInTime};
+ghost use Rattle.of_core.specs.Laws.{FirstWords, FirstMachines, ZerosMayStart, ZeroWords, ZeroTickets};
+ghost use Rattle.of_core.specs.Laws.{IdleOrOpen, IdleIs, IdleStays, IdleRests, FindsWord, TurnIsStep};
+ghost use Rattle.of_core.specs.Laws.{FirstState, BatchesNumbered, NextBatch, BatchesStand, StatesStand};
+ghost use Rattle.of_core.specs.Laws.{BeginningBatches, BeginningStates, BeginningLegal};
 
 use of_mem::Work;
 
-/// From whatever meets the invariant each step, each begin of a call and each eviction leads to what meets it. A table at a start
-/// meets it, and whatever meets it has what every moment claims.
+/// From whatever meets the invariant each step, each begin of a call and each eviction leads to
+/// what meets it. A table at a start meets it, and whatever meets it has what every moment claims.
 pub fn step_kept<W: Work>(limit: u32, work: W)
-    ensures kept { StepKept (setup_of (W.many work) (W.size work) limit (W.meaning work)) (W.lawful work) }
-    ensures moves { StepMoves (setup_of (W.many work) (W.size work) limit (W.meaning work)) (W.lawful work) }
-    ensures taken { StepTaken (setup_of (W.many work) (W.size work) limit (W.meaning work)) (W.lawful work) }
-    ensures tries { StepTries (setup_of (W.many work) (W.size work) limit (W.meaning work)) (W.lawful work) }
-    ensures new_calls { NewCalls (setup_of (W.many work) (W.size work) limit (W.meaning work)) (W.lawful work) }
-    ensures begins { BeginKept (setup_of (W.many work) (W.size work) limit (W.meaning work)) (W.lawful work) }
-    ensures loads { LoadKept (setup_of (W.many work) (W.size work) limit (W.meaning work)) (W.lawful work) }
-    ensures stays { LoadedStays (setup_of (W.many work) (W.size work) limit (W.meaning work)) (W.lawful work) }
-    ensures raises { RaiseKept (setup_of (W.many work) (W.size work) limit (W.meaning work)) (W.lawful work) }
-    ensures beside { BesideKept (setup_of (W.many work) (W.size work) limit (W.meaning work)) (W.lawful work) }
-    ensures start { StartKept (setup_of (W.many work) (W.size work) limit (W.meaning work)) (W.lawful work) }
-    ensures sound { GoodIsSound (setup_of (W.many work) (W.size work) limit (W.meaning work)) (W.lawful work) }
+    ensures kept { StepKept (setup_for W.many W.size W.meaning limit work) (W.lawful work) }
+    ensures moves { StepMoves (setup_for W.many W.size W.meaning limit work) (W.lawful work) }
+    ensures taken { StepTaken (setup_for W.many W.size W.meaning limit work) (W.lawful work) }
+    ensures new_calls { NewCalls (setup_for W.many W.size W.meaning limit work) (W.lawful work) }
+    ensures begins { BeginKept (setup_for W.many W.size W.meaning limit work) (W.lawful work) }
+    ensures loads { LoadKept (setup_for W.many W.size W.meaning limit work) (W.lawful work) }
+    ensures stays { LoadedStays (setup_for W.many W.size W.meaning limit work) (W.lawful work) }
+    ensures raises { RaiseKept (setup_for W.many W.size W.meaning limit work) (W.lawful work) }
+    ensures rises { RaiseRises (setup_for W.many W.size W.meaning limit work) (W.lawful work) }
+    ensures beside { BesideKept (setup_for W.many W.size W.meaning limit work) (W.lawful work) }
+    ensures start { StartKept (setup_for W.many W.size W.meaning limit work) (W.lawful work) }
+    ensures sound { GoodIsSound (setup_for W.many W.size W.meaning limit work) (W.lawful work) }
 {}
 
-/// From every start every schedule leaves a moment with a legal history, of which recovery gives the state that its durable words name.
+/// The calls of one caller, from a start on: a step ends its caller's open call or none, a begin
+/// adds one, and nothing else changes anybody's calls.
+pub fn calls_kept<W: Work>(limit: u32, work: W)
+    ensures start { StartCalls (setup_for W.many W.size W.meaning limit work) (W.lawful work) }
+    ensures steps { StepCalls (setup_for W.many W.size W.meaning limit work) (W.lawful work) }
+    ensures begins { BeginCalls (setup_for W.many W.size W.meaning limit work) (W.lawful work) }
+    ensures raises { RaiseCalls (setup_for W.many W.size W.meaning limit work) (W.lawful work) }
+    ensures beside { BesideCalls (setup_for W.many W.size W.meaning limit work) (W.lawful work) }
+{}
+
+/// Each event, and so each schedule, keeps the invariant. From every start every schedule leaves a
+/// moment with a legal history, of which recovery gives the state that its durable words name.
 pub fn every_moment<W: Work>(limit: u32, work: W)
-    ensures sound { EveryMoment (setup_of (W.many work) (W.size work) limit (W.meaning work)) (W.lawful work) }
+    ensures kept { EventKept (setup_for W.many W.size W.meaning limit work) (W.lawful work) }
+    ensures runs { ScheduleKept (setup_for W.many W.size W.meaning limit work) (W.lawful work) }
+    ensures sound { EveryMoment (setup_for W.many W.size W.meaning limit work) (W.lawful work) }
 {}
 
-/// Of every schedule the calls of each caller are those that its events begin. Each ends with an outcome that is in the history,
-/// and each turn of an open call is a step of it.
+/// Of every schedule the calls of each caller are those that its events begin. Each ends with an
+/// outcome that is in the history, none goes back behind the one before, and each turn of an open
+/// call is a step of it.
 pub fn every_call<W: Work>(limit: u32, work: W)
-    ensures calls { EveryCall (setup_of (W.many work) (W.size work) limit (W.meaning work)) (W.lawful work) }
-    ensures turns { EveryTurn (setup_of (W.many work) (W.size work) limit (W.meaning work)) (W.lawful work) }
-    ensures kept { CallsKept (setup_of (W.many work) (W.size work) limit (W.meaning work)) (W.lawful work) }
+    ensures calls { EveryCall (setup_for W.many W.size W.meaning limit work) (W.lawful work) }
+    ensures turns { EveryTurn (setup_for W.many W.size W.meaning limit work) (W.lawful work) }
+    ensures kept { CallsKept (setup_for W.many W.size W.meaning limit work) (W.lawful work) }
 {}
 
 /// Every call is answered or spent within the step bound of its own steps, in three rounds at most.
 pub fn ends_in_time<W: Work>(limit: u32, work: W)
-    ensures in_time { EndsInTime (setup_of (W.many work) (W.size work) limit (W.meaning work)) (W.lawful work) }
+    ensures in_time { EndsInTime (setup_for W.many W.size W.meaning limit work) (W.lawful work) }
+{}
+
+/// A table's first words hold its start, and its machines are idle. Zeros are a start that may be,
+/// with no call behind it.
+pub fn starts<W: Work>(limit: u32, work: W)
+    ensures words { FirstWords (setup_for W.many W.size W.meaning limit work) }
+    ensures machines { FirstMachines (setup_for W.many W.size W.meaning limit work) }
+    ensures zeros { ZerosMayStart (setup_for W.many W.size W.meaning limit work) (W.lawful work) }
+    ensures zero_words { ZeroWords (setup_for W.many W.size W.meaning limit work) }
+    ensures zero_tickets { ZeroTickets (setup_for W.many W.size W.meaning limit work) }
+{}
+
+/// What holds of a machine by itself, on any table.
+pub fn machines()
+    ensures idle_or_open { IdleOrOpen }
+    ensures idle_is { IdleIs }
+    ensures idle_stays { IdleStays }
+    ensures idle_rests { IdleRests }
+    ensures finds { FindsWord }
+    ensures turns { TurnIsStep }
+{}
+
+/// What holds of a history by itself: how its batches are numbered, what stands in a longer one,
+/// and that the beginning of a legal history is legal.
+pub fn histories()
+    ensures first { FirstState }
+    ensures numbered { BatchesNumbered }
+    ensures next { NextBatch }
+    ensures batches { BatchesStand }
+    ensures states { StatesStand }
+    ensures beginning_batches { BeginningBatches }
+    ensures beginning_states { BeginningStates }
+    ensures beginning_legal { BeginningLegal }
 {}

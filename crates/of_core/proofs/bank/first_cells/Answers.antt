@@ -1,6 +1,5 @@
-use Rattle.std.proofs.Common.{◌≡◌, ℕ, List, length, get_or, set, replicate, take, drop, ◌+◌, ◌-◌, ◌++◌, ◌∷◌, sym, ◌∙◌, ap}
+use Rattle.std.proofs.Common.{◌≡◌, ℕ, List, get_or, set, replicate, take, drop, ◌+◌, ◌-◌, ◌++◌, ◌∷◌, ◌∙◌, ap}
 use Rattle.of_cell.specs.Words.{word, seq, pay}
-use Rattle.of_cell.specs.Cells.{data_cell}
 use Rattle.of_core.specs.World.{Start}
 use Rattle.of_core.specs.Starts.{closed_at, start_of}
 use Rattle.of_core.proofs.Starts.{heads_are, cells_filled}

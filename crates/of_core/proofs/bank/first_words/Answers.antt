@@ -1,4 +1,4 @@
-use Rattle.std.proofs.Common.{◌≡◌, ℕ, List, length, ◌++◌, ◌∙◌, ap, arith}
+use Rattle.std.proofs.Common.{◌≡◌, ℕ, List, ◌++◌, ◌∙◌, ap, arith}
 use Rattle.of_core.specs.World.{Start}
 use Rattle.of_core.specs.Starts.{first_words, start_of}
 use Rattle.of_core.proofs.Starts.{cells_count, words_filled}

@@ -1,9 +1,9 @@
 use Rattle.of_core.proofs.laws.ends_in_time.Goals as goal
-use Rattle.of_core.specs.Table.{setup_of}
+use Rattle.of_core.specs.Laws.{setup_for}
 use Rattle.of_core.proofs.InTime.{ends_in_time}
 
 pub returns : goal.returns
 returns g c =
     let laws = g.met.W.Work g.world.𝓛 g.world.𝓜 g.world.𝓡 ((λ s x. x), (λ x. x), (λ x. x), λ x. x) in
-    let S = setup_of (g.W.Work.many c.args.work) (g.W.Work.size c.args.work) c.args.limit (g.W.Work.meaning c.args.work) in
+    let S = setup_for g.W.Work.many g.W.Work.size g.W.Work.meaning c.args.limit c.args.work in
     record { in_time = ends_in_time S (g.W.Work.lawful c.args.work) (laws.sound c.args.work) }

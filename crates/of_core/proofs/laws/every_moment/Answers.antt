@@ -1,11 +1,18 @@
 use Rattle.std.proofs.Common.{arith}
 use Rattle.of_core.proofs.laws.every_moment.Goals as goal
-use Rattle.of_core.specs.Table.{setup_of}
-use Rattle.of_core.proofs.Moments.{every_moment}
+use Rattle.of_core.specs.Laws.{setup_for}
+use Rattle.of_core.proofs.Happenings.{event_good}
+use Rattle.of_core.proofs.Moments.{run_good, every_moment}
 
 pub returns : goal.returns
 returns g c =
     let laws = g.met.W.Work g.world.𝓛 g.world.𝓜 g.world.𝓡 ((λ s x. x), (λ x. x), (λ x. x), λ x. x) in
-    let S = setup_of (g.W.Work.many c.args.work) (g.W.Work.size c.args.work) c.args.limit (g.W.Work.meaning c.args.work) in
+    let S = setup_for g.W.Work.many g.W.Work.size g.W.Work.meaning c.args.limit c.args.work in
     let fits = laws.fits c.args.work in
-    record { sound = λ B may total room. every_moment S (g.W.Work.lawful c.args.work) (laws.sound c.args.work) B may fits.some (omega (arith, fits.few)) fits.own total room (omega arith) (omega (arith, fits.small)) }
+    let L = g.W.Work.lawful c.args.work in
+    let sound = laws.sound c.args.work in
+    record {
+      kept = λ B w h e may. event_good S L B w h sound e may;
+      runs = λ B w h es s. run_good S L sound B es w h s;
+      sound = λ B may total room. every_moment S L sound B may fits.some (omega (arith, fits.few)) fits.own total room (omega arith) (omega (arith, fits.small));
+    }

@@ -1,9 +1,9 @@
 use Rattle.std.proofs.Common.{arith}
 use Rattle.of_core.proofs.laws.step_kept.Goals as goal
-use Rattle.of_core.specs.Table.{setup_of}
+use Rattle.of_core.specs.Laws.{setup_for}
 use Rattle.of_core.proofs.StepKept.{step_kept, step_moves, loaded_stays}
-use Rattle.of_core.proofs.StepTaken.{step_taken}
-use Rattle.of_core.proofs.TriesStep.{step_tries}
+use Rattle.of_core.proofs.Raises.{rises}
+use Rattle.of_core.proofs.StepTaken.{step_taken, opened_reads}
 use Rattle.of_core.proofs.NewCalls.{new_calls}
 use Rattle.of_core.proofs.Happenings.{begin_kept, rests_not, load_kept, evict_kept, evict_stays}
 use Rattle.of_core.proofs.Beside.{beside_kept, beside_stays}
@@ -13,7 +13,7 @@ use Rattle.of_core.proofs.Claims.{is_sound}
 pub returns : goal.returns
 returns g c =
     let laws = g.met.W.Work g.world.𝓛 g.world.𝓜 g.world.𝓡 ((λ s x. x), (λ x. x), (λ x. x), λ x. x) in
-    let S = setup_of (g.W.Work.many c.args.work) (g.W.Work.size c.args.work) c.args.limit (g.W.Work.meaning c.args.work) in
+    let S = setup_for g.W.Work.many g.W.Work.size g.W.Work.meaning c.args.limit c.args.work in
     let L = g.W.Work.lawful c.args.work in
     let sound = laws.sound c.args.work in
     let fits = laws.fits c.args.work in
@@ -21,13 +21,13 @@ returns g c =
       kept = step_kept S L sound;
       moves = step_moves S L sound;
       taken = λ B w h i m l e o n f. step_taken S L B w h i m l e o n f;
-      tries = λ B w h i m l e o n. step_tries S L B w h i m l e o n;
       new_calls = λ B w h i m l e n f. new_calls S L sound B w h i m l e n f;
-      begins = λ B w h i m l e r op s f t. (begin_kept S L B w h i m l e r op s f t, rests_not S L B w h i m l e r op s f t);
+      begins = λ B w h i m l e r op s f t. (begin_kept S L B w h i m l e r op s f t, rests_not S L B w h i m l e r op s f t, opened_reads S m op);
       loads = load_kept S L;
       stays = loaded_stays S L sound;
       raises = λ B w h e l. (evict_kept S L B w h e l, evict_stays S L B w h e l);
+      rises = λ B w h e l. rises S L B w.words w.batches h.core.shared e.0 e.1 l;
       beside = λ B w h c v f. (beside_kept S L B w h c v f, beside_stays S L B w h c v f);
       start = λ B may n room. (start_good S L sound B may fits.some (omega (arith, fits.few)) fits.own n room (omega arith) (omega (arith, fits.small)), idle_rests S);
-      sound = λ B w h. is_sound S L sound B w h.core h.within h.order;
+      sound = λ B w h. is_sound S L sound B w h.core h.within h.late h.order;
     }

@@ -1,4 +1,4 @@
-use Rattle.std.proofs.Common.{◌≡◌, ◌≤◌, ℕ, List, length, replicate, arith, ap, ◌∙◌, sym, refl, length-append}
+use Rattle.std.proofs.Common.{◌≡◌, ℕ, length, replicate, arith, ap, ◌∙◌, sym, refl, length-append}
 use Rattle.of_mem.specs.Meaning.{Sound}
 use Rattle.of_core.specs.Table.{Setup, setup_of, base}
 use Rattle.of_core.specs.Seen.{setup}

@@ -1,9 +1,6 @@
-use Rattle.std.proofs.Common.{◌≡◌, ◌<◌, ◌≤◌, ◌*◌, ◌+◌, ℕ, List, length, arith, ap, subst, ◌∙◌, sym, refl, length-append}
-use Rattle.of_cell.specs.Words.{pay}
+use Rattle.std.proofs.Common.{◌≡◌, ℕ, length, arith, ap, ◌∙◌, sym, length-append}
 use Rattle.of_cell.specs.Cells.{table_words as cell_words}
-use Rattle.of_mem.specs.Meaning.{Sound}
-use Rattle.of_mem.specs.declared.work.TheConstants.{MOST_INSTRS}
-use Rattle.of_core.specs.Table.{Setup, setup_of, base}
+use Rattle.of_core.specs.Table.{Setup, setup_of}
 use Rattle.of_core.specs.World.{Start}
 use Rattle.of_core.specs.Seen.{setup}
 use Rattle.of_core.specs.Machine.{idle}

@@ -1,0 +1,15 @@
+pub mod StoresHeld
+pub mod StoresMoments
+pub mod StoresReplay
+pub mod Stores
+pub mod StoresRecovered
+pub mod StoresLeast
+pub mod RecordsLists
+pub mod RecordsCalls
+pub mod RecordsFacts
+pub mod RecordsOwn
+pub mod RecordsHistory
+pub mod RecordsLawful
+pub mod RecordsAllowance
+pub mod Records
+pub mod RecordsReports

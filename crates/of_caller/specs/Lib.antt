@@ -1,0 +1,6 @@
+pub mod Tables
+pub mod Ends
+pub mod Left
+pub mod Moments
+pub mod Starts
+pub mod Runs

@@ -1,0 +1,19 @@
+use Rattle.std.proofs.Common.{arith}
+use Rattle.of_core.proofs.laws.starts.Goals as goal
+use Rattle.of_core.specs.Events.{start_ticket}
+use Rattle.of_core.specs.Laws.{setup_for}
+use Rattle.of_core.proofs.Starts.{words_hold, zeros_start, zero_words, zero_ticket}
+use Rattle.of_core.proofs.Openings.{idles_length, idle_at}
+
+pub returns : goal.returns
+returns g c =
+    let laws = g.met.W.Work g.world.𝓛 g.world.𝓜 g.world.𝓡 ((λ s x. x), (λ x. x), (λ x. x), λ x. x) in
+    let S = setup_for g.W.Work.many g.W.Work.size g.W.Work.meaning c.args.limit c.args.work in
+    let fits = laws.fits c.args.work in
+    record {
+      words = λ B start n room. words_hold S B start n (omega (arith, room));
+      machines = λ B n. (idles_length S (start_ticket S B) 0 S.callers, idle_at S (start_ticket S B));
+      zeros = zeros_start S (g.W.Work.lawful c.args.work) (laws.sound c.args.work) fits.some;
+      zero_words = λ n room. zero_words S n (omega (arith, room));
+      zero_tickets = zero_ticket S;
+    }
