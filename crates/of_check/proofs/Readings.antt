@@ -16,7 +16,7 @@ use Rattle.of_plan.specs.Report.{CallEntry, EndState, done, stopped, spent, Call
 use Rattle.of_plan.proofs.TextLines.{NoNewline}
 use Rattle.of_report.specs.StoreText.{register_line, register_lines, key_line, key_lines, item_text, queue_line, queue_lines, store_text}
 use Rattle.of_report.specs.ReportText.{value_text, cause_text, reply_text, kind_text, entry_line, state_text, caller_line, seq_line, report_text}
-use Rattle.of_check.specs.Claims.{call_claim, told_ending, end_claim, kind_named, ending_named, call_of_line, end_of_line, calls_in, ends_in}
+use Rattle.of_check.specs.Claims.{call_claim, told_state, end_claim, kind_named, state_named, call_of_line, end_of_line, calls_in, ends_in}
 use Rattle.of_check.proofs.Bounds.{IsSmallCall, IsSmallEnd}
 use Rattle.of_check.proofs.Texts.{number_line, number_first, number_last, one_line, Tells, tells_nothing, tells_line, tells_both, tells_same, tells_all}
 
@@ -218,10 +218,10 @@ entries_tell_ends (e ∷ es) =
 
 -- ---- lines of callers
 
-ending_again : (s : EndState) → ending_named (state_text s) ≡ Some (told_ending s)
-ending_again done = refl
-ending_again stopped = refl
-ending_again spent = refl
+state_again : (s : EndState) → state_named (state_text s) ≡ Some (told_state s)
+state_again done = refl
+state_again stopped = refl
+state_again spent = refl
 
 state_first : (s : EndState) (rest : List ℕ) → words (state_text s ++ (32 ∷ rest)) ≡ state_text s ∷ words rest
 state_first done rest = refl
@@ -236,8 +236,8 @@ caller_words c l =
     ∙ ap (λ (ws : List (List ℕ)). decimal l.answered ∷ ws) (number_first l.entries _
     ∙ ap (λ (ws : List (List ℕ)). decimal l.entries ∷ ws) (number_last l.longest)))))
 
-end_read : (c e : List ℕ) (s : EndState) (a t : ℕ) → a ≤ 4294967295 → t ≤ 4294967295 → end_of_line (codes "caller" ∷ c ∷ state_text s ∷ decimal a ∷ e ∷ decimal t ∷ []) ≡ Some (record { ending = told_ending s; answered = a; longest = t })
-end_read c e s a t low high = rw (ending_again s, number_again 4294967295 a (omega arith) low, number_again 4294967295 t (omega arith) high) refl
+end_read : (c e : List ℕ) (s : EndState) (a t : ℕ) → a ≤ 4294967295 → t ≤ 4294967295 → end_of_line (codes "caller" ∷ c ∷ state_text s ∷ decimal a ∷ e ∷ decimal t ∷ []) ≡ Some (record { state = told_state s; answered = a; longest = t })
+end_read c e s a t low high = rw (state_again s, number_again 4294967295 a (omega arith) low, number_again 4294967295 t (omega arith) high) refl
 
 callers_tell_ends : (n : ℕ) (ls : List CallerLine) → Each IsSmallEnd ls → Tells end_of_line (flat_map caller_line (enumerate_from n ls)) (map end_claim ls)
 callers_tell_ends n [] small = tells_nothing end_of_line

@@ -14,10 +14,10 @@ use Rattle.of_plan.specs.Plan.{Plan, scripts_of}
 use Rattle.of_plan.specs.Report.{CallEntry, EndState, done, stopped, spent, CallerLine, Report, empty_start, entries_of, line_of}
 use Rattle.of_plan.specs.Legal.{script_of, to_do, StandsBefore, HasOpenCall, HasSequence, HasEnded, IsWithinBound, IsLegal}
 use Rattle.of_plan.proofs.HistoriesLists.{pairs_in_line, in_line_pairs, each_weaker}
-use Rattle.of_eval.specs.Record.{state_of}
+use Rattle.of_report.specs.Report.{state_of}
 use Rattle.of_check.specs.declared.claims.CallClaim.{CallClaim}
 use Rattle.of_check.specs.declared.claims.EndClaim.{EndClaim}
-use Rattle.of_check.specs.Claims.{call_claim, told_ending, end_claim}
+use Rattle.of_check.specs.Claims.{call_claim, told_state, end_claim}
 use Rattle.of_check.specs.Course.{Course, begun, entries_from, course_end, AllFollow}
 use Rattle.of_check.specs.Endings.{claimed_line, IsEnding, end_at, claimed_line_at, AreEndings, claimed_lines}
 use Rattle.of_check.specs.Verdict.{Makes}
@@ -98,7 +98,7 @@ first_behind : (b : Bool) (e : CallEntry) (Q : Type 0) → MatchBool b (0 < e.se
 first_behind true e Q has = inl has
 first_behind false e Q has = let low : 0 ≤ e.seq = omega arith in elim (eq-or-lt_of_le low) [ inl same ↦ inr (same, omega arith) | inr more ↦ inl more ]
 
-state_again : (s : EndState) → state_of (told_ending s) ≡ s
+state_again : (s : EndState) → state_of (told_state s) ≡ s
 state_again done = refl
 state_again stopped = refl
 state_again spent = refl

@@ -5,9 +5,9 @@ use Rattle.std.specs.Str.{bytes_eq}
 use Rattle.std.specs.Option.{option_to_list}
 use Rattle.of_script.specs.Text.{words}
 use Rattle.of_script.specs.Reading.{◌>>=◌, number_at}
-use Rattle.of_plan.specs.declared.answer.Ending.{Ending}
-use Rattle.of_plan.specs.declared.answer.Ending.TheVariants.{Done, Stopped, Spent}
 use Rattle.of_plan.specs.Lines.{lines}
+use Rattle.of_report.specs.declared.report.EndState.{EndState as TheState}
+use Rattle.of_report.specs.declared.report.EndState.TheVariants.{Done, Stopped, Spent}
 use Rattle.of_plan.specs.Report.{CallEntry, EndState, done, stopped, spent, CallerLine}
 use Rattle.of_check.specs.declared.claims.CallClaim.{CallClaim}
 use Rattle.of_check.specs.declared.claims.EndClaim.{EndClaim}
@@ -16,15 +16,15 @@ use Rattle.of_check.specs.declared.claims.EndClaim.{EndClaim}
 abbrev pub call_claim : CallEntry → CallClaim
 call_claim e = record { seq = e.seq; caller = e.caller; announced = e.announced }
 
--- a text doesn't tell what a stopped caller asked for, nor which sequence a spent one met
-abbrev pub told_ending : EndState → Ending
-told_ending done = Done
-told_ending stopped = Stopped 0
-told_ending spent = Spent 0
+-- how a caller ended, as the code has it
+abbrev pub told_state : EndState → TheState
+told_state done = Done
+told_state stopped = Stopped
+told_state spent = Spent
 
 -- what a line says beyond the entries
 abbrev pub end_claim : CallerLine → EndClaim
-end_claim l = record { ending = told_ending l.state; answered = l.answered; longest = l.longest }
+end_claim l = record { state = told_state l.state; answered = l.answered; longest = l.longest }
 
 -- ---- reading
 
@@ -41,11 +41,11 @@ kind_named name =
     else None
 
 -- how a caller ended, by the word of its state
-abbrev pub ending_named : List ℕ → Option Ending
-ending_named name =
+abbrev pub state_named : List ℕ → Option TheState
+state_named name =
     if bytes_eq name (codes "done") then Some Done
-    else if bytes_eq name (codes "stopped") then Some (Stopped 0)
-    else if bytes_eq name (codes "spent") then Some (Spent 0)
+    else if bytes_eq name (codes "stopped") then Some Stopped
+    else if bytes_eq name (codes "spent") then Some Spent
     else None
 
 -- the words behind `entry`: sequence, caller, index and kind
@@ -64,11 +64,11 @@ abbrev pub end_in : List (List ℕ) → Option EndClaim
 end_in ws = do
   caller ← word_at ws
   state ← word_at caller.1
-  ending ← ending_named state.0
+  named ← state_named state.0
   answered ← number_at 4294967295 state.1
   entries ← word_at answered.1
   longest ← number_at 4294967295 entries.1
-  Some (record { ending = ending; answered = answered.0; longest = longest.0 })
+  Some (record { state = named; answered = answered.0; longest = longest.0 })
 
 -- what the words of a line claim, where they are an entry's
 abbrev pub call_of_line : List (List ℕ) → Option CallClaim

@@ -1,17 +1,17 @@
 -- The lines of callers, from what they claim and from how many calls have run.
 use Rattle.std.specs.Prelude.{◌≡◌, ℕ, ◌<◌, List, length, map, slice_index, slice_index_or}
 use Rattle.std.specs.List.{range_with_len}
-use Rattle.of_plan.specs.declared.answer.Ending.TheVariants.{Done}
 use Rattle.of_plan.specs.Plan.{Plan, scripts_of}
 use Rattle.of_plan.specs.Report.{CallerLine}
 use Rattle.of_plan.specs.Legal.{HasOpenCall, HasEnded, IsWithinBound}
-use Rattle.of_eval.specs.Record.{state_of}
+use Rattle.of_report.specs.declared.report.EndState.TheVariants.{Done}
+use Rattle.of_report.specs.Report.{state_of}
 use Rattle.of_check.specs.declared.claims.EndClaim.{EndClaim}
 
 -- the line of a caller with so many entries
 abbrev pub claimed_line : ℕ → EndClaim → CallerLine
 claimed_line entries e = record {
-  state = state_of e.ending;
+  state = state_of e.state;
   answered = e.answered;
   entries = entries;
   longest = e.longest;
@@ -25,7 +25,7 @@ pub record IsEnding (p : Plan) (scripts seq : ℕ) (l : CallerLine) : Type 0 whe
 
 -- the claim of a caller
 abbrev pub end_at : List EndClaim → ℕ → EndClaim
-end_at ends c = slice_index_or ends c (record { ending = Done; answered = 0; longest = 0 })
+end_at ends c = slice_index_or ends c (record { state = Done; answered = 0; longest = 0 })
 
 -- the line of a caller
 abbrev pub claimed_line_at : List ℕ → List EndClaim → ℕ → CallerLine

@@ -4,7 +4,7 @@ ghost use Rattle.std.specs.Prelude.{◌≡◌, IfOk};
 ghost use Rattle.of_script.specs.Text.{words};
 ghost use Rattle.of_check.specs.Claims as claimed;
 
-use of_plan::Ending;
+use of_report::EndState;
 use of_script::text::{cut, next_number, word};
 use std::alloc::{AllocError, Global};
 
@@ -19,7 +19,7 @@ pub(crate) struct CallClaim {
 /// What the line of a caller says beyond the entries.
 #[derive(Clone, Copy, Debug, PartialEq, Eq)]
 pub(crate) struct EndClaim {
-    pub ending: Ending,
+    pub state: EndState,
     pub answered: u32,
     pub longest: u32,
 }
@@ -44,19 +44,18 @@ fn kind_named(name: &[u8]) -> Option<bool>
     None
 }
 
-// How a caller ended, by the word of its state. A text doesn't tell what a stopped caller asked
-// for, nor which sequence a spent one met: 0 stands for both.
-fn ending_named(name: &[u8]) -> Option<Ending>
-    ensures { result ≡ claimed.ending_named name.now }
+// How a caller ended, by the word of its state.
+fn state_named(name: &[u8]) -> Option<EndState>
+    ensures { result ≡ claimed.state_named name.now }
 {
     if name == b"done".as_slice() {
-        return Some(Ending::Done);
+        return Some(EndState::Done);
     }
     if name == b"stopped".as_slice() {
-        return Some(Ending::Stopped { asked: 0 });
+        return Some(EndState::Stopped);
     }
     if name == b"spent".as_slice() {
-        return Some(Ending::Spent { seq: 0 });
+        return Some(EndState::Spent);
     }
     None
 }
@@ -83,12 +82,12 @@ fn end_in(bytes: &[u8]) -> Option<EndClaim>
 {
     let (_, rest) = word(bytes)?;
     let (state, rest) = word(rest)?;
-    let ending = ending_named(state)?;
+    let state = state_named(state)?;
     let (answered, rest) = next_number(rest, u32::MAX)?;
     let (_, rest) = word(rest)?;
     let (longest, _) = next_number(rest, u32::MAX)?;
     Some(EndClaim {
-        ending,
+        state,
         answered,
         longest,
     })

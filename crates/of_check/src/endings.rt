@@ -6,18 +6,19 @@ ghost use Rattle.of_report.specs.Report.{line_of};
 ghost use Rattle.of_check.specs.Endings.{IsEnding, AreEndings, AreLines, claimed_line};
 
 use crate::claims::EndClaim;
-use of_plan::{Ending, Plan};
-use of_report::Line;
-use of_script::MOST_INSTRS;
+use of_plan::Plan;
+use of_report::{EndState, Line};
 use std::alloc::{AllocError, Global};
 
 // The steps that a call of a plan takes at most.
 fn step_bound(plan: &Plan) -> u32
     ensures { result ≡ bound_of plan.now }
 {
-    let instrs = MOST_INSTRS as u32;
-    let cells = plan.callers() * (instrs + 2) + 63 + 3 * plan.blocks();
-    instrs + 1 + 3 * (15 * cells + (instrs + 1) * plan.callers() + 15) + 4 * (7 * cells + 7)
+    let shape = plan.shape();
+    let announcing = shape.instrs + 1;
+    let round = 15 * shape.cells + (shape.instrs + 1) * shape.callers + 15;
+    let attempt = 7 * shape.cells + 7;
+    announcing + 3 * round + 4 * attempt
 }
 
 // Whether the longest call is within the bound.
@@ -34,12 +35,12 @@ fn may_end(plan: &Plan, scripts: u32, entries: u32, seq: u32, end: EndClaim) -> 
     if !is_within(step_bound(plan), end) {
         return false;
     }
-    match end.ending {
-        Ending::Done => entries == end.answered && end.answered == scripts,
-        Ending::Stopped { asked: _ } => {
+    match end.state {
+        EndState::Done => entries == end.answered && end.answered == scripts,
+        EndState::Stopped => {
             end.answered <= entries && entries - end.answered <= 1 && end.answered < scripts
         }
-        Ending::Spent { seq: _ } => {
+        EndState::Spent => {
             entries == end.answered && end.answered < scripts && seq == plan.limit()
         }
     }
@@ -69,7 +70,7 @@ pub(crate) fn lines(
             return Ok(None);
         }
         lines.push(Line {
-            ending: end.ending,
+            state: end.state,
             answered: end.answered,
             entries,
             longest: u64::from(end.longest),
