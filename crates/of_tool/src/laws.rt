@@ -6,8 +6,10 @@ ghost use Rattle.of_plan.specs.Plan.{Plan, IsPlan};
 ghost use Rattle.of_caller.specs.Tables.{setup_for, opening_for};
 ghost use Rattle.of_tool.specs.Play.{play_events};
 
-use crate::status::{BAD_PLAN, DONE, OUT_OF_MEMORY, READ_FAULT, TOO_LONG, USAGE, WRITE_FAULT};
-use crate::top::MOST_INPUT;
+use crate::status::{
+    BAD_PLAN, DONE, ILLEGAL, OUT_OF_MEMORY, READ_FAULT, TOO_LONG, USAGE, WRITE_FAULT,
+};
+use crate::top::{MOST_INPUT, MOST_WITH_REPORT};
 
 /// Each event of a plan's schedule may happen when it comes; so what they leave is a moment, with all that holds of every moment.
 pub fn plans_have_schedules()
@@ -23,5 +25,7 @@ pub fn numbers()
     ensures write_fault { WRITE_FAULT ≡ 4 }
     ensures bad_plan { BAD_PLAN ≡ 5 }
     ensures too_long { TOO_LONG ≡ 6 }
+    ensures illegal { ILLEGAL ≡ 8 }
     ensures input { MOST_INPUT ≡ 1048576 }
+    ensures with_report { MOST_WITH_REPORT ≡ 4194304 }
 {}
