@@ -171,7 +171,7 @@ some_same a b e = cc
 valid_within : (c : Command) (left : Option (List ℕ)) (most : ℕ) → limit_of c ≡ Some most → IsValidInput c left → (bytes : List ℕ) × (left ≡ Some bytes) × (length bytes ≤ most)
 valid_within Serial left most is v = (v.0, v.2, subst (λ (n : ℕ). length v.0 ≤ n) (some_same MOST_INPUT most is) v.3)
 valid_within Play left most is v = (v.0, v.2, subst (λ (n : ℕ). length v.0 ≤ n) (some_same MOST_INPUT most is) v.3)
-valid_within Check left most is v = (v.0, v.4, subst (λ (n : ℕ). length v.0 ≤ n) (some_same MOST_WITH_REPORT most is) v.5)
+valid_within Check left most is v = (v.bytes, v.is, subst (λ (n : ℕ). length v.bytes ≤ n) (some_same MOST_WITH_REPORT most is) v.few)
 valid_within Help left most is v = absurd cc
 valid_within Version left most is v = absurd cc
 
@@ -194,10 +194,10 @@ not_bad one_cut words before after command line is valid (inl h) =
     h.1.none v.1 (subst Q same v.4)
 not_bad one_cut words before after command line is valid (inr h) =
     let v = valid_check words command before.left is h.0 valid in
-    let same = same_bytes v.0 h.1.bytes before.left after.left v.4 h.1.read.taken h.1.read.ended in
-    let here : AreParts h.1.bytes v.1 v.2 = subst (λ (bytes : List ℕ). AreParts bytes v.1 v.2) same v.6 in
-    let Q : List ℕ → Type 0 = λ bytes. SpellsPlan bytes v.3 in
-    h.1.none v.3 (subst Q (one_cut h.1.bytes v.1 v.2 h.1.first h.1.report here h.1.parts).0 v.7)
+    let same = same_bytes v.bytes h.1.bytes before.left after.left v.is h.1.read.taken h.1.read.ended in
+    let here : AreParts h.1.bytes v.first v.report = subst (λ (bytes : List ℕ). AreParts bytes v.first v.report) same v.parts in
+    let Q : List ℕ → Type 0 = λ bytes. SpellsPlan bytes v.plan in
+    h.1.none v.plan (subst Q (one_cut h.1.bytes v.first v.report h.1.first h.1.report here h.1.parts).0 v.spelled)
 
 -- done, or the report is found illegal
 abbrev pub IsComplete : Command → ℕ → Type 0

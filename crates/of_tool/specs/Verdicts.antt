@@ -239,9 +239,16 @@ Prints text old new status =
 abbrev pub IsPlanInput : Option (List ℕ) → Type 0
 IsPlanInput left = (bytes : List ℕ) × (plan : Plan) × (left ≡ Some bytes) × (length bytes ≤ MOST_INPUT) × SpellsPlan bytes plan
 
--- the bytes that are left are a plan's text and any report, within the limit
-abbrev pub IsCheckInput : Option (List ℕ) → Type 0
-IsCheckInput left = (bytes : List ℕ) × (first : List ℕ) × (report : List ℕ) × (plan : Plan) × (left ≡ Some bytes) × (length bytes ≤ MOST_WITH_REPORT) × AreParts bytes first report × SpellsPlan first plan
+-- the bytes that are left are a plan's text and any bytes behind it, within the limit
+pub record IsCheckInput (left : Option (List ℕ)) : Type 0 where
+  pub bytes : List ℕ
+  pub first : List ℕ
+  pub report : List ℕ
+  pub plan : Plan
+  pub is : left ≡ Some bytes
+  pub few : length bytes ≤ MOST_WITH_REPORT
+  pub parts : AreParts bytes first report
+  pub spelled : SpellsPlan first plan
 
 -- the input of a command is what the command reads
 abbrev pub IsValidInput : Command → Option (List ℕ) → Type 0
