@@ -4,6 +4,9 @@ pub mod StoresReplay
 pub mod Stores
 pub mod StoresRecovered
 pub mod StoresLeast
+pub mod StoresZeros
+pub mod PlansKeepLaws
+pub mod Schedules
 pub mod RecordsLists
 pub mod RecordsCalls
 pub mod RecordsFacts
@@ -13,3 +16,4 @@ pub mod RecordsLawful
 pub mod RecordsAllowance
 pub mod Records
 pub mod RecordsReports
+pub mod RecordsReplies

@@ -8,9 +8,9 @@ use Rattle.of_core.specs.Least.{least_read}
 use Rattle.of_core.specs.World.{World, Read, Start as TableStart}
 use Rattle.of_caller.specs.Tables.{setup_for}
 use Rattle.of_caller.specs.Moments.{script_of_ticket}
-use Rattle.of_caller.specs.Runs.{IsRunOf, RunsAreLawful}
+use Rattle.of_caller.specs.Runs.{IsMomentOf, IsRunOf, RunsAreLawful}
 use Rattle.of_caller.proofs.StoresHeld.{held_is}
-use Rattle.of_caller.proofs.StoresMoments.{IsMoment, operation_is}
+use Rattle.of_caller.proofs.StoresMoments.{operation_is}
 use Rattle.of_caller.proofs.Stores.{announced_held, read_held}
 use Rattle.of_caller.proofs.StoresRecovered.{recovered_seq_is, recovered_ticket, stands_for}
 use Rattle.of_caller.proofs.StoresLeast.{least_reads}
@@ -21,8 +21,8 @@ module _ (p : Plan) (s : Start) (B : TableStart) (w : World) (e : Run) (run : Is
   abbrev ops : ℕ → List (List ℕ)
   ops = run.operations
 
-  moment : IsMoment p s B w run.operations run.outcomes
-  moment = record { plan = run.plan; starts = run.starts; sound = run.sound; scripts = λ c lt. (run.callers c lt).scripts; calls = λ c lt. (run.callers c lt).calls }
+  abbrev moment : IsMomentOf p s B w run.operations run.outcomes
+  moment = run.moment
 
   recovered_is : (c : ℕ) → c < p.callers → HasNone p s B w e c ⊎ IsLast p s B w e c
   recovered_is c lt = elim (recovered_ticket p s B w run.operations run.outcomes moment e run.words c lt) [
@@ -43,7 +43,9 @@ module _ (p : Plan) (s : Start) (B : TableStart) (w : World) (e : Run) (run : Is
 
   caller_facts : (c : ℕ) → c < p.callers → CallerFacts p s B w e c (run.operations c) (run.outcomes c)
   caller_facts c lt = record {
-    ran = run.callers c lt;
+    calls = moment.calls c lt;
+    scripts = moment.scripts c lt;
+    tells = run.callers c lt;
     announced = λ x k steps raw among is.
         let at = announced_held p s B w run.operations run.outcomes moment c x k steps raw lt among is in
         record { place = at.place; there = record { from = at.some; upto = at.upto; among = at.among }; caller = at.caller; ticket = at.ticket; reply = λ r held. held_is raw r _ held at.reply };
@@ -69,9 +71,9 @@ module _ (p : Plan) (s : Start) (B : TableStart) (w : World) (e : Run) (run : Is
 
   pub facts : MomentFacts p s B w e run.operations run.outcomes
   facts = record {
-    plan = run.plan;
-    seqs = run.starts.seq;
-    sound = run.sound;
+    plan = moment.plan;
+    seqs = moment.starts.seq;
+    sound = moment.sound;
     callers = caller_facts;
     answers = run.answers;
     endings = run.endings;

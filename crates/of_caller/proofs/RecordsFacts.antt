@@ -21,10 +21,10 @@ use Rattle.of_core.specs.Table.{risen}
 use Rattle.of_core.specs.World.{World, Start as TableStart}
 use Rattle.of_core.specs.History.{Absent}
 use Rattle.of_core.specs.Order.{no_read}
-use Rattle.of_core.specs.Calls.{no_outcome}
+use Rattle.of_core.specs.Calls.{Calls, no_outcome}
 use Rattle.of_core.specs.Least.{least_read}
 use Rattle.of_caller.specs.Tables.{setup_for}
-use Rattle.of_caller.specs.Runs.{CallerRan}
+use Rattle.of_caller.specs.Runs.{AreNext, TellsCalls}
 use Rattle.of_caller.specs.Moments.{script_of_ticket, store_after}
 use Rattle.of_caller.proofs.RecordsCalls.{call_at, response_at, IsPlace}
 
@@ -72,7 +72,9 @@ pub record HasNone (p : Plan) (s : Start) (B : TableStart) (w : World) (e : Run)
 
 -- of caller c, which has begun these operations, and whose calls have ended so
 pub record CallerFacts (p : Plan) (s : Start) (B : TableStart) (w : World) (e : Run) (c : ℕ) (ops : List (List ℕ)) (outs : List Outcome) : Type 0 where
-  pub ran : CallerRan p s B w e c ops outs
+  pub calls : Calls (setup_for p) B (finished_of s c) w c ops outs
+  pub scripts : AreNext p (finished_of s c) c ops
+  pub tells : TellsCalls p s w e c outs
   pub announced : (x k steps : ℕ) (raw : RawReply) → x < length outs → get_or outs x no_outcome ≡ Answered k true raw steps → IsAnnounced p s B w c (finished_of s c + x + 1) k raw
   pub read : (x k steps : ℕ) (raw : RawReply) → x < length outs → get_or outs x no_outcome ≡ Answered k false raw steps → IsRead p s B w c (finished_of s c + x + 1) k raw
   pub least_reads : (x : ℕ) → x < length ops → All (λ i. IsTrue (reads_only i)) (script_of_ticket p c (finished_of s c + x + 1)) → least_read (setup_for p) (get_or ops x []) ≡ 3

@@ -86,5 +86,5 @@ module _ (p : Plan) (s : Start) (B : TableStart) (w : World) (e : Run) (ops : �
   pub lawful_left : (r : Report) × IsLawful p s e r
   lawful_left = (
     history_report p s (moment_history p s B w e extras) (moment_lines p s e extras),
-    record { answers = facts.answers; endings = facts.endings; words = facts.words; whole = λ c lt. told_whole (outs c) (answers_of e c) (facts.callers c lt).ran.told; report = record_left; legal = legal_left.0 },
+    record { answers = facts.answers; endings = facts.endings; words = facts.words; whole = λ c lt. told_whole (outs c) (answers_of e c) (facts.callers c lt).tells.told; report = record_left; legal = legal_left.0 },
   )

@@ -34,14 +34,14 @@ use Rattle.of_core.specs.Bound.{bound}
 use Rattle.of_core.specs.Machine.{is_idle, no_call}
 use Rattle.of_core.specs.World.{World, Start as TableStart}
 use Rattle.of_core.specs.Events.{machine}
-use Rattle.of_core.specs.Claim.{IsSound, IsTold}
+use Rattle.of_core.specs.Claim.{IsSound}
 use Rattle.of_core.specs.Calls.{no_outcome, last_of, NoneSpent}
 use Rattle.of_caller.specs.Tables.{setup_for, operation_of}
 use Rattle.of_caller.specs.Ends.{is_spent, Tells, halted}
 use Rattle.of_core.specs.Calls.{Stood}
 use Rattle.of_caller.specs.Runs.{ends_at}
 use Rattle.of_caller.specs.Moments.{script_of_ticket, store_after}
-use Rattle.of_caller.proofs.RecordsLists.{SpentLast, told_at, ends_so, AllTold, LastSpent, answer_indices, length-answer_entries}
+use Rattle.of_caller.proofs.RecordsLists.{told_at, ends_so, AllTold, SomeSpent, answer_indices, length-answer_entries}
 use Rattle.of_caller.proofs.RecordsCalls.{call_at, entry_at, IsPlace, IsRun, IsReadOf, Stands, earlier}
 use Rattle.of_caller.proofs.RecordsFacts.{CallerFacts, HasNone, IsLast}
 
@@ -138,26 +138,23 @@ module _ (p : Plan) (s : Start) (B : TableStart) (w : World) (sound : IsSound (s
   long : length left ≡ to_do p s c
   long = length-drop n (scripts_of p c)
 
-  few_left : f.ran.scripts.count ≤ length left
-  few_left = omega (arith, f.ran.scripts.few, long)
+  few_left : f.scripts.count ≤ length left
+  few_left = omega (arith, f.scripts.few, long)
 
   few_begun : length ops ≤ to_do p s c
-  few_begun = omega (arith, ap length f.ran.scripts.are, length-map (take f.ran.scripts.count left) operation_of, length-take-le f.ran.scripts.count left few_left, f.ran.scripts.few)
+  few_begun = omega (arith, ap length f.scripts.are, length-map (take f.scripts.count left) operation_of, length-take-le f.scripts.count left few_left, f.scripts.few)
 
   few_ended : length outs ≤ length ops
   few_ended = elim (idle_or_open (machine w c).place) [
-    | inl idle ↦ omega (arith, f.ran.calls.idle idle)
-    | inr opened ↦ omega (arith, (f.ran.calls.open_call opened).0)
+    | inl idle ↦ omega (arith, f.calls.idle idle)
+    | inr opened ↦ omega (arith, (f.calls.open_call opened).0)
   ]
 
   few_more : length ops ≤ length outs + 1
   few_more = elim (idle_or_open (machine w c).place) [
-    | inl idle ↦ omega (arith, f.ran.calls.idle idle)
-    | inr opened ↦ omega (arith, (f.ran.calls.open_call opened).0)
+    | inl idle ↦ omega (arith, f.calls.idle idle)
+    | inr opened ↦ omega (arith, (f.calls.open_call opened).0)
   ]
-
-  spent_last : SpentLast outs
-  spent_last x k among is = omega (arith, f.ran.ends_spent x k among is, few_ended, among)
 
   -- ---- each answer is that of a call that stands
 
@@ -166,19 +163,19 @@ module _ (p : Plan) (s : Start) (B : TableStart) (w : World) (sound : IsSound (s
 
   length_is : (x : ℕ) → x < length ops → length (get_or ops x []) ≡ length (get_or (scripts_of p c) (n + x) [])
   length_is x among =
-      let front : List (List Instr) = take f.ran.scripts.count left in
-      let short : x < length front = omega (arith, among, ap length f.ran.scripts.are, length-map front operation_of) in
-      let here : x < f.ran.scripts.count = omega (arith, short, length-take-le f.ran.scripts.count left few_left) in
-      ap (λ (l : List (List ℕ)). length (get_or l x [])) f.ran.scripts.are
+      let front : List (List Instr) = take f.scripts.count left in
+      let short : x < length front = omega (arith, among, ap length f.scripts.are, length-map front operation_of) in
+      let here : x < f.scripts.count = omega (arith, short, length-take-le f.scripts.count left few_left) in
+      ap (λ (l : List (List ℕ)). length (get_or l x [])) f.scripts.are
       ∙ ap length (get_or-map operation_of front x [] [] short)
       ∙ length-map (get_or front x []) instr_word
-      ∙ ap length (get_or-take f.ran.scripts.count left x [] here)
+      ∙ ap length (get_or-take f.scripts.count left x [] here)
       ∙ ap length (get_or-drop n (scripts_of p c) x [])
 
   of_outcome : (x : ℕ) (o : Outcome) (b : Answer) → x < length outs → get_or outs x no_outcome ≡ o → Tells o b → IsAnswerOf p s B w c (n + x) b
   of_outcome x (Spent k) b among is tells = absurd tells
   of_outcome x (Answered k true raw steps) b among is tells =
-      let stood : Stood (setup_for p) B w c (n + x + 1) (get_or ops x []) (Answered k true raw steps) = subst (λ (o : Outcome). Stood (setup_for p) B w c (n + x + 1) (get_or ops x []) o) is (f.ran.calls.each x among) in
+      let stood : Stood (setup_for p) B w c (n + x + 1) (get_or ops x []) (Answered k true raw steps) = subst (λ (o : Outcome). Stood (setup_for p) B w c (n + x + 1) (get_or ops x []) o) is (f.calls.each x among) in
       let at = f.announced x k steps raw among is in
       let run : IsRun p s B w (answer_entry c (n + x) b) = record {
         number = k;
@@ -193,7 +190,7 @@ module _ (p : Plan) (s : Start) (B : TableStart) (w : World) (sound : IsSound (s
         least = subst (λ (q : Bool). cond q (length (get_or (scripts_of p c) (n + x) []) + 5) 3 ≤ b.steps) (sym tells.1) (omega (arith, tells.3, stood.3, length_is x (omega (arith, among, few_ended))));
       }
   of_outcome x (Answered k false raw steps) b among is tells =
-      let stood : Stood (setup_for p) B w c (n + x + 1) (get_or ops x []) (Answered k false raw steps) = subst (λ (o : Outcome). Stood (setup_for p) B w c (n + x + 1) (get_or ops x []) o) is (f.ran.calls.each x among) in
+      let stood : Stood (setup_for p) B w c (n + x + 1) (get_or ops x []) (Answered k false raw steps) = subst (λ (o : Outcome). Stood (setup_for p) B w c (n + x + 1) (get_or ops x []) o) is (f.calls.each x among) in
       let at = f.read x k steps raw among is in
       let read : IsReadOf p s B w (answer_entry c (n + x) b) = record {
         place = at.place;
@@ -214,7 +211,7 @@ module _ (p : Plan) (s : Start) (B : TableStart) (w : World) (sound : IsSound (s
 
   pub answer_is : (x : ℕ) (none : Answer) → x < length (answers_of e c) → IsAnswerOf p s B w c (finished_of s c + x) (get_or (answers_of e c) x none)
   answer_is x none among =
-      let told = told_at outs (answers_of e c) f.ran.told spent_last x none among in
+      let told = told_at outs (answers_of e c) f.tells.told f.tells.answers_first x none among in
       of_outcome x (get_or outs x no_outcome) (get_or (answers_of e c) x none) told.0 refl told.1
 
   -- ---- the entries, where these are beyond the answers
@@ -224,7 +221,7 @@ module _ (p : Plan) (s : Start) (B : TableStart) (w : World) (sound : IsSound (s
 
   -- a call in a durable batch was begun
   was_begun : (k y : ℕ) → IsPlace p B w k y → (call_at B w k y).caller ≡ c → (n < (call_at B w k y).ticket) × ((call_at B w k y).ticket ≤ n + length ops)
-  was_begun k y there same = let begun = f.ran.calls.calls k there.from (omega (arith, sound.reaches, there.upto)) y no_call there.among same in (begun.0, begun.1)
+  was_begun k y there same = let begun = f.calls.calls k there.from (omega (arith, sound.reaches, there.upto)) y no_call there.among same in (begun.0, begun.1)
 
   own_of : (extra : List CallEntry) (q : Ending) → ending_of e c ≡ q → Each (λ g. (g.caller ≡ c) × Stands p s B w g g.announced) extra → map (λ (g : CallEntry). g.index) extra ≡ range_with_len (n + a) (length extra)
       → a + length extra ≤ to_do p s c → ((k y : ℕ) → IsPlace p B w k y → (call_at B w k y).caller ≡ c → (call_at B w k y).ticket ≤ n + (a + length extra))
@@ -241,37 +238,27 @@ module _ (p : Plan) (s : Start) (B : TableStart) (w : World) (sound : IsSound (s
     ending = subst (λ (r : Ending). HasEnded (state_of r) a (to_do p s c) (risen (setup_for p) w.words) p.limit) (sym is) ending;
   }
 
-  -- where the last call was spent
-  module _ (sp : LastSpent outs (answers_of e c) (last_of outs)) where
-    spent_all : a + 1 ≡ length ops
-    spent_all = f.ran.ends_spent a sp.seq (omega (arith, sp.count)) sp.is
+  -- where a call was spent
+  module _ (sp : SomeSpent outs (answers_of e c) (last_of outs)) where
+    spent_left : a < to_do p s c
+    spent_left = omega (arith, sp.among, few_ended, few_begun)
 
-    spent_idle : (machine w c).place ≡ Idle
-    spent_idle = elim (idle_or_open (machine w c).place) [
-      | inl is ↦ is
-      | inr opened ↦ absurd (omega (arith, (f.ran.calls.open_call opened).0, sp.count, spent_all))
-    ]
-
-    spent_answer : (machine w c).answer ≡ Some (Spent sp.seq)
-    spent_answer = f.ran.calls.last spent_idle ∙ sp.after
-
-    spent_ending : ending_of e c ≡ Ran_out sp.seq
+    spent_ending : ending_of e c ≡ Ran_out sp.last_seq
     spent_ending =
-        f.ran.ended ∙ halted_at outs (machine w c).steps (to_do p s c) a (λ same. absurd (omega (arith, same, spent_all, few_begun))) ∙ ap (λ (o : Option Outcome). halted o (machine w c).steps) sp.after
+        f.tells.ended ∙ halted_at outs (machine w c).steps (to_do p s c) a (λ same. absurd (omega (arith, same, spent_left))) ∙ ap (λ (o : Option Outcome). halted o (machine w c).steps) sp.after
 
+    -- all its calls in batches are older than the spent one
     spent_case : IsOwnOf p s B w e c []
     spent_case =
-        let told : IsTold (setup_for p) B w c (machine w c) (Some (Spent sp.seq)) =
-        subst (λ (o : Option Outcome). IsTold (setup_for p) B w c (machine w c) o) spent_answer (sound.answered c lt spent_idle) in
         let stood : Stood (setup_for p) B w c (n + a + 1) (get_or ops a []) (Spent sp.seq) =
-        subst (λ (o : Outcome). Stood (setup_for p) B w c (n + a + 1) (get_or ops a []) o) sp.is (f.ran.calls.each a (omega (arith, sp.count))) in
-        own_of [] (Ran_out sp.seq) spent_ending tt refl (omega (arith, spent_all, few_begun))
-        (λ k y there same. let low = told.2 k there.from (omega (arith, there.upto, stood.1)) y no_call there.among same in omega (arith, low, f.ran.calls.made, spent_all))
-        refl (omega arith) (omega (arith, spent_all, few_begun), stood.1 ∙ stood.0)
+        subst (λ (o : Outcome). Stood (setup_for p) B w c (n + a + 1) (get_or ops a []) o) sp.is (f.calls.each a sp.among) in
+        own_of [] (Ran_out sp.last_seq) spent_ending tt refl (omega (arith, spent_left))
+        (λ k y there same. let low = stood.2 k there.from (omega (arith, sound.reaches, there.upto)) y no_call there.among same in omega (arith, low))
+        refl (omega arith) (spent_left, stood.1 ∙ stood.0)
 
   done_case : a ≡ to_do p s c → IsOwnOf p s B w e c []
   done_case same =
-      own_of [] Done (f.ran.ended ∙ done_at outs (machine w c).steps (to_do p s c) a same) tt refl (omega (arith, same))
+      own_of [] Done (f.tells.ended ∙ done_at outs (machine w c).steps (to_do p s c) a same) tt refl (omega (arith, same))
       (λ k y there mine. omega (arith, (was_begun k y there mine).1, few_begun, same)) refl (omega arith) same
 
   module _ (all : a ≡ length outs) (less : a < to_do p s c) (ending : ending_of e c ≡ Stopped ((machine w c).steps + 1)) where
@@ -329,19 +316,19 @@ module _ (p : Plan) (s : Start) (B : TableStart) (w : World) (sound : IsSound (s
     | inl same ↦ ([], done_case same)
     | inr (inl less) ↦
         stopped_case all.same less
-        (f.ran.ended ∙ halted_at outs (machine w c).steps (to_do p s c) a (λ same. absurd (omega (arith, same, less))) ∙ stopped_at (last_of outs) (machine w c).steps all.after)
+        (f.tells.ended ∙ halted_at outs (machine w c).steps (to_do p s c) a (λ same. absurd (omega (arith, same, less))) ∙ stopped_at (last_of outs) (machine w c).steps all.after)
     | inr (inr high) ↦ absurd (omega (arith, high, all.same, few_ended, few_begun))
   ]
 
   pub own_at : (extra : List CallEntry) × IsOwnOf p s B w e c extra
-  own_at = elim (ends_so outs (answers_of e c) None refl f.ran.told spent_last) [
+  own_at = elim (ends_so outs (answers_of e c) None refl f.tells.told f.tells.answers_first) [
     | inl all ↦ all_case all
     | inr one ↦ ([], spent_case one)
   ]
 
   -- of a stopped caller no call was spent
   pub stopped_unspent : state_of (ending_of e c) ≡ stopped → NoneSpent outs
-  stopped_unspent state = elim (ends_so outs (answers_of e c) None refl f.ran.told spent_last) [
+  stopped_unspent state = elim (ends_so outs (answers_of e c) None refl f.tells.told f.tells.answers_first) [
     | inl all ↦ all.none
     | inr one ↦ let two : spent ≡ stopped = sym (ap state_of (spent_ending one)) ∙ state in absurd (cc)
   ]

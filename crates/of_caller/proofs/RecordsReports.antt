@@ -15,7 +15,7 @@ use Rattle.of_plan.specs.Report.{CallEntry, Start, Report, entries_of, finished_
 use Rattle.of_plan.specs.Ended.{Run, answers_of, ending_of}
 use Rattle.of_plan.specs.Allowance.{least_steps}
 use Rattle.of_core.specs.World.{World, Start as TableStart}
-use Rattle.of_caller.specs.Runs.{IsRunOf}
+use Rattle.of_caller.specs.Runs.{IsRunOf, RunsAreReported}
 use Rattle.of_caller.proofs.RecordsLists.{length-answer_entries}
 use Rattle.of_caller.proofs.RecordsOwn.{answer_is}
 use Rattle.of_caller.proofs.RecordsLawful.{narrow}
@@ -63,5 +63,5 @@ module _ (p : Plan) (s : Start) (B : TableStart) (w : World) (e : Run) (run : Is
       }
 
 -- of the report of a run's record
-pub run_reports : (p : Plan) (s : Start) (B : TableStart) (w : World) (e : Run) → IsRunOf p s B w e → (r : Report) → IsLawful p s e r → ReportsRun p s e r
+pub run_reports : RunsAreReported
 run_reports = run_reported

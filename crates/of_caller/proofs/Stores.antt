@@ -34,8 +34,9 @@ use Rattle.of_core.specs.Events.{machine}
 use Rattle.of_caller.specs.Tables.{setup_for, operation_of}
 use Rattle.of_core.specs.Calls.{Stood}
 use Rattle.of_caller.specs.Moments.{script_of_ticket, call_script, batch_calls, batch_scripts, store_behind, store_after}
+use Rattle.of_caller.specs.Runs.{IsMomentOf}
 use Rattle.of_caller.proofs.StoresHeld.{HasReply, has_reply}
-use Rattle.of_caller.proofs.StoresMoments.{IsMoment, IsOperation, IsCallOf, operation_is, op_is}
+use Rattle.of_caller.proofs.StoresMoments.{IsOperation, IsCallOf, operation_is, op_is}
 use Rattle.of_caller.proofs.StoresReplay.{no_response, batch_is, same_from, same_length, replay_more, legal_at, IsReplied, Cells, runs, calls_lead, call_replied}
 
 -- a read of the store after its sequence has the reply that its script has there
@@ -76,7 +77,7 @@ abbrev pub IsHeldAt : Plan → Start → TableStart → World → (i t k : ℕ) 
 IsHeldAt p s B w i t k raw true = IsAnnouncedAt p s B w i t k raw
 IsHeldAt p s B w i t k raw false = IsReadAt p s B w i t k raw
 
-module _ (p : Plan) (s : Start) (B : TableStart) (w : World) (ops : ℕ → List (List ℕ)) (outs : ℕ → List Outcome) (h : IsMoment p s B w ops outs) where
+module _ (p : Plan) (s : Start) (B : TableStart) (w : World) (ops : ℕ → List (List ℕ)) (outs : ℕ → List Outcome) (h : IsMomentOf p s B w ops outs) where
   abbrev S : Setup
   S = setup_for p
 

@@ -12,20 +12,9 @@ use Rattle.of_plan.specs.Report.{Start, finished_of}
 use Rattle.of_core.specs.declared.place.Outcome.{Outcome}
 use Rattle.of_core.specs.Machine.{Call}
 use Rattle.of_core.specs.World.{World, Start as TableStart}
-use Rattle.of_core.specs.Claim.{IsSound}
-use Rattle.of_caller.specs.Tables.{setup_for, operation_of}
-use Rattle.of_core.specs.Calls.{Calls}
+use Rattle.of_caller.specs.Tables.{operation_of}
 use Rattle.of_caller.specs.Moments.{script_of_ticket, batch_calls}
-use Rattle.of_caller.specs.Starts.{StartsAt}
-use Rattle.of_caller.specs.Runs.{AreNext}
-
--- what is known of a world of a plan's table, where the callers have begun these calls and they have ended so
-pub record IsMoment (p : Plan) (s : Start) (B : TableStart) (w : World) (ops : ℕ → List (List ℕ)) (outs : ℕ → List Outcome) : Type 0 where
-  pub plan : IsPlan p
-  pub starts : StartsAt p s B
-  pub sound : IsSound (setup_for p) B w
-  pub scripts : (i : ℕ) → i < p.callers → AreNext p (finished_of s i) i (ops i)
-  pub calls : (i : ℕ) → i < p.callers → Calls (setup_for p) B (finished_of s i) w i (ops i) (outs i)
+use Rattle.of_caller.specs.Runs.{IsMomentOf}
 
 -- the work that a plan's table runs
 abbrev pub work_of : (p : Plan) → IsPlan p → Scripts
@@ -43,7 +32,7 @@ pub record IsOperation (p : Plan) (i t : ℕ) (op : List ℕ) : Type 0 where
 abbrev pub IsCallOf : Plan → Call → Type 0
 IsCallOf p c = IsOperation p c.caller c.ticket c.op
 
-module _ (p : Plan) (s : Start) (B : TableStart) (w : World) (ops : ℕ → List (List ℕ)) (outs : ℕ → List Outcome) (h : IsMoment p s B w ops outs) where
+module _ (p : Plan) (s : Start) (B : TableStart) (w : World) (ops : ℕ → List (List ℕ)) (outs : ℕ → List Outcome) (h : IsMomentOf p s B w ops outs) where
   -- what a caller has begun is its scripts in order
   pub operation_is : (i t : ℕ) (op : List ℕ) → i < p.callers → finished_of s i < t → t ≤ finished_of s i + length (ops i) → op ≡ get_or (ops i) (t - finished_of s i - 1) [] → IsOperation p i t op
   operation_is i t op l some among is =

@@ -32,8 +32,9 @@ use Rattle.of_core.specs.History.{at, state, numbers, Absent, InRow, LastCall, S
 use Rattle.of_caller.specs.Tables.{setup_for}
 use Rattle.of_caller.specs.Moments.{batch_calls, batch_scripts, store_after}
 use Rattle.of_caller.specs.Starts.{number_in}
+use Rattle.of_caller.specs.Runs.{IsMomentOf}
 use Rattle.of_caller.proofs.StoresHeld.{HasReply, has_reply}
-use Rattle.of_caller.proofs.StoresMoments.{IsMoment, op_is}
+use Rattle.of_caller.proofs.StoresMoments.{op_is}
 use Rattle.of_caller.proofs.StoresReplay.{no_response, number_at, state_start}
 use Rattle.of_caller.proofs.Stores.{is_stored, replied}
 
@@ -87,7 +88,7 @@ module _ (f g : ℕ → ℕ) (c : ℕ) (same : (a : ℕ) → IsOwnCell c a → f
             record { reply = holds.reply; held = subst (λ (raw : RawReply). IsHeldBy raw holds.reply) same_reply holds.held; few = holds.few };
       }
 
-module _ (p : Plan) (s : Start) (B : TableStart) (w : World) (ops : ℕ → List (List ℕ)) (outs : ℕ → List Outcome) (h : IsMoment p s B w ops outs) (e : Run) (left : e.words ≡ w.words) where
+module _ (p : Plan) (s : Start) (B : TableStart) (w : World) (ops : ℕ → List (List ℕ)) (outs : ℕ → List Outcome) (h : IsMomentOf p s B w ops outs) (e : Run) (left : e.words ≡ w.words) where
   abbrev S : Setup
   S = setup_for p
 

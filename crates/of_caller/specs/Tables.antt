@@ -10,7 +10,7 @@ use Rattle.of_eval.specs.ScriptPrograms.{script_program}
 use Rattle.of_eval.specs.Scripts.{StandsForSome, is_success, script_reads}
 use Rattle.of_plan.specs.Plan.{Plan, data_cells}
 use Rattle.of_core.specs.Table.{Setup, setup_of}
-use Rattle.of_core.specs.World.{World}
+use Rattle.of_core.specs.World.{World, Start}
 use Rattle.of_core.specs.Events.{opening, zeros}
 use Rattle.of_core.specs.Moment.{table_words}
 
@@ -26,9 +26,13 @@ setup_for p = setup_of p.callers (data_cells p.callers p.blocks) p.limit (meanin
 abbrev pub lawful_for : Plan → List ℕ → Type 0
 lawful_for p xs = StandsForSome (base_of p.callers MOST_INSTRS) p.blocks (memory xs)
 
--- the table of a plan before anything has happened
+-- the table of a plan at a start, before anything has happened
+abbrev pub opening_at : Plan → Start → World
+opening_at p B = opening (setup_for p) B (table_words (setup_for p))
+
+-- the same of zeros
 abbrev pub opening_for : Plan → World
-opening_for p = opening (setup_for p) (zeros (setup_for p)) (table_words (setup_for p))
+opening_for p = opening_at p (zeros (setup_for p))
 
 -- the operation of a script
 abbrev pub operation_of : List Instr → List ℕ

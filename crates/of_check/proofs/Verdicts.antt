@@ -65,14 +65,6 @@ claims_each p plan text legal =
 pub same_text : (p : Plan) → IsPlan p → (text : List ℕ) (made : Report) → IsClaimed p (calls_in text) (ends_in text) made → IsLegalText p text → report_text made ≡ text
 same_text p plan text made is legal = ap report_text (is.only legal.report legal.legal (makes_read p plan text legal)) ∙ sym legal.is
 
--- legal reports with one text are one report
-pub same_report : (p : Plan) → IsPlan p → (one other : Report) → IsLegal p (empty_start p) one → IsLegal p (empty_start p) other → report_text one ≡ report_text other → one ≡ other
-same_report p plan one other first second same =
-    let text = report_text one in
-    let makes = makes_read p plan text (record { report = one; legal = first; is = refl }) in
-    let others = makes_read p plan text (record { report = other; legal = second; is = same }) in
-    sym (remade_report p one first (calls_in text) (ends_in text) makes).same ∙ (remade_report p other second (calls_in text) (ends_in text) others).same
-
 -- the answer of a comparison
 pub differs : (a b : List ℕ) (r : Bool) → r ≡ not (bytes_eq a b) → r ≡ true → a ≡ b → ⊥
 differs a b r is unequal same = absurd (let e = sym unequal ∙ is ∙ ap not ((bytes_eq-Decides a b).1 same) in cc)

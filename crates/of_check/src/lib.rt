@@ -3,7 +3,6 @@
 
 mod claims;
 mod endings;
-pub mod laws;
 mod replay;
 #[cfg(test)]
 mod tests;

@@ -13,7 +13,7 @@ use Rattle.of_tool.specs.declared.command.Command.TheVariants.{Serial, Play, Che
 use Rattle.of_tool.specs.declared.command.TheConstants.{HELP, VERSION}
 use Rattle.of_tool.specs.declared.status.TheConstants.{DONE, ILLEGAL}
 use Rattle.of_tool.specs.Commands.{words_of}
-use Rattle.of_tool.specs.Verdicts.{Verdict, Helped, Named, Replayed, Played, FoundLegal, FoundIllegal, NoCommand, ReadFault, TooLong, BadPlan, HasCause, status_of, text_of, SourceState, SinkState, IsAnswer, IsWritten, IsReplayed, PlaysPlan, AskForPlan, limit_of, AsksUpTo, AskForInput, ReadsNoPlan, ReadsNoFirst, ChecksReport, IsPlanInput, IsCheckInput, IsValidInput}
+use Rattle.of_tool.specs.Verdicts.{Verdict, ShowsHelp, ShowsVersion, Replayed, Played, FoundLegal, FoundIllegal, NoCommand, ReadFault, TooLong, BadPlan, HasCause, status_of, text_of, SourceState, SinkState, IsAnswer, IsWritten, IsReplayed, PlaysPlan, AskForPlan, limit_of, AsksUpTo, AskForInput, ReadsNoPlan, ReadsNoFirst, ChecksReport, IsPlanInput, IsCheckInput, IsValidInput}
 
 -- the command of a word
 abbrev named_by : List ℕ → Option Command
@@ -62,8 +62,8 @@ bad_asks words line (inr h) = (MOST_WITH_REPORT, (Check, h.0, refl))
 -- ---- the answers of each command
 
 helped : (words : List (List ℕ)) (before after : SourceState) (v : Verdict) → words ≡ words_of Help → HasCause words before after v → (status_of v ≡ DONE) × (text_of v ≡ HELP.now)
-helped words before after Helped is h = (refl, refl)
-helped words before after Named is h = absurd (let e = words_of_injective Help Version (sym is ∙ h) in cc)
+helped words before after ShowsHelp is h = (refl, refl)
+helped words before after ShowsVersion is h = absurd (let e = words_of_injective Help Version (sym is ∙ h) in cc)
 helped words before after (Replayed plan) is h = absurd (let e = words_of_injective Help Serial (sym is ∙ h.0) in cc)
 helped words before after (Played plan report) is h = absurd (let e = words_of_injective Help Play (sym is ∙ h.0) in cc)
 helped words before after NoCommand is h = absurd (h Help is)
@@ -74,8 +74,8 @@ helped words before after TooLong is h = absurd (reads_nothing words Help refl i
 helped words before after (BadPlan line) is h = absurd (reads_nothing words Help refl is (bad_asks words line h))
 
 named : (words : List (List ℕ)) (before after : SourceState) (v : Verdict) → words ≡ words_of Version → HasCause words before after v → (status_of v ≡ DONE) × (text_of v ≡ VERSION.now)
-named words before after Helped is h = absurd (let e = words_of_injective Version Help (sym is ∙ h) in cc)
-named words before after Named is h = (refl, refl)
+named words before after ShowsHelp is h = absurd (let e = words_of_injective Version Help (sym is ∙ h) in cc)
+named words before after ShowsVersion is h = (refl, refl)
 named words before after (Replayed plan) is h = absurd (let e = words_of_injective Version Serial (sym is ∙ h.0) in cc)
 named words before after (Played plan report) is h = absurd (let e = words_of_injective Version Play (sym is ∙ h.0) in cc)
 named words before after NoCommand is h = absurd (h Version is)
@@ -96,8 +96,8 @@ version_answer words before after status text is a =
     let v = named words before after a.verdict is a.cause in (a.status_is ∙ v.0, a.text_is ∙ v.1)
 
 replayed : (words : List (List ℕ)) (before after : SourceState) (old new : SinkState) (v : Verdict) → words ≡ words_of Serial → status_of v ≡ DONE → HasCause words before after v → IsWritten old new (text_of v) → IsReplayed before after old new
-replayed words before after old new Helped is done h w = absurd (let e = words_of_injective Serial Help (sym is ∙ h) in cc)
-replayed words before after old new Named is done h w = absurd (let e = words_of_injective Serial Version (sym is ∙ h) in cc)
+replayed words before after old new ShowsHelp is done h w = absurd (let e = words_of_injective Serial Help (sym is ∙ h) in cc)
+replayed words before after old new ShowsVersion is done h w = absurd (let e = words_of_injective Serial Version (sym is ∙ h) in cc)
 replayed words before after old new (Replayed plan) is done h w = record { plan = plan; read = h.1; legal = serial_legal plan; written = w }
 replayed words before after old new (Played plan report) is done h w = absurd (let e = words_of_injective Serial Play (sym is ∙ h.0) in cc)
 replayed words before after old new FoundLegal is done h w = absurd (let e = words_of_injective Serial Check (sym is ∙ h.0) in cc)
@@ -114,8 +114,8 @@ serial_answer words before after old new status text is done a w =
     replayed words before after old new a.verdict is (sym a.status_is ∙ done) a.cause (let P : List ℕ → Type 0 = IsWritten old new in subst P a.text_is w)
 
 plays : (words : List (List ℕ)) (before after : SourceState) (old new : SinkState) (v : Verdict) → words ≡ words_of Play → status_of v ≡ DONE → HasCause words before after v → IsWritten old new (text_of v) → PlaysPlan before after old new
-plays words before after old new Helped is done h w = absurd (let e = words_of_injective Play Help (sym is ∙ h) in cc)
-plays words before after old new Named is done h w = absurd (let e = words_of_injective Play Version (sym is ∙ h) in cc)
+plays words before after old new ShowsHelp is done h w = absurd (let e = words_of_injective Play Help (sym is ∙ h) in cc)
+plays words before after old new ShowsVersion is done h w = absurd (let e = words_of_injective Play Version (sym is ∙ h) in cc)
 plays words before after old new (Replayed plan) is done h w = absurd (let e = words_of_injective Play Serial (sym is ∙ h.0) in cc)
 plays words before after old new (Played plan report) is done h w = record { plan = plan; read = h.1; report = report; played = h.2; written = w }
 plays words before after old new FoundLegal is done h w = absurd (let e = words_of_injective Play Check (sym is ∙ h.0) in cc)
@@ -141,8 +141,8 @@ more_bytes n bytes (Some rest) t = omega (arith, ap length t.2, length-append t.
 
 -- what `check` says
 checks : (words : List (List ℕ)) (before after : SourceState) (v : Verdict) → words ≡ words_of Check → HasCause words before after v → ChecksReport before after (status_of v)
-checks words before after Helped is h = absurd (let e = words_of_injective Check Help (sym is ∙ h) in cc)
-checks words before after Named is h = absurd (let e = words_of_injective Check Version (sym is ∙ h) in cc)
+checks words before after ShowsHelp is h = absurd (let e = words_of_injective Check Help (sym is ∙ h) in cc)
+checks words before after ShowsVersion is h = absurd (let e = words_of_injective Check Version (sym is ∙ h) in cc)
 checks words before after (Replayed plan) is h = absurd (let e = words_of_injective Check Serial (sym is ∙ h.0) in cc)
 checks words before after (Played plan report) is h = absurd (let e = words_of_injective Check Play (sym is ∙ h.0) in cc)
 checks words before after FoundLegal is h = record { legal = λ e. h.1; illegal = λ e. absurd (omega arith) }
@@ -204,8 +204,8 @@ abbrev pub IsComplete : Command → ℕ → Type 0
 IsComplete command status = (status ≡ DONE) ⊎ ((command ≡ Check) × (status ≡ ILLEGAL))
 
 completed : OneCut → (words : List (List ℕ)) (before after : SourceState) (command : Command) (v : Verdict) → words ≡ words_of command → IsValidInput command before.left → ¬ (Rose before.faults after.faults) → HasCause words before after v → IsComplete command (status_of v)
-completed one_cut words before after command Helped is valid calm h = inl refl
-completed one_cut words before after command Named is valid calm h = inl refl
+completed one_cut words before after command ShowsHelp is valid calm h = inl refl
+completed one_cut words before after command ShowsVersion is valid calm h = inl refl
 completed one_cut words before after command (Replayed plan) is valid calm h = inl refl
 completed one_cut words before after command (Played plan report) is valid calm h = inl refl
 completed one_cut words before after command FoundLegal is valid calm h = inl refl

@@ -4,7 +4,7 @@ use Rattle.std.specs.Prelude.{◌&&◌, not, nat_lt, flat_map, slice_index_or}
 use Rattle.std.specs.List.{AllByRecursion as Each}
 use Rattle.of_plan.specs.declared.plan.Item.{Item}
 use Rattle.of_plan.specs.declared.plan.Item.TheVariants.{Turns as Turns_of, Evict}
-use Rattle.of_plan.specs.Plan.{Plan, IsPlan, scripts_of}
+use Rattle.of_plan.specs.Plan.{Plan, scripts_of}
 use Rattle.of_plan.proofs.HistoriesLists.{each_append}
 use Rattle.of_core.specs.World.{World}
 use Rattle.of_core.specs.Machine.{is_idle}
@@ -12,6 +12,7 @@ use Rattle.of_core.specs.Events.{Event, Begins, Turns, Loads, Evicts, Raises, ma
 use Rattle.of_caller.specs.Tables.{setup_for, opening_for, operation_of}
 use Rattle.of_caller.specs.Ends.{is_spent}
 use Rattle.of_tool.specs.Play.{moves_in, moves_for, begins_call, next_call, with_begin, events_from, play_events}
+use Rattle.of_tool.proofs.PlaysMoments.{IsPlayable}
 use Rattle.of_tool.proofs.PlaysUnspent.{NoneAfterSpent, IsSpentLast, spent_last}
 
 -- ---- the schedule of a plan
@@ -73,5 +74,5 @@ module _ (p : Plan) (c : ℕ) where
   play_unspent = moves_unspent (moves_for p) (opening_for p) (all_moves p.schedule)
 
 -- so a spent call is the last of its caller's there
-pub play_spent_last : (p : Plan) → IsPlan p → IsSchedule (setup_for p) (opening_for p) (play_events p) → IsSpentLast p (play_events p)
-play_spent_last p plan schedule = spent_last p plan (play_events p) schedule (λ c lt. play_unspent p c)
+pub play_spent_last : (p : Plan) → IsPlayable p → IsSchedule (setup_for p) (opening_for p) (play_events p) → IsSpentLast p (play_events p)
+play_spent_last p play schedule = spent_last p play (play_events p) schedule (λ c lt. play_unspent p c)

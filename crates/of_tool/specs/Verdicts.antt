@@ -21,7 +21,7 @@ use Rattle.of_tool.specs.declared.top.TheConstants.{MOST_INPUT, MOST_WITH_REPORT
 use Rattle.of_tool.specs.Commands.{words_of, IsNoCommand}
 use Rattle.of_tool.specs.Play.{IsPlayed}
 
--- the report of what a plan's schedule leaves: of all that holds of every run's report, and each caller keeps to its turns
+-- the report of what a plan's schedule leaves: it says of that run what holds of every run, and each caller keeps to its turns
 pub record IsPlayedReport (p : Plan) (r : Report) : Type 0 where
   pub run : Run
   pub played : IsPlayed p run
@@ -30,8 +30,8 @@ pub record IsPlayedReport (p : Plan) (r : Report) : Type 0 where
 
 -- what the words and the input lead to
 pub data Verdict : Type 0 where
-  Helped : Verdict
-  Named : Verdict
+  ShowsHelp : Verdict
+  ShowsVersion : Verdict
   Replayed : Plan → Verdict
   Played : Plan → Report → Verdict
   FoundLegal : Verdict
@@ -43,8 +43,8 @@ pub data Verdict : Type 0 where
 
 -- its status
 abbrev pub status_of : Verdict → ℕ
-status_of Helped = DONE
-status_of Named = DONE
+status_of ShowsHelp = DONE
+status_of ShowsVersion = DONE
 status_of (Replayed plan) = DONE
 status_of (Played plan report) = DONE
 status_of FoundLegal = DONE
@@ -56,8 +56,8 @@ status_of (BadPlan line) = BAD_PLAN
 
 -- what is to be written
 abbrev pub text_of : Verdict → List ℕ
-text_of Helped = HELP.now
-text_of Named = VERSION.now
+text_of ShowsHelp = HELP.now
+text_of ShowsVersion = VERSION.now
 text_of (Replayed plan) = report_text (serial_report plan)
 text_of (Played plan report) = report_text report
 text_of FoundLegal = codes "legal report\n"
@@ -159,8 +159,8 @@ AskForInput words = (most : ℕ) × AsksUpTo words most
 
 -- why a verdict comes
 abbrev pub HasCause : List (List ℕ) → SourceState → SourceState → Verdict → Type 0
-HasCause words before after Helped = words ≡ words_of Help
-HasCause words before after Named = words ≡ words_of Version
+HasCause words before after ShowsHelp = words ≡ words_of Help
+HasCause words before after ShowsVersion = words ≡ words_of Version
 HasCause words before after (Replayed plan) = (words ≡ words_of Serial) × ReadsPlan before after plan
 HasCause words before after (Played plan report) = (words ≡ words_of Play) × ReadsPlan before after plan × IsPlayedReport plan report
 HasCause words before after NoCommand = IsNoCommand words

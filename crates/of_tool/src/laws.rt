@@ -2,7 +2,6 @@
 
 ghost use Rattle.std.specs.Prelude.{◌≡◌};
 ghost use Rattle.of_core.specs.Events.{IsSchedule};
-ghost use Rattle.of_plan.specs.Plan.{Plan, IsPlan};
 ghost use Rattle.of_caller.specs.Tables.{setup_for, opening_for};
 ghost use Rattle.of_tool.specs.Play.{play_events};
 
@@ -10,11 +9,15 @@ use crate::status::{
     BAD_PLAN, DONE, ILLEGAL, OUT_OF_MEMORY, READ_FAULT, TOO_LONG, USAGE, WRITE_FAULT,
 };
 use crate::top::{MOST_INPUT, MOST_WITH_REPORT};
+use of_caller::laws::plan_keeps_laws;
+use of_plan::Plan;
 
 /// Each event of a plan's schedule may happen when it comes; so what they leave is a moment, with all that holds of every moment.
-pub fn plans_have_schedules()
-    ensures { (p : Plan) → IsPlan p → IsSchedule (setup_for p) (opening_for p) (play_events p) }
-{}
+pub fn plans_have_schedules(plan: &Plan)
+    ensures { IsSchedule (setup_for plan.now) (opening_for plan.now) (play_events plan.now) }
+{
+    plan_keeps_laws(plan);
+}
 
 /// The exit statuses, and how many bytes a command reads at most.
 pub fn numbers()
