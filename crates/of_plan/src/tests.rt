@@ -1,7 +1,7 @@
 ghost use Rattle.std.specs.Prelude.{◌≡◌, IfOk, MatchResult};
 ghost use Rattle.of_plan.specs.declared.parsing.PlanErr.TheVariants.{Memory};
 
-use crate::{GREATEST_LIMIT, Item, Plan, PlanErr, parse, print};
+use crate::{GREATEST_LIMIT, Item, Plan, PlanErr, parse, parts, print};
 use std::alloc::{AllocError, Global};
 use std::test::Fail;
 
@@ -112,5 +112,21 @@ fn shows_what_it_holds(rt: HostRuntime) -> Result<(), Fail> {
         count: 5,
     };
     assert_eq!(rt; plan.schedule(), [turns].as_slice());
+    Ok(())
+}
+
+#[test]
+fn parts_of_inputs(rt: HostRuntime) -> Result<(), Fail> {
+    for (input, first, second) in [
+        ("a\nend\nb\nend\n", "a\nend\n", "b\nend\n"),
+        ("a\n  end \n\n", "a\n  end \n", "\n"),
+        ("end ;\nend;\nend", "end ;\nend;\nend", ""),
+        ("the end\nend 1\nend\n", "the end\nend 1\nend\n", ""),
+        ("", "", ""),
+    ] {
+        let (one, two) = parts(input.as_bytes());
+        assert_eq!(rt; one, first.as_bytes(), "{input}");
+        assert_eq!(rt; two, second.as_bytes(), "{input}");
+    }
     Ok(())
 }

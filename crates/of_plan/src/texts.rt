@@ -4,6 +4,7 @@ ghost use Rattle.std.specs.Prelude.{◌≡◌, List, ℕ};
 ghost use Rattle.of_plan.specs.Plan.{Plan, IsPlan};
 ghost use Rattle.of_plan.specs.Grammar.{SpellsPlan};
 ghost use Rattle.of_plan.specs.PlanText.{plan_text};
+ghost use Rattle.of_plan.specs.Parts.{OneCut};
 
 /// A plan that a text spells keeps the ranges of plans.
 pub fn spelled_is_plan()
@@ -18,4 +19,9 @@ pub fn one_plan()
 /// What is printed of a plan is read again as that plan.
 pub fn printed_is_read()
     ensures { (plan : Plan) → IsPlan plan → SpellsPlan (plan_text plan) plan }
+{}
+
+/// An input has one pair of parts.
+pub fn one_cut()
+    ensures { OneCut }
 {}

@@ -1,47 +1,65 @@
 -- No two commands have the same words, so a command has its own answers alone.
-use Rattle.std.proofs.Common.{◌≡◌, ◌<◌, inl, inr, List, ℕ, [], ◌∷◌, ◌++◌, length, Option, None, Some, false, refl, sym, ap, subst, ◌∙◌, arith, append-nil, length-append}
+use Rattle.std.proofs.Common.{◌≡◌, ◌<◌, ◌≤◌, ◌⊎◌, inl, inr, List, ℕ, [], ◌∷◌, ◌++◌, length, Option, None, Some, refl, sym, ap, subst, ◌∙◌, arith, append-nil, length-append}
 use Rattle.std.specs.Io.KnownBytes.{Consumes, IsAtEnd}
 use Rattle.of_io.specs.Faults.{Rose, TakesMoreThan}
 use Rattle.of_plan.specs.Grammar.{SpellsPlan}
-use Rattle.of_tool.specs.declared.top.TheConstants.{MOST_INPUT}
+use Rattle.of_plan.specs.Parts.{AreParts, OneCut}
+use Rattle.of_tool.specs.declared.top.TheConstants.{MOST_INPUT, MOST_WITH_REPORT}
+use Rattle.std.specs.Prelude.{codes, if◌then◌else◌}
 use Rattle.std.specs.Str.{bytes_eq}
-use Rattle.std.proofs.lemmas.Slice.Eq.{bytes_eq-Decides}
 use Rattle.of_plan.proofs.SerialLegal.{serial_legal}
 use Rattle.of_tool.specs.declared.command.Command.{Command}
-use Rattle.of_tool.specs.declared.command.Command.TheVariants.{Serial, Play, Help, Version}
+use Rattle.of_tool.specs.declared.command.Command.TheVariants.{Serial, Play, Check, Help, Version}
 use Rattle.of_tool.specs.declared.command.TheConstants.{HELP, VERSION}
-use Rattle.of_tool.specs.declared.status.TheConstants.{DONE}
+use Rattle.of_tool.specs.declared.status.TheConstants.{DONE, ILLEGAL}
 use Rattle.of_tool.specs.Commands.{words_of}
-use Rattle.of_tool.specs.Verdicts.{Verdict, ShowsHelp, ShowsVersion, Replayed, Played, NoCommand, ReadFault, TooLong, BadPlan, HasCause, status_of, text_of, SourceState, SinkState, IsAnswer, IsWritten, IsReplayed, PlaysPlan, AskForPlan, IsPlanInput, IsValidInput}
+use Rattle.of_tool.specs.Verdicts.{Verdict, ShowsHelp, ShowsVersion, Replayed, Played, FoundLegal, FoundIllegal, NoCommand, ReadFault, TooLong, BadPlan, HasCause, status_of, text_of, SourceState, SinkState, IsAnswer, IsWritten, IsReplayed, PlaysPlan, AskForPlan, limit_of, AsksUpTo, AskForInput, ReadsNoPlan, ReadsNoFirst, ChecksReport, IsPlanInput, IsCheckInput, IsValidInput}
 
-first_same : (x y : List ℕ) → x ∷ [] ≡ y ∷ [] → x ≡ y
-first_same x y e = cc
+-- the command of a word
+abbrev named_by : List ℕ → Option Command
+named_by w =
+    if bytes_eq w (codes "serial") then Some Serial
+    else if bytes_eq w (codes "play") then Some Play
+    else if bytes_eq w (codes "check") then Some Check
+    else if bytes_eq w (codes "--help") then Some Help
+    else if bytes_eq w (codes "--version") then Some Version
+    else None
 
-differ : (x y : List ℕ) → bytes_eq x y ≡ false → x ∷ [] ≡ y ∷ [] → ⊥
-differ x y apart e = let same = (bytes_eq-Decides x y).1 (first_same x y e) in cc
+-- the command of some words
+abbrev command_of : List (List ℕ) → Option Command
+command_of [] = None
+command_of (w ∷ []) = named_by w
+command_of (w ∷ v ∷ ws) = None
+
+command_again : (c : Command) → command_of (words_of c) ≡ Some c
+command_again Serial = refl
+command_again Play = refl
+command_again Check = refl
+command_again Help = refl
+command_again Version = refl
 
 pub words_of_injective : (c d : Command) → words_of c ≡ words_of d → c ≡ d
-words_of_injective Serial Serial e = refl
-words_of_injective Serial Play e = absurd (differ _ _ refl e)
-words_of_injective Serial Help e = absurd (differ _ _ refl e)
-words_of_injective Serial Version e = absurd (differ _ _ refl e)
-words_of_injective Play Serial e = absurd (differ _ _ refl e)
-words_of_injective Play Play e = refl
-words_of_injective Play Help e = absurd (differ _ _ refl e)
-words_of_injective Play Version e = absurd (differ _ _ refl e)
-words_of_injective Help Serial e = absurd (differ _ _ refl e)
-words_of_injective Help Play e = absurd (differ _ _ refl e)
-words_of_injective Help Help e = refl
-words_of_injective Help Version e = absurd (differ _ _ refl e)
-words_of_injective Version Serial e = absurd (differ _ _ refl e)
-words_of_injective Version Play e = absurd (differ _ _ refl e)
-words_of_injective Version Help e = absurd (differ _ _ refl e)
-words_of_injective Version Version e = refl
+words_of_injective c d e = let same : ◌≡◌ {A = Option Command} (Some c) (Some d) = sym (command_again c) ∙ ap command_of e ∙ command_again d in cc
 
--- words that are those of another command are no command's that reads a plan
-asks_none : (words : List (List ℕ)) (c : Command) → words ≡ words_of c → (c ≡ Serial → ⊥) → (c ≡ Play → ⊥) → AskForPlan words → ⊥
-asks_none words c is no_serial no_play (inl h) = no_serial (words_of_injective c Serial (sym is ∙ h))
-asks_none words c is no_serial no_play (inr h) = no_play (words_of_injective c Play (sym is ∙ h))
+-- ---- what a command reads
+
+-- how many bytes it reads
+limit_is : (words : List (List ℕ)) (c : Command) (most : ℕ) → words ≡ words_of c → AsksUpTo words most → limit_of c ≡ Some most
+limit_is words c most is asks = ap limit_of (words_of_injective c asks.0 (sym is ∙ asks.1)) ∙ asks.2
+
+-- one without a limit doesn't read
+reads_nothing : (words : List (List ℕ)) (c : Command) → limit_of c ≡ None → words ≡ words_of c → AskForInput words → ⊥
+reads_nothing words c none is asks = let e : ◌≡◌ {A = Option ℕ} None (Some asks.0) = sym none ∙ limit_is words c asks.0 is asks.1 in cc
+
+pub plan_asks : (words : List (List ℕ)) → AskForPlan words → AsksUpTo words MOST_INPUT
+plan_asks words (inl h) = (Serial, h, refl)
+plan_asks words (inr h) = (Play, h, refl)
+
+bad_asks : {before after : SourceState} (words : List (List ℕ)) (line : ℕ) → (AskForPlan words × ReadsNoPlan before after line) ⊎ ((words ≡ words_of Check) × ReadsNoFirst before after line) → AskForInput words
+bad_asks words line (inl h) = (MOST_INPUT, plan_asks words h.0)
+bad_asks words line (inr h) = (MOST_WITH_REPORT, (Check, h.0, refl))
+
+-- ---- the answers of each command
 
 helped : (words : List (List ℕ)) (before after : SourceState) (v : Verdict) → words ≡ words_of Help → HasCause words before after v → (status_of v ≡ DONE) × (text_of v ≡ HELP.now)
 helped words before after ShowsHelp is h = (refl, refl)
@@ -49,9 +67,11 @@ helped words before after ShowsVersion is h = absurd (let e = words_of_injective
 helped words before after (Replayed plan) is h = absurd (let e = words_of_injective Help Serial (sym is ∙ h.0) in cc)
 helped words before after (Played plan report) is h = absurd (let e = words_of_injective Help Play (sym is ∙ h.0) in cc)
 helped words before after NoCommand is h = absurd (h Help is)
-helped words before after ReadFault is h = absurd (asks_none words Help is (λ e. cc) (λ e. cc) h.0)
-helped words before after TooLong is h = absurd (asks_none words Help is (λ e. cc) (λ e. cc) h.0)
-helped words before after (BadPlan line) is h = absurd (asks_none words Help is (λ e. cc) (λ e. cc) h.0)
+helped words before after FoundLegal is h = absurd (let e = words_of_injective Help Check (sym is ∙ h.0) in cc)
+helped words before after FoundIllegal is h = absurd (let e = words_of_injective Help Check (sym is ∙ h.0) in cc)
+helped words before after ReadFault is h = absurd (reads_nothing words Help refl is (h.0, h.1))
+helped words before after TooLong is h = absurd (reads_nothing words Help refl is (h.0, h.1))
+helped words before after (BadPlan line) is h = absurd (reads_nothing words Help refl is (bad_asks words line h))
 
 named : (words : List (List ℕ)) (before after : SourceState) (v : Verdict) → words ≡ words_of Version → HasCause words before after v → (status_of v ≡ DONE) × (text_of v ≡ VERSION.now)
 named words before after ShowsHelp is h = absurd (let e = words_of_injective Version Help (sym is ∙ h) in cc)
@@ -59,9 +79,11 @@ named words before after ShowsVersion is h = (refl, refl)
 named words before after (Replayed plan) is h = absurd (let e = words_of_injective Version Serial (sym is ∙ h.0) in cc)
 named words before after (Played plan report) is h = absurd (let e = words_of_injective Version Play (sym is ∙ h.0) in cc)
 named words before after NoCommand is h = absurd (h Version is)
-named words before after ReadFault is h = absurd (asks_none words Version is (λ e. cc) (λ e. cc) h.0)
-named words before after TooLong is h = absurd (asks_none words Version is (λ e. cc) (λ e. cc) h.0)
-named words before after (BadPlan line) is h = absurd (asks_none words Version is (λ e. cc) (λ e. cc) h.0)
+named words before after FoundLegal is h = absurd (let e = words_of_injective Version Check (sym is ∙ h.0) in cc)
+named words before after FoundIllegal is h = absurd (let e = words_of_injective Version Check (sym is ∙ h.0) in cc)
+named words before after ReadFault is h = absurd (reads_nothing words Version refl is (h.0, h.1))
+named words before after TooLong is h = absurd (reads_nothing words Version refl is (h.0, h.1))
+named words before after (BadPlan line) is h = absurd (reads_nothing words Version refl is (bad_asks words line h))
 
 -- the answer to `--help`
 pub help_answer : (words : List (List ℕ)) (before after : SourceState) (status : ℕ) (text : List ℕ) → words ≡ words_of Help → IsAnswer words before after status text → (status ≡ DONE) × (text ≡ HELP.now)
@@ -78,6 +100,8 @@ replayed words before after old new ShowsHelp is done h w = absurd (let e = word
 replayed words before after old new ShowsVersion is done h w = absurd (let e = words_of_injective Serial Version (sym is ∙ h) in cc)
 replayed words before after old new (Replayed plan) is done h w = record { plan = plan; read = h.1; legal = serial_legal plan; written = w }
 replayed words before after old new (Played plan report) is done h w = absurd (let e = words_of_injective Serial Play (sym is ∙ h.0) in cc)
+replayed words before after old new FoundLegal is done h w = absurd (let e = words_of_injective Serial Check (sym is ∙ h.0) in cc)
+replayed words before after old new FoundIllegal is done h w = absurd (omega arith)
 replayed words before after old new NoCommand is done h w = absurd (h Serial is)
 replayed words before after old new ReadFault is done h w = absurd (omega arith)
 replayed words before after old new TooLong is done h w = absurd (omega arith)
@@ -94,6 +118,8 @@ plays words before after old new ShowsHelp is done h w = absurd (let e = words_o
 plays words before after old new ShowsVersion is done h w = absurd (let e = words_of_injective Play Version (sym is ∙ h) in cc)
 plays words before after old new (Replayed plan) is done h w = absurd (let e = words_of_injective Play Serial (sym is ∙ h.0) in cc)
 plays words before after old new (Played plan report) is done h w = record { plan = plan; read = h.1; report = report; played = h.2; written = w }
+plays words before after old new FoundLegal is done h w = absurd (let e = words_of_injective Play Check (sym is ∙ h.0) in cc)
+plays words before after old new FoundIllegal is done h w = absurd (omega arith)
 plays words before after old new NoCommand is done h w = absurd (h Play is)
 plays words before after old new ReadFault is done h w = absurd (omega arith)
 plays words before after old new TooLong is done h w = absurd (omega arith)
@@ -113,30 +139,83 @@ more_bytes : (n : ℕ) (bytes : List ℕ) (after : Option (List ℕ)) → TakesM
 more_bytes n bytes None t = absurd t.2
 more_bytes n bytes (Some rest) t = omega (arith, ap length t.2, length-append t.0 rest)
 
+-- what `check` says
+checks : (words : List (List ℕ)) (before after : SourceState) (v : Verdict) → words ≡ words_of Check → HasCause words before after v → ChecksReport before after (status_of v)
+checks words before after ShowsHelp is h = absurd (let e = words_of_injective Check Help (sym is ∙ h) in cc)
+checks words before after ShowsVersion is h = absurd (let e = words_of_injective Check Version (sym is ∙ h) in cc)
+checks words before after (Replayed plan) is h = absurd (let e = words_of_injective Check Serial (sym is ∙ h.0) in cc)
+checks words before after (Played plan report) is h = absurd (let e = words_of_injective Check Play (sym is ∙ h.0) in cc)
+checks words before after FoundLegal is h = record { legal = λ e. h.1; illegal = λ e. absurd (omega arith) }
+checks words before after FoundIllegal is h = record { legal = λ e. absurd (omega arith); illegal = λ e. h.1 }
+checks words before after NoCommand is h = absurd (h Check is)
+checks words before after ReadFault is h = record { legal = λ e. absurd (omega arith); illegal = λ e. absurd (omega arith) }
+checks words before after TooLong is h = record { legal = λ e. absurd (omega arith); illegal = λ e. absurd (omega arith) }
+checks words before after (BadPlan line) is h = record { legal = λ e. absurd (omega arith); illegal = λ e. absurd (omega arith) }
+
+pub check_answer : (words : List (List ℕ)) (before after : SourceState) (status : ℕ) (text : List ℕ) → words ≡ words_of Check → IsAnswer words before after status text → ChecksReport before after status
+check_answer words before after status text is a = let P : ℕ → Type 0 = ChecksReport before after in subst P (sym a.status_is) (checks words before after a.verdict is a.cause)
+
+-- ---- completeness
+
 valid_plan : (words : List (List ℕ)) (command : Command) (left : Option (List ℕ)) → words ≡ words_of command → AskForPlan words → IsValidInput command left → IsPlanInput left
 valid_plan words command left is (inl asks) valid = let P : Command → Type 0 = λ c. IsValidInput c left in subst P (words_of_injective command Serial (sym is ∙ asks)) valid
 valid_plan words command left is (inr asks) valid = let P : Command → Type 0 = λ c. IsValidInput c left in subst P (words_of_injective command Play (sym is ∙ asks)) valid
 
-completed : (words : List (List ℕ)) (before after : SourceState) (command : Command) (v : Verdict) → words ≡ words_of command → IsValidInput command before.left → ¬ (Rose before.faults after.faults) → HasCause words before after v → status_of v ≡ DONE
-completed words before after command ShowsHelp is valid calm h = refl
-completed words before after command ShowsVersion is valid calm h = refl
-completed words before after command (Replayed plan) is valid calm h = refl
-completed words before after command (Played plan report) is valid calm h = refl
-completed words before after command NoCommand is valid calm h = absurd (h command is)
-completed words before after command ReadFault is valid calm h = absurd (calm h.1)
-completed words before after command TooLong is valid calm h =
-    let v = valid_plan words command before.left is h.0 valid in
-    let P : Option (List ℕ) → Type 0 = λ left. TakesMoreThan MOST_INPUT left after.left in
-    let more = more_bytes MOST_INPUT v.0 after.left (subst P v.2 h.1) in
-    absurd (omega (arith, more, v.3))
-completed words before after command (BadPlan line) is valid calm h =
-    let v = valid_plan words command before.left is h.0 valid in
-    let P : Option (List ℕ) → Type 0 = λ left. Consumes left after.left h.1.bytes in
-    let same = all_taken v.0 h.1.bytes after.left (subst P v.2 h.1.read.taken) h.1.read.ended in
-    let Q : List ℕ → Type 0 = λ bytes. SpellsPlan bytes v.1 in
-    absurd (h.1.none v.1 (subst Q same v.4))
+valid_check : (words : List (List ℕ)) (command : Command) (left : Option (List ℕ)) → words ≡ words_of command → words ≡ words_of Check → IsValidInput command left → IsCheckInput left
+valid_check words command left is asks valid = let P : Command → Type 0 = λ c. IsValidInput c left in subst P (words_of_injective command Check (sym is ∙ asks)) valid
 
--- a command with a valid input is done
-pub done_where_valid : (words : List (List ℕ)) (before after : SourceState) (command : Command) (status : ℕ) (text : List ℕ) → words ≡ words_of command → IsValidInput command before.left → ¬ (Rose before.faults after.faults)
-    → IsAnswer words before after status text → status ≡ DONE
-done_where_valid words before after command status text is valid calm a = a.status_is ∙ completed words before after command a.verdict is valid calm a.cause
+some_same : (a b : ℕ) → ◌≡◌ {A = Option ℕ} (Some a) (Some b) → a ≡ b
+some_same a b e = cc
+
+-- a valid input is within the command's limit
+valid_within : (c : Command) (left : Option (List ℕ)) (most : ℕ) → limit_of c ≡ Some most → IsValidInput c left → (bytes : List ℕ) × (left ≡ Some bytes) × (length bytes ≤ most)
+valid_within Serial left most is v = (v.0, v.2, subst (λ (n : ℕ). length v.0 ≤ n) (some_same MOST_INPUT most is) v.3)
+valid_within Play left most is v = (v.0, v.2, subst (λ (n : ℕ). length v.0 ≤ n) (some_same MOST_INPUT most is) v.3)
+valid_within Check left most is v = (v.bytes, v.is, subst (λ (n : ℕ). length v.bytes ≤ n) (some_same MOST_WITH_REPORT most is) v.few)
+valid_within Help left most is v = absurd cc
+valid_within Version left most is v = absurd cc
+
+not_too_long : (words : List (List ℕ)) (before after : SourceState) (command : Command) (most : ℕ) → words ≡ words_of command → IsValidInput command before.left → AsksUpTo words most → TakesMoreThan most before.left after.left → ⊥
+not_too_long words before after command most is valid asks takes =
+    let v = valid_within command before.left most (limit_is words command most is asks) valid in
+    let P : Option (List ℕ) → Type 0 = λ left. TakesMoreThan most left after.left in
+    let more = more_bytes most v.0 after.left (subst P v.1 takes) in
+    omega (arith, more, v.2)
+
+same_bytes : (bytes taken : List ℕ) (before after : Option (List ℕ)) → before ≡ Some bytes → Consumes before after taken → IsAtEnd after → bytes ≡ taken
+same_bytes bytes taken before after is consumes ended = let P : Option (List ℕ) → Type 0 = λ left. Consumes left after taken in all_taken bytes taken after (subst P is consumes) ended
+
+not_bad : OneCut → (words : List (List ℕ)) (before after : SourceState) (command : Command) (line : ℕ) → words ≡ words_of command → IsValidInput command before.left
+    → (AskForPlan words × ReadsNoPlan before after line) ⊎ ((words ≡ words_of Check) × ReadsNoFirst before after line) → ⊥
+not_bad one_cut words before after command line is valid (inl h) =
+    let v = valid_plan words command before.left is h.0 valid in
+    let same = same_bytes v.0 h.1.bytes before.left after.left v.2 h.1.read.taken h.1.read.ended in
+    let Q : List ℕ → Type 0 = λ bytes. SpellsPlan bytes v.1 in
+    h.1.none v.1 (subst Q same v.4)
+not_bad one_cut words before after command line is valid (inr h) =
+    let v = valid_check words command before.left is h.0 valid in
+    let same = same_bytes v.bytes h.1.bytes before.left after.left v.is h.1.read.taken h.1.read.ended in
+    let here : AreParts h.1.bytes v.first v.report = subst (λ (bytes : List ℕ). AreParts bytes v.first v.report) same v.parts in
+    let Q : List ℕ → Type 0 = λ bytes. SpellsPlan bytes v.plan in
+    h.1.none v.plan (subst Q (one_cut h.1.bytes v.first v.report h.1.first h.1.report here h.1.parts).0 v.spelled)
+
+-- done, or the report is found illegal
+abbrev pub IsComplete : Command → ℕ → Type 0
+IsComplete command status = (status ≡ DONE) ⊎ ((command ≡ Check) × (status ≡ ILLEGAL))
+
+completed : OneCut → (words : List (List ℕ)) (before after : SourceState) (command : Command) (v : Verdict) → words ≡ words_of command → IsValidInput command before.left → ¬ (Rose before.faults after.faults) → HasCause words before after v → IsComplete command (status_of v)
+completed one_cut words before after command ShowsHelp is valid calm h = inl refl
+completed one_cut words before after command ShowsVersion is valid calm h = inl refl
+completed one_cut words before after command (Replayed plan) is valid calm h = inl refl
+completed one_cut words before after command (Played plan report) is valid calm h = inl refl
+completed one_cut words before after command FoundLegal is valid calm h = inl refl
+completed one_cut words before after command FoundIllegal is valid calm h = inr (words_of_injective command Check (sym is ∙ h.0), refl)
+completed one_cut words before after command NoCommand is valid calm h = absurd (h command is)
+completed one_cut words before after command ReadFault is valid calm h = absurd (calm h.2)
+completed one_cut words before after command TooLong is valid calm h = absurd (not_too_long words before after command h.0 is valid h.1 h.2)
+completed one_cut words before after command (BadPlan line) is valid calm h = absurd (not_bad one_cut words before after command line is valid h)
+
+-- a command with a valid input is done, or its report is found illegal
+pub done_where_valid : OneCut → (words : List (List ℕ)) (before after : SourceState) (command : Command) (status : ℕ) (text : List ℕ) → words ≡ words_of command → IsValidInput command before.left → ¬ (Rose before.faults after.faults)
+    → IsAnswer words before after status text → IsComplete command status
+done_where_valid one_cut words before after command status text is valid calm a = let P : ℕ → Type 0 = IsComplete command in subst P (sym a.status_is) (completed one_cut words before after command a.verdict is valid calm a.cause)

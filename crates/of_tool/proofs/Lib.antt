@@ -1,4 +1,5 @@
 pub mod CommandLemmas
+pub mod Judged
 pub mod Courses
 pub mod KnownCells
 pub mod HeldReplies

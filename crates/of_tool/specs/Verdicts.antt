@@ -1,21 +1,23 @@
 -- What the top call answers: a verdict has a status, a text and a cause. Of a source that tells its bytes the causes exclude each other, but that one whose count of faults rose may be answered as a read fault in place of another verdict on its input.
-use Rattle.std.specs.Prelude.{◌≡◌, ℕ, ◌≤◌, ◌<◌, ◌⊎◌, Bool, IsTrue, List, ◌++◌, length, codes, decimal, Option, Some}
+use Rattle.std.specs.Prelude.{◌≡◌, ℕ, ◌≤◌, ◌<◌, ◌⊎◌, Bool, IsTrue, List, ◌++◌, length, codes, decimal, Option, Some, None}
 use Rattle.std.specs.Io.KnownBytes.{Appends, Consumes, IsAtEnd}
 use Rattle.of_io.specs.Faults.{Rose, AppendsFront, TakesMoreThan, TakesAtMost}
 use Rattle.of_plan.specs.Plan.{Plan}
 use Rattle.of_plan.specs.Ended.{Run}
 use Rattle.of_plan.specs.Grammar.{SpellsPlan, IsBadLine}
+use Rattle.of_plan.specs.Parts.{AreParts}
 use Rattle.of_plan.specs.Report.{Report, empty_start}
 use Rattle.of_plan.specs.Legal.{IsLegal}
 use Rattle.of_plan.specs.Serial.{serial_report}
 use Rattle.of_plan.specs.Allowance.{KeepsAllowance, turns_for}
 use Rattle.of_eval.specs.Reported.{ReportsRun}
 use Rattle.of_report.specs.ReportText.{report_text}
+use Rattle.of_check.specs.Verdict.{IsLegalText}
 use Rattle.of_tool.specs.declared.command.Command.{Command}
-use Rattle.of_tool.specs.declared.command.Command.TheVariants.{Serial, Play, Help, Version}
+use Rattle.of_tool.specs.declared.command.Command.TheVariants.{Serial, Play, Check, Help, Version}
 use Rattle.of_tool.specs.declared.command.TheConstants.{HELP, VERSION}
-use Rattle.of_tool.specs.declared.status.TheConstants.{DONE, OUT_OF_MEMORY, USAGE, READ_FAULT, WRITE_FAULT, BAD_PLAN, TOO_LONG}
-use Rattle.of_tool.specs.declared.top.TheConstants.{MOST_INPUT}
+use Rattle.of_tool.specs.declared.status.TheConstants.{DONE, OUT_OF_MEMORY, USAGE, READ_FAULT, WRITE_FAULT, BAD_PLAN, TOO_LONG, ILLEGAL}
+use Rattle.of_tool.specs.declared.top.TheConstants.{MOST_INPUT, MOST_WITH_REPORT}
 use Rattle.of_tool.specs.Commands.{words_of, IsNoCommand}
 use Rattle.of_tool.specs.Play.{IsPlayed}
 
@@ -32,6 +34,8 @@ pub data Verdict : Type 0 where
   ShowsVersion : Verdict
   Replayed : Plan → Verdict
   Played : Plan → Report → Verdict
+  FoundLegal : Verdict
+  FoundIllegal : Verdict
   NoCommand : Verdict
   ReadFault : Verdict
   TooLong : Verdict
@@ -43,6 +47,8 @@ status_of ShowsHelp = DONE
 status_of ShowsVersion = DONE
 status_of (Replayed plan) = DONE
 status_of (Played plan report) = DONE
+status_of FoundLegal = DONE
+status_of FoundIllegal = ILLEGAL
 status_of NoCommand = USAGE
 status_of ReadFault = READ_FAULT
 status_of TooLong = TOO_LONG
@@ -54,6 +60,8 @@ text_of ShowsHelp = HELP.now
 text_of ShowsVersion = VERSION.now
 text_of (Replayed plan) = report_text (serial_report plan)
 text_of (Played plan report) = report_text report
+text_of FoundLegal = codes "legal report\n"
+text_of FoundIllegal = codes "error: not a legal report\n"
 text_of NoCommand = codes "error: usage\n"
 text_of ReadFault = codes "error: read fault\n"
 text_of TooLong = codes "error: input too long\n"
@@ -78,28 +86,76 @@ pub record SinkState : Type 0 where
 abbrev pub sink_state : Option (List ℕ) → Bool → ℕ → SinkState
 sink_state bytes finished faults = record { bytes = bytes; finished = finished; faults = faults }
 
--- the source was read to its end, and these were the bytes
-pub record ReadsAll (before after : SourceState) (bytes : List ℕ) : Type 0 where
+-- the source was read to its end, and these were the bytes, no more than so many
+pub record ReadsAll (most : ℕ) (before after : SourceState) (bytes : List ℕ) : Type 0 where
   pub taken : Consumes before.left after.left bytes
   pub ended : IsAtEnd after.left
-  pub few : length bytes ≤ MOST_INPUT
+  pub few : length bytes ≤ most
 
 -- the whole input is the text of this plan
 pub record ReadsPlan (before after : SourceState) (plan : Plan) : Type 0 where
   pub bytes : List ℕ
-  pub read : ReadsAll before after bytes
+  pub read : ReadsAll MOST_INPUT before after bytes
   pub spelled : SpellsPlan bytes plan
 
 -- the whole input is no plan's text, and this is its bad line
 pub record ReadsNoPlan (before after : SourceState) (line : ℕ) : Type 0 where
   pub bytes : List ℕ
-  pub read : ReadsAll before after bytes
+  pub read : ReadsAll MOST_INPUT before after bytes
   pub bad : IsBadLine bytes line
   pub none : (plan : Plan) → SpellsPlan bytes plan → ⊥
+
+-- the first part of the whole input is the text of this plan, and the second this text
+pub record ReadsBoth (before after : SourceState) (plan : Plan) (report : List ℕ) : Type 0 where
+  pub bytes : List ℕ
+  pub first : List ℕ
+  pub read : ReadsAll MOST_WITH_REPORT before after bytes
+  pub parts : AreParts bytes first report
+  pub spelled : SpellsPlan first plan
+
+-- the first part of the whole input is no plan's text, and this is its bad line
+pub record ReadsNoFirst (before after : SourceState) (line : ℕ) : Type 0 where
+  pub bytes : List ℕ
+  pub first : List ℕ
+  pub report : List ℕ
+  pub read : ReadsAll MOST_WITH_REPORT before after bytes
+  pub parts : AreParts bytes first report
+  pub bad : IsBadLine first line
+  pub none : (plan : Plan) → SpellsPlan first plan → ⊥
+
+-- the first part is a plan's text, and the second that of a legal report of the plan
+pub record ReadsLegal (before after : SourceState) : Type 0 where
+  pub plan : Plan
+  pub report : List ℕ
+  pub read : ReadsBoth before after plan report
+  pub legal : IsLegalText plan report
+
+-- the first part is a plan's text, and the second no legal report's
+pub record ReadsIllegal (before after : SourceState) : Type 0 where
+  pub plan : Plan
+  pub report : List ℕ
+  pub read : ReadsBoth before after plan report
+  pub illegal : IsLegalText plan report → ⊥
 
 -- the words are those of a command that reads a plan
 abbrev pub AskForPlan : List (List ℕ) → Type 0
 AskForPlan words = (words ≡ words_of Serial) ⊎ (words ≡ words_of Play)
+
+-- how many bytes a command reads at most, where it reads
+abbrev pub limit_of : Command → Option ℕ
+limit_of Serial = Some MOST_INPUT
+limit_of Play = Some MOST_INPUT
+limit_of Check = Some MOST_WITH_REPORT
+limit_of Help = None
+limit_of Version = None
+
+-- the words are those of a command that reads at most so many bytes
+abbrev pub AsksUpTo : List (List ℕ) → ℕ → Type 0
+AsksUpTo words most = (command : Command) × (words ≡ words_of command) × (limit_of command ≡ Some most)
+
+-- the words are those of a command that reads
+abbrev pub AskForInput : List (List ℕ) → Type 0
+AskForInput words = (most : ℕ) × AsksUpTo words most
 
 -- why a verdict comes
 abbrev pub HasCause : List (List ℕ) → SourceState → SourceState → Verdict → Type 0
@@ -108,9 +164,13 @@ HasCause words before after ShowsVersion = words ≡ words_of Version
 HasCause words before after (Replayed plan) = (words ≡ words_of Serial) × ReadsPlan before after plan
 HasCause words before after (Played plan report) = (words ≡ words_of Play) × ReadsPlan before after plan × IsPlayedReport plan report
 HasCause words before after NoCommand = IsNoCommand words
-HasCause words before after ReadFault = AskForPlan words × Rose before.faults after.faults × TakesAtMost MOST_INPUT before.left after.left
-HasCause words before after TooLong = AskForPlan words × TakesMoreThan MOST_INPUT before.left after.left
-HasCause words before after (BadPlan line) = AskForPlan words × ReadsNoPlan before after line
+HasCause words before after FoundLegal = (words ≡ words_of Check) × ReadsLegal before after
+HasCause words before after FoundIllegal = (words ≡ words_of Check) × ReadsIllegal before after
+HasCause words before after ReadFault =
+    (most : ℕ) × AsksUpTo words most × Rose before.faults after.faults × TakesAtMost most before.left after.left
+HasCause words before after TooLong = (most : ℕ) × AsksUpTo words most × TakesMoreThan most before.left after.left
+HasCause words before after (BadPlan line) =
+    (AskForPlan words × ReadsNoPlan before after line) ⊎ ((words ≡ words_of Check) × ReadsNoFirst before after line)
 
 -- the status and the text are those of a verdict with its cause
 pub record IsAnswer (words : List (List ℕ)) (before after : SourceState) (status : ℕ) (text : List ℕ) : Type 0 where
@@ -164,6 +224,11 @@ pub record PlaysPlan (before after : SourceState) (old new : SinkState) : Type 0
   pub played : IsPlayedReport plan report
   pub written : IsWritten old new (report_text report)
 
+-- with status 0 the report that was read is legal, and with status 8 it isn't
+pub record ChecksReport (before after : SourceState) (status : ℕ) : Type 0 where
+  pub legal : status ≡ DONE → ReadsLegal before after
+  pub illegal : status ≡ ILLEGAL → ReadsIllegal before after
+
 -- a call that is to write this text wrote it, or a front of it where writing failed, or nothing where memory ran out
 abbrev pub Prints : List ℕ → SinkState → SinkState → ℕ → Type 0
 Prints text old new status =
@@ -174,9 +239,21 @@ Prints text old new status =
 abbrev pub IsPlanInput : Option (List ℕ) → Type 0
 IsPlanInput left = (bytes : List ℕ) × (plan : Plan) × (left ≡ Some bytes) × (length bytes ≤ MOST_INPUT) × SpellsPlan bytes plan
 
+-- the bytes that are left are a plan's text and any bytes behind it, within the limit
+pub record IsCheckInput (left : Option (List ℕ)) : Type 0 where
+  pub bytes : List ℕ
+  pub first : List ℕ
+  pub report : List ℕ
+  pub plan : Plan
+  pub is : left ≡ Some bytes
+  pub few : length bytes ≤ MOST_WITH_REPORT
+  pub parts : AreParts bytes first report
+  pub spelled : SpellsPlan first plan
+
 -- the input of a command is what the command reads
 abbrev pub IsValidInput : Command → Option (List ℕ) → Type 0
 IsValidInput Serial left = IsPlanInput left
 IsValidInput Play left = IsPlanInput left
+IsValidInput Check left = IsCheckInput left
 IsValidInput Help left = Unit {0}
 IsValidInput Version left = Unit {0}

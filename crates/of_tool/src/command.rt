@@ -10,6 +10,7 @@ Runs scripts of transactions on a store of registers, keys and queues.
 
 serial      reads a plan, runs its scripts one after another, prints the report
 play        reads a plan, runs its schedule step by step, prints the report
+check       reads a plan and a report, says whether the report is a legal one
 --help      reads nothing, prints this text
 --version   reads nothing, prints the name and the version
 
@@ -27,6 +28,8 @@ pub enum Command {
     Serial,
     /// Reads a plan, runs its schedule step by step, and prints the report of what it leaves.
     Play,
+    /// Reads a plan and a report, and prints whether the report is a legal one of the plan.
+    Check,
     /// Prints how the program is used.
     Help,
     /// Prints the name and the version.
@@ -42,6 +45,7 @@ impl Command {
             [word] => match word.as_str() {
                 "serial" => Some(Command::Serial),
                 "play" => Some(Command::Play),
+                "check" => Some(Command::Check),
                 "--help" => Some(Command::Help),
                 "--version" => Some(Command::Version),
                 _ => None,

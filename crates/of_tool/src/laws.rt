@@ -5,8 +5,10 @@ ghost use Rattle.of_core.specs.Events.{IsSchedule};
 ghost use Rattle.of_caller.specs.Tables.{setup_for, opening_for};
 ghost use Rattle.of_tool.specs.Play.{play_events};
 
-use crate::status::{BAD_PLAN, DONE, OUT_OF_MEMORY, READ_FAULT, TOO_LONG, USAGE, WRITE_FAULT};
-use crate::top::MOST_INPUT;
+use crate::status::{
+    BAD_PLAN, DONE, ILLEGAL, OUT_OF_MEMORY, READ_FAULT, TOO_LONG, USAGE, WRITE_FAULT,
+};
+use crate::top::{MOST_INPUT, MOST_WITH_REPORT};
 use of_caller::laws::plan_keeps_laws;
 use of_plan::Plan;
 
@@ -26,5 +28,7 @@ pub fn numbers()
     ensures write_fault { WRITE_FAULT ≡ 4 }
     ensures bad_plan { BAD_PLAN ≡ 5 }
     ensures too_long { TOO_LONG ≡ 6 }
+    ensures illegal { ILLEGAL ≡ 8 }
     ensures input { MOST_INPUT ≡ 1048576 }
+    ensures with_report { MOST_WITH_REPORT ≡ 4194304 }
 {}

@@ -12,4 +12,4 @@ mod top;
 pub use command::{Command, HELP, VERSION};
 pub use played::play_report;
 pub use replay::serial;
-pub use top::{MOST_INPUT, tool};
+pub use top::{MOST_INPUT, MOST_WITH_REPORT, tool};

@@ -20,3 +20,6 @@ pub const BAD_PLAN: u8 = 5;
 
 /// The input is longer than a command reads.
 pub const TOO_LONG: u8 = 6;
+
+/// The report is not a legal one of its plan.
+pub const ILLEGAL: u8 = 8;

@@ -1,24 +1,29 @@
 //! The top call.
 
-ghost use Rattle.std.specs.Prelude.{◌≡◌, ◌⊎◌, IfOk, MatchResult, codes, decimal, ◌++◌};
+ghost use Rattle.std.specs.Prelude.{◌≡◌, ◌≤◌, ◌⊎◌, IfOk, MatchResult, codes, decimal, ◌++◌};
 ghost use Rattle.of_io.specs.Faults.{Rose};
 ghost use Rattle.of_tool.specs.declared.command.Command.{Command};
-ghost use Rattle.of_tool.specs.declared.command.Command.TheVariants.{Serial, Play, Help, Version};
-ghost use Rattle.of_tool.specs.declared.status.TheConstants.{DONE, OUT_OF_MEMORY};
+ghost use Rattle.of_tool.specs.declared.command.Command.TheVariants.{Serial, Play, Check, Help, Version};
+ghost use Rattle.of_tool.specs.declared.status.TheConstants.{DONE, OUT_OF_MEMORY, ILLEGAL};
 ghost use Rattle.of_tool.specs.Commands.{texts, words_of};
-ghost use Rattle.of_tool.specs.Verdicts.{source_state, sink_state, Answers, AskForPlan, ReadsPlan, IsReplayed, PlaysPlan, Prints, IsValidInput};
-ghost use Rattle.of_tool.specs.Answer.{Answered, Refuses};
+ghost use Rattle.of_tool.specs.Verdicts.{source_state, sink_state, Answers, AskForInput, ReadsAll, ReadsPlan, IsReplayed, PlaysPlan, ChecksReport, Prints, IsValidInput};
+ghost use Rattle.of_tool.specs.Answer.{Answered, Refuses, RefusesUpTo, Judges};
 
 use crate::command::{Command, HELP, VERSION};
 use crate::played::play_report;
 use crate::replay::serial;
 use crate::status;
+use of_check::{Verdict, check};
 use of_io::{ReadErr, Sink, Source, read_all, write_all};
-use of_plan::{Plan, PlanErr, parse};
+use of_plan::texts::one_cut;
+use of_plan::{Plan, PlanErr, parse, parts};
 use std::alloc::{AllocError, Global};
 
-/// The most bytes that a command reads.
+/// The most bytes that a command reads which reads a plan alone.
 pub const MOST_INPUT: usize = 1 << 20;
+
+/// The most bytes that `check` reads: a plan and a report.
+pub const MOST_WITH_REPORT: usize = 1 << 22;
 
 // A status, and the text that is to be written with it.
 #[derive(Drop)]
@@ -35,27 +40,48 @@ fn bad_plan(alloc: Global, line: u64) -> Result<Vec<u8>, AllocError>
     Ok(text.into_bytes())
 }
 
+// The whole input of at most so many bytes, or the answer that says why there is none.
+fn read_input<S: Source>(
+    alloc: Global,
+    source: &mut S,
+    most: usize,
+) -> Result<Result<Vec<u8>, Answer>, AllocError>
+    requires { most ≤ MOST_WITH_REPORT }
+    ensures { IfOk result (λ read. MatchResult read
+        (λ bytes. ReadsAll most
+        (source_state (S.remaining source.old) (S.faults source.old))
+        (source_state (S.remaining source.new) (S.faults source.new)) bytes.items)
+        (RefusesUpTo most
+        (source_state (S.remaining source.old) (S.faults source.old))
+        (source_state (S.remaining source.new) (S.faults source.new)))) }
+{
+    match read_all(alloc, source, most) {
+        Ok(bytes) => Ok(Ok(bytes)),
+        Err(ReadErr::Memory) => Err(AllocError),
+        Err(ReadErr::Fault) => Ok(Err(Answer {
+            status: status::READ_FAULT,
+            text: Vec::from_slice(alloc, b"error: read fault\n")?,
+        })),
+        Err(ReadErr::TooLong) => Ok(Err(Answer {
+            status: status::TOO_LONG,
+            text: Vec::from_slice(alloc, b"error: input too long\n")?,
+        })),
+    }
+}
+
 // The plan that the whole input spells, or the answer that says why there is none.
 fn read_plan<S: Source>(alloc: Global, source: &mut S) -> Result<Result<Plan, Answer>, AllocError>
     ensures { IfOk result (λ read. MatchResult read
-        (ReadsPlan (source_state (S.remaining source.old) (S.faults source.old)) (source_state (S.remaining source.new) (S.faults source.new)))
-        (Refuses (source_state (S.remaining source.old) (S.faults source.old)) (source_state (S.remaining source.new) (S.faults source.new)))) }
+        (ReadsPlan
+        (source_state (S.remaining source.old) (S.faults source.old))
+        (source_state (S.remaining source.new) (S.faults source.new)))
+        (Refuses
+        (source_state (S.remaining source.old) (S.faults source.old))
+        (source_state (S.remaining source.new) (S.faults source.new)))) }
 {
-    let bytes = match read_all(alloc, source, MOST_INPUT) {
+    let bytes = match read_input(alloc, source, MOST_INPUT)? {
         Ok(bytes) => bytes,
-        Err(ReadErr::Memory) => return Err(AllocError),
-        Err(ReadErr::Fault) => {
-            return Ok(Err(Answer {
-                status: status::READ_FAULT,
-                text: Vec::from_slice(alloc, b"error: read fault\n")?,
-            }));
-        }
-        Err(ReadErr::TooLong) => {
-            return Ok(Err(Answer {
-                status: status::TOO_LONG,
-                text: Vec::from_slice(alloc, b"error: input too long\n")?,
-            }));
-        }
+        Err(answer) => return Ok(Err(answer)),
     };
     match parse(alloc, &bytes) {
         Ok(plan) => Ok(Ok(plan)),
@@ -97,16 +123,54 @@ fn play_answer<S: Source>(alloc: Global, source: &mut S) -> Result<Answer, Alloc
     }
 }
 
+// What `check` says of a report.
+fn judged(alloc: Global, verdict: Verdict) -> Result<Answer, AllocError>
+    ensures { IfOk result (Judges verdict) }
+{
+    match verdict {
+        Verdict::Legal => Ok(Answer {
+            status: status::DONE,
+            text: Vec::from_slice(alloc, b"legal report\n")?,
+        }),
+        Verdict::Illegal => Ok(Answer {
+            status: status::ILLEGAL,
+            text: Vec::from_slice(alloc, b"error: not a legal report\n")?,
+        }),
+    }
+}
+
+// What `check` answers.
+fn check_answer<S: Source>(alloc: Global, source: &mut S) -> Result<Answer, AllocError>
+    ensures { IfOk result (Answered (words_of Check)
+        (source_state (S.remaining source.old) (S.faults source.old))
+        (source_state (S.remaining source.new) (S.faults source.new))) }
+{
+    let bytes = match read_input(alloc, source, MOST_WITH_REPORT)? {
+        Ok(bytes) => bytes,
+        Err(answer) => return Ok(answer),
+    };
+    let (first, second) = parts(&bytes);
+    match parse(alloc, first) {
+        Ok(plan) => judged(alloc, check(alloc, &plan, second)?),
+        Err(PlanErr::Memory) => Err(AllocError),
+        Err(PlanErr::Bad { line }) => Ok(Answer {
+            status: status::BAD_PLAN,
+            text: bad_plan(alloc, line)?,
+        }),
+    }
+}
+
 // The status and the text, before anything is written.
 fn decide<S: Source>(alloc: Global, words: &[String], source: &mut S) -> Result<Answer, AllocError>
     ensures answered { IfOk result (Answered (texts words.now)
         (source_state (S.remaining source.old) (S.faults source.old))
         (source_state (S.remaining source.new) (S.faults source.new))) }
-    ensures unread { ¬ (AskForPlan (texts words.now)) → source.new ≡ source.old }
+    ensures unread { ¬ (AskForInput (texts words.now)) → source.new ≡ source.old }
 {
     match Command::from_words(words) {
         Some(Command::Serial) => serial_answer(alloc, source),
         Some(Command::Play) => play_answer(alloc, source),
+        Some(Command::Check) => check_answer(alloc, source),
         Some(Command::Help) => Ok(Answer {
             status: status::DONE,
             text: Vec::from_slice(alloc, HELP.as_bytes())?,
@@ -145,6 +209,11 @@ pub fn tool<S: Source, K: Sink>(alloc: Global, words: &[String], source: &mut S,
         (sink_state (K.written sink.old) (K.finished sink.old) (K.faults sink.old))
         (sink_state (K.written sink.new) (K.finished sink.new) (K.faults sink.new)) }
 
+    // `check` says of a plan and a report whether the report is a legal one: with status 0 it is, and with status 8 it isn't.
+    ensures check { texts words.now ≡ words_of Check → ChecksReport
+        (source_state (S.remaining source.old) (S.faults source.old))
+        (source_state (S.remaining source.new) (S.faults source.new)) result }
+
     // `--help` and `--version` print their texts.
     ensures help { texts words.now ≡ words_of Help → Prints HELP.now
         (sink_state (K.written sink.old) (K.finished sink.old) (K.faults sink.old))
@@ -153,16 +222,17 @@ pub fn tool<S: Source, K: Sink>(alloc: Global, words: &[String], source: &mut S,
         (sink_state (K.written sink.old) (K.finished sink.old) (K.faults sink.old))
         (sink_state (K.written sink.new) (K.finished sink.new) (K.faults sink.new)) result }
 
-    // Only a command that reads a plan reads.
-    ensures unread { ¬ (AskForPlan (texts words.now)) → source.new ≡ source.old }
+    // Only a command that reads a plan or a report reads.
+    ensures unread { ¬ (AskForInput (texts words.now)) → source.new ≡ source.old }
 
     // A command with a valid input is done, or memory runs out, unless a read or a write fails.
     ensures complete { (command : Command) → texts words.now ≡ words_of command
         → IsValidInput command (S.remaining source.old)
         → ¬ (Rose (S.faults source.old) (S.faults source.new))
         → ¬ (Rose (K.faults sink.old) (K.faults sink.new))
-        → (result ≡ DONE) ⊎ (result ≡ OUT_OF_MEMORY) }
+        → (result ≡ DONE) ⊎ ((result ≡ OUT_OF_MEMORY) ⊎ ((command ≡ Check) × (result ≡ ILLEGAL))) }
 {
+    one_cut();
     match decide(alloc, words, source) {
         Err(_) => status::OUT_OF_MEMORY,
         Ok(answer) => match write_all(sink, &answer.text) {

@@ -1,4 +1,6 @@
 use Rattle.std.proofs.Common.{refl, ◌∙◌}
+use Rattle.of_tool.specs.declared.command.Command.TheVariants.{Serial, Play, Check}
+use Rattle.of_tool.specs.declared.top.TheConstants.{MOST_INPUT, MOST_WITH_REPORT}
 use Rattle.of_tool.specs.Verdicts.{ShowsHelp, ShowsVersion, NoCommand}
 use Rattle.of_tool.proofs.top.decide.Goals as goal
 
@@ -25,3 +27,12 @@ returns-in_ok-from_slice-in-None-clause-answered g c = record {
   status_is = refl;
   text_is = c.in_ok-from_slice-in-None.ensures.items;
 }
+
+pub returns-in-Some-Serial-clause-unread : goal.returns-in-Some-Serial-clause-unread
+returns-in-Some-Serial-clause-unread g c = λ none. absurd (none (MOST_INPUT, (Serial, rw c.in-Some-Serial.field-0-is at c.in-Some-Serial.ensures, refl)))
+
+pub returns-in-Some-Play-clause-unread : goal.returns-in-Some-Play-clause-unread
+returns-in-Some-Play-clause-unread g c = λ none. absurd (none (MOST_INPUT, (Play, rw c.in-Some-Play.field-0-is at c.in-Some-Play.ensures, refl)))
+
+pub returns-in-Some-Check-clause-unread : goal.returns-in-Some-Check-clause-unread
+returns-in-Some-Check-clause-unread g c = λ none. absurd (none (MOST_WITH_REPORT, (Check, rw c.in-Some-Check.field-0-is at c.in-Some-Check.ensures, refl)))

@@ -1,7 +1,7 @@
 use Rattle.std.proofs.Common.{inl, inr, subst, ◌∙◌, refl}
 use Rattle.std.specs.Io.KnownBytes.{Appends}
 use Rattle.of_io.specs.Faults.{AppendsFront}
-use Rattle.of_tool.proofs.CommandLemmas.{help_answer, version_answer, serial_answer, play_answer, done_where_valid}
+use Rattle.of_tool.proofs.CommandLemmas.{help_answer, version_answer, serial_answer, play_answer, check_answer, done_where_valid}
 use Rattle.of_tool.proofs.top.tool.Goals as goal
 
 pub returns-in-Ok-write_all-clause-serial : goal.returns-in-Ok-write_all-clause-serial
@@ -34,5 +34,8 @@ returns-clause-version g c = λ is.
     let a = version_answer _ _ _ _ _ is c.in-Ok.ensures.answered in
     inr (inl (refl, c.in-Err-write_all.ensures.cause.failed, subst (AppendsFront _ _) (c.deref.ensures.value ∙ a.1) c.in-Err-write_all.ensures.err))
 
+pub returns-in-Ok-write_all-clause-check : goal.returns-in-Ok-write_all-clause-check
+returns-in-Ok-write_all-clause-check g c = λ is. check_answer _ _ _ _ _ is c.in-Ok.ensures.answered
+
 pub returns-in-Ok-write_all-clause-complete : goal.returns-in-Ok-write_all-clause-complete
-returns-in-Ok-write_all-clause-complete g c = λ command is valid calm written. inl (done_where_valid _ _ _ command _ _ is valid calm c.in-Ok.ensures.answered)
+returns-in-Ok-write_all-clause-complete g c = λ command is valid calm written. elim (done_where_valid c.one_cut.ensures _ _ _ command _ _ is valid calm c.in-Ok.ensures.answered) [ inl done ↦ inl done | inr found ↦ inr (inr found) ]

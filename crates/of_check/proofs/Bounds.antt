@@ -1,0 +1,86 @@
+-- The numbers of a legal report are small.
+use Rattle.std.proofs.Common.{◌≡◌, ℕ, zero, suc, ◌+◌, ◌<◌, ◌≤◌, List, [], ◌∷◌, length, get_or, map, sum, replicate, refl, subst, arith, length-set}
+use Rattle.std.specs.Prelude.{sum_by}
+use Rattle.std.specs.List.{AllByRecursion as Each}
+use Rattle.std.proofs.lemmas.List.{length-replicate, get_or_default}
+use Rattle.std.proofs.lemmas.List.Elements.{recursion_from_All}
+use Rattle.std.proofs.lemmas.List.Sums.{sum_by-cons, sum_by-set, get_or-le-sum_by}
+use Rattle.of_script.specs.declared.instr.Instr.{Instr}
+use Rattle.of_plan.specs.Plan.{Plan, IsPlan, scripts_of}
+use Rattle.of_plan.specs.Report.{CallEntry, EndState, done, stopped, spent, CallerLine, Report, empty_start, line_of}
+use Rattle.of_plan.specs.Legal.{HasEnded, IsLegal}
+use Rattle.of_check.specs.declared.claims.CallClaim.{CallClaim}
+use Rattle.of_check.specs.Claims.{call_claim}
+use Rattle.of_check.specs.Course.{Course, begun, after, course_end, index_for, AllFollow}
+use Rattle.of_check.proofs.Own.{still_wide}
+use Rattle.of_check.proofs.Following.{own_facts, few_sequences}
+use Rattle.of_check.proofs.Reports.{zero_at, follow_all, last_is, is_ending}
+
+-- each call raises one count
+counts_are : (p : Plan) (c : Course) (qs : List CallClaim) → p.callers ≤ length c.counts → AllFollow p c qs → (length (course_end p c qs).counts ≡ length c.counts) × (sum (course_end p c qs).counts ≡ sum c.counts + length qs)
+counts_are p c [] wide all = (refl, omega arith)
+counts_are p c (q ∷ qs) wide all =
+    let again = counts_are p (after p c q) qs (still_wide c.counts q.caller (index_for c q + 1) p.callers wide) all.1 in
+    let below : q.caller < p.callers = all.0.caller in
+    let raised = sum_by-set (λ (n : ℕ). n) c.counts q.caller (index_for c q + 1) 0 (omega arith) in
+    (omega (arith, again.0, length-set c.counts q.caller (index_for c q + 1)), omega (arith, again.1, raised))
+
+sum_zeros : (n : ℕ) → sum (replicate n 0) ≡ 0
+sum_zeros zero = refl
+sum_zeros (suc n) = omega (arith, sum_zeros n, sum_by-cons (λ (y : ℕ). y) 0 (replicate n 0))
+
+sum_upto : (xs : List ℕ) (ys : List (List (List Instr))) → length xs ≡ length ys → ((k : ℕ) → k < length xs → get_or xs k 0 ≤ length (get_or ys k [])) → sum xs ≤ sum_by length ys
+sum_upto [] ys same h = omega arith
+sum_upto (x ∷ xs) [] same h = absurd (omega arith)
+sum_upto (x ∷ xs) (y ∷ ys) same h =
+    let first : x ≤ length y = h 0 (omega arith) in
+    omega (arith, first, sum_upto xs ys (omega arith) (λ k lt. h (suc k) (omega (arith, lt))), sum_by-cons (λ (n : ℕ). n) x xs, sum_by-cons length y ys)
+
+pub few_scripts : (p : Plan) → IsPlan p → (c : ℕ) → c < p.callers → length (scripts_of p c) ≤ 20000
+few_scripts p plan c lt = omega (arith, get_or-le-sum_by (λ (scripts : List (List Instr)). length scripts) p.scripts c [] (omega (arith, lt, plan.each_caller)), plan.few_scripts)
+
+few_calls : (p : Plan) → IsPlan p → (qs : List CallClaim) → AllFollow p (begun p) qs → length qs ≤ 20000
+few_calls p plan qs all =
+    let width : length (begun p).counts ≡ p.callers = length-replicate {A = ℕ} p.callers 0 in
+    let counts = counts_are p (begun p) qs (omega (arith, width)) all in
+    let upto = sum_upto (course_end p (begun p) qs).counts p.scripts (omega (arith, counts.0, width, plan.each_caller))
+    (λ k lt.
+    let facts = own_facts p (begun p) qs k (omega (arith, width)) all in
+    let none : get_or (replicate p.callers 0) k 0 ≡ 0 = zero_at p.callers k in
+    omega (arith, facts.count, facts.few (omega (arith, none)))) in
+    omega (arith, counts.1, upto, sum_zeros p.callers, plan.few_scripts)
+
+-- no number of 32 bits is too small for these
+abbrev pub IsSmallCall : CallEntry → Type 0
+IsSmallCall e = (e.seq ≤ 4294967295) × (e.caller ≤ 4294967295)
+
+abbrev pub IsSmallEnd : CallerLine → Type 0
+IsSmallEnd l = (l.answered ≤ 4294967295) × (l.longest ≤ 4294967295)
+
+answered_few : (s : EndState) (answered scripts seq limit : ℕ) → HasEnded s answered scripts seq limit → answered ≤ scripts
+answered_few done answered scripts seq limit h = omega (arith, h)
+answered_few stopped answered scripts seq limit h = omega (arith, h)
+answered_few spent answered scripts seq limit h = omega (arith, h.0)
+
+module _ (p : Plan) (plan : IsPlan p) (r : Report) (legal : IsLegal p (empty_start p) r) where
+  pub seq_few : r.seq ≤ 20000
+  seq_few =
+      let follow = follow_all p r legal in
+      omega (arith, last_is p r legal, few_sequences p (begun p) (map call_claim r.entries) (λ t. absurd (cc)) follow, few_calls p plan (map call_claim r.entries) follow)
+
+  pub small_calls : Each IsSmallCall r.entries
+  small_calls = recursion_from_All IsSmallCall r.entries (λ k d lt.
+      let within = (legal.by_sequence.sequences k d lt).1 in
+      let caller = legal.in_order.of_callers k d lt in
+      (omega (arith, seq_few, within), omega (arith, caller, plan.few_callers)))
+
+  pub small_ends : Each IsSmallEnd r.callers
+  small_ends = recursion_from_All IsSmallEnd r.callers (λ k d lt. small k d lt)
+    where
+      small : (k : ℕ) (d : CallerLine) → k < length r.callers → IsSmallEnd (get_or r.callers k d)
+      small k d lt =
+          let below : k < p.callers = omega (arith, lt, legal.open_calls.each_caller) in
+          let is = is_ending p r legal k below in
+          let answered = answered_few (line_of r k).state (line_of r k).answered (length (scripts_of p k)) r.seq p.limit is.ended in
+          subst IsSmallEnd (get_or_default r.callers k (record { state = done; answered = 0; entries = 0; longest = 0 }) d lt)
+          (omega (arith, answered, few_scripts p plan k below), omega (arith, is.within.0, plan.few_callers, plan.few_blocks))

@@ -1,0 +1,169 @@
+-- Claimed calls of which each may come next: their entries are one history of the plan's scripts
+-- from the empty start.
+use Rattle.std.proofs.Common.{◌≡◌, ℕ, suc, ◌+◌, ◌<◌, ◌≤◌, ◌⊎◌, inl, inr, Bool, true, false, List, [], ◌∷◌, length, get_or, map, refl, sym, ap, subst, ◌∙◌, arith, length-set}
+use Rattle.std.specs.Prelude.{IsTrue, All, Any}
+use Rattle.std.specs.Bool.{MatchBool}
+use Rattle.std.specs.List.{range_with_len, AllByRecursion as Each}
+use Rattle.std.proofs.Math.Nat.{eq-or-lt_of_le}
+use Rattle.std.proofs.lemmas.Bool.Decides.{eqb_tells}
+use Rattle.of_script.specs.Language.{reads_only}
+use Rattle.of_store.specs.State.{Response, replies, last_store, run}
+use Rattle.of_plan.specs.Plan.{Plan, scripts_of}
+use Rattle.of_plan.specs.Report.{CallEntry, empty_start}
+use Rattle.of_plan.specs.Legal.{script_of, StandsBefore, StandsBeforeWithin, HasSequence}
+use Rattle.of_plan.proofs.HistoriesLists.{InLine, each_weaker}
+use Rattle.of_check.specs.declared.claims.CallClaim.{CallClaim}
+use Rattle.of_check.specs.Claims.{call_claim}
+use Rattle.of_check.specs.Course.{Course, index_for, script_for, entry_for, after, entries_from, course_end, FollowsWithin, Follows, AllFollow}
+use Rattle.of_check.proofs.Own.{own, own_first, own_other, count_same, count_other, still_wide}
+
+-- ---- the entries of a caller
+
+-- the entries of a caller, between two counts of its calls
+pub record OwnFacts (p : Plan) (d low high : ℕ) (mine : List CallEntry) : Type 0 where
+  pub indices : map (λ (e : CallEntry). e.index) mine ≡ range_with_len low (length mine)
+  pub few : low ≤ length (scripts_of p d) → low + length mine ≤ length (scripts_of p d)
+  pub count : high ≡ low + length mine
+
+own_more : (p : Plan) (d low now high : ℕ) (e : CallEntry) (mine : List CallEntry) → e.index ≡ low → now ≡ low + 1 → low < length (scripts_of p d) → OwnFacts p d now high mine → OwnFacts p d low high (e ∷ mine)
+own_more p d low now high e mine first next room facts = record {
+  indices = λ i. first i ∷ (facts.indices ∙ ap (λ (n : ℕ). range_with_len n (length mine)) next) i;
+  few = λ le. omega (arith, next, room, facts.few (omega (arith, next, room)));
+  count = omega (arith, next, facts.count);
+}
+
+pub own_facts : (p : Plan) (c : Course) (qs : List CallClaim) (d : ℕ) → p.callers ≤ length c.counts → AllFollow p c qs → OwnFacts p d (get_or c.counts d 0) (get_or (course_end p c qs).counts d 0) (own d (entries_from p c qs))
+own_facts p c [] d wide all = record { indices = refl; few = λ le. omega arith; count = omega arith }
+own_facts p c (q ∷ qs) d wide all =
+    let again = own_facts p (after p c q) qs d (still_wide c.counts q.caller (index_for c q + 1) p.callers wide) all.1 in
+    let high = get_or (course_end p c (q ∷ qs)).counts d 0 in
+    let mine = own d (entries_from p (after p c q) qs) in
+    let below : q.caller < p.callers = all.0.caller in
+    elim (eqb_tells q.caller d) [
+      | inl same ↦ (
+          let first : index_for c q ≡ get_or c.counts d 0 = ap (λ (n : ℕ). get_or c.counts n 0) same.1 in
+          let next : get_or (after p c q).counts d 0 ≡ get_or c.counts d 0 + 1 = count_same c.counts q.caller d (index_for c q + 1) same.1 (omega arith) ∙ ap (λ (n : ℕ). n + 1) first in
+          let room : get_or c.counts d 0 < length (scripts_of p d) = subst (λ (n : ℕ). get_or c.counts n 0 < length (scripts_of p n)) same.1 all.0.script in
+          subst (OwnFacts p d (get_or c.counts d 0) high) (sym (own_first d (entry_for p c q) (entries_from p (after p c q) qs) same.1))
+          (own_more p d (get_or c.counts d 0) (get_or (after p c q).counts d 0) high (entry_for p c q) mine first next room again))
+      | inr other ↦ (
+          let same : get_or (after p c q).counts d 0 ≡ get_or c.counts d 0 = count_other c.counts q.caller d (index_for c q + 1) other.1 in
+          subst (OwnFacts p d (get_or c.counts d 0) high) (sym (own_other d (entry_for p c q) (entries_from p (after p c q) qs) other.1))
+          (subst (λ (n : ℕ). OwnFacts p d n high mine) same again))
+    ]
+
+-- as many counts as at the beginning
+pub counts_long : (p : Plan) (c : Course) (qs : List CallClaim) → length (course_end p c qs).counts ≡ length c.counts
+counts_long p c [] = refl
+counts_long p c (q ∷ qs) = counts_long p (after p c q) qs ∙ length-set c.counts q.caller (index_for c q + 1)
+
+pub callers_below : (p : Plan) (c : Course) (qs : List CallClaim) → AllFollow p c qs → Each (λ (e : CallEntry). e.caller < p.callers) (entries_from p c qs)
+callers_below p c [] all = tt
+callers_below p c (q ∷ qs) all = (all.0.caller, callers_below p (after p c q) qs all.1)
+
+-- ---- their order
+
+stands : (a b : Bool) (e f : CallEntry) → FollowsWithin a b (call_claim e) (call_claim f) → (e.caller ≡ f.caller → e.index < f.index) → (e.seq < f.seq) ⊎ ((e.seq ≡ f.seq) × StandsBeforeWithin a b e f)
+stands true true e f (inl up) later = inl (omega (arith, up))
+stands true true e f (inr here) later = inr (sym here.0, here.1)
+stands true false e f here later = inr (sym here, tt)
+stands false true e f up later = inl (omega (arith, up))
+stands false false e f here later = inr (sym here.0, elim (eq-or-lt_of_le here.1) [ inl same ↦ inr (same, later same) | inr less ↦ inl less ])
+
+within_on : (a b c : Bool) (e f g : CallEntry) → StandsBeforeWithin a b e f → StandsBeforeWithin b c f g → StandsBeforeWithin a c e g
+within_on true true true e f g first second = omega (arith, first, second)
+within_on true true false e f g first second = tt
+within_on true false true e f g first second = absurd second
+within_on true false false e f g first second = tt
+within_on false true c e f g first second = absurd first
+within_on false false true e f g first second = absurd second
+within_on false false false e f g (inl first) (inl second) = inl (omega (arith, first, second))
+within_on false false false e f g (inl first) (inr second) = inl (omega (arith, first, second.0))
+within_on false false false e f g (inr first) (inl second) = inl (omega (arith, first.0, second))
+within_on false false false e f g (inr first) (inr second) = inr (omega (arith, first.0, second.0), omega (arith, first.1, second.1))
+
+pub before_on : (e f g : CallEntry) → StandsBefore e f → StandsBefore f g → StandsBefore e g
+before_on e f g (inl first) (inl second) = inl (omega (arith, first, second))
+before_on e f g (inl first) (inr second) = inl (omega (arith, first, second.0))
+before_on e f g (inr first) (inl second) = inl (omega (arith, first.0, second))
+before_on e f g (inr first) (inr second) = inr (omega (arith, first.0, second.0), within_on e.announced f.announced g.announced e f g first.1 second.1)
+
+pub in_line : (p : Plan) (c : Course) (qs : List CallClaim) → p.callers ≤ length c.counts → AllFollow p c qs → InLine StandsBefore (entries_from p c qs)
+in_line p c [] wide all = tt
+in_line p c (q ∷ []) wide all = (tt, tt)
+in_line p c (q ∷ r ∷ qs) wide all =
+    let e = entry_for p c q in
+    let f = entry_for p (after p c q) r in
+    let below : q.caller < p.callers = all.0.caller in
+    let first : StandsBefore e f = stands q.announced r.announced e f all.1.0.place (λ same. omega (arith, count_same c.counts q.caller r.caller (index_for c q + 1) same (omega arith))) in
+    let rest = in_line p (after p c q) (r ∷ qs) (still_wide c.counts q.caller (index_for c q + 1) p.callers wide) all.1 in
+    ((first, each_weaker (StandsBefore f) (StandsBefore e) (λ g second. before_on e f g first second) (entries_from p (after p (after p c q) r) qs) rest.0), rest)
+
+-- ---- their sequences
+
+-- an announced last call has a sequence above 0
+abbrev pub HasStarted : CallClaim → Type 0
+HasStarted l = l.announced ≡ true → 0 < l.seq
+
+record Step (l q : CallClaim) : Type 0 where
+  pub starts : HasStarted q
+  pub on : l.seq ≤ q.seq
+  pub one : q.seq ≤ l.seq + 1
+  pub rises : l.seq < q.seq → q.announced ≡ true
+
+step : (a b : Bool) (l q : CallClaim) → q.announced ≡ b → FollowsWithin a b l q → (a ≡ true → 0 < l.seq) → Step l q
+step true true l q is (inl up) started = record { starts = λ t. omega (arith, up); on = omega (arith, up); one = omega (arith, up); rises = λ lt. is }
+step true true l q is (inr here) started = record { starts = λ t. omega (arith, here.0, started refl); on = omega (arith, here.0); one = omega (arith, here.0); rises = λ lt. is }
+step true false l q is here started = record { starts = λ t. absurd (cc); on = omega (arith, here); one = omega (arith, here); rises = λ lt. absurd (omega (arith, here, lt)) }
+step false true l q is up started = record { starts = λ t. omega (arith, up); on = omega (arith, up); one = omega (arith, up); rises = λ lt. is }
+step false false l q is here started = record { starts = λ t. absurd (cc); on = omega (arith, here.0); one = omega (arith, here.0); rises = λ lt. absurd (omega (arith, here.0, lt)) }
+
+step_of : (p : Plan) (c : Course) (q : CallClaim) → Follows p c q → HasStarted c.last → Step c.last q
+step_of p c q follows started = step c.last.announced q.announced c.last q refl follows.place started
+
+matched : (b : Bool) (P Q : Type 0) → (b ≡ true → P) → (b ≡ false → Q) → MatchBool b P Q
+matched true P Q one other = one refl
+matched false P Q one other = other refl
+
+pub last_up_to : (p : Plan) (c : Course) (qs : List CallClaim) → HasStarted c.last → AllFollow p c qs → c.last.seq ≤ (course_end p c qs).last.seq
+last_up_to p c [] started all = omega arith
+last_up_to p c (q ∷ qs) started all =
+    let s = step_of p c q all.0 started in
+    omega (arith, s.on, last_up_to p (after p c q) qs s.starts all.1)
+
+pub sequences_are : (p : Plan) (c : Course) (qs : List CallClaim) → HasStarted c.last → AllFollow p c qs → Each (λ (e : CallEntry). HasSequence p (empty_start p) e × (e.seq ≤ (course_end p c qs).last.seq)) (entries_from p c qs)
+sequences_are p c [] started all = tt
+sequences_are p c (q ∷ qs) started all =
+    let s = step_of p c q all.0 started in (
+      (
+        matched q.announced (0 < q.seq) ((0 ≤ q.seq) × All (λ i. IsTrue (reads_only i)) (script_for p c q)) s.starts (λ read. (omega arith, all.0.reads read)),
+        last_up_to p (after p c q) qs s.starts all.1,
+      ),
+      sequences_are p (after p c q) qs s.starts all.1,
+    )
+
+pub each_there : (p : Plan) (c : Course) (qs : List CallClaim) → HasStarted c.last → AllFollow p c qs → (k : ℕ) → c.last.seq < k → k ≤ (course_end p c qs).last.seq → Any (λ (e : CallEntry). IsTrue e.announced × (e.seq ≡ k)) (entries_from p c qs)
+each_there p c [] started all k low high = absurd (omega (arith, low, high))
+each_there p c (q ∷ qs) started all k low high =
+    let s = step_of p c q all.0 started in
+    elim (eqb_tells q.seq k) [
+      | inl here ↦ (0, entry_for p c q, omega arith, refl, (s.rises (omega (arith, here.1)), here.1))
+      | inr other ↦ (let found = each_there p (after p c q) qs s.starts all.1 k (omega (arith, s.one, other.1)) high in (suc found.0, found.1, omega (arith, found.2), found.3, found.4))
+    ]
+
+-- no more sequences than calls
+pub few_sequences : (p : Plan) (c : Course) (qs : List CallClaim) → HasStarted c.last → AllFollow p c qs → (course_end p c qs).last.seq ≤ c.last.seq + length qs
+few_sequences p c [] started all = omega arith
+few_sequences p c (q ∷ qs) started all =
+    let s = step_of p c q all.0 started in
+    omega (arith, s.one, few_sequences p (after p c q) qs s.starts all.1)
+
+-- ---- their replies
+
+pub replies_are : (p : Plan) (c : Course) (qs : List CallClaim) → map (λ (e : CallEntry). e.reply) (entries_from p c qs) ≡ replies c.store (map (script_of p) (entries_from p c qs))
+replies_are p c [] = refl
+replies_are p c (q ∷ qs) = ap (λ (rs : List Response). (run c.store (script_for p c q)).1 ∷ rs) (replies_are p (after p c q) qs)
+
+pub store_is : (p : Plan) (c : Course) (qs : List CallClaim) → (course_end p c qs).store ≡ last_store c.store (map (script_of p) (entries_from p c qs))
+store_is p c [] = refl
+store_is p c (q ∷ qs) = store_is p (after p c q) qs

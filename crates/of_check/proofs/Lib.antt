@@ -1,0 +1,9 @@
+pub mod Steps
+pub mod Own
+pub mod Following
+pub mod Unique
+pub mod Reports
+pub mod Bounds
+pub mod Texts
+pub mod Readings
+pub mod Verdicts

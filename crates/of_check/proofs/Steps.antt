@@ -1,0 +1,55 @@
+-- How far a replay of claims has come, and a list that is read piece by piece.
+use Rattle.std.proofs.Common.{◌≡◌, ℕ, ◌+◌, List, [], ◌∷◌, ◌++◌, length, sym, ap, subst, ◌∙◌, append_assoc, length-set}
+use Rattle.std.specs.Prelude.{flat_map}
+use Rattle.std.proofs.lemmas.List.{append-nil, length-replicate}
+use Rattle.std.proofs.lemmas.List.Concat.{flat_map-cons}
+use Rattle.of_plan.specs.Plan.{Plan}
+use Rattle.of_plan.specs.Report.{CallEntry}
+use Rattle.of_check.specs.declared.claims.CallClaim.{CallClaim}
+use Rattle.of_check.specs.declared.replay.Replay.{Replay}
+use Rattle.of_check.specs.Course.{Course, begun, index_for, entry_for, entries_from, course_end, Follows, AllFollow, course_of, entries_so_far, Took, TookAll}
+
+-- the claims that are left lead from the replay where all lead from the start
+pub record Comes (p : Plan) (qs : List CallClaim) (r : Replay) (rest : List CallClaim) : Type 0 where
+  pub wide : length r.counts.items ≡ p.callers
+  pub back : AllFollow p (course_of r) rest → AllFollow p (begun p) qs
+  pub on : AllFollow p (begun p) qs → AllFollow p (course_of r) rest
+  pub course : course_end p (course_of r) rest ≡ course_end p (begun p) qs
+  pub entries : entries_so_far r ++ entries_from p (course_of r) rest ≡ entries_from p (begun p) qs
+
+pub comes_first : (p : Plan) (qs : List CallClaim) (r : Replay) → course_of r ≡ begun p → entries_so_far r ≡ [] → Comes p qs r qs
+comes_first p qs r same none = record {
+  wide = ap (λ (c : Course). length c.counts) same ∙ length-replicate {A = ℕ} p.callers 0;
+  back = λ all. subst (λ (c : Course). AllFollow p c qs) same all;
+  on = λ all. subst (λ (c : Course). AllFollow p c qs) (sym same) all;
+  course = ap (λ (c : Course). course_end p c qs) same;
+  entries = ap (λ (es : List CallEntry). es ++ entries_from p (course_of r) qs) none ∙ ap (λ (c : Course). entries_from p c qs) same;
+}
+
+pub comes_on : (p : Plan) (qs rest : List CallClaim) (q : CallClaim) (r now : Replay) → Comes p qs r (q ∷ rest) → Took p r now q → Comes p qs now rest
+comes_on p qs rest q r now comes took = record {
+  wide = ap (λ (c : Course). length c.counts) took.course ∙ length-set r.counts.items q.caller (index_for (course_of r) q + 1) ∙ comes.wide;
+  back = λ all. comes.back (took.follows, subst (λ (c : Course). AllFollow p c rest) took.course all);
+  on = λ all. subst (λ (c : Course). AllFollow p c rest) (sym took.course) (comes.on all).1;
+  course = ap (λ (c : Course). course_end p c rest) took.course ∙ comes.course;
+  entries =
+      ap (λ (es : List CallEntry). es ++ entries_from p (course_of now) rest) took.entries
+      ∙ append_assoc (entries_so_far r) (entry_for p (course_of r) q ∷ []) (entries_from p (course_of now) rest)
+      ∙ ap (λ (c : Course). entries_so_far r ++ entry_for p (course_of r) q ∷ entries_from p c rest) took.course
+      ∙ comes.entries;
+}
+
+pub comes_stuck : (p : Plan) (qs rest : List CallClaim) (q : CallClaim) (r : Replay) → Comes p qs r (q ∷ rest) → (Follows p (course_of r) q → ⊥) → AllFollow p (begun p) qs → ⊥
+comes_stuck p qs rest q r comes none all = none (comes.on all).0
+
+pub comes_last : (p : Plan) (qs : List CallClaim) (r : Replay) → Comes p qs r [] → TookAll p qs r
+comes_last p qs r comes = record { follow = comes.back tt; course = comes.course; entries = sym (append-nil (entries_so_far r)) ∙ comes.entries }
+
+-- ---- a list that is read piece by piece
+
+pub read_on : {L X : Type 0} (f : L → List X) (ls : List L) (first : L) (rest : List L) (old new all : List X) → ls ≡ first ∷ rest → new ≡ old ++ f first → old ++ flat_map f ls ≡ all → new ++ flat_map f rest ≡ all
+read_on f ls first rest old new all cut more before =
+    ap (λ (xs : List _). xs ++ flat_map f rest) more ∙ append_assoc old (f first) (flat_map f rest) ∙ ap (λ (xs : List _). old ++ xs) (sym (flat_map-cons f first rest)) ∙ ap (λ (xs : List _). old ++ flat_map f xs) (sym cut) ∙ before
+
+pub read_all : {L X : Type 0} (f : L → List X) (ls : List L) (first : L) (old new all : List X) → ls ≡ first ∷ [] → new ≡ old ++ f first → old ++ flat_map f ls ≡ all → new ≡ all
+read_all f ls first old new all cut more before = sym (append-nil new) ∙ read_on f ls first [] old new all cut more before

@@ -1,0 +1,104 @@
+-- How claimed calls run one after another on the store, and which claim may come next.
+use Rattle.std.specs.Prelude.{◌≡◌, ℕ, ◌+◌, ◌≤◌, ◌<◌, ◌⊎◌, Bool, true, false, IsTrue, List, [], ◌∷◌, ◌++◌, length, map, replicate, slice_index, slice_index_or, slice_set, All}
+use Rattle.of_script.specs.declared.instr.Instr.{Instr}
+use Rattle.of_script.specs.Language.{reads_only}
+use Rattle.of_store.specs.State.{State, empty_store, run}
+use Rattle.of_plan.specs.Plan.{Plan, scripts_of}
+use Rattle.of_plan.specs.Report.{CallEntry}
+use Rattle.of_report.specs.Report.{entry_of}
+use Rattle.of_check.specs.declared.claims.CallClaim.{CallClaim}
+use Rattle.of_check.specs.declared.replay.Replay.{Replay}
+
+-- how many calls of each caller have run, the claim of the last call, and the store that it left
+pub record Course : Type 0 where
+  pub counts : List ℕ
+  pub last : CallClaim
+  pub store : State
+
+-- at the empty start: nothing has run, and only a read may come at sequence 0
+abbrev pub begun : Plan → Course
+begun p = record {
+  counts = replicate p.callers 0;
+  last = record { seq = 0; caller = 0; announced = false };
+  store = empty_store p.blocks;
+}
+
+-- how many calls of a claim's caller have run: the index of the claimed call
+abbrev pub index_for : Course → CallClaim → ℕ
+index_for c q = slice_index c.counts q.caller
+
+-- the next script of its caller
+abbrev pub script_for : Plan → Course → CallClaim → List Instr
+script_for p c q = slice_index_or (scripts_of p q.caller) (index_for c q) []
+
+-- the entry of a claimed call: the next script of its caller, with its reply
+abbrev pub entry_for : Plan → Course → CallClaim → CallEntry
+entry_for p c q = record {
+  seq = q.seq;
+  caller = q.caller;
+  index = index_for c q;
+  announced = q.announced;
+  reply = (run c.store (script_for p c q)).1;
+}
+
+-- once it has run
+abbrev pub after : Plan → Course → CallClaim → Course
+after p c q = record {
+  counts = slice_set c.counts q.caller (index_for c q + 1);
+  last = q;
+  store = (run c.store (script_for p c q)).0;
+}
+
+-- the entries of claimed calls
+abbrev pub entries_from : Plan → Course → List CallClaim → List CallEntry
+entries_from p c [] = []
+entries_from p c (q ∷ qs) = entry_for p c q ∷ entries_from p (after p c q) qs
+
+-- how things stand once they have run
+abbrev pub course_end : Plan → Course → List CallClaim → Course
+course_end p c [] = c
+course_end p c (q ∷ qs) = course_end p (after p c q) qs
+
+-- behind the last claim stands an announced call at the next sequence, or at the same one where the
+-- last is announced and of a lesser caller; or a read at the same sequence, where the last is
+-- announced or a read of no greater caller
+abbrev pub FollowsWithin : (last_announced announced : Bool) → (last next : CallClaim) → Type 0
+FollowsWithin true true last q = (q.seq ≡ last.seq + 1) ⊎ ((q.seq ≡ last.seq) × (last.caller < q.caller))
+FollowsWithin true false last q = q.seq ≡ last.seq
+FollowsWithin false true last q = q.seq ≡ last.seq + 1
+FollowsWithin false false last q = (q.seq ≡ last.seq) × (last.caller ≤ q.caller)
+
+-- the claimed call may come next: its caller has a script more, it stands where it may, and the
+-- script of a read only reads
+pub record Follows (p : Plan) (c : Course) (q : CallClaim) : Type 0 where
+  pub caller : q.caller < p.callers
+  pub script : index_for c q < length (scripts_of p q.caller)
+  pub place : FollowsWithin c.last.announced q.announced c.last q
+  pub reads : q.announced ≡ false → All (λ i. IsTrue (reads_only i)) (script_for p c q)
+
+-- each of them may come next
+abbrev pub AllFollow : Plan → Course → List CallClaim → Type 0
+AllFollow p c [] = Unit {0}
+AllFollow p c (q ∷ qs) = Follows p c q × AllFollow p (after p c q) qs
+
+-- ---- the code's replay
+
+-- how far it has come
+abbrev pub course_of : Replay → Course
+course_of r = record { counts = r.counts.items; last = r.last; store = r.store }
+
+-- the entries of the calls that have run
+abbrev pub entries_so_far : Replay → List CallEntry
+entries_so_far r = map entry_of r.entries.items
+
+-- one call more has run, and it was one that may come next
+pub record Took (p : Plan) (before now : Replay) (q : CallClaim) : Type 0 where
+  pub follows : Follows p (course_of before) q
+  pub course : course_of now ≡ after p (course_of before) q
+  pub entries : entries_so_far now ≡ entries_so_far before ++ entry_for p (course_of before) q ∷ []
+
+-- all have run
+pub record TookAll (p : Plan) (qs : List CallClaim) (r : Replay) : Type 0 where
+  pub follow : AllFollow p (begun p) qs
+  pub course : course_of r ≡ course_end p (begun p) qs
+  pub entries : entries_so_far r ≡ entries_from p (begun p) qs

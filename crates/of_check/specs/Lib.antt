@@ -1,0 +1,4 @@
+pub mod Claims
+pub mod Course
+pub mod Endings
+pub mod Verdict

@@ -1,0 +1,11 @@
+//! Whether a text is that of a legal report of a plan.
+#![tactic(auto)]
+
+mod claims;
+mod endings;
+mod replay;
+#[cfg(test)]
+mod tests;
+mod verdict;
+
+pub use verdict::{Verdict, check};
