@@ -85,7 +85,7 @@ abbrev pub StepTaken : Setup → (List ℕ → Type 0) → Type 0
 StepTaken S Lawful = EachMachine S Lawful (λ B w i m. IsOpen m.place
     → (n : ℕ) → FoundBy (want S m) w.words n → Step S B w m n (took S m n) (added S w.words m n))
 
--- it leaves each durable word as it was, or makes it the word that its cell holds
+-- each step leaves each durable word as it was, or makes it the word that its cell holds
 abbrev pub StepDurables : Setup → (List ℕ → Type 0) → Type 0
 StepDurables S Lawful = EachStep S Lawful (λ B w i m n. (c : ℕ) → c < size S
     → (durable_word S (stepped S i m n w).words c ≡ durable_word S w.words c)
