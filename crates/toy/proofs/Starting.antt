@@ -1,5 +1,5 @@
 -- A table of the register may start from the row.
-use Rattle.std.proofs.Common.{◌≡◌, ℕ, zero, suc, ◌<◌, ◌≤◌, List, refl, arith, get_or, replicate, [], ◌∷◌, ◌++◌, lit<, Bool, true, false, nat_le, if◌then◌else◌}
+use Rattle.std.proofs.Common.{◌≡◌, ℕ, zero, suc, ◌≤◌, List, refl, arith, get_or, replicate, [], ◌∷◌, ◌++◌, lit<, Bool, true, false, nat_le, if◌then◌else◌}
 use Rattle.std.proofs.lemmas.Bool.Decides.{nat_tests}
 use Rattle.of_cell.specs.Words.{word, seq, pay}
 use Rattle.of_cell.proofs.Order.{seq_zero}

@@ -1,4 +1,4 @@
-use Rattle.std.proofs.Common.{◌≡◌, ℕ, List, subst, sym, ◌∙◌, ap, arith, refl}
+use Rattle.std.proofs.Common.{◌≡◌, ℕ, List, subst, sym, ◌∙◌, refl}
 use Rattle.of_eval.specs.Scripts.{LawfulCells, scripts_meaning}
 use Rattle.of_core.specs.Table.{Setup, setup_of}
 use Rattle.of_core.specs.Starts.{IsStartRow}
