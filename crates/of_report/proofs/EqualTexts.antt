@@ -5,7 +5,6 @@ use Rattle.std.specs.Fmt.{digits, digits_onto, digit_glyph}
 use Rattle.std.specs.List.{AllByRecursion as Each, enumerate_from}
 use Rattle.std.specs.Str.Parse.{digits_value}
 use Rattle.std.proofs.lemmas.Fmt.{decimal_is_IsNumeral}
-use Rattle.std.proofs.lemmas.Bool.Decides.{nat_tests}
 use Rattle.of_script.specs.declared.instr.Cause.{Cause}
 use Rattle.of_script.specs.declared.instr.Cause.TheVariants.{Overflow, Short, NoRoom, Differs, BadOp}
 use Rattle.of_store.specs.State.{Response, Answered, Aborted}

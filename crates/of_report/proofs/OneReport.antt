@@ -1,7 +1,7 @@
 -- The text of a legal report tells which report it is.
-use Rattle.std.proofs.Common.{◌≡◌, ℕ, zero, suc, ◌+◌, ◌*◌, ◌-◌, ◌^◌, ◌<◌, ◌≤◌, inl, inr, ◌⊎◌, List, [], ◌∷◌, ◌++◌, length, map, get_or, refl, sym, ap, subst, ◌∙◌, length-append, arith}
+use Rattle.std.proofs.Common.{◌≡◌, ℕ, zero, suc, ◌+◌, ◌*◌, ◌-◌, ◌^◌, ◌<◌, ◌≤◌, inl, inr, List, [], ◌∷◌, length, map, get_or, refl, sym, ap, ◌∙◌, length-append, arith}
 use Rattle.std.specs.Prelude.{All, Any, AllPairs, IsTrue, flat_map}
-use Rattle.std.specs.List.{range_with_len, AllByRecursion as Each}
+use Rattle.std.specs.List.{range_with_len}
 use Rattle.std.specs.List.Sorted.{IsPermutation}
 use Rattle.std.proofs.Math.ListN.{get_or-map}
 use Rattle.std.proofs.lemmas.List.{get_or_default, length-map}
@@ -10,12 +10,12 @@ use Rattle.std.proofs.lemmas.List.FromFn.{get_or-range_with_len}
 use Rattle.std.proofs.lemmas.List.Sorted.{All-permutation, length_permutation}
 use Rattle.std.proofs.lemmas.List.Sums.{get_or-le-sum_by}
 use Rattle.of_script.specs.declared.instr.Instr.{Instr}
-use Rattle.of_store.specs.State.{Response, replies, last_store}
+use Rattle.of_store.specs.State.{replies, last_store}
 use Rattle.of_plan.specs.Plan.{Plan, IsPlan, scripts_of}
 use Rattle.of_plan.specs.Report.{CallEntry, CallerLine, EndState, done, stopped, spent, Report, Start, entries_of, line_of, no_line, finished_of}
 use Rattle.of_plan.specs.Legal.{IsLegal, StandsBefore, HasEnded, to_do, script_of}
-use Rattle.of_report.specs.ReportText.{report_text, TextTellsReport}
-use Rattle.of_report.proofs.EqualTexts.{IsSmallEntry, IsSmallLine, IsSmallReport, IsAlike, AreAlike, alike_reports}
+use Rattle.of_report.specs.ReportText.{TextTellsReport}
+use Rattle.of_report.proofs.EqualTexts.{IsSmallEntry, IsSmallLine, IsSmallReport, AreAlike, alike_reports}
 use Rattle.of_report.proofs.Gathers.{gathered}
 use Rattle.of_report.proofs.Records.{same_report}
 
