@@ -11,7 +11,7 @@ use Rattle.of_plan.specs.Plan.{Plan, IsPlan, scripts_of}
 use Rattle.of_plan.specs.Report.{Start, Report, stopped, finished_of}
 use Rattle.of_plan.specs.Legal.{to_do}
 use Rattle.of_plan.specs.Ended.{Run, answers_of, ending_of}
-use Rattle.of_plan.specs.Allowance.{least_steps, KeepsAllowance}
+use Rattle.of_plan.specs.Allowance.{KeepsAllowance}
 use Rattle.of_core.specs.declared.place.Outcome.{Outcome}
 use Rattle.of_core.specs.World.{World, Start as TableStart}
 use Rattle.of_core.specs.Bound.{bound}
