@@ -5,6 +5,7 @@ use of_tool::{MOST_WITH_REPORT, status};
 use std::test::Fail;
 
 const LEGAL: &str = "legal report\n";
+
 const ILLEGAL: &str = "error: not a legal report\n";
 
 // What each input gives, by the name of its case.
