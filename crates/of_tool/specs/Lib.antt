@@ -3,5 +3,4 @@ pub mod Verdicts
 pub mod Answer
 pub mod Replay
 pub mod Play
-pub mod Moments
 pub mod Playing

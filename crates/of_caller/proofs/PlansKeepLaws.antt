@@ -1,0 +1,21 @@
+-- The laws at the numbers of a plan.
+use Rattle.std.proofs.Common.{◌≡◌, ℕ, List, subst}
+use Rattle.of_mem.specs.Places.{base_of}
+use Rattle.of_mem.specs.ProgramWork.{memory, meaning_of}
+use Rattle.of_script.specs.declared.instr.TheConstants.{MOST_INSTRS}
+use Rattle.of_eval.specs.ScriptPrograms.{script_program}
+use Rattle.of_eval.specs.Scripts.{StandsForSome, is_success, script_reads}
+use Rattle.of_plan.specs.Plan.{Plan, data_cells}
+use Rattle.of_core.specs.Table.{setup_of}
+use Rattle.of_caller.specs.PlanLaws.{TableLaws, KeepsLaws}
+
+-- the laws at a table for scripts, of so many callers and blocks
+abbrev pub LawsAt : (callers blocks limit : ℕ) → Type 0
+LawsAt c b l =
+    TableLaws (setup_of c (data_cells c b) l (meaning_of is_success script_reads (script_program (base_of c MOST_INSTRS) b)))
+    (λ (xs : List ℕ). StandsForSome (base_of c MOST_INSTRS) b (memory xs))
+
+-- where the numbers are a plan's, the laws hold at its table
+pub laws_at : (p : Plan) (c b l : ℕ) → c ≡ p.callers → b ≡ p.blocks → l ≡ p.limit → LawsAt c b l → KeepsLaws p
+laws_at p c b l callers blocks limit h =
+    subst (λ (k : ℕ). LawsAt p.callers p.blocks k) limit (subst (λ (k : ℕ). LawsAt p.callers k l) blocks (subst (λ (k : ℕ). LawsAt k b l) callers h))

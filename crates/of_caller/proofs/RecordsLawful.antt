@@ -1,0 +1,76 @@
+-- What a run leaves of a world is a lawful record, where its premises hold.
+use Rattle.std.proofs.Common.{◌≡◌, ℕ, ◌<◌, ◌≤◌, inl, inr, List, [], length, sym, ap, ◌∙◌, arith}
+use Rattle.std.proofs.lemmas.Bool.{cases_lt}
+use Rattle.std.proofs.lemmas.List.Sums.{get_or-le-sum_by}
+use Rattle.of_cell.specs.Cells.{table_words}
+use Rattle.of_script.specs.declared.instr.Instr.{Instr}
+use Rattle.of_script.specs.declared.instr.TheConstants.{MOST_INSTRS}
+use Rattle.of_eval.specs.Lawful.{StandsFor}
+use Rattle.of_eval.specs.Record.{cells_in, recovered_seq, recovered_number, line_for, IsRecord, IsLawful}
+use Rattle.of_plan.specs.Plan.{Plan, IsPlan, scripts_of}
+use Rattle.of_plan.specs.Report.{CallEntry, done, Report, Start, entries_of}
+use Rattle.of_plan.specs.Ended.{Run}
+use Rattle.of_plan.specs.Legal.{IsLegal}
+use Rattle.of_plan.specs.Histories.{history_report}
+use Rattle.of_plan.proofs.HistoriesLegal.{histories_legal}
+use Rattle.of_core.specs.declared.place.Outcome.{Outcome}
+use Rattle.of_core.specs.Table.{risen}
+use Rattle.of_core.specs.World.{World, Start as TableStart}
+use Rattle.of_core.specs.Claim.{IsSound}
+use Rattle.of_caller.specs.Tables.{setup_for}
+use Rattle.of_caller.specs.Moments.{store_after}
+use Rattle.of_caller.proofs.RecordsFacts.{CallerFacts}
+use Rattle.of_caller.proofs.RecordsOwn.{own_entries, IsOwnOf, answer_is, own_at}
+use Rattle.of_caller.proofs.RecordsHistory.{moment_history, moment_lines, is_history, line_is, lines_fit}
+
+-- of a world, where the callers have begun these operations and their calls have ended so, and of what a run has left of it
+pub record MomentFacts (p : Plan) (s : Start) (B : TableStart) (w : World) (e : Run) (ops : ℕ → List (List ℕ)) (outs : ℕ → List Outcome) : Type 0 where
+  pub plan : IsPlan p
+  pub seqs : B.seq ≡ s.seq
+  pub sound : IsSound (setup_for p) B w
+  pub callers : (c : ℕ) → c < p.callers → CallerFacts p s B w e c (ops c) (outs c)
+  pub answers : length e.answers ≡ p.callers
+  pub endings : length e.endings ≡ p.callers
+  pub words : length e.words ≡ table_words p.callers MOST_INSTRS (cells_in p)
+  pub seq : recovered_seq p e ≡ risen (setup_for p) w.words
+  pub stands_for : StandsFor p.callers MOST_INSTRS p.blocks (recovered_number p e) (store_after p B s.store w (risen (setup_for p) w.words))
+
+-- a caller's scripts are few
+pub few_scripts : (p : Plan) → IsPlan p → (c : ℕ) → c < p.callers → length (scripts_of p c) ≤ 20000
+few_scripts p plan c lt = omega (arith, get_or-le-sum_by (λ (scripts : List (List Instr)). length scripts) p.scripts c [] (omega (arith, lt, plan.each_caller)), plan.few_scripts)
+
+module _ (p : Plan) (s : Start) (B : TableStart) (w : World) (e : Run) (ops : ℕ → List (List ℕ)) (outs : ℕ → List Outcome) (facts : MomentFacts p s B w e ops outs) where
+  pub narrow : (c : ℕ) → c < p.callers → length (scripts_of p c) < 4294967296
+  narrow c lt = omega (arith, few_scripts p facts.plan c lt)
+
+  -- what each caller has beyond its answers
+  beyond : (c : ℕ) → (extra : List CallEntry) × (c < p.callers → IsOwnOf p s B w e c extra)
+  beyond c = elim (cases_lt c p.callers) [
+    | inl lt ↦ let own = own_at p s B w facts.sound e c (ops c) (outs c) lt (narrow c lt) (facts.callers c lt) in (own.0, λ below. own.1)
+    | inr high ↦ ([], λ below. absurd (omega (arith, high, below)))
+  ]
+
+  abbrev extras : ℕ → List CallEntry
+  extras c = (beyond c).0
+
+  legal_left : IsLegal p s (history_report p s (moment_history p s B w e extras) (moment_lines p s e extras))
+      × ((c : ℕ) → c < p.callers → entries_of (history_report p s (moment_history p s B w e extras) (moment_lines p s e extras)) c ≡ own_entries s e c (extras c))
+  legal_left =
+      histories_legal p s (moment_history p s B w e extras) (moment_lines p s e extras) (is_history p s B facts.seqs w facts.sound e extras (λ c lt. (beyond c).1 lt) facts.sound.from)
+      (lines_fit p s B facts.seqs w facts.sound e extras (λ c lt. (beyond c).1 lt) (λ c lt x none among. (answer_is p s B w facts.sound e c (ops c) (outs c) lt (narrow c lt) (facts.callers c lt) x none among).within))
+
+  record_left : IsRecord p s e (history_report p s (moment_history p s B w e extras) (moment_lines p s e extras))
+  record_left = record {
+    entries = λ c lt. record { extra = extras c; beyond = ((beyond c).1 lt).beyond; own = legal_left.1 c lt };
+    each_caller = legal_left.0.open_calls.each_caller;
+    callers = λ c lt. line_is p s B facts.seqs w facts.sound e extras (λ c lt. (beyond c).1 lt) c (record { state = done; answered = 0; entries = 0; longest = 0 }) lt ∙ ap (λ (es : List CallEntry). line_for e c (length es)) (sym (legal_left.1 c lt));
+    seq = sym facts.seq;
+    store = facts.stands_for;
+  }
+
+  -- what is left is a lawful record
+  pub lawful_left : (r : Report) × IsLawful p s e r
+  lawful_left = (
+    history_report p s (moment_history p s B w e extras) (moment_lines p s e extras),
+    record { answers = facts.answers; endings = facts.endings; words = facts.words; report = record_left; legal = legal_left.0 },
+  )

@@ -1,0 +1,32 @@
+use Rattle.of_caller.specs.PlanLaws.{KeepsLaws}
+use Rattle.of_caller.proofs.PlansKeepLaws.{laws_at}
+use Rattle.of_caller.proofs.Schedules.{schedules_are_moments}
+use Rattle.of_caller.proofs.StoresZeros.{zeros_are_empty}
+use Rattle.of_caller.proofs.laws.plan_keeps_laws.Goals as goal
+
+kept : (c : goal.After-machines) → KeepsLaws c.args.plan.now
+kept c =
+    laws_at c.args.plan.now c.callers.result c.blocks-2.result c.limit-limit.result c.callers.ensures.value c.blocks-2.ensures.value c.limit-limit.ensures.value
+    (record {
+      starts = c.step_kept.ensures.start;
+      events = c.every_moment.ensures.kept;
+      schedules = c.every_moment.ensures.runs;
+      sound = c.step_kept.ensures.sound;
+      finds = c.machines.ensures.finds;
+      steps = c.step_kept.ensures.taken;
+      moments = c.every_moment.ensures.sound;
+      calls = c.every_call.ensures.calls;
+      more_calls = c.every_call.ensures.kept;
+      turns = c.every_call.ensures.turns;
+      zero_start = c.starts.ensures.zeros;
+      zero_words = c.starts.ensures.zero_words;
+    })
+
+pub returns-clause-laws : goal.returns-clause-laws
+returns-clause-laws c = kept c
+
+pub returns-clause-moments : goal.returns-clause-moments
+returns-clause-moments c = schedules_are_moments c.args.plan.now c.callers.ensures.plan (kept c)
+
+pub returns-clause-zeros : goal.returns-clause-zeros
+returns-clause-zeros c = zeros_are_empty c.args.plan.now c.callers.ensures.plan

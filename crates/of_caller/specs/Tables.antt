@@ -1,0 +1,39 @@
+-- The table of a plan: what its machines have in common, and what its scripts are as operations.
+use Rattle.std.specs.Prelude.{ℕ, List, map}
+use Rattle.of_mem.specs.Meaning.{Meaning}
+use Rattle.of_mem.specs.Places.{base_of}
+use Rattle.of_mem.specs.ProgramWork.{memory, meaning_of}
+use Rattle.of_script.specs.declared.instr.Instr.{Instr}
+use Rattle.of_script.specs.declared.instr.TheConstants.{MOST_INSTRS}
+use Rattle.of_script.specs.Language.{instr_word}
+use Rattle.of_eval.specs.ScriptPrograms.{script_program}
+use Rattle.of_eval.specs.Scripts.{StandsForSome, is_success, script_reads}
+use Rattle.of_plan.specs.Plan.{Plan, data_cells}
+use Rattle.of_core.specs.Table.{Setup, setup_of}
+use Rattle.of_core.specs.World.{World, Start}
+use Rattle.of_core.specs.Events.{opening, zeros}
+use Rattle.of_core.specs.Moment.{table_words}
+
+-- what operations do over the cells of a plan
+abbrev pub meaning_for : Plan → Meaning
+meaning_for p = meaning_of is_success script_reads (script_program (base_of p.callers MOST_INSTRS) p.blocks)
+
+-- what the machines of a plan have in common
+abbrev pub setup_for : Plan → Setup
+setup_for p = setup_of p.callers (data_cells p.callers p.blocks) p.limit (meaning_for p)
+
+-- data cells of a plan are lawful where they stand for some store
+abbrev pub lawful_for : Plan → List ℕ → Type 0
+lawful_for p xs = StandsForSome (base_of p.callers MOST_INSTRS) p.blocks (memory xs)
+
+-- the table of a plan at a start, before anything has happened
+abbrev pub opening_at : Plan → Start → World
+opening_at p B = opening (setup_for p) B (table_words (setup_for p))
+
+-- the same of zeros
+abbrev pub opening_for : Plan → World
+opening_for p = opening_at p (zeros (setup_for p))
+
+-- the operation of a script
+abbrev pub operation_of : List Instr → List ℕ
+operation_of script = map instr_word script
