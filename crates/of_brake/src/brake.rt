@@ -1,0 +1,29 @@
+//! What is asked before each step of a caller.
+
+ghost use Rattle.std.specs.Prelude.{◌≡◌, ℕ, ◌≤◌, false, Option};
+ghost use Rattle.of_brake.specs.Stops.{Rose, Armed, Counts};
+
+/// It is asked before each step of one caller, and may deny it. Whether it tells the steps left never changes.
+pub trait Brake: Drop {
+    /// How often it has denied a step: a count that never falls.
+    ghost denials: { Self → ℕ };
+
+    /// Where they are told, the steps left, or none where there is no end.
+    ghost left: { Self → Option (Option ℕ) };
+
+    /// Sets the steps left; None is no end.
+    fn arm(&mut self, stop: Option<u64>)
+        ensures denials { denials self.old ≤ denials self.new }
+        ensures armed { Armed (left self.old) stop (left self.new) };
+
+    /// Whether the next step may be made.
+    fn ask(&mut self) -> bool
+        ensures denials { denials self.old ≤ denials self.new }
+        ensures cause { result ≡ false → Rose (denials self.old) (denials self.new) }
+        ensures left { Counts (left self.old) (left self.new) result };
+
+    /// Is called after each answered call.
+    fn answered(&mut self)
+        ensures denials { denials self.old ≤ denials self.new }
+        ensures left { left self.new ≡ left self.old };
+}

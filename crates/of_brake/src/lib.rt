@@ -1,0 +1,18 @@
+//! When a caller is stopped.
+
+#![tactic(auto)]
+
+mod brake;
+mod fuel;
+mod hold;
+mod pattern;
+mod steps;
+
+pub use brake::Brake;
+pub use fuel::Fuel;
+pub use hold::{Holder, Teller, hold_pair};
+pub use pattern::Pattern;
+pub use steps::Steps;
+
+#[cfg(test)]
+mod tests;

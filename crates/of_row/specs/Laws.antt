@@ -1,0 +1,47 @@
+-- What follows from the rule of a row.
+use Rattle.std.specs.Prelude.{◌≡◌, ◌≤◌, ◌<◌, ◌+◌, ℕ, List, length, map, false}
+use Rattle.of_mem.specs.Meaning.{Meaning}
+use Rattle.of_core.specs.Table.{Setup}
+use Rattle.of_core.specs.World.{Start}
+use Rattle.of_core.specs.Machine.{Data, idle, opened}
+use Rattle.of_core.specs.declared.place.Place.TheVariants.{Idle}
+use Rattle.of_core.specs.Seen.{Seen, setup}
+use Rattle.of_row.specs.declared.member.Member.{Member}
+use Rattle.of_row.specs.declared.member.Pass.{Pass}
+use Rattle.of_row.specs.declared.row.Row.{Row}
+use Rattle.of_row.specs.Views.{Sight, bare}
+use Rattle.of_row.specs.Rule.{Meets, KeepsAll, done_before}
+use Rattle.of_row.specs.Rows.{key_of, setup_at, start_at, RunsOn, IsMemberOf}
+use Rattle.of_row.specs.Passes.{HasEnrolled}
+
+-- a view that keeps every number that is taken has seen the whole history
+abbrev pub SeesWhole : (List ℕ → Type 0) → Type 0
+SeesWhole Lawful =
+    (S : Setup) (B : Start) (ws : List ℕ) (v : Sight) (m : Meets S Lawful B ws v)
+    → v.spent ≡ false → KeepsAll S ws v → v.seen ≡ map bare m.rule.batches
+
+-- a member that enrolled stands for an idle machine of its number, with as many calls behind it
+abbrev pub NewMember : {X : Type 0} → (X → Meaning) → X → Type 0
+NewMember {X} meaning work =
+    (row : Row X) (n : ℕ) (before pass : Pass) (member : Member) (m : Seen X)
+    → HasEnrolled meaning row n before member pass → RunsOn row m
+    → m.call ≡ idle (setup_at meaning row) n (done_before (setup_at meaning row) (start_at meaning row) n)
+    → IsMemberOf meaning member m
+
+-- a member goes on standing for a machine that has begun a call
+abbrev pub BegunMember : {X : Type 0} → (X → Meaning) → X → Type 0
+BegunMember {X} meaning work =
+    (member : Member) (m now : Seen X) (op : List ℕ) → IsMemberOf meaning member m → m.call.place ≡ Idle
+    → 1 ≤ length op → length op ≤ (setup meaning m).instrs → m.call.made + 1 < 4294967296
+    → now ≡ record m { call = opened (setup meaning m) m.call op } → IsMemberOf meaning member now
+
+-- a machine with the row's work and sizes runs on the row
+abbrev pub NewRuns : {X : Type 0} → X → Type 0
+NewRuns {X} work =
+    (row : Row X) (m : Seen X) → m.work ≡ (key_of row).work → m.callers ≡ (key_of row).callers
+    → m.cells ≡ (key_of row).cells → m.limit ≡ (key_of row).limit → RunsOn row m
+
+-- and goes on doing so, whatever call it holds
+abbrev pub StillRuns : {X : Type 0} → X → Type 0
+StillRuns {X} work =
+    (row : Row X) (m now : Seen X) (d : Data) → RunsOn row m → now ≡ record m { call = d } → RunsOn row now

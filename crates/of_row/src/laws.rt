@@ -1,0 +1,22 @@
+//! What follows from the rule of a row: functions that do nothing, whose contracts are the theorems.
+
+ghost use Rattle.of_row.specs.Laws.{SeesWhole, NewMember, BegunMember, NewRuns, StillRuns};
+
+use of_mem::Work;
+
+/// Whoever keeps every number that is taken has seen the whole history.
+pub fn sees_whole<W: Work>(work: W)
+    ensures { SeesWhole (W.lawful work) }
+{}
+
+/// When a member stands for a machine: at first for an idle one of its number, and on from the begin of a call.
+pub fn members<W: Work>(work: W)
+    ensures first { NewMember W.meaning work }
+    ensures begun { BegunMember W.meaning work }
+{}
+
+/// When a machine runs on a row: at first by its sizes and its work, and on from the begin of a call.
+pub fn machines<W: Work>(work: W)
+    ensures first { NewRuns work }
+    ensures begun { StillRuns work }
+{}

@@ -1,0 +1,46 @@
+//! What those hold who step on a row: passes and members, and how they are refused.
+
+ghost use Rattle.std.specs.Prelude.{◌≡◌};
+
+use crate::view::View;
+use atomic_table::Seat;
+
+/// What a thread holds that makes no calls. Contracts see what it knows.
+#[derive(Drop)]
+pub struct Pass {
+    pub(crate) seat: Seat<(), View>,
+}
+
+/// What a caller's thread holds. Contracts see what it knows: its number, its machine and its own calls among it.
+#[derive(Drop)]
+pub struct Member {
+    pub(crate) seat: Seat<(), View>,
+    pub(crate) number: u32,
+    pub(crate) made: u32,
+}
+
+impl Member {
+    /// The caller's number.
+    pub fn number(&self) -> u32
+        ensures { result ≡ self.now.number }
+    {
+        self.number
+    }
+
+    /// How many calls of its number have made a step, those before the start with them.
+    pub fn made(&self) -> u32
+        ensures { result ≡ self.now.made }
+    {
+        self.made
+    }
+}
+
+/// The number is taken: the members word that was found has its bit.
+#[derive(Drop)]
+pub struct Taken {
+    pub members: u64,
+}
+
+/// The brake denied the step.
+#[derive(Drop)]
+pub struct Stopped;
