@@ -16,3 +16,6 @@ pub mod RecordsLawful
 pub mod RecordsAllowance
 pub mod Records
 pub mod RecordsReplies
+pub mod CallSteps
+pub mod CallerSteps
+pub mod BrakeCharges

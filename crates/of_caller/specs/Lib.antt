@@ -5,3 +5,6 @@ pub mod Left
 pub mod Moments
 pub mod Starts
 pub mod Runs
+pub mod Callers
+pub mod CallsTold
+pub mod Charges
