@@ -1,6 +1,3 @@
-use Rattle.std.proofs.Common.{ap, ◌∙◌, sym}
-use Rattle.of_core.specs.Seen.{Seen}
-use Rattle.of_row.specs.Rows.{RunsOn}
 use Rattle.of_row.proofs.Members.{runs_first, runs_on}
 use Rattle.of_row.proofs.laws.machines.Goals as goal
 

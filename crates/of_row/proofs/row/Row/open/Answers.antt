@@ -1,4 +1,4 @@
-use Rattle.std.proofs.Common.{◌≡◌, ℕ, ◌+◌, List, [], refl, sym, ap, ◌∙◌, subst}
+use Rattle.std.proofs.Common.{ℕ, List, [], refl, sym, ap, ◌∙◌, subst}
 use Rattle.atomic_table.specs.Table.{opening}
 use Rattle.of_core.specs.Table.{Setup, setup_of}
 use Rattle.of_row.specs.Views.{first_sight}

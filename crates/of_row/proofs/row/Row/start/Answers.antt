@@ -1,8 +1,6 @@
-use Rattle.std.proofs.Common.{◌≡◌, ℕ, List, ◌∙◌}
-use Rattle.of_core.specs.Table.{Setup, setup_of}
+use Rattle.std.proofs.Common.{◌∙◌}
 use Rattle.of_core.specs.World.{Start}
 use Rattle.of_core.specs.Starts.{start_of}
-use Rattle.of_row.specs.Keys.{IsFirstOf}
 use Rattle.of_row.proofs.Opens.{bank_start}
 use Rattle.of_row.proofs.row.Row.start.Goals as goal
 
