@@ -1,5 +1,5 @@
 -- What a run of a plan leaves is a lawful record.
-use Rattle.std.proofs.Common.{◌≡◌, ℕ, ◌+◌, ◌-◌, ◌<◌, ◌⊎◌, inl, inr, List, [], get_or, length, ap, ◌∙◌, arith}
+use Rattle.std.proofs.Common.{ℕ, ◌+◌, ◌<◌, ◌⊎◌, inl, inr, List, [], get_or, length, ap, ◌∙◌, arith}
 use Rattle.of_eval.specs.Record.{IsLawful}
 use Rattle.of_plan.specs.Plan.{Plan}
 use Rattle.of_plan.specs.Report.{Start, Report, finished_of}
@@ -75,7 +75,6 @@ module _ (p : Plan) (s : Start) (B : TableStart) (w : World) (e : Run) (run : Is
     plan = moment.plan;
     seqs = moment.starts.seq;
     sound = moment.sound;
-   
     callers = caller_facts;
     answers = run.answers;
     endings = run.endings;

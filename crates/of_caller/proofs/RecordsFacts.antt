@@ -1,5 +1,5 @@
 -- What is known of a moment of a plan's table, of the calls that led to it and of what a run has left of it: the premises of its record.
-use Rattle.std.proofs.Common.{◌≡◌, ℕ, ◌+◌, ◌<◌, ◌≤◌, ◌⊎◌, false, true, IsTrue, List, [], length, get_or, map, take}
+use Rattle.std.proofs.Common.{◌≡◌, ℕ, ◌+◌, ◌<◌, ◌≤◌, ◌⊎◌, false, true, IsTrue, List, [], length, get_or}
 use Rattle.std.specs.Prelude.{All}
 use Rattle.of_cell.specs.Words.{word}
 use Rattle.of_mem.specs.declared.work.RawReply.{RawReply}
@@ -14,16 +14,13 @@ use Rattle.of_eval.specs.Lawful.{reply_in}
 use Rattle.of_eval.specs.Record.{recovered_word, recovered_number}
 use Rattle.of_plan.specs.Plan.{Plan}
 use Rattle.of_plan.specs.Report.{Start, finished_of}
-use Rattle.of_plan.specs.Legal.{to_do}
-use Rattle.of_plan.specs.Ended.{Run, answers_of, ending_of}
+use Rattle.of_plan.specs.Ended.{Run}
 use Rattle.of_core.specs.declared.place.Outcome.{Outcome}
-use Rattle.of_core.specs.declared.place.Outcome.TheVariants.{Answered, Spent}
+use Rattle.of_core.specs.declared.place.Outcome.TheVariants.{Answered}
 use Rattle.of_core.specs.Table.{risen}
-use Rattle.of_core.specs.Machine.{IsOpen}
 use Rattle.of_core.specs.World.{World, Start as TableStart}
 use Rattle.of_core.specs.History.{Absent}
 use Rattle.of_core.specs.Order.{no_read}
-use Rattle.of_core.specs.Events.{machine}
 use Rattle.of_core.specs.Calls.{Calls, no_outcome}
 use Rattle.of_core.specs.Least.{least_read}
 use Rattle.of_caller.specs.Tables.{setup_for}

@@ -34,7 +34,7 @@ use Rattle.of_core.specs.Bound.{bound}
 use Rattle.of_core.specs.Machine.{is_idle, no_call}
 use Rattle.of_core.specs.World.{World, Start as TableStart}
 use Rattle.of_core.specs.Events.{machine}
-use Rattle.of_core.specs.Claim.{IsSound, IsTold}
+use Rattle.of_core.specs.Claim.{IsSound}
 use Rattle.of_core.specs.Calls.{no_outcome, last_of, NoneSpent}
 use Rattle.of_caller.specs.Tables.{setup_for, operation_of}
 use Rattle.of_caller.specs.Ends.{is_spent, Tells, halted}

@@ -1,5 +1,5 @@
 -- The raw reply of each answered call of a plan is that of some reply.
-use Rattle.std.proofs.Common.{◌≡◌, ℕ, ◌<◌, List, length, get_or, refl, Bool, true, false}
+use Rattle.std.proofs.Common.{◌≡◌, ℕ, get_or, refl, Bool, true, false}
 use Rattle.of_mem.specs.declared.work.RawReply.{RawReply}
 use Rattle.of_script.specs.declared.instr.Reply.{Reply}
 use Rattle.of_eval.specs.Shapes.{IsHeldBy}
@@ -10,7 +10,7 @@ use Rattle.of_core.specs.declared.place.Outcome.TheVariants.{Answered, Spent}
 use Rattle.of_core.specs.World.{World, Start as TableStart}
 use Rattle.of_core.specs.Calls.{no_outcome}
 use Rattle.of_caller.specs.Ends.{HoldsReply}
-use Rattle.of_caller.specs.Runs.{IsMomentOf, RepliesAreHeld}
+use Rattle.of_caller.specs.Runs.{RepliesAreHeld}
 use Rattle.of_caller.proofs.Stores.{IsHeldAt, outcome_held}
 
 reply_at : (p : Plan) (s : Start) (B : TableStart) (w : World) (i t k : ℕ) (raw : RawReply) (announced : Bool) → IsHeldAt p s B w i t k raw announced → (r : Reply) × IsHeldBy raw r

@@ -1,5 +1,5 @@
 -- From every start every schedule of a plan's next scripts leads to a moment of the plan.
-use Rattle.std.proofs.Common.{◌≡◌, ℕ, ◌<◌, ◌≤◌, List, get_or, sym, ap, subst, ◌∙◌, arith}
+use Rattle.std.proofs.Common.{◌≡◌, ℕ, ◌<◌, ◌≤◌, get_or, sym, ap, subst, ◌∙◌, arith}
 use Rattle.of_cell.specs.Words.{pay}
 use Rattle.of_mem.specs.Places.{ticket_at}
 use Rattle.of_script.specs.declared.instr.TheConstants.{MOST_INSTRS}

@@ -7,7 +7,6 @@ use Rattle.std.proofs.lemmas.List.{take_more, length-map}
 use Rattle.std.proofs.lemmas.List.Elements.{All-from_recursion, recursion_from_All}
 use Rattle.of_cell.specs.Words.{pay}
 use Rattle.of_mem.specs.declared.work.RawReply.{RawReply}
-use Rattle.of_mem.specs.Meaning.{SameFrom}
 use Rattle.of_mem.specs.Places.{base_of}
 use Rattle.of_mem.specs.ProgramWork.{memory}
 use Rattle.of_mem.proofs.Standing.{stands_from}
@@ -15,7 +14,7 @@ use Rattle.of_script.specs.declared.instr.Instr.{Instr}
 use Rattle.of_script.specs.declared.instr.TheConstants.{MOST_INSTRS}
 use Rattle.of_script.specs.Language.{IsScript, reads_only}
 use Rattle.of_script.proofs.WordLaws.{words_injective}
-use Rattle.of_store.specs.State.{State, replies, last_store, run}
+use Rattle.of_store.specs.State.{replies, last_store, run}
 use Rattle.of_eval.specs.Scripts.{script_reads}
 use Rattle.of_eval.specs.Stored.{plain, IsStored}
 use Rattle.of_eval.proofs.ReadsOnly.{reads_of}
@@ -29,12 +28,12 @@ use Rattle.of_core.specs.Table.{Setup, base, risen}
 use Rattle.of_core.specs.Machine.{no_call, is_idle}
 use Rattle.of_core.specs.World.{World, Batch, Read, Start as TableStart}
 use Rattle.of_core.specs.Order.{no_read}
-use Rattle.of_core.specs.History.{numbers, batch, no_batch, after_calls, Replies, replay, SameReply}
+use Rattle.of_core.specs.History.{numbers, no_batch, after_calls, Replies, replay, SameReply}
 use Rattle.of_core.specs.Calls.{no_outcome}
 use Rattle.of_core.specs.Events.{machine}
 use Rattle.of_caller.specs.Tables.{setup_for, operation_of}
 use Rattle.of_core.specs.Calls.{Stood}
-use Rattle.of_caller.specs.Moments.{script_of_ticket, call_script, batch_calls, batch_scripts, store_behind, store_after, raw_of}
+use Rattle.of_caller.specs.Moments.{script_of_ticket, call_script, batch_calls, batch_scripts, store_behind, store_after}
 use Rattle.of_caller.specs.Runs.{IsMomentOf}
 use Rattle.of_caller.proofs.StoresHeld.{HasReply, has_reply}
 use Rattle.of_caller.proofs.StoresMoments.{IsOperation, IsCallOf, operation_is, op_is}

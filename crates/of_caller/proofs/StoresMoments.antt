@@ -10,12 +10,9 @@ use Rattle.of_eval.specs.declared.scripts.Scripts.{Scripts}
 use Rattle.of_plan.specs.Plan.{Plan, IsPlan, scripts_of}
 use Rattle.of_plan.specs.Report.{Start, finished_of}
 use Rattle.of_core.specs.declared.place.Outcome.{Outcome}
-use Rattle.of_core.specs.Table.{risen}
 use Rattle.of_core.specs.Machine.{Call}
 use Rattle.of_core.specs.World.{World, Start as TableStart}
-use Rattle.of_core.specs.Claim.{IsSound}
-use Rattle.of_caller.specs.Tables.{setup_for, operation_of}
-use Rattle.of_core.specs.Calls.{Calls}
+use Rattle.of_caller.specs.Tables.{operation_of}
 use Rattle.of_caller.specs.Moments.{script_of_ticket, batch_calls}
 use Rattle.of_caller.specs.Runs.{IsMomentOf}
 

@@ -1,5 +1,5 @@
 -- In a plan's schedule a spent call is the last of its caller's.
-use Rattle.std.proofs.Common.{◌≡◌, ℕ, zero, suc, ◌+◌, Bool, true, false, cond, List, [], ◌∷◌, ◌++◌, length, replicate, refl, ap, ◌∙◌}
+use Rattle.std.proofs.Common.{◌≡◌, ℕ, zero, suc, Bool, true, false, cond, List, [], ◌∷◌, ◌++◌, length, replicate, refl, ap, ◌∙◌}
 use Rattle.std.specs.Prelude.{◌&&◌, not, nat_lt, flat_map, slice_index_or}
 use Rattle.std.specs.List.{AllByRecursion as Each}
 use Rattle.of_plan.specs.declared.plan.Item.{Item}
