@@ -1,5 +1,5 @@
 -- What the steps of a call come to: each step leads from what is told of a call on its way to what is told behind it.
-use Rattle.std.proofs.Common.{◌≡◌, ℕ, zero, suc, ◌+◌, ◌-◌, ◌<◌, ◌≤◌, inl, inr, Bool, true, false, List, [], ◌∷◌, ◌++◌, Option, Some, None, refl, sym, ap, ◌∙◌, subst, arith, append_assoc}
+use Rattle.std.proofs.Common.{◌≡◌, ◌↔◌, IsTrue, ℕ, zero, suc, ◌+◌, ◌-◌, ◌<◌, ◌≤◌, inl, inr, Bool, true, false, List, [], ◌∷◌, ◌++◌, Option, Some, None, refl, sym, ap, ◌∙◌, subst, arith, append_assoc}
 use mathlib.Core.List.{append-nil, IsPrefix}
 use Rattle.of_core.specs.declared.place.Outcome.{Outcome}
 use Rattle.of_core.specs.Table.{Setup}
@@ -158,4 +158,11 @@ pub falls_by : (S : Setup) (L : List ℕ → Type 0) (B : Start) (d : Data) (v :
 falls_by S L B d v found w either o few t = elim (either (took S d found).place) [
   | inl idle ↦ omega (arith, left_idle S (took S d found) idle, left_open S d o, few)
   | inr opened ↦ omega (arith, left_open S (took S d found) opened, left_open S d o, few, (t.goes_on opened).0, (t.goes_on opened).1)
+]
+
+-- a machine that a test found not idle has an open call
+pub open_where : IdleOrOpen → (d : Data) (b : Bool) → IsTrue b ↔ IsIdle d → b ≡ false → IsOpen d.place
+open_where either d b is no_idle = elim (either d.place) [
+  | inl idle ↦ absurd (let z : true ≡ false = sym (is.1 idle) ∙ no_idle in cc)
+  | inr open_call ↦ open_call
 ]

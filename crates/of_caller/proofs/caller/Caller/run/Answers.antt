@@ -3,6 +3,7 @@ use Rattle.of_core.specs.Machine.{IsOpen}
 use Rattle.of_caller.specs.declared.caller.Caller.{Caller}
 use Rattle.of_caller.specs.Callers.{call_of}
 use Rattle.of_caller.proofs.CallerSteps.{within_after, falls, goes}
+use Rattle.of_caller.proofs.CallSteps.{open_where}
 use Rattle.of_caller.proofs.BrakeCharges.{gave_more}
 use Rattle.of_caller.proofs.caller.Caller.run.Goals as goal
 
@@ -12,7 +13,7 @@ loop-asked-preserved g c =
     let row = c.args.row.now in
     let before = c.loop-asked.self in
     let now : Caller _ = record { member = c.step.new.member; machine = c.step.new.machine } in
-    let opened : IsOpen (call_of before).place = search rules in
+    let opened = open_where c.machines.ensures.idle_or_open (call_of before) c.is_idle.result c.is_idle.ensures c.loop-asked-test.true in
     let step = c.in-Ok.ensures.step in
     record {
       caller = record {
@@ -36,5 +37,5 @@ loop-asked-smaller g c =
     let row = c.args.row.now in
     let before = c.loop-asked.self in
     let now : Caller _ = record { member = c.step.new.member; machine = c.step.new.machine } in
-    let opened : IsOpen (call_of before).place = search rules in
+    let opened = open_where c.machines.ensures.idle_or_open (call_of before) c.is_idle.result c.is_idle.ensures c.loop-asked-test.true in
     falls g.W.Work.meaning g.W.Work.lawful row before inv.caller opened now c.in-Ok.ensures.step c.machines.ensures.idle_or_open
