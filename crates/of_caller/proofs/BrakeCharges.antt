@@ -1,7 +1,7 @@
 -- What asks take off the steps of a brake, one after the other.
-use Rattle.std.proofs.Common.{◌≡◌, ℕ, ◌+◌, ◌≤◌, true, false, Option, Some, None, refl, arith}
-use Rattle.of_brake.specs.Stops.{Rose, Counts, CountsFrom}
-use Rattle.of_caller.specs.Charges.{Gave, GaveOf, StopsOf, StopsTold}
+use Rattle.std.proofs.Common.{◌≡◌, ℕ, ◌+◌, ◌≤◌, true, false, Option, Some, None, refl, sym, subst, arith}
+use Rattle.of_brake.specs.Stops.{Rose, Counts, CountsFrom, Heard}
+use Rattle.of_caller.specs.Brakes.{Gave, GaveOf, StopsOf, StopsTold}
 
 gave_of_more : (a b c : Option ℕ) (n : ℕ) → GaveOf a b n → CountsFrom b c true → GaveOf a c (n + 1)
 gave_of_more None (Some b) c n u k = cc
@@ -42,3 +42,11 @@ gave_none (Some a) = gave_of_none a
 
 pub rises : (a b c : ℕ) → a ≤ b → Rose b c → Rose a c
 rises a b c h r = omega (arith, h, r)
+
+-- steps left that stay as they are
+pub gave_same : (a b c : Option (Option ℕ)) (n : ℕ) → Gave a b n → c ≡ b → Gave a c n
+gave_same a b c n u same = subst (λ (left : Option (Option ℕ)). Gave a left n) (sym same) u
+
+-- an answer of which a brake is told behind asks, which it doesn't count
+pub heard_from : (a b c : Option ℕ) → b ≡ a → Heard b c → Heard a c
+heard_from a b c same heard = subst (λ (count : Option ℕ). Heard count c) same heard

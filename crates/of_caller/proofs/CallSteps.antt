@@ -14,9 +14,10 @@ use Rattle.of_row.specs.Views.{Ended, Kept, Sight, reach, shown}
 use Rattle.of_row.specs.Rule.{HasEnded}
 use Rattle.of_row.specs.Turned.{StandsFor, IsMember, Turned, Meant, Tells, since_by, since_after, ended_by, ended_at, of_answer, kept_after}
 use Rattle.of_caller.specs.CallsTold.{HasClosed, IsOpenStill, StepsTold}
+use Rattle.of_caller.proofs.SpentSteps.{spent_exactly}
 
 -- a call on its way: n steps of it have led from the machine m and the view v to d and w
-pub record Progress (S : Setup) (B : Start) (m : Data) (v : Sight) (n : ℕ) (d : Data) (w : Sight) : Type 0 where
+pub record Progress (S : Setup) (L : List ℕ → Type 0) (B : Start) (m : Data) (v : Sight) (n : ℕ) (d : Data) (w : Sight) : Type 0 where
   pub seen : IsPrefix v.seen w.seen
   pub caller : d.caller ≡ m.caller
   pub made : d.made ≡ m.made
@@ -29,7 +30,7 @@ pub record Progress (S : Setup) (B : Start) (m : Data) (v : Sight) (n : ℕ) (d 
   pub some : 0 < n → StepsTold S B d w kept
   pub since : 0 < n → kept.since ≡ since_after B v before
   pub still : IsOpen d.place → IsOpenStill S m before n d kept
-  pub ended : IsIdle d → (o : Outcome) × HasClosed S B m v before n d w kept o
+  pub ended : IsIdle d → (o : Outcome) × HasClosed S L B m v before n d w kept o
 
 -- ---- lists
 
@@ -49,8 +50,8 @@ prefix_trans xs ys zs p q = (p.0 ++ q.0, sym (append_assoc xs p.0 q.0) ∙ (ap (
 open_not_idle : (d : Data) → IsOpen d.place → IsIdle d → ⊥
 open_not_idle d o idle = absurd (let z : true ≡ false = sym (ap is_idle idle) ∙ o in cc)
 
-pub starts_at : (S : Setup) (B : Start) (d : Data) (v : Sight) → IsOpen d.place → d.steps < bound S → (x : Kept) → v.kept ≡ x ∷ [] → Progress S B d v 0 d v
-starts_at S B d v o within x one = record {
+pub starts_at : (S : Setup) (L : List ℕ → Type 0) (B : Start) (d : Data) (v : Sight) → IsOpen d.place → d.steps < bound S → (x : Kept) → v.kept ≡ x ∷ [] → Progress S L B d v 0 d v
+starts_at S L B d v o within x one = record {
   seen = ([], append-nil v.seen);
   caller = refl;
   made = refl;
@@ -74,7 +75,7 @@ none_ended e o = ap (λ (b : Bool). ended_by e b) o
 pub one_ended : (e : Data) (o : Outcome) → IsIdle e → e.answer ≡ Some o → ended_at e ≡ record { op = e.op; outcome = o } ∷ []
 one_ended e o idle answer = ap (λ (b : Bool). ended_by e b) (ap is_idle idle) ∙ ap (λ (a : Option Outcome). of_answer e.op a) answer
 
-module _ (S : Setup) (L : List ℕ → Type 0) (B : Start) (d0 : Data) (v0 : Sight) (n : ℕ) (d : Data) (v : Sight) (found : ℕ) (w : Sight) (p : Progress S B d0 v0 n d v) (o : IsOpen d.place) (t : Turned S L B d v found w) where
+module _ (S : Setup) (L : List ℕ → Type 0) (B : Start) (d0 : Data) (v0 : Sight) (n : ℕ) (d : Data) (v : Sight) (found : ℕ) (w : Sight) (p : Progress S L B d0 v0 n d v) (o : IsOpen d.place) (t : Turned S L B d v found w) where
   abbrev e : Data
   e = took S d found
 
@@ -102,25 +103,28 @@ module _ (S : Setup) (L : List ℕ → Type 0) (B : Start) (d0 : Data) (v0 : Sig
     kept = ap (λ (l : List Ended). p.kept.ended ++ l) (none_ended e opened) ∙ append-nil p.kept.ended ∙ (p.still o).kept;
   }
 
-  closes : IsIdle e → (q : Outcome) × HasClosed S B d0 v0 p.before (n + 1) e w next q
+  closes : IsIdle e → (q : Outcome) × HasClosed S L B d0 v0 p.before (n + 1) e w next q
   closes idle =
       let ends = t.ends p.kept p.kept_now idle in
       let q = ends.outcome in
-      let steps : d.steps + 1 ≡ d0.steps + (n + 1) = omega (arith, (p.still o).steps) in
-      (q, record {
-        idle = idle;
-        answer = ends.answer;
-        kept = ap (λ (l : List Ended). p.kept.ended ++ l) (one_ended e q idle ends.answer) ∙ ap (λ (l : List Ended). l ++ record { op = e.op; outcome = q } ∷ []) (p.still o).kept
-            ∙ ap (λ (op : List ℕ). p.before.ended ++ record { op = op; outcome = q } ∷ []) (t.op ∙ p.op);
-        stands = subst (λ (i : ℕ). HasEnded S B (shown w.seen) (reach B w.seen) i d0.made d0.op q) p.caller
-            (subst (λ (k : ℕ). HasEnded S B (shown w.seen) (reach B w.seen) d.caller k d0.op q) p.made
-            (subst (λ (op : List ℕ). HasEnded S B (shown w.seen) (reach B w.seen) d.caller d.made op q) p.op ends.stands));
-        meant = subst (λ (op : List ℕ). Meant S B (shown w.seen) op q) p.op ends.meant;
-        steps = subst (λ (k : ℕ). Tells k q) steps ends.steps;
-        beyond = subst (λ (k : ℕ). Beyond k q) since_is ends.beyond;
-      })
+      let steps : d.steps + 1 ≡ d0.steps + (n + 1) = omega (arith, (p.still o).steps) in (
+        q,
+        record {
+          idle = idle;
+          answer = ends.answer;
+          kept = ap (λ (l : List Ended). p.kept.ended ++ l) (one_ended e q idle ends.answer) ∙ ap (λ (l : List Ended). l ++ record { op = e.op; outcome = q } ∷ []) (p.still o).kept
+              ∙ ap (λ (op : List ℕ). p.before.ended ++ record { op = op; outcome = q } ∷ []) (t.op ∙ p.op);
+          stands = subst (λ (i : ℕ). HasEnded S B (shown w.seen) (reach B w.seen) i d0.made d0.op q) p.caller
+              (subst (λ (k : ℕ). HasEnded S B (shown w.seen) (reach B w.seen) d.caller k d0.op q) p.made
+              (subst (λ (op : List ℕ). HasEnded S B (shown w.seen) (reach B w.seen) d.caller d.made op q) p.op ends.stands));
+          meant = subst (λ (op : List ℕ). Meant S B (shown w.seen) op q) p.op ends.meant;
+          steps = subst (λ (k : ℕ). Tells k q) steps ends.steps;
+          beyond = subst (λ (k : ℕ). Beyond k q) since_is ends.beyond;
+          last = record { machine = d; found = found; meets = t.meets; open_call = o; leads = refl; spent = spent_exactly S d found o idle q ends.answer };
+        },
+      )
 
-  pub goes_by : Progress S B d0 v0 (n + 1) e w
+  pub goes_by : Progress S L B d0 v0 (n + 1) e w
   goes_by = record {
     seen = prefix_trans v0.seen v.seen w.seen p.seen t.more;
     caller = t.caller ∙ p.caller;

@@ -8,20 +8,18 @@ use Rattle.of_core.specs.World.{Start}
 use Rattle.of_core.specs.Bound.{bound}
 use Rattle.of_core.specs.Seen.{Seen, setup}
 use Rattle.of_core.specs.Laws.{IdleOrOpen}
-use Rattle.of_row.specs.Views.{Sight}
-use Rattle.of_row.specs.Turned.{Turned}
+use Rattle.of_row.specs.Views.{Sight, reach}
+use Rattle.of_row.specs.Turned.{Turned, newcomer}
+use Rattle.of_row.specs.Passes.{HasEnrolled}
+use Rattle.of_row.specs.declared.member.Pass.{Pass}
 use Rattle.of_row.specs.declared.member.Member.{Member}
 use Rattle.of_row.specs.declared.row.Row.{Row}
-use Rattle.of_row.specs.Rows.{IsOf, RunsOn, IsMemberOf, Steps, setup_at, start_at}
+use Rattle.of_row.specs.Rows.{RunsOn, Steps, key_of, setup_at, start_at}
 use Rattle.of_caller.specs.declared.caller.Caller.{Caller}
 use Rattle.of_caller.specs.Callers.{IsCaller, IsNewcomer, call_of, sight_of}
 use Rattle.of_caller.proofs.CallSteps.{Progress, goes_by, left_of, falls_by}
 
 module _ {W : Type 0} (meaning : W → Meaning) (lawful : W → List ℕ → Type 0) (r : Row W) where
-  -- the machines of a row have its setup
-  pub setup_is : (m : Seen W) → RunsOn r m → setup meaning m ≡ setup_at meaning r
-  setup_is m q = ap (setup meaning) q
-
   module _ (c : Caller W) (q : IsCaller meaning r c) (o : IsOpen (call_of c).place) (b : Caller W) (s : Steps meaning lawful r c.machine c.member b.machine b.member) where
     call_is : call_of b ≡ took (setup meaning c.machine) (call_of c) s.0
     call_is = ap (λ (x : Seen W). x.call) s.2
@@ -39,11 +37,19 @@ module _ {W : Type 0} (meaning : W → Meaning) (lawful : W → List ℕ → Typ
         (subst (λ (e : Data). left_of (setup meaning c.machine) e < left_of (setup meaning c.machine) (call_of c)) (sym call_is)
         (falls_by (setup meaning c.machine) (lawful c.machine.work) (start_at meaning r) (call_of c) (sight_of c) s.0 (sight_of b) either o (q.within o) s.1))
 
-    pub goes : (d0 : Data) (v0 : Sight) (n : ℕ) → Progress (setup_at meaning r) (start_at meaning r) d0 v0 n (call_of c) (sight_of c) → Progress (setup_at meaning r) (start_at meaning r) d0 v0 (n + 1) (call_of b) (sight_of b)
+    pub goes : (d0 : Data) (v0 : Sight) (n : ℕ) → Progress (setup_at meaning r) (lawful (key_of r).work) (start_at meaning r) d0 v0 n (call_of c) (sight_of c)
+        → Progress (setup_at meaning r) (lawful (key_of r).work) (start_at meaning r) d0 v0 (n + 1) (call_of b) (sight_of b)
     goes d0 v0 n p =
         let B : Start = start_at meaning r in
-        let here : setup meaning c.machine ≡ setup_at meaning r = setup_is c.machine q.machine in
-        let on : Progress (setup meaning c.machine) B d0 v0 n (call_of c) (sight_of c) = subst (λ (S : Setup). Progress S B d0 v0 n (call_of c) (sight_of c)) (sym here) p in
-        subst (λ (S : Setup). Progress S B d0 v0 (n + 1) (call_of b) (sight_of b)) here
-        (subst (λ (e : Data). Progress (setup meaning c.machine) B d0 v0 (n + 1) e (sight_of b)) (sym call_is)
-        (goes_by (setup meaning c.machine) (lawful c.machine.work) B d0 v0 n (call_of c) (sight_of c) s.0 (sight_of b) on o s.1))
+        let m : Seen W = c.machine in
+        let on : Progress (setup meaning m) (lawful m.work) B d0 v0 n m.call (sight_of c) = subst (λ (x : Seen W). Progress (setup meaning x) (lawful x.work) B d0 v0 n m.call (sight_of c)) (sym q.machine) p in
+        subst (λ (x : Seen W). Progress (setup meaning x) (lawful x.work) B d0 v0 (n + 1) (call_of b) (sight_of b)) q.machine
+        (subst (λ (e : Data). Progress (setup meaning m) (lawful m.work) B d0 v0 (n + 1) e (sight_of b)) (sym call_is)
+        (goes_by (setup meaning m) (lawful m.work) B d0 v0 n m.call (sight_of c) s.0 (sight_of b) on o s.1))
+
+-- the member of a number that was free
+pub newcomer_is : {W : Type 0} (meaning : W → Meaning) (r : Row W) (n : ℕ) (before now : Pass) (m : Member) → HasEnrolled meaning r n before m now → IsNewcomer (setup_at meaning r) m
+newcomer_is meaning r n before now m h =
+    let S : Setup = setup_at meaning r in
+    let B : Start = start_at meaning r in
+    (newcomer S B n (reach B before.seat.me.0.seen), ap (λ (v : Sight). v.kept) h.member_is, λ i. idle S (sym h.number i) (sym h.made i))

@@ -19,3 +19,4 @@ pub mod RecordsReplies
 pub mod CallSteps
 pub mod CallerSteps
 pub mod BrakeCharges
+pub mod SpentSteps

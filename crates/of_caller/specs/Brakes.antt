@@ -1,5 +1,6 @@
--- What a call takes off the steps of its brake.
+-- What a call takes off the steps of its brake, and what it tells it.
 use Rattle.std.specs.Prelude.{◌≡◌, ℕ, ◌+◌, Option, Some, None, Result, Ok, Err}
+use Rattle.of_brake.specs.Stops.{Heard}
 use Rattle.of_core.specs.declared.place.Outcome.{Outcome}
 use Rattle.of_caller.specs.declared.caller.CallErr.{CallErr}
 use Rattle.of_caller.specs.declared.caller.CallErr.TheVariants.{Stopped, Spent}
@@ -39,3 +40,8 @@ abbrev pub StopsAt : (left : Option (Option ℕ)) → Result Outcome CallErr →
 StopsAt left (Ok o) = Unit {0}
 StopsAt left (Err (Stopped asked)) = StopsTold left asked
 StopsAt left (Err (Spent seq)) = Unit {0}
+
+-- the brake was told of an answer, once, and else of none, where it counts them
+abbrev pub HearsOf : (before after : Option ℕ) → Result Outcome CallErr → Type 0
+HearsOf before after (Ok o) = Heard before after
+HearsOf before after (Err e) = after ≡ before

@@ -7,8 +7,10 @@ use Rattle.of_core.specs.Bound.{bound}
 use Rattle.of_core.specs.Seen.{setup}
 use Rattle.of_row.specs.Views.{Kept, Sight}
 use Rattle.of_row.specs.declared.member.Member.{Member}
+use Rattle.of_row.specs.declared.member.Pass.{Pass}
 use Rattle.of_row.specs.declared.row.Row.{Row}
-use Rattle.of_row.specs.Rows.{IsOf, RunsOn, IsMemberOf}
+use Rattle.of_row.specs.Rows.{IsOf, RunsOn, IsMemberOf, setup_at}
+use Rattle.of_row.specs.Passes.{HasEnrolled}
 use Rattle.of_caller.specs.declared.caller.Caller.{Caller}
 
 -- what the caller's member knows
@@ -34,3 +36,9 @@ pub record IsCaller {W : Type 0} (meaning : W → Meaning) (r : Row W) (c : Call
   pub machine : RunsOn r c.machine
   pub member : IsMemberOf meaning c.member c.machine
   pub within : IsOpen (call_of c).place → (call_of c).steps < bound (setup meaning c.machine)
+
+-- a member that enrolled has made no call
+abbrev pub EnrolledAreNew : {W : Type 0} → (W → Meaning) → W → Type 0
+EnrolledAreNew {W} meaning work =
+    (r : Row W) (n : ℕ) (before now : Pass) (m : Member) → HasEnrolled meaning r n before m now
+    → IsNewcomer (setup_at meaning r) m

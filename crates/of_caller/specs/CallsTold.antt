@@ -21,12 +21,13 @@ use Rattle.of_caller.specs.declared.caller.Caller.{Caller}
 use Rattle.of_caller.specs.declared.caller.CallErr.{CallErr}
 use Rattle.of_caller.specs.declared.caller.CallErr.TheVariants.{Stopped, Spent}
 use Rattle.of_caller.specs.Callers.{call_of, sight_of}
+use Rattle.of_caller.specs.Vain.{LastStep}
 
 -- In these definitions a call goes on from the machine m, with the view v that keeps x, and n steps later it has come to the machine
 -- d, with the view w that keeps y.
 
 -- it has ended with this outcome
-pub record HasClosed (S : Setup) (B : Start) (m : Data) (v : Sight) (x : Kept) (n : ℕ) (d : Data) (w : Sight) (y : Kept) (o : Outcome) : Type 0 where
+pub record HasClosed (S : Setup) (Lawful : List ℕ → Type 0) (B : Start) (m : Data) (v : Sight) (x : Kept) (n : ℕ) (d : Data) (w : Sight) (y : Kept) (o : Outcome) : Type 0 where
   -- the caller is idle, and its machine holds the outcome
   pub idle : IsIdle d
   pub answer : d.answer ≡ Some o
@@ -40,6 +41,8 @@ pub record HasClosed (S : Setup) (B : Start) (m : Data) (v : Sight) (x : Kept) (
   pub steps : Tells (m.steps + n) o
   -- an announced call is above all that was seen when it began, and no read is below
   pub beyond : Beyond (since_after B v x) o
+  -- it is spent exactly where a round that began at the limit looked for it in vain
+  pub last : LastStep S Lawful d o
 
 -- it is open still, and has a step left
 pub record IsOpenStill (S : Setup) (m : Data) (x : Kept) (n : ℕ) (d : Data) (y : Kept) : Type 0 where
@@ -49,10 +52,10 @@ pub record IsOpenStill (S : Setup) (m : Data) (x : Kept) (n : ℕ) (d : Data) (y
   pub kept : y.ended ≡ x.ended
 
 -- what the result says: an answer; a stop, for which the brake was asked once more than steps were made; or that the call is spent
-abbrev pub ResultTold : Setup → Start → Data → Sight → Kept → (steps : ℕ) → Data → Sight → Kept → Result Outcome CallErr → Type 0
-ResultTold S B m v x n d w y (Ok o) = IsAnswered o × HasClosed S B m v x n d w y o
-ResultTold S B m v x n d w y (Err (Stopped asked)) = IsOpenStill S m x n d y × (asked ≡ n + 1) × (m.steps + asked ≤ bound S)
-ResultTold S B m v x n d w y (Err (Spent seq)) = HasClosed S B m v x n d w y (Over seq)
+abbrev pub ResultTold : Setup → (List ℕ → Type 0) → Start → Data → Sight → Kept → (steps : ℕ) → Data → Sight → Kept → Result Outcome CallErr → Type 0
+ResultTold S L B m v x n d w y (Ok o) = IsAnswered o × HasClosed S L B m v x n d w y o
+ResultTold S L B m v x n d w y (Err (Stopped asked)) = IsOpenStill S m x n d y × (asked ≡ n + 1) × (m.steps + asked ≤ bound S)
+ResultTold S L B m v x n d w y (Err (Spent seq)) = HasClosed S L B m v x n d w y (Over seq)
 
 -- what is told of steps that were made: the member keeps the machine; what was seen is a legal history; and it has of the caller's calls just those that the caller made, as they have ended
 pub record StepsTold (S : Setup) (B : Start) (d : Data) (w : Sight) (y : Kept) : Type 0 where
@@ -61,7 +64,7 @@ pub record StepsTold (S : Setup) (B : Start) (d : Data) (w : Sight) (y : Kept) :
   pub own : HasOwn S B w.seen y
 
 -- what a call tells that went on from m and v to d and w, where the count of steps went from a to b
-pub record HasTold (S : Setup) (B : Start) (m : Data) (v : Sight) (a : ℕ) (d : Data) (w : Sight) (b : ℕ) (r : Result Outcome CallErr) : Type 0 where
+pub record HasTold (S : Setup) (Lawful : List ℕ → Type 0) (B : Start) (m : Data) (v : Sight) (a : ℕ) (d : Data) (w : Sight) (b : ℕ) (r : Result Outcome CallErr) : Type 0 where
   -- the steps are counted
   pub steps : ℕ
   pub rise : b ≡ a + steps
@@ -78,14 +81,14 @@ pub record HasTold (S : Setup) (B : Start) (m : Data) (v : Sight) (a : ℕ) (d :
   pub kept_now : w.kept ≡ kept ∷ []
   pub none : steps ≡ 0 → w ≡ v
   pub some : 0 < steps → StepsTold S B d w kept
-  pub result : ResultTold S B m v before steps d w kept r
+  pub result : ResultTold S Lawful B m v before steps d w kept r
 
 -- what `go_on` tells, of the open call
 abbrev pub GoesOnTold : {W : Type 0} → (W → Meaning) → (W → List ℕ → Type 0) → Row W → (before now : Caller W) → (a b : ℕ) → Result Outcome CallErr → Type 0
 GoesOnTold meaning lawful r before now a b result =
-    HasTold (setup_at meaning r) (start_at meaning r) (call_of before) (sight_of before) a (call_of now) (sight_of now) b result
+    HasTold (setup_at meaning r) (lawful (key_of r).work) (start_at meaning r) (call_of before) (sight_of before) a (call_of now) (sight_of now) b result
 
 -- what `call` tells, of the call that it has begun
 abbrev pub CallTold : {W : Type 0} → (W → Meaning) → (W → List ℕ → Type 0) → Row W → (op : List ℕ) → (before now : Caller W) → (a b : ℕ) → Result Outcome CallErr → Type 0
 CallTold meaning lawful r op before now a b result =
-    HasTold (setup_at meaning r) (start_at meaning r) (opened (setup_at meaning r) (call_of before) op) (sight_of before) a (call_of now) (sight_of now) b result
+    HasTold (setup_at meaning r) (lawful (key_of r).work) (start_at meaning r) (opened (setup_at meaning r) (call_of before) op) (sight_of before) a (call_of now) (sight_of now) b result

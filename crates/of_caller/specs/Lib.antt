@@ -7,4 +7,5 @@ pub mod Starts
 pub mod Runs
 pub mod Callers
 pub mod CallsTold
-pub mod Charges
+pub mod Brakes
+pub mod Vain

@@ -4,7 +4,7 @@ ghost use Rattle.std.specs.Prelude.{◌≡◌, ◌+◌, ◌<◌, ◌≤◌, ◌�
 ghost use Rattle.of_mem.specs.declared.work.TheConstants.{MOST_INSTRS};
 ghost use Rattle.of_core.specs.Machine.{IsOpen};
 ghost use Rattle.of_core.specs.Turn.{IsIdle};
-ghost use Rattle.of_brake.specs.Stops.{Rose};
+ghost use Rattle.of_brake.specs.Stops.{Rose, Heard};
 ghost use Rattle.of_row.specs.Keys.{FitsWork};
 ghost use Rattle.of_row.specs.Rows.{key_of, IsOf, setup_at};
 
@@ -32,10 +32,19 @@ pub struct Caller<W: Work> {
     machine: Machine<W>,
 }
 
+// Tells a brake of an answer.
+fn tell(brake: &mut Box<dyn Brake + Send>)
+    ensures denials { denials brake.old ≤ denials brake.new }
+    ensures left { left brake.new ≡ left brake.old }
+    ensures answers { Heard (answers brake.old) (answers brake.new) }
+{
+    brake.answered();
+}
+
 impl<W: Work> Caller<W> {
     ghost use Rattle.of_caller.specs.Callers.{IsCaller, IsNewcomer, call_of, made_of};
     ghost use Rattle.of_caller.specs.CallsTold.{CallTold, GoesOnTold};
-    ghost use Rattle.of_caller.specs.Charges.{IsStop, StopsAt, Uses};
+    ghost use Rattle.of_caller.specs.Brakes.{IsStop, StopsAt, Uses, HearsOf};
 
     /// The caller of a member that has made no call on the row. The error hands the member back: there is no memory.
     pub fn new(
@@ -84,6 +93,7 @@ impl<W: Work> Caller<W> {
         ensures cause { IsStop result → Rose (denials brake.old) (denials brake.new) }
         ensures stop { StopsAt (left brake.old) result }
         ensures left { Uses (left brake.old) (left brake.new) steps.old steps.new }
+        ensures answers { HearsOf (answers brake.old) (answers brake.new) result }
     {
         members(row.work());
         machines(row.work());
@@ -107,6 +117,7 @@ impl<W: Work> Caller<W> {
         ensures cause { IsStop result → Rose (denials brake.old) (denials brake.new) }
         ensures stop { StopsAt (left brake.old) result }
         ensures left { Uses (left brake.old) (left brake.new) steps.old steps.new }
+        ensures answers { HearsOf (answers brake.old) (answers brake.new) result }
     {
         self.run(row, brake, steps)
     }
@@ -127,6 +138,7 @@ impl<W: Work> Caller<W> {
         ensures cause { IsStop result → Rose (denials brake.old) (denials brake.new) }
         ensures stop { StopsAt (left brake.old) result }
         ensures left { Uses (left brake.old) (left brake.new) steps.old steps.new }
+        ensures answers { HearsOf (answers brake.old) (answers brake.new) result }
     {
         of_core::laws::machines();
         let mut asked: u64 = 0;
@@ -140,7 +152,7 @@ impl<W: Work> Caller<W> {
         match self.machine.answer() {
             Some(Outcome::Spent { seq }) => Err(CallErr::Spent { seq }),
             Some(outcome) => {
-                brake.answered();
+                tell(brake);
                 Ok(outcome)
             }
             None => unreachable!(),
