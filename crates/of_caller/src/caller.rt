@@ -98,32 +98,11 @@ impl<W: Work> Caller<W> {
         members(row.work());
         machines(row.work());
         self.machine.begin(op);
-        self.run(row, brake, steps)
+        self.go_on(row, brake, steps)
     }
 
     /// Goes on with the open call, as `call` does. The steps of its answer are those of the whole call.
     pub fn go_on<L: Ledger>(
-        &mut self,
-        row: &Row<W>,
-        brake: &mut Box<dyn Brake + Send>,
-        steps: &mut Steps<L>,
-    ) -> Result<Outcome, CallErr>
-        requires caller { IsCaller W.meaning row.now self.old }
-        requires open { IsOpen (call_of self.old).place }
-        ensures caller { IsCaller W.meaning row.now self.new }
-        ensures told { GoesOnTold W.meaning W.lawful row.now
-            self.old self.new steps.old steps.new result }
-        ensures denials { denials brake.old ≤ denials brake.new }
-        ensures cause { IsStop result → Rose (denials brake.old) (denials brake.new) }
-        ensures stop { StopsAt (left brake.old) result }
-        ensures left { Uses (left brake.old) (left brake.new) steps.old steps.new }
-        ensures answers { HearsOf (answers brake.old) (answers brake.new) result }
-    {
-        self.run(row, brake, steps)
-    }
-
-    // Makes steps of the open call, as many as the brake allows.
-    fn run<L: Ledger>(
         &mut self,
         row: &Row<W>,
         brake: &mut Box<dyn Brake + Send>,

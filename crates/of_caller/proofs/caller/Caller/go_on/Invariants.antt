@@ -4,7 +4,7 @@ use Rattle.of_row.specs.Rows.{key_of, setup_at, start_at}
 use Rattle.of_caller.specs.Callers.{IsCaller, call_of, sight_of}
 use Rattle.of_caller.specs.Brakes.{Gave}
 use Rattle.of_caller.proofs.CallSteps.{Progress, left_of}
-use Rattle.of_caller.proofs.caller.Caller.run.Given as goal
+use Rattle.of_caller.proofs.caller.Caller.go_on.Given as goal
 
 abbrev pub decreases-loop-asked : goal.decreases-loop-asked
 decreases-loop-asked g l = left_of (setup g.W.Work.meaning l.self.machine) (call_of l.self)

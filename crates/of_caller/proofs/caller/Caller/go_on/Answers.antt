@@ -5,7 +5,7 @@ use Rattle.of_caller.specs.Callers.{call_of}
 use Rattle.of_caller.proofs.CallerSteps.{within_after, falls, goes}
 use Rattle.of_caller.proofs.CallSteps.{open_where}
 use Rattle.of_caller.proofs.BrakeCharges.{gave_more, gave_same, heard_from}
-use Rattle.of_caller.proofs.caller.Caller.run.Goals as goal
+use Rattle.of_caller.proofs.caller.Caller.go_on.Goals as goal
 
 pub loop-asked-preserved : goal.loop-asked-preserved
 loop-asked-preserved g c =
