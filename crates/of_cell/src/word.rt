@@ -2,7 +2,7 @@ ghost use Rattle.std.specs.Prelude.{◌≡◌};
 ghost use Rattle.of_cell.specs.Words.{word, seq, pay};
 
 /// How many payloads a word has room for.
-const PAYLOADS: u64 = 1 << 32;
+pub const PAYLOADS: u64 = 1 << 32;
 
 /// The word of a sequence and a payload.
 #[tactic(auto, unfolding(crate::specs::Words::word))]

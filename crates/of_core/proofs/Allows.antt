@@ -2,13 +2,16 @@
 use Rattle.std.proofs.Common.{◌≡◌, ℕ, suc, ◌+◌, ◌<◌, ◌≤◌, ◌==◌, inl, inr, List, [], ◌∷◌, length, None, Bool, true, false, get_or, refl, sym, ◌∙◌, subst, arith}
 use Rattle.std.proofs.lemmas.List.{length-map, take_all}
 use Rattle.std.proofs.lemmas.Bool.Decides.{nat_tests}
+use Rattle.of_cell.specs.declared.shape.TheConstants.{MOST_CALLERS, MOST_DATA_CELLS}
+use Rattle.of_core.specs.declared.machine.trying.TheConstants.{MOST_TRIES}
 use Rattle.of_cell.specs.Words.{word, seq, pay}
 use Rattle.of_mem.specs.Meaning.{Meaning, Sound, Agrees, written}
 use Rattle.of_mem.specs.Pairs.{value_at}
+use Rattle.of_mem.specs.Pad.{over}
 use Rattle.of_core.specs.declared.place.Place.{Place}
 use Rattle.of_core.specs.declared.place.Place.TheVariants.{TryCurrent, TryRequest, TryCell, LoadCurrent, CopyLog, LookAgain, LoadAnnouncement, LoadTicket, LoadScript, LoadCell, RaiseClosed}
 use Rattle.of_core.specs.Table.{Setup, setup_of, base, ticket_cell, cell}
-use Rattle.of_core.specs.Machine.{Data, no_call, log_words, learned, merged}
+use Rattle.of_core.specs.Machine.{Data, no_call, log_words, learned}
 use Rattle.of_core.specs.Steps.{want, want_at, copy_more, FoundBy}
 use Rattle.of_core.specs.History.{state, batch, numbers}
 use Rattle.of_core.specs.Shared.{IsLog}
@@ -26,7 +29,7 @@ use Rattle.of_core.proofs.Tries.{watch_more}
 use Rattle.of_core.proofs.Helping.{copied_count}
 
 -- a call's steps are still counted
-pub few_steps : (n m l : ℕ) (M : Meaning) (Lawful : List ℕ → Type 0) (d : Data) (found : ℕ) → n ≤ 16 → m ≤ 4096 → Meets (setup_of n m l M) Lawful d found → d.steps + 1 < 18446744073709551616
+pub few_steps : (n m l : ℕ) (M : Meaning) (Lawful : List ℕ → Type 0) (d : Data) (found : ℕ) → n ≤ MOST_CALLERS → m ≤ MOST_DATA_CELLS → Meets (setup_of n m l M) Lawful d found → d.steps + 1 < 18446744073709551616
 few_steps n m l M Lawful d found p q h = let w = (h.good.within h.caller d h.in_range h.here).steps in omega arith
 
 module _ (S : Setup) (Lawful : List ℕ → Type 0) (m : Data) (found : ℕ) (h : Meets S Lawful m found) where
@@ -44,7 +47,7 @@ module _ (S : Setup) (Lawful : List ℕ → Type 0) (m : Data) (found : ℕ) (h 
   pub try_current_upto : m.place ≡ TryCurrent → seq found ≤ S.limit
   try_current_upto q = rw (found_at TryCurrent q) h.good.core.shared.counted.limit
 
-  pub tries_few : m.place ≡ TryCurrent → m.tries ≤ 3
+  pub tries_few : m.place ≡ TryCurrent → m.tries < MOST_TRIES
   tries_few q = (place_at TryCurrent q).3
 
   pub load_current_owner : m.place ≡ LoadCurrent → pay found < S.callers
@@ -153,7 +156,7 @@ module _ (S : Setup) (Lawful : List ℕ → Type 0) (m : Data) (found : ℕ) (h 
 
   -- what is known in a scan, under the log, agrees with what its calls lead to
   scan_agrees : Sound S.meaning Lawful (base S) S.cells → (n : Data) → Past S h.start h.world.words h.world.batches h.caller n → Scans S h.start h.world.words h.world.batches h.caller n
-      → (xs : List ℕ) × (length xs ≡ S.cells) × Lawful xs × Agrees (merged n.known n.log) xs
+      → (xs : List ℕ) × (length xs ≡ S.cells) × Lawful xs × Agrees (over n.known n.log) xs
   scan_agrees sound n p o =
       let xs : List ℕ = numbers h.start h.world.batches n.seq in
       let upto : n.seq ≤ h.start.seq + length h.world.batches = at_risen S Lawful h.start h.world h.good.core h.caller m h.in_range n p.looks in
@@ -165,10 +168,10 @@ module _ (S : Setup) (Lawful : List ℕ → Type 0) (m : Data) (found : ℕ) (h 
         left_agrees S Lawful sound xs n.calls n.log size lawful o.over n.known p.looks.agrees,
       )
 
-  pub script_agrees : Sound S.meaning Lawful (base S) S.cells → (j : ℕ) → m.place ≡ LoadScript j → (xs : List ℕ) × (length xs ≡ S.cells) × Lawful xs × Agrees (merged m.known m.log) xs
+  pub script_agrees : Sound S.meaning Lawful (base S) S.cells → (j : ℕ) → m.place ≡ LoadScript j → (xs : List ℕ) × (length xs ≡ S.cells) × Lawful xs × Agrees (over m.known m.log) xs
   script_agrees sound j q = let a = place_at (LoadScript j) q in scan_agrees sound m a.0 a.2
 
-  pub cell_agrees : Sound S.meaning Lawful (base S) S.cells → (x : ℕ) → m.place ≡ LoadCell x → seq found ≤ m.seq → (xs : List ℕ) × (length xs ≡ S.cells) × Lawful xs × Agrees (merged (learned S m x found) m.log) xs
+  pub cell_agrees : Sound S.meaning Lawful (base S) S.cells → (x : ℕ) → m.place ≡ LoadCell x → seq found ≤ m.seq → (xs : List ℕ) × (length xs ≡ S.cells) × Lawful xs × Agrees (over (learned S m x found) m.log) xs
   cell_agrees sound x q l =
       let f : found ≡ cell S h.world.words x = found_at (LoadCell x) q in
       let a = place_at (LoadCell x) q in

@@ -3,13 +3,14 @@ use Rattle.std.proofs.Common.{◌≡◌, ℕ, zero, suc, ◌+◌, ◌*◌, ◌-�
 use Rattle.std.proofs.lemmas.Bool.{cases_eq}
 use Rattle.std.proofs.lemmas.Bool.Decides.{nat_tests}
 use Rattle.std.proofs.lemmas.List.{append-nil, take_more, take_all, get_or-set_same, get_or-set_other}
+use Rattle.of_cell.specs.declared.word.TheConstants.{PAYLOADS}
 use Rattle.of_cell.specs.Words.{word, seq, pay}
 use Rattle.of_cell.proofs.Order.{seq_word, pay_word}
 use Rattle.of_core.specs.declared.place.Place.TheVariants.{StoreScript, StoreAnnouncement}
 use Rattle.of_core.specs.Table.{Setup, size, durable_at, request_at, log_at, script_at, script_of, script_word, announcement_of, current_word, request_of, cell, log_word, durable_word, last, holder, risen}
 use Rattle.of_core.specs.Machine.{Data, Call}
 use Rattle.of_core.specs.Steps.{after_store_script, took_at}
-use Rattle.of_core.specs.World.{Read, World, Start, stepped_at}
+use Rattle.of_core.specs.World.{Read, World, Start, stepped_on}
 use Rattle.of_core.specs.History.{batch, at, ticket_in}
 use Rattle.of_core.specs.Shared.{IsRequest, Heard, Opened, DataCells, Durable}
 use Rattle.of_core.specs.Rounds.{Keeps, Fresh, Calm, Quieted}
@@ -120,7 +121,7 @@ module _ (S : Setup) (Lawful : List ℕ → Type 0) (B : Start) (w : World) (g :
         rw (append-nil w.batches)
         (assemble S Lawful B w g i h vs w.batches n (moves_of S Lawful B i w.words vs w.batches t g.shared) (shared_of S Lawful B i w.words vs w.batches t g.shared data_cells (durable t) hd (kinds_same S Lawful B i w.words vs w.batches t g.shared (λ j l. subst (λ (y : ℕ). IsRequest B w.words w.batches j y) (sym (req_same j l)) (g.shared.kinds.requests j l)) log_same)) a)
 
-  pub store_script_kept : (j : ℕ) → At S B w.words w.batches i m (StoreScript j) → Goes S Lawful B i w (stepped_at S i m (StoreScript j) w)
+  pub store_script_kept : (j : ℕ) → At S B w.words w.batches i m (StoreScript j) → Goes S Lawful B i w (stepped_on S i m (StoreScript j) w)
   store_script_kept j a = stored ci j v j_in f.quieted t heard (after_store_script m j (nat_lt (j + 1) (length m.op))) (go (nat_lt (j + 1) (length m.op)) refl)
     where
       f : Fresh S B w.words w.batches i m
@@ -184,7 +185,7 @@ module _ (S : Setup) (Lawful : List ℕ → Type 0) (B : Start) (w : World) (g :
           let q : length m.op ≡ j + 1 = omega (arith, a.2) in
           (fresh _ refl refl refl refl refl, calm ci j v j_in f.quieted a.1, ap (script_of S us i) q ∙ said_now ∙ take_all (j + 1) m.op (omega (arith, q)))
 
-  pub store_announcement_kept : At S B w.words w.batches i m StoreAnnouncement → Goes S Lawful B i w (stepped_at S i m StoreAnnouncement w)
+  pub store_announcement_kept : At S B w.words w.batches i m StoreAnnouncement → Goes S Lawful B i w (stepped_on S i m StoreAnnouncement w)
   store_announcement_kept a = stored ci S.instrs v x_in f.quieted t heard (took_at S m (announcement_of S w.words m.caller) StoreAnnouncement) (
     record {
       caller = ci;
@@ -221,7 +222,7 @@ module _ (S : Setup) (Lawful : List ℕ → Type 0) (B : Start) (w : World) (g :
       n_is : last w.words ≡ B.seq + length w.batches
       n_is = g.shared.counted.count
 
-      small : length m.op < 4294967296
+      small : length m.op < PAYLOADS
       small = omega (arith, f.words, g.shared.narrow)
 
       now : announcement_of S us i ≡ word m.made (length m.op)
@@ -272,7 +273,7 @@ module _ (S : Setup) (Lawful : List ℕ → Type 0) (B : Start) (w : World) (g :
           small_at c l (inl q) = rw q (omega (arith, now_pay, f.words))
           small_at c l (inr q) = rw (ann_other c q) (g.shared.heard.small c l)
 
-          ticket_at : (c : ℕ) → c < S.callers → (c ≡ i) ⊎ (c ≡ i → ⊥) → seq (announcement_of S us c) < 4294967296
+          ticket_at : (c : ℕ) → c < S.callers → (c ≡ i) ⊎ (c ≡ i → ⊥) → seq (announcement_of S us c) < PAYLOADS
           ticket_at c l (inl q) = rw q (omega (arith, now_seq, f.ticket))
           ticket_at c l (inr q) = rw (ann_other c q) (g.shared.heard.tickets c l)
 

@@ -9,7 +9,7 @@ use Rattle.of_core.specs.declared.place.Place.TheVariants.{LoadTarget, ExchangeT
 use Rattle.of_core.specs.Table.{Setup, script_at, size, durable_at, log_at, script_word, current_word, request_of, cell, log_word, durable_word, durable_cell, last, holder, risen}
 use Rattle.of_core.specs.Machine.{Data, entry}
 use Rattle.of_core.specs.Steps.{after_load_target, took_at}
-use Rattle.of_core.specs.World.{Read, World, Start, stepped_at}
+use Rattle.of_core.specs.World.{Read, World, Start, stepped_on}
 use Rattle.of_core.specs.History.{batch, at}
 use Rattle.of_core.specs.Shared.{Kinds, IsRequest, Opened, DataCells, IsEntry, Durable}
 use Rattle.of_core.specs.Rounds.{Helper}
@@ -76,7 +76,7 @@ module _ (S : Setup) (Lawful : List ℕ → Type 0) (B : Start) where
     target_in : (j : ℕ) → Applies S B w.words w.batches i m j → (k : ℕ) → k < length m.log → IsEntry S (entry m k)
     target_in j p k l = let t = p.log.each k l in subst (λ (e : ℕ × ℕ). IsEntry S e) t.2 ((g.shared.counted.logs m.seq p.after p.upto).entries t.0 (0, 0) t.1)
 
-    pub load_target_kept : (j : ℕ) → At S B w.words w.batches i m (LoadTarget j) → Goes S Lawful B i w (stepped_at S i m (LoadTarget j) w)
+    pub load_target_kept : (j : ℕ) → At S B w.words w.batches i m (LoadTarget j) → Goes S Lawful B i w (stepped_on S i m (LoadTarget j) w)
     load_target_kept j a = assemble_read S Lawful B w g i h _ _ (took_at S m found (LoadTarget j)) (set-get_or w.words (S.callers + 1 + (entry m j).0) 0) (append-nil w.batches) (
         go (nat_lt (seq found) m.seq) refl)
       where
@@ -87,11 +87,11 @@ module _ (S : Setup) (Lawful : List ℕ → Type 0) (B : Start) where
         go true e = (applies_as w.words j j a.0 _ refl refl refl refl refl refl refl refl refl refl refl refl (omega arith), a.1, a.2, (let x : seq found < m.seq = grind (arith, nat_tests) in x), inl refl)
         go false e = (applies_as w.words j j a.0 _ refl refl refl refl refl refl refl refl refl refl refl refl (omega arith), a.1, a.2, (let x : m.seq ≤ seq found = grind (arith, nat_tests) in x), omega arith, held_now S Lawful B w g (entry m j).0 (target_in j a.0 j a.1).0)
 
-    pub reload_target_kept : (j : ℕ) → At S B w.words w.batches i m (ReloadTarget j) → Goes S Lawful B i w (stepped_at S i m (ReloadTarget j) w)
+    pub reload_target_kept : (j : ℕ) → At S B w.words w.batches i m (ReloadTarget j) → Goes S Lawful B i w (stepped_on S i m (ReloadTarget j) w)
     reload_target_kept j a = assemble_read S Lawful B w g i h _ _ (took_at S m (cell S w.words (entry m j).0) (ReloadTarget j)) (set-get_or w.words (S.callers + 1 + (entry m j).0) 0) (append-nil w.batches)
         (applies_as w.words j j a.0 _ refl refl refl refl refl refl refl refl refl refl refl refl (omega arith), a.1, a.2, a.3, omega arith, held_now S Lawful B w g (entry m j).0 (target_in j a.0 j a.1).0)
 
-    pub exchange_target_kept : (j f : ℕ) → At S B w.words w.batches i m (ExchangeTarget j f) → Goes S Lawful B i w (stepped_at S i m (ExchangeTarget j f) w)
+    pub exchange_target_kept : (j f : ℕ) → At S B w.words w.batches i m (ExchangeTarget j f) → Goes S Lawful B i w (stepped_on S i m (ExchangeTarget j f) w)
     exchange_target_kept j f a = go (found == f) refl
       where
         x : ℕ
@@ -244,7 +244,7 @@ module _ (S : Setup) (Lawful : List ℕ → Type 0) (B : Start) where
                 cells (inl d) = inl d
                 cells (inr d) = inr (open_same d.0, d.1, d.2)
 
-    pub close_request_kept : At S B w.words w.batches i m CloseRequest → Goes S Lawful B i w (stepped_at S i m CloseRequest w)
+    pub close_request_kept : At S B w.words w.batches i m CloseRequest → Goes S Lawful B i w (stepped_on S i m CloseRequest w)
     close_request_kept a = go (found == word m.seq 0) refl
       where
         found : ℕ

@@ -3,6 +3,7 @@ use Rattle.std.proofs.Common.{◌≡◌, ℕ, zero, suc, ◌+◌, ◌<◌, ◌�
 use Rattle.std.specs.List.{All}
 use Rattle.std.proofs.lemmas.Bool.{cases_eq, cases_lt}
 use Rattle.std.proofs.lemmas.List.{append-nil, set-get_or, length-map, get_or_past, get_or-map, get_or-set_same, get_or-set_other}
+use Rattle.of_cell.specs.declared.word.TheConstants.{PAYLOADS}
 use Rattle.of_cell.specs.Words.{pay}
 use Rattle.of_cell.proofs.Order.{pay_zero}
 use Rattle.of_core.specs.Table.{Setup}
@@ -72,13 +73,13 @@ module _ (S : Setup) (Lawful : List ℕ → Type 0) (B : Start) where
   pub log_back : (es : List (ℕ × ℕ)) → log_of (log_words es) ≡ es
   log_back es = pairs_flat es
 
-  pub small_flat : (es : List (ℕ × ℕ)) → All (λ (e : ℕ × ℕ). (e.0 < 4294967296) × (e.1 < 4294967296)) es → (x : ℕ) → get_or (flat es) x 0 < 4294967296
+  pub small_flat : (es : List (ℕ × ℕ)) → All (λ (e : ℕ × ℕ). (e.0 < PAYLOADS) × (e.1 < PAYLOADS)) es → (x : ℕ) → get_or (flat es) x 0 < PAYLOADS
   small_flat [] h x = omega arith
   small_flat (e ∷ es) h zero = (h 0 (0, 0) (omega arith)).0
   small_flat (e ∷ es) h (suc zero) = (h 0 (0, 0) (omega arith)).1
   small_flat (e ∷ es) h (suc (suc x)) = small_flat es (λ k d l. h (suc k) d (omega arith)) x
 
-  pub small_words : (es : List (ℕ × ℕ)) → S.cells < 4294967296 → IsLog S es → (x : ℕ) → get_or (log_words es) x 0 < 4294967296
+  pub small_words : (es : List (ℕ × ℕ)) → S.cells < PAYLOADS → IsLog S es → (x : ℕ) → get_or (log_words es) x 0 < PAYLOADS
   small_words es c h zero = omega (arith, h.few)
   small_words es c h (suc x) = small_flat es (λ k d l. (omega (arith, (h.entries k d l).0), (h.entries k d l).1)) x
 

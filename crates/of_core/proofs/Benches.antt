@@ -2,6 +2,8 @@
 use Rattle.std.proofs.Common.{◌≡◌, ℕ, zero, suc, ◌+◌, ◌<◌, ◌≤◌, List, [], ◌∷◌, ◌++◌, length, get_or, set, Option, max, refl, sym, ◌∙◌, ap, arith, length-append, length-set, ◌⊎◌, inl, inr}
 use Rattle.std.proofs.lemmas.List.{get_or_default, get_or_push, get_or_append_left, get_or-map, length-map, map-set, map-append, get_or-set_same, get_or-set_other, set-get_or}
 use Rattle.std.proofs.lemmas.Bool.{cases_eq}
+use Rattle.of_mem.specs.declared.work.TheConstants.{MOST_INSTRS}
+use Rattle.of_cell.specs.declared.word.TheConstants.{PAYLOADS}
 use Rattle.of_mem.specs.Meaning.{Meaning, Sound}
 use Rattle.of_core.specs.declared.place.Place.{Place}
 use Rattle.of_core.specs.declared.place.Place.TheVariants.{Idle}
@@ -9,7 +11,7 @@ use Rattle.of_core.specs.declared.place.Outcome.{Outcome}
 use Rattle.of_core.specs.declared.bank.Turn.{Turn}
 use Rattle.of_core.specs.Table.{Setup, base, size, durable_at}
 use Rattle.of_core.specs.Machine.{Data, no_machine, idle, opened}
-use Rattle.of_core.specs.Steps.{want, want_at, took, took_at, word_of, words_after, finds}
+use Rattle.of_core.specs.Steps.{want, want_at, took, took_at, counted_at, word_of, words_after, finds}
 use Rattle.of_core.specs.World.{World, Start}
 use Rattle.of_core.specs.Shared.{MayStart}
 use Rattle.of_core.specs.Invariant.{Good}
@@ -31,49 +33,48 @@ schedule_push : (S : Setup) (w : World) (es : List Event) (e : Event) → IsSche
 schedule_push S w [] e s m = (m, tt)
 schedule_push S w (d ∷ es) e s m = (s.0, schedule_push S (happens S w d) es e s.1 m)
 
-abbrev end : (S : Setup) (Lawful : List ℕ → Type 0) (ws : List ℕ) (ms : List Data) → Reached S Lawful ws ms → World
-end S Lawful ws ms r = run S (opening S r.start (table_words S)) r.events
+abbrev end : (S : Setup) (Lawful : List ℕ → Type 0) (B : Start) (ws : List ℕ) (ms : List Data) → Reached S Lawful B ws ms → World
+end S Lawful B ws ms r = run S (opening S B (table_words S)) r.events
 
-pub begun_at : (S : Setup) (Lawful : List ℕ → Type 0) (B : Start) → MayStart S Lawful B → Reached S Lawful (first_words S.callers S.cells B (table_words S)) (idles S (start_ticket S B) 0 S.callers)
-begun_at S Lawful B may = record { start = B; may_start = may; events = []; schedule = tt; words = refl; machines = refl }
+pub begun_at : (S : Setup) (Lawful : List ℕ → Type 0) (B : Start) → MayStart S Lawful B → Reached S Lawful B (first_words S.callers S.cells B (table_words S)) (idles S (start_ticket S B) 0 S.callers)
+begun_at S Lawful B may = record { may_start = may; events = []; schedule = tt; words = refl; machines = refl }
 
-module _ (S : Setup) (Lawful : List ℕ → Type 0) (ws : List ℕ) (ms : List Data) (r : Reached S Lawful ws ms) where
-  further : (e : Event) → MayHappen S (end S Lawful ws ms r) e → Reached S Lawful (happens S (end S Lawful ws ms r) e).words (happens S (end S Lawful ws ms r) e).machines
+module _ (S : Setup) (Lawful : List ℕ → Type 0) (B : Start) (ws : List ℕ) (ms : List Data) (r : Reached S Lawful B ws ms) where
+  further : (e : Event) → MayHappen S (end S Lawful B ws ms r) e → Reached S Lawful B (happens S (end S Lawful B ws ms r) e).words (happens S (end S Lawful B ws ms r) e).machines
   further e m = record {
-    start = r.start;
     may_start = r.may_start;
     events = r.events ++ e ∷ [];
-    schedule = schedule_push S (opening S r.start (table_words S)) r.events e r.schedule m;
-    words = ap (λ (w : World). w.words) (run_push S (opening S r.start (table_words S)) r.events e);
-    machines = ap (λ (w : World). w.machines) (run_push S (opening S r.start (table_words S)) r.events e);
+    schedule = schedule_push S (opening S B (table_words S)) r.events e r.schedule m;
+    words = ap (λ (w : World). w.words) (run_push S (opening S B (table_words S)) r.events e);
+    machines = ap (λ (w : World). w.machines) (run_push S (opening S B (table_words S)) r.events e);
   }
 
-  is_machine : (i : ℕ) → machine (end S Lawful ws ms r) i ≡ get_or ms i no_machine
+  is_machine : (i : ℕ) → machine (end S Lawful B ws ms r) i ≡ get_or ms i no_machine
   is_machine i = ap (λ (xs : List Data). get_or xs i no_machine) r.machines
 
-  pub begins : (i : ℕ) (op : List ℕ) (m : Data) → get_or ms i no_machine ≡ m → i < S.callers → m.place ≡ Idle → 1 ≤ length op → length op ≤ S.instrs → m.made + 1 < 4294967296 → Reached S Lawful ws (set ms i (opened S m op))
+  pub begins : (i : ℕ) (op : List ℕ) (m : Data) → get_or ms i no_machine ≡ m → i < S.callers → m.place ≡ Idle → 1 ≤ length op → length op ≤ S.instrs → m.made + 1 < PAYLOADS → Reached S Lawful B ws (set ms i (opened S m op))
   begins i op m e h p l k t = rw (← r.words, ← r.machines, ← (is_machine i ∙ e)) (further (Begins i op) (h, rw (is_machine i ∙ e) p, l, k, rw (is_machine i ∙ e) t))
 
-  pub turns : (i : ℕ) (m : Data) → get_or ms i no_machine ≡ m → i < S.callers → Reached S Lawful (words_after (want S m) ws) (set ms i (took S m (finds S ws m)))
+  pub turns : (i : ℕ) (m : Data) → get_or ms i no_machine ≡ m → i < S.callers → Reached S Lawful B (words_after (want S m) ws) (set ms i (took S m (finds S ws m)))
   turns i m e h = rw (← r.words, ← r.machines, ← (is_machine i ∙ e)) (further (Turns i) h)
 
-  pub raises : (c : ℕ) → c < size S → Reached S Lawful (set ws (durable_at S c) (max (get_or ws (durable_at S c) 0) (get_or ws c 0))) ms
+  pub raises : (c : ℕ) → c < size S → Reached S Lawful B (set ws (durable_at S c) (max (get_or ws (durable_at S c) 0) (get_or ws c 0))) ms
   raises c h = rw (← r.words, ← r.machines) (further (Raises c) h)
 
 -- the machine of a bank meets the word that its wanted step finds
-module _ (S : Setup) (Lawful : List ℕ → Type 0) (sound : Sound S.meaning Lawful (base S) S.cells) (some : 0 < S.callers) (few : S.callers < 4294967296) (own_in : base S ≤ S.cells) (narrow : S.instrs ≤ 16) (little : S.cells < 4294967296) (ws : List ℕ) (ms : List Data) (r : Reached S Lawful ws ms) where
-  good : Good S Lawful r.start (end S Lawful ws ms r)
-  good = run_good S Lawful sound r.start r.events (opening S r.start (table_words S)) (start_good S Lawful sound r.start r.may_start some few own_in (table_words S) (omega arith) narrow little) r.schedule
+module _ (S : Setup) (Lawful : List ℕ → Type 0) (sound : Sound S.meaning Lawful (base S) S.cells) (some : 0 < S.callers) (few : S.callers < PAYLOADS) (own_in : base S ≤ S.cells) (narrow : S.instrs ≤ MOST_INSTRS) (little : S.cells < PAYLOADS) (B : Start) (ws : List ℕ) (ms : List Data) (r : Reached S Lawful B ws ms) where
+  good : Good S Lawful B (end S Lawful B ws ms r)
+  good = run_good S Lawful sound B r.events (opening S B (table_words S)) (start_good S Lawful sound B r.may_start some few own_in (table_words S) (omega arith) narrow little) r.schedule
 
   pub meets : (i : ℕ) (m : Data) → i < S.callers → i < length ms → get_or ms i no_machine ≡ m → Meets S Lawful m (finds S ws m)
   meets i m h l e = record {
-    start = r.start;
-    world = end S Lawful ws ms r;
+    start = B;
+    world = end S Lawful B ws ms r;
     good = good;
     caller = i;
     in_range = h;
     here = rw r.machines (get_or_default ms i m no_machine l ∙ e);
-    finds = rw (← r.words) (found_now S (end S Lawful ws ms r).words m);
+    finds = rw (← r.words) (found_now S (end S Lawful B ws ms r).words m);
   }
 
 -- the machines of a bank
@@ -143,7 +144,7 @@ pub rests : (S : Setup) (ws : List ℕ) (ms : List Data) (i : ℕ) (m : Data) �
 unfolding want took
 rests S ws ms i m e p = go m.place p (get_or ws (word_of (want_at S m m.place)) 0)
   where
-    go : (p : Place) → p ≡ Idle → (n : ℕ) → (words_after (want_at S m p) ws ≡ ws) × (set ms i (took_at S m n p) ≡ ms)
+    go : (p : Place) → p ≡ Idle → (n : ℕ) → (words_after (want_at S m p) ws ≡ ws) × (set ms i (took_at S (counted_at p m) n p) ≡ ms)
     go p q n = rw q (set-get_or ws 0 0, rw (← e) (set-get_or ms i no_machine))
 
 -- what a turn says of a machine that wasn't idle

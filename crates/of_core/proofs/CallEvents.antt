@@ -2,6 +2,7 @@
 use Rattle.std.proofs.Common.{◌≡◌, ℕ, ◌+◌, ◌<◌, ◌≤◌, ◌⊎◌, ◌==◌, inl, inr, List, [], ◌∷◌, ◌++◌, length, get_or, set, refl, sym, ◌∙◌, ap, subst, arith, Bool, true}
 use Rattle.std.proofs.lemmas.Bool.{cases_eq}
 use Rattle.std.proofs.lemmas.List.{append-nil, get_or-set_same, get_or-set_other, get_or_default}
+use Rattle.of_cell.specs.declared.word.TheConstants.{PAYLOADS}
 use Rattle.of_cell.specs.Words.{seq}
 use Rattle.of_cell.proofs.Order.{seq_mono}
 use Rattle.of_mem.specs.Meaning.{Sound}
@@ -56,7 +57,7 @@ module _ (S : Setup) (Lawful : List ℕ → Type 0) (B : Start) (w : World) (g :
       quiet (record w { words = set w.words c v }) (beside_kept S Lawful B w g c v far) (omega (arith, ap seq same)) refl refl i refl
 
   -- the machine m of caller i begins a call
-  module _ (i : ℕ) (m : Data) (h : i < S.callers) (at : get_or w.machines i m ≡ m) (rest : m.place ≡ Idle) (op : List ℕ) (some : 1 ≤ length op) (small : length op ≤ S.instrs) (ticket : m.made + 1 < 4294967296) where
+  module _ (i : ℕ) (m : Data) (h : i < S.callers) (at : get_or w.machines i m ≡ m) (rest : m.place ≡ Idle) (op : List ℕ) (some : 1 ≤ length op) (small : length op ≤ S.instrs) (ticket : m.made + 1 < PAYLOADS) where
     abbrev v : World
     v = begun S i m op w
 

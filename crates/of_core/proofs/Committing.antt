@@ -3,6 +3,7 @@ use Rattle.std.proofs.Common.{◌≡◌, ℕ, ◌+◌, ◌*◌, ◌-◌, ◌<◌
 use Rattle.std.specs.List.{All}
 use Rattle.std.proofs.lemmas.Bool.{cases_eq, cases_lt}
 use Rattle.std.proofs.lemmas.List.{append-nil, set-get_or, get_or-set_same, get_or-set_other}
+use Rattle.of_cell.specs.declared.word.TheConstants.{PAYLOADS}
 use Rattle.of_cell.specs.Words.{word, seq, pay}
 use Rattle.of_cell.proofs.Order.{seq_mono, seq_less, seq_word, pay_word, word_eta}
 use Rattle.of_mem.specs.Meaning.{Sound}
@@ -10,7 +11,7 @@ use Rattle.of_core.specs.declared.place.Place.TheVariants.{ExchangeCurrent}
 use Rattle.of_core.specs.Table.{Setup, script_at, size, durable_at, request_at, data_at, base, log_at, ticket_cell, announcement_of, script_word, current_word, request_of, cell, log_word, durable_word, durable_request, durable_cell, durable_log, last, holder, risen}
 use Rattle.of_core.specs.Machine.{Data, Call, log_words, no_call}
 use Rattle.of_core.specs.Steps.{after_exchange, next_round}
-use Rattle.of_core.specs.World.{Read, World, Batch, Start, stepped_at, one_batch}
+use Rattle.of_core.specs.World.{Read, World, Batch, Start, stepped_on, one_batch}
 use Rattle.of_core.specs.History.{state, batch, at, HasCall, ticket_in, ticket_among}
 use Rattle.of_core.specs.Shared.{Heard, IsRequest, IsLogWord, Shared, Opened, Counted, DataCells, Requests, Stands, IsLog, Durable}
 use Rattle.of_core.specs.Rounds.{Between, Round, Calm}
@@ -30,7 +31,7 @@ use Rattle.of_core.proofs.Touches.{differ, equals}
 module _ (S : Setup) (Lawful : List ℕ → Type 0) (B : Start) where
   module _ (w : World) (g : Core S Lawful B w) (i : ℕ) (m : Data) (h : i < S.callers) where
     -- the exchange of the current transaction
-    pub exchange_current_kept : Sound S.meaning Lawful (base S) S.cells → At S B w.words w.batches i m ExchangeCurrent → Goes S Lawful B i w (stepped_at S i m ExchangeCurrent w)
+    pub exchange_current_kept : Sound S.meaning Lawful (base S) S.cells → At S B w.words w.batches i m ExchangeCurrent → Goes S Lawful B i w (stepped_on S i m ExchangeCurrent w)
     exchange_current_kept sound a = go (current_word w.words == word m.seq m.owner) refl
       where
         st : Stored S B w.words w.batches i m (length (log_words m.log)) (length (log_words m.log))
@@ -121,7 +122,7 @@ module _ (S : Setup) (Lawful : List ℕ → Type 0) (B : Start) where
             here : current_word vs ≡ word (m.seq + 1) m.caller
             here = get_or-set_same w.words 0 (word (m.seq + 1) m.caller) 0 (omega (arith, g.shared.room))
 
-            small : m.caller < 4294967296
+            small : m.caller < PAYLOADS
             small = rw ci (omega (arith, g.shared.few))
 
             new_last : last vs ≡ m.seq + 1

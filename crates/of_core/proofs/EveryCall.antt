@@ -1,6 +1,8 @@
 -- The calls of one caller at every moment of every schedule.
 use Rattle.std.proofs.Common.{◌≡◌, ℕ, ◌+◌, ◌*◌, ◌<◌, ◌≤◌, List, [], ◌∷◌, ◌++◌, refl, sym, ◌∙◌, ap, subst, arith, true, false}
 use Rattle.std.proofs.lemmas.List.{append_assoc, append-nil}
+use Rattle.of_mem.specs.declared.work.TheConstants.{MOST_INSTRS}
+use Rattle.of_cell.specs.declared.word.TheConstants.{PAYLOADS}
 use Rattle.of_mem.specs.Meaning.{Sound}
 use Rattle.of_core.specs.declared.place.Outcome.{Outcome}
 use Rattle.of_core.specs.Table.{Setup, base, size}
@@ -52,7 +54,7 @@ module _ (S : Setup) (Lawful : List ℕ → Type 0) (sound : Sound S.meaning Law
       )
 
   -- from a start
-  module _ (may_start : MayStart S Lawful B) (some : 0 < S.callers) (few : S.callers < 4294967296) (own_in : base S ≤ S.cells) (total : ℕ) (room : size S + size S + S.callers * (S.instrs + 1) ≤ total) (narrow : S.instrs ≤ 16) (little : S.cells < 4294967296) where
+  module _ (may_start : MayStart S Lawful B) (some : 0 < S.callers) (few : S.callers < PAYLOADS) (own_in : base S ≤ S.cells) (total : ℕ) (room : size S + size S + S.callers * (S.instrs + 1) ≤ total) (narrow : S.instrs ≤ MOST_INSTRS) (little : S.cells < PAYLOADS) where
     good : Good S Lawful B (opening S B total)
     good = start_good S Lawful sound B may_start some few own_in total room narrow little
 

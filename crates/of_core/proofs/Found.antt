@@ -4,17 +4,17 @@ use Rattle.of_core.specs.declared.place.Place.{Place}
 use Rattle.of_core.specs.declared.place.Place.TheVariants.{Idle, TryCurrent, TryRequest, TryCell, StoreScript, StoreAnnouncement, LoadCurrent, LoadRequest, CopyLog, LookAgain, LoadOwnTicket, LoadShape, LoadReply, LoadAnnouncement, LoadTicket, LoadScript, LoadCell, RaiseOld, StoreLog, RaiseLog, StoreRequest, RaiseRequest, ExchangeCurrent, RaiseCurrent, LoadTarget, ExchangeTarget, ReloadTarget, RaiseTarget, CloseRequest, RaiseClosed}
 use Rattle.of_core.specs.Table.{Setup}
 use Rattle.of_core.specs.Machine.{Data}
-use Rattle.of_core.specs.Steps.{want, want_at, word_of, took, took_at, words_after, FoundBy, finds}
+use Rattle.of_core.specs.Steps.{want, want_at, word_of, took, took_at, counted_at, words_after, FoundBy, finds}
 use Rattle.of_core.specs.Events.{Turns, machine, happens}
 use Rattle.of_core.specs.World.{World, Batch, added, answered, answers_at, commits_at, stepped, stepped_at}
 
 module _ (S : Setup) (ws : List ℕ) (m : Data) (n : ℕ) where
   -- what the step from the place p makes of the number n
   abbrev Same : Place → ℕ → Type 0
-  Same p k = (took_at S m n p ≡ took_at S m k p) × (commits_at S ws m n p ≡ commits_at S ws m k p)
+  Same p k = (took_at S (counted_at p m) n p ≡ took_at S (counted_at p m) k p) × (commits_at S ws m n p ≡ commits_at S ws m k p)
 
   same : (p : Place) (k : ℕ) → n ≡ k → Same p k
-  same p k e = (ap (λ (x : ℕ). took_at S m x p) e, ap (λ (x : ℕ). commits_at S ws m x p) e)
+  same p k e = (ap (λ (x : ℕ). took_at S (counted_at p m) x p) e, ap (λ (x : ℕ). commits_at S ws m x p) e)
 
   pub same_step : (p : Place) → FoundBy (want_at S m p) ws n → Same p (get_or ws (word_of (want_at S m p)) 0)
   same_step (StoreScript j) e = (refl, refl)
@@ -93,7 +93,7 @@ pub stepped_is : (S : Setup) (i : ℕ) (m : Data) (n : ℕ) (w : World) → Foun
 unfolding want took added answered
 stepped_is S i m n w e =
     let r = same_step S w.words m n m.place e in
-    ap (λ (d : Data). world_after S i m w d (commits_at S w.words m n m.place)) r.0 ∙ ap (λ (bs : List Batch). world_after S i m w (took_at S m (get_or w.words (word_of (want_at S m m.place)) 0) m.place) bs) r.1
+    ap (λ (d : Data). world_after S i m w d (commits_at S w.words m n m.place)) r.0 ∙ ap (λ (bs : List Batch). world_after S i m w (took_at S (counted_at m.place m) (get_or w.words (word_of (want_at S m m.place)) 0) m.place) bs) r.1
 
 -- a turn is the step of its caller's machine, whatever number a store is said to find
 pub turn_is_step : (S : Setup) (w : World) (i n : ℕ) → FoundBy (want S (machine w i)) w.words n → happens S w (Turns i) ≡ stepped S i (machine w i) n w

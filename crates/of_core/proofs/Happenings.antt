@@ -2,6 +2,7 @@
 use Rattle.std.proofs.Common.{◌≡◌, ℕ, zero, suc, ◌+◌, ◌<◌, ◌≤◌, ◌⊎◌, inl, inr, List, [], ◌∷◌, ◌++◌, length, get_or, set, refl, sym, ◌∙◌, ap, subst, arith, Bool, true, false}
 use Rattle.std.proofs.lemmas.Bool.{cases_eq}
 use Rattle.std.proofs.lemmas.List.{append-nil, get_or-set_same, get_or-set_other, get_or_default}
+use Rattle.of_cell.specs.declared.word.TheConstants.{PAYLOADS}
 use Rattle.of_cell.specs.Words.{seq}
 use Rattle.of_cell.proofs.Order.{seq_mono}
 use Rattle.of_mem.specs.Meaning.{Sound}
@@ -32,7 +33,7 @@ use Rattle.std.proofs.lemmas.List.Elements.{All-append}
 
 module _ (S : Setup) (Lawful : List ℕ → Type 0) (B : Start) (w : World) (g : Good S Lawful B w) where
   -- a call begins
-  module _ (i : ℕ) (m : Data) (h : i < S.callers) (own : get_or w.machines i m ≡ m) (rest : m.place ≡ Idle) (op : List ℕ) (some : 1 ≤ length op) (few : length op ≤ S.instrs) (ticket : m.made + 1 < 4294967296) where
+  module _ (i : ℕ) (m : Data) (h : i < S.callers) (own : get_or w.machines i m ≡ m) (rest : m.place ≡ Idle) (op : List ℕ) (some : 1 ≤ length op) (few : length op ≤ S.instrs) (ticket : m.made + 1 < PAYLOADS) where
     at_rest : Rests S B w.words w.batches i m
     at_rest = subst (λ (p : Place). At S B w.words w.batches i m p) rest (g.core.each i m h own)
 

@@ -10,7 +10,7 @@ use Rattle.of_core.specs.declared.place.Place.TheVariants.{CopyLog, LookAgain}
 use Rattle.of_core.specs.Table.{Setup, request_at, log_at, base, request_of, log_word, durable_request, last, holder}
 use Rattle.of_core.specs.Machine.{Data, log_of, log_words}
 use Rattle.of_core.specs.Steps.{after_copy_log, after_look_again, copy_more, took_at}
-use Rattle.of_core.specs.World.{World, Start, stepped_at}
+use Rattle.of_core.specs.World.{World, Start, stepped_on}
 use Rattle.of_core.specs.History.{batch}
 use Rattle.of_core.specs.Shared.{Opened, IsLog}
 use Rattle.of_core.specs.Rounds.{WasCurrent}
@@ -67,7 +67,7 @@ module _ (S : Setup) (Lawful : List ℕ → Type 0) (B : Start) where
             omega (arith, e, c.count (omega arith))
 
     -- a value of a log word fits its payload
-    pub copy_log_kept : (x : ℕ) → At S B w.words w.batches i m (CopyLog x) → Goes S Lawful B i w (stepped_at S i m (CopyLog x) w)
+    pub copy_log_kept : (x : ℕ) → At S B w.words w.batches i m (CopyLog x) → Goes S Lawful B i w (stepped_on S i m (CopyLog x) w)
     copy_log_kept x a = assemble_read S Lawful B w g i h _ _ (took_at S m found (CopyLog x)) (same_words S Lawful B w g i m h (log_at S m.owner x)) (same_batches S Lawful B w g i m h) (
         go (nat_lt (x + 1) (2 * get_or (copy_more m found) 0 0 + 1)) refl)
       where
@@ -121,7 +121,7 @@ module _ (S : Setup) (Lawful : List ℕ → Type 0) (B : Start) where
             whole : request_of w.words m.owner ≡ word m.seq 0 → length (copy_more m found) ≡ length ls
             whole q = omega (arith, got_length q, size q, past, (more q).1)
 
-    pub look_again_kept : Sound S.meaning Lawful (base S) S.cells → At S B w.words w.batches i m LookAgain → Goes S Lawful B i w (stepped_at S i m LookAgain w)
+    pub look_again_kept : Sound S.meaning Lawful (base S) S.cells → At S B w.words w.batches i m LookAgain → Goes S Lawful B i w (stepped_on S i m LookAgain w)
     look_again_kept sound a = assemble_read S Lawful B w g i h _ _ (took_at S m found LookAgain) (same_words S Lawful B w g i m h (m.owner + 1)) (same_batches S Lawful B w g i m h) (
         go (found == word m.seq 0) (m.rounds == 0) refl refl)
       where

@@ -2,13 +2,14 @@
 use Rattle.std.proofs.Common.{◌≡◌, ℕ, ◌+◌, ◌*◌, ◌-◌, ◌<◌, ◌≤◌, ◌⊎◌, inl, inr, List, length, get_or, set, refl, sym, ◌∙◌, ap, subst, arith, length-set}
 use Rattle.std.proofs.lemmas.Bool.{cases_eq}
 use Rattle.std.proofs.lemmas.List.{append-nil, get_or-set_same, get_or-set_other}
+use Rattle.of_cell.specs.declared.word.TheConstants.{PAYLOADS}
 use Rattle.of_cell.specs.Words.{word, seq, pay}
 use Rattle.of_cell.proofs.Order.{seq_less, seq_word, pay_word, seq_from, word_above}
 use Rattle.of_core.specs.declared.place.Place.TheVariants.{StoreLog, StoreRequest}
 use Rattle.of_core.specs.Table.{Setup, script_at, size, durable_at, request_at, log_at, script_word, current_word, request_of, cell, log_word, durable_word, durable_request, last, holder, risen}
 use Rattle.of_core.specs.Machine.{Data, entry, log_words}
 use Rattle.of_core.specs.Steps.{took_at}
-use Rattle.of_core.specs.World.{World, Start, stepped_at}
+use Rattle.of_core.specs.World.{World, Start, stepped_on}
 use Rattle.of_core.specs.History.{batch, at}
 use Rattle.of_core.specs.Shared.{Kinds, IsRequest, IsLogWord, Opened, DataCells, Durable}
 use Rattle.of_core.specs.Transaction.{Stored}
@@ -22,7 +23,7 @@ use Rattle.of_core.proofs.Touches.{Touches, durable_of, heard_of, kinds_of, kind
 module _ (S : Setup) (Lawful : List ℕ → Type 0) (B : Start) where
   module _ (w : World) (g : Core S Lawful B w) (i : ℕ) (m : Data) (h : i < S.callers) where
     -- the machine stores a word of its log
-    pub store_log_kept : (x : ℕ) → At S B w.words w.batches i m (StoreLog x) → Goes S Lawful B i w (stepped_at S i m (StoreLog x) w)
+    pub store_log_kept : (x : ℕ) → At S B w.words w.batches i m (StoreLog x) → Goes S Lawful B i w (stepped_on S i m (StoreLog x) w)
     store_log_kept x a =
         rw (append-nil w.batches)
         (assemble S Lawful B w g i h vs w.batches (took_at S m (log_word S w.words m.caller x) (StoreLog x)) (moves_of S Lawful B i w.words vs w.batches touches g.shared)
@@ -110,7 +111,7 @@ module _ (S : Setup) (Lawful : List ℕ → Type 0) (B : Start) where
         log_how j y l u (inl q) (inr r) = inl (rw q (log_row y u r))
         log_how j y l u (inl q) (inl r) = inr (rw (q, r, here) (omega (arith, st.rest x (omega arith) x_in, seq_from (m.seq + 1) (get_or (log_words m.log) x 0) new (omega arith))))
 
-        fits_word : (y : ℕ) → get_or (log_words m.log) y 0 < 4294967296
+        fits_word : (y : ℕ) → get_or (log_words m.log) y 0 < PAYLOADS
         fits_word y = small_words S Lawful B m.log g.shared.little st.over.over.is_log y
 
         touches : (Touches S Lawful B) i w.words vs w.batches
@@ -179,7 +180,7 @@ module _ (S : Setup) (Lawful : List ℕ → Type 0) (B : Start) where
         stored y l (inr q) = log_row y (omega (arith, x_in)) q ∙ st.each y (omega arith)
 
     -- the machine stores its request
-    pub store_request_kept : At S B w.words w.batches i m StoreRequest → Goes S Lawful B i w (stepped_at S i m StoreRequest w)
+    pub store_request_kept : At S B w.words w.batches i m StoreRequest → Goes S Lawful B i w (stepped_on S i m StoreRequest w)
     store_request_kept a =
         rw (append-nil w.batches)
         (assemble S Lawful B w g i h vs w.batches (took_at S m (request_of w.words m.caller) StoreRequest) (moves_of S Lawful B i w.words vs w.batches touches g.shared)
@@ -192,6 +193,7 @@ module _ (S : Setup) (Lawful : List ℕ → Type 0) (B : Start) where
             rest = λ y l u. rw (log_same i y) (st.rest y l u);
           },
           here,
+          λ k l u o. rw (dur_same (request_at i) (omega arith)) (let z = a.shut k l (rw current_same at u) o in omega (arith, z, a.level)),
         ))
       where
         st : Stored S B w.words w.batches i m (length (log_words m.log)) (length (log_words m.log))

@@ -8,11 +8,13 @@ use Rattle.std.proofs.lemmas.Bool.Decides.{Decides-eqb, nat_tests}
 use Rattle.std.proofs.lemmas.Bool.{cases_lt}
 use Rattle.std.proofs.lemmas.List.Elements.{All-append}
 use Rattle.std.proofs.lemmas.List.{get_or_append_left, get_or-append_right, get_or-drop, length-drop, drop-set-lt, map-set, get_or-take, length-take, length-map, get_or-map}
+use Rattle.of_cell.specs.declared.word.TheConstants.{PAYLOADS}
 use Rattle.of_cell.specs.Words.{word, pay}
 use Rattle.of_cell.proofs.Order.{pay_word}
 use Rattle.of_mem.specs.declared.work.RawReply.{RawReply}
 use Rattle.of_mem.specs.Meaning.{Once, written, Finishes}
-use Rattle.of_core.specs.Table.{Setup, base}
+use Rattle.of_core.specs.declared.machine.fill.TheConstants.{ABORTED}
+use Rattle.of_core.specs.Table.{Setup, base, ticket_cell}
 use Rattle.of_core.specs.Machine.{listed, own_cells, flat, log_words, turned}
 use Rattle.of_core.specs.History.{changed}
 use Rattle.of_core.specs.Shared.{IsEntry, IsLog}
@@ -27,10 +29,10 @@ pub drop_written : (n : ℕ) (xs : List ℕ) (es : List (ℕ × ℕ)) → All (�
 drop_written n xs [] h = refl
 drop_written n xs (e ∷ es) h = drop_written n (set xs e.0 e.1) es (all_tail (λ (e : ℕ × ℕ). e.0 < n) e es h) ∙ drop-set-lt n xs e.0 e.1 (h 0 (0, 0) (omega arith))
 
-pub pay_changed : (k : ℕ) (ws : List ℕ) (es : List (ℕ × ℕ)) → All (λ (e : ℕ × ℕ). e.1 < 4294967296) es → map pay (changed k ws es) ≡ written (map pay ws) es
+pub pay_changed : (k : ℕ) (ws : List ℕ) (es : List (ℕ × ℕ)) → All (λ (e : ℕ × ℕ). e.1 < PAYLOADS) es → map pay (changed k ws es) ≡ written (map pay ws) es
 pay_changed k ws [] h = refl
 pay_changed k ws (e ∷ es) h =
-    pay_changed k (set ws e.0 (word k e.1)) es (all_tail (λ (e : ℕ × ℕ). e.1 < 4294967296) e es h)
+    pay_changed k (set ws e.0 (word k e.1)) es (all_tail (λ (e : ℕ × ℕ). e.1 < PAYLOADS) e es h)
     ∙ ap (λ (xs : List ℕ). written xs es) (map-set pay ws e.0 (word k e.1) ∙ ap (λ (v : ℕ). set (map pay ws) e.0 v) (pay_word k e.1 (h 0 (0, 0) (omega arith))))
 
 pub length-written : (xs : List ℕ) (es : List (ℕ × ℕ)) → length (written xs es) ≡ length xs
@@ -67,13 +69,13 @@ room_for i n k h = grind arith
 
 -- the cells low, low + 1 .. low + size - 1
 abbrev pub InOwn : ℕ → ℕ → ℕ × ℕ → Type 0
-InOwn low size e = (low ≤ e.0) × (e.0 < low + size) × (e.1 < 4294967296)
+InOwn low size e = (low ≤ e.0) × (e.0 < low + size) × (e.1 < PAYLOADS)
 
 pub record IsOwn (low size : ℕ) (es : List (ℕ × ℕ)) : Type 0 where
   pub inside : All (InOwn low size) es
   pub once : Once es
 
-two_own : (low size shape ticket : ℕ) → 2 ≤ size → shape < 4294967296 → ticket < 4294967296 → IsOwn low size ((low + 1, shape) ∷ (low, ticket) ∷ [])
+two_own : (low size shape ticket : ℕ) → 2 ≤ size → shape < PAYLOADS → ticket < PAYLOADS → IsOwn low size ((low + 1, shape) ∷ (low, ticket) ∷ [])
 two_own low size shape ticket h a b = record { inside = inside_of; once = once_of }
   where
     inside_of : All (InOwn low size) ((low + 1, shape) ∷ (low, ticket) ∷ [])
@@ -90,7 +92,7 @@ two_own low size shape ticket h a b = record { inside = inside_of; once = once_o
     once_of zero (suc (suc k)) l m q = absurd (omega arith)
     once_of (suc zero) (suc (suc k)) l m q = absurd (omega arith)
 
-pub own_is : (low count size ticket : ℕ) (r : RawReply) → count + 2 ≤ size → r.shape < 4294967296 → ticket < 4294967296 → All (λ (v : ℕ). v < 4294967296) r.values → (b : Bool)
+pub own_is : (low count size ticket : ℕ) (r : RawReply) → count + 2 ≤ size → r.shape < PAYLOADS → ticket < PAYLOADS → All (λ (v : ℕ). v < PAYLOADS) r.values → (b : Bool)
     → IsOwn low size ((if b then listed (low + 2) (take count r.values) else []) ++ (low + 1, r.shape) ∷ (low, ticket) ∷ [])
 own_is low count size ticket r h a b vs false = two_own low size r.shape ticket (omega arith) a b
 own_is low count size ticket r h a b vs true = record {
@@ -113,7 +115,7 @@ own_is low count size ticket r h a b vs true = record {
     listed_in : All (InOwn low size) (listed (low + 2) ts)
     listed_in k d l =
         let m : k < length ts = rw length-listed at l in
-        let v : get_or ts k 0 < 4294967296 = rw (get_or-take count r.values k 0 (omega (arith, few))) (vs k 0 (omega (arith, (let z : length ts ≤ length r.values = rw length-take (omega arith) in z)))) in
+        let v : get_or ts k 0 < PAYLOADS = rw (get_or-take count r.values k 0 (omega (arith, few))) (vs k 0 (omega (arith, (let z : length ts ≤ length r.values = rw length-take (omega arith) in z)))) in
         rw (listed_at (low + 2) ts k d m) (omega arith, omega (arith, few), v)
 
     listed_once : Once (listed (low + 2) ts)
@@ -158,8 +160,8 @@ once_few S es h o =
         omega (arith, (h f.0 (0, 0) mk).0)
 
 -- the walk's writes and the caller's own cells are a log
-pub whole_log : (S : Setup) (i ticket count : ℕ) (xs op : List ℕ) (es : List (ℕ × ℕ)) (r : RawReply) → i < S.callers → count ≤ S.instrs → ticket < 4294967296 → base S ≤ S.cells
-    → Finishes S.meaning (base S) S.cells xs op es r → IsLog S (es ++ own_cells S i ticket count r)
+pub whole_log : (S : Setup) (i ticket count : ℕ) (xs op : List ℕ) (es : List (ℕ × ℕ)) (r : RawReply) → i < S.callers → count ≤ S.instrs → ticket < PAYLOADS → base S ≤ S.cells
+    → Finishes S.meaning (base S) S.cells xs op es r → IsLog S (es ++ own_cells (ticket_cell S i) ticket count r)
 whole_log S i ticket count xs op es r h c t b f = record {
   entries = entries_all;
   once = once_all;
@@ -167,10 +169,10 @@ whole_log S i ticket count xs op es r h c t b f = record {
 }
   where
     own : List (ℕ × ℕ)
-    own = own_cells S i ticket count r
+    own = own_cells (ticket_cell S i) ticket count r
 
     o : IsOwn (i * (S.instrs + 2)) (S.instrs + 2) own
-    o = own_is (i * (S.instrs + 2)) count (S.instrs + 2) ticket r (omega arith) f.shape t f.values (nat_lt r.shape 67108864)
+    o = own_is (i * (S.instrs + 2)) count (S.instrs + 2) ticket r (omega arith) f.shape t f.values (nat_lt r.shape ABORTED)
 
     low : i * (S.instrs + 2) + (S.instrs + 2) ≤ base S
     low = room_for i S.callers (S.instrs + 2) h
@@ -182,12 +184,12 @@ whole_log S i ticket count xs op es r h c t b f = record {
     once_all = once_append es own f.once o.once (λ j k l m q. omega (arith, (f.inside j (0, 0) l).0, (o.inside k (0, 0) m).1, low))
 
 -- the caller's own cells are below the others
-pub own_below : (S : Setup) (i ticket count : ℕ) (r : RawReply) → i < S.callers → count ≤ S.instrs → ticket < 4294967296 → r.shape < 4294967296 → All (λ (v : ℕ). v < 4294967296) r.values
-    → All (λ (e : ℕ × ℕ). e.0 < base S) (own_cells S i ticket count r)
+pub own_below : (S : Setup) (i ticket count : ℕ) (r : RawReply) → i < S.callers → count ≤ S.instrs → ticket < PAYLOADS → r.shape < PAYLOADS → All (λ (v : ℕ). v < PAYLOADS) r.values
+    → All (λ (e : ℕ × ℕ). e.0 < base S) (own_cells (ticket_cell S i) ticket count r)
 own_below S i ticket count r h c t a vs = λ k d l. omega (arith, (o.inside k d l).1, room_for i S.callers (S.instrs + 2) h)
   where
-    o : IsOwn (i * (S.instrs + 2)) (S.instrs + 2) (own_cells S i ticket count r)
-    o = own_is (i * (S.instrs + 2)) count (S.instrs + 2) ticket r (omega arith) a t vs (nat_lt r.shape 67108864)
+    o : IsOwn (i * (S.instrs + 2)) (S.instrs + 2) (own_cells (ticket_cell S i) ticket count r)
+    o = own_is (i * (S.instrs + 2)) count (S.instrs + 2) ticket r (omega arith) a t vs (nat_lt r.shape ABORTED)
 
 pub length-flat : (es : List (ℕ × ℕ)) → length (flat es) ≡ 2 * length es
 length-flat [] = refl

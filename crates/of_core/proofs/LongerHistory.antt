@@ -3,6 +3,7 @@ use Rattle.std.proofs.Common.{◌≡◌, ℕ, zero, suc, ◌+◌, ◌<◌, ◌�
 use Rattle.std.specs.List.{All}
 use Rattle.std.proofs.lemmas.Bool.{cases_eq, cases_lt, cases_order}
 use Rattle.std.proofs.lemmas.List.{length-map, get_or_default}
+use Rattle.of_cell.specs.declared.word.TheConstants.{PAYLOADS}
 use Rattle.of_cell.specs.Words.{word, pay}
 use Rattle.of_cell.proofs.Order.{pay_word}
 use Rattle.of_mem.specs.Meaning.{Sound, SameFrom, written}
@@ -85,8 +86,8 @@ module _ (S : Setup) (Lawful : List ℕ → Type 0) (sound : Sound S.meaning Law
   named : (a v : ℕ) → Names b.log a v → at B cs (n + 1) a ≡ word (n + 1) v
   named a v x = rw state_new (subst (λ (e : ℕ × ℕ). get_or (changed (n + 1) (state B bs n) b.log) e.0 0 ≡ word (n + 1) e.1) x.names (changed_at S (n + 1) (state B bs n) b.log x.place over.is_log (omega (arith, size)) x.among))
 
-  small : (a v : ℕ) → Names b.log a v → v < 4294967296
-  small a v x = (subst (λ (e : ℕ × ℕ). (e.0 < S.cells) × (e.1 < 4294967296)) x.names (over.is_log.entries x.place (0, 0) x.among)).1
+  small : (a v : ℕ) → Names b.log a v → v < PAYLOADS
+  small a v x = (subst (λ (e : ℕ × ℕ). (e.0 < S.cells) × (e.1 < PAYLOADS)) x.names (over.is_log.entries x.place (0, 0) x.among)).1
 
   -- the own cells of a caller without a call stay
   row_stays : (i a : ℕ) → i < S.callers → ((y : ℕ) → y < length b.calls → (get_or b.calls y no_call).caller ≡ i → ⊥) → InRow S i a → at B cs (n + 1) a ≡ at B bs n a

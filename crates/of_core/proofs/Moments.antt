@@ -1,5 +1,7 @@
 -- The invariant holds at every moment of every schedule, from every start.
 use Rattle.std.proofs.Common.{ℕ, ◌+◌, ◌*◌, ◌<◌, ◌≤◌, List, [], ◌∷◌}
+use Rattle.of_mem.specs.declared.work.TheConstants.{MOST_INSTRS}
+use Rattle.of_cell.specs.declared.word.TheConstants.{PAYLOADS}
 use Rattle.of_mem.specs.Meaning.{Sound}
 use Rattle.of_core.specs.Table.{Setup, base, size}
 use Rattle.of_core.specs.World.{World, Start}
@@ -16,7 +18,7 @@ module _ (S : Setup) (Lawful : List ℕ → Type 0) (sound : Sound S.meaning Law
   run_good [] w g s = g
   run_good (e ∷ es) w g s = run_good es (happens S w e) (event_good S Lawful B w g sound e s.0) s.1
 
-  pub every_moment : MayStart S Lawful B → 0 < S.callers → S.callers < 4294967296 → base S ≤ S.cells → (total : ℕ) → size S + size S + S.callers * (S.instrs + 1) ≤ total → S.instrs ≤ 16 → S.cells < 4294967296
+  pub every_moment : MayStart S Lawful B → 0 < S.callers → S.callers < PAYLOADS → base S ≤ S.cells → (total : ℕ) → size S + size S + S.callers * (S.instrs + 1) ≤ total → S.instrs ≤ MOST_INSTRS → S.cells < PAYLOADS
       → (es : List Event) → IsSchedule S (opening S B total) es → IsSound S B (run S (opening S B total) es)
   every_moment may_start some few own_in total room narrow little es s =
       let g = run_good es (opening S B total) (start_good S Lawful sound B may_start some few own_in total room narrow little) s in

@@ -1,5 +1,7 @@
 -- A table at its start, with idle machines, meets the invariant.
 use Rattle.std.proofs.Common.{◌≡◌, ℕ, zero, suc, ◌+◌, ◌*◌, ◌<◌, ◌≤◌, inl, List, [], ◌∷◌, length, get_or, refl, sym, ◌∙◌, ap, subst, arith}
+use Rattle.of_mem.specs.declared.work.TheConstants.{MOST_INSTRS}
+use Rattle.of_cell.specs.declared.word.TheConstants.{PAYLOADS}
 use Rattle.of_cell.specs.Words.{seq, pay}
 use Rattle.of_cell.proofs.Order.{seq_word, pay_word, seq_zero, pay_zero}
 use Rattle.of_mem.specs.Meaning.{Sound}
@@ -43,7 +45,7 @@ pub idles_same : (S : Setup) (f g : ℕ → ℕ) → ((i : ℕ) → f i ≡ g i)
 idles_same S f g same i zero = refl
 idles_same S f g same i (suc n) = ap (λ (k : ℕ). idle S i k ∷ idles S f (suc i) n) (same i) ∙ ap (λ (ms : List Data). idle S i (g i) ∷ ms) (idles_same S f g same (suc i) n)
 
-module _ (S : Setup) (Lawful : List ℕ → Type 0) (sound : Sound S.meaning Lawful (base S) S.cells) (B : Start) (may : MayStart S Lawful B) (some : 0 < S.callers) (few : S.callers < 4294967296) (own_in : base S ≤ S.cells) (total : ℕ) (room : size S + size S + S.callers * (S.instrs + 1) ≤ total) (narrow : S.instrs ≤ 16) (little : S.cells < 4294967296) where
+module _ (S : Setup) (Lawful : List ℕ → Type 0) (sound : Sound S.meaning Lawful (base S) S.cells) (B : Start) (may : MayStart S Lawful B) (some : 0 < S.callers) (few : S.callers < PAYLOADS) (own_in : base S ≤ S.cells) (total : ℕ) (room : size S + size S + S.callers * (S.instrs + 1) ≤ total) (narrow : S.instrs ≤ MOST_INSTRS) (little : S.cells < PAYLOADS) where
   abbrev ws : List ℕ
   ws = first_words S.callers S.cells B total
 
@@ -57,7 +59,7 @@ module _ (S : Setup) (Lawful : List ℕ → Type 0) (sound : Sound S.meaning Law
   level : (c : ℕ) → c < size S → get_or ws (durable_at S c) 0 ≡ get_or ws c 0
   level c l = durable_word_at c l ∙ sym (word_at c l)
 
-  small : B.owner < 4294967296
+  small : B.owner < PAYLOADS
   small = omega (arith, may.start.owner_in)
 
   last_is : last ws ≡ B.seq

@@ -5,10 +5,15 @@ use Rattle.std.proofs.lemmas.Bool.{cases_eq, cases_lt}
 use Rattle.std.proofs.lemmas.Bool.Decides.{nat_tests}
 use Rattle.std.proofs.lemmas.List.Elements.{All-append}
 use Rattle.std.proofs.lemmas.List.{get_or_append_left, get_or-append_right, get_or-set_same, get_or-set_other, set-set, set_comm, get_or_past, get_or-take, length-take, get_or_push, get_or_default}
+use Rattle.of_mem.specs.declared.work.TheConstants.{MOST_INSTRS}
+use Rattle.of_cell.specs.declared.word.TheConstants.{PAYLOADS}
 use Rattle.of_mem.specs.declared.work.RawReply.{RawReply}
 use Rattle.of_mem.specs.Meaning.{Once, written, SameFrom, Meaning, Finishes, Sound, Fits, Agrees, marked}
+use Rattle.of_mem.specs.Pairs.{put, put_all}
+use Rattle.of_mem.specs.Pad.{over}
+use Rattle.of_core.specs.declared.machine.fill.TheConstants.{ABORTED}
 use Rattle.of_core.specs.Table.{Setup, base, ticket_cell, shape_cell, reply_cell}
-use Rattle.of_core.specs.Machine.{Call, listed, own_cells, put, put_by, put_all, merged, no_call}
+use Rattle.of_core.specs.Machine.{Call, listed, own_cells, no_call}
 use Rattle.of_core.specs.History.{InRow, after_calls, Replies}
 use Rattle.of_core.specs.Shared.{IsEntry, IsLog}
 use Rattle.of_core.specs.Scan.{Names, OwnIn, Overlay}
@@ -31,13 +36,13 @@ written_set xs (e ∷ es) a v away =
 pub apart_head : (e : ℕ × ℕ) (es : List (ℕ × ℕ)) → Once (e ∷ es) → (j : ℕ) → j < length es → (get_or es j (0, 0)).0 ≡ e.0 → ⊥
 apart_head e es o j l q = let r : suc j ≡ 0 = o (suc j) 0 (omega arith) (omega arith) q in omega arith
 
-written_put : (xs : List ℕ) (ds : List (ℕ × ℕ)) (e : ℕ × ℕ) → Once ds → written xs (put e ds) ≡ set (written xs ds) e.0 e.1
+written_put : (xs : List ℕ) (ds : List (ℕ × ℕ)) (e : ℕ × ℕ) → Once ds → written xs (put ds e.0 e.1) ≡ set (written xs ds) e.0 e.1
 written_put xs [] e o = refl
-written_put xs (d ∷ ds) e o = go (e.0 == d.0) refl (written_put (set xs d.0 d.1) ds e (once_tail d ds o))
+written_put xs (d ∷ ds) e o = go (d.0 == e.0) refl (written_put (set xs d.0 d.1) ds e (once_tail d ds o))
   where
-    go : (b : Bool) → (e.0 == d.0) ≡ b → written (set xs d.0 d.1) (put e ds) ≡ set (written (set xs d.0 d.1) ds) e.0 e.1 → written xs (put_by e d ds (put e ds) b) ≡ set (written (set xs d.0 d.1) ds) e.0 e.1
+    go : (b : Bool) → (d.0 == e.0) ≡ b → written (set xs d.0 d.1) (put ds e.0 e.1) ≡ set (written (set xs d.0 d.1) ds) e.0 e.1 → written xs (if b then (e.0, e.1) ∷ ds else d ∷ put ds e.0 e.1) ≡ set (written (set xs d.0 d.1) ds) e.0 e.1
     go true q r =
-        let s : e.0 ≡ d.0 = same_num e.0 d.0 q in
+        let s : e.0 ≡ d.0 = sym (same_num d.0 e.0 q) in
         ap (λ (ys : List ℕ). written ys ds) (rw s (sym (set-set xs d.0 d.1 e.1)))
         ∙ written_set (set xs d.0 d.1) ds e.0 e.1 (λ j l r. apart_head d ds o j l (r ∙ s))
     go false q r = r
@@ -46,22 +51,22 @@ abbrev FromPut : List (ℕ × ℕ) → List (ℕ × ℕ) → ℕ × ℕ → Type
 FromPut ds es x = ((k : ℕ) × (k < length es) × (x ≡ get_or es k (0, 0))) ⊎ ((k : ℕ) × (k < length ds) × (x ≡ get_or ds k (0, 0)))
 
 -- what put leaves is the entry or was there
-put_from : (ds : List (ℕ × ℕ)) (e : ℕ × ℕ) (j : ℕ) → j < length (put e ds) → (get_or (put e ds) j (0, 0) ≡ e) ⊎ ((k : ℕ) × (k < length ds) × (get_or (put e ds) j (0, 0) ≡ get_or ds k (0, 0)))
+put_from : (ds : List (ℕ × ℕ)) (e : ℕ × ℕ) (j : ℕ) → j < length (put ds e.0 e.1) → (get_or (put ds e.0 e.1) j (0, 0) ≡ e) ⊎ ((k : ℕ) × (k < length ds) × (get_or (put ds e.0 e.1) j (0, 0) ≡ get_or ds k (0, 0)))
 put_from [] e zero l = inl refl
 put_from [] e (suc j) l = absurd (omega arith)
-put_from (d ∷ ds) e zero l = go (e.0 == d.0)
+put_from (d ∷ ds) e zero l = go (d.0 == e.0)
   where
-    go : (b : Bool) → (get_or (put_by e d ds (put e ds) b) 0 (0, 0) ≡ e) ⊎ ((k : ℕ) × (k < length (d ∷ ds)) × (get_or (put_by e d ds (put e ds) b) 0 (0, 0) ≡ get_or (d ∷ ds) k (0, 0)))
+    go : (b : Bool) → (get_or (if b then (e.0, e.1) ∷ ds else d ∷ put ds e.0 e.1) 0 (0, 0) ≡ e) ⊎ ((k : ℕ) × (k < length (d ∷ ds)) × (get_or (if b then (e.0, e.1) ∷ ds else d ∷ put ds e.0 e.1) 0 (0, 0) ≡ get_or (d ∷ ds) k (0, 0)))
     go true = inl refl
     go false = inr (0, omega arith, refl)
-put_from (d ∷ ds) e (suc j) l = go (e.0 == d.0) l (λ m. put_from ds e j m)
+put_from (d ∷ ds) e (suc j) l = go (d.0 == e.0) l (λ m. put_from ds e j m)
   where
-    go : (b : Bool) → suc j < length (put_by e d ds (put e ds) b) → (j < length (put e ds) → (get_or (put e ds) j (0, 0) ≡ e) ⊎ ((k : ℕ) × (k < length ds) × (get_or (put e ds) j (0, 0) ≡ get_or ds k (0, 0))))
-        → (get_or (put_by e d ds (put e ds) b) (suc j) (0, 0) ≡ e) ⊎ ((k : ℕ) × (k < length (d ∷ ds)) × (get_or (put_by e d ds (put e ds) b) (suc j) (0, 0) ≡ get_or (d ∷ ds) k (0, 0)))
+    go : (b : Bool) → suc j < length (if b then (e.0, e.1) ∷ ds else d ∷ put ds e.0 e.1) → (j < length (put ds e.0 e.1) → (get_or (put ds e.0 e.1) j (0, 0) ≡ e) ⊎ ((k : ℕ) × (k < length ds) × (get_or (put ds e.0 e.1) j (0, 0) ≡ get_or ds k (0, 0))))
+        → (get_or (if b then (e.0, e.1) ∷ ds else d ∷ put ds e.0 e.1) (suc j) (0, 0) ≡ e) ⊎ ((k : ℕ) × (k < length (d ∷ ds)) × (get_or (if b then (e.0, e.1) ∷ ds else d ∷ put ds e.0 e.1) (suc j) (0, 0) ≡ get_or (d ∷ ds) k (0, 0)))
     go true m f = inr (suc j, omega arith, refl)
     go false m f = pick (f (omega arith))
       where
-        pick : (get_or (put e ds) j (0, 0) ≡ e) ⊎ ((k : ℕ) × (k < length ds) × (get_or (put e ds) j (0, 0) ≡ get_or ds k (0, 0))) → (get_or (put e ds) j (0, 0) ≡ e) ⊎ ((k : ℕ) × (k < length (d ∷ ds)) × (get_or (put e ds) j (0, 0) ≡ get_or (d ∷ ds) k (0, 0)))
+        pick : (get_or (put ds e.0 e.1) j (0, 0) ≡ e) ⊎ ((k : ℕ) × (k < length ds) × (get_or (put ds e.0 e.1) j (0, 0) ≡ get_or ds k (0, 0))) → (get_or (put ds e.0 e.1) j (0, 0) ≡ e) ⊎ ((k : ℕ) × (k < length (d ∷ ds)) × (get_or (put ds e.0 e.1) j (0, 0) ≡ get_or (d ∷ ds) k (0, 0)))
         pick (inl q) = inl q
         pick (inr q) = inr (suc q.0, omega (arith, q.1), q.2)
 
@@ -71,71 +76,71 @@ once_cons d es o away zero (suc k) l m q = absurd (away k (omega arith) (sym q))
 once_cons d es o away (suc j) zero l m q = absurd (away j (omega arith) q)
 once_cons d es o away (suc j) (suc k) l m q = let r : j ≡ k = o j k (omega arith) (omega arith) q in omega arith
 
-once_put : (ds : List (ℕ × ℕ)) (e : ℕ × ℕ) → Once ds → Once (put e ds)
+once_put : (ds : List (ℕ × ℕ)) (e : ℕ × ℕ) → Once ds → Once (put ds e.0 e.1)
 once_put [] e o = once_cons e [] o (λ j l q. omega arith)
-once_put (d ∷ ds) e o = go (e.0 == d.0) refl (once_put ds e (once_tail d ds o))
+once_put (d ∷ ds) e o = go (d.0 == e.0) refl (once_put ds e (once_tail d ds o))
   where
-    go : (b : Bool) → (e.0 == d.0) ≡ b → Once (put e ds) → Once (put_by e d ds (put e ds) b)
-    go true q r = once_cons e ds (once_tail d ds o) (λ j l s. apart_head d ds o j l (s ∙ same_num e.0 d.0 q))
-    go false q r = once_cons d (put e ds) r (λ j l s. away j s (put_from ds e j l))
+    go : (b : Bool) → (d.0 == e.0) ≡ b → Once (put ds e.0 e.1) → Once (if b then (e.0, e.1) ∷ ds else d ∷ put ds e.0 e.1)
+    go true q r = once_cons e ds (once_tail d ds o) (λ j l s. apart_head d ds o j l (s ∙ sym (same_num d.0 e.0 q)))
+    go false q r = once_cons d (put ds e.0 e.1) r (λ j l s. away j s (put_from ds e j l))
       where
-        away : (j : ℕ) → (get_or (put e ds) j (0, 0)).0 ≡ d.0 → (get_or (put e ds) j (0, 0) ≡ e) ⊎ ((k : ℕ) × (k < length ds) × (get_or (put e ds) j (0, 0) ≡ get_or ds k (0, 0))) → ⊥
-        away j s (inl f) = other_num e.0 d.0 q (sym (ap (λ (x : ℕ × ℕ). x.0) f) ∙ s)
+        away : (j : ℕ) → (get_or (put ds e.0 e.1) j (0, 0)).0 ≡ d.0 → (get_or (put ds e.0 e.1) j (0, 0) ≡ e) ⊎ ((k : ℕ) × (k < length ds) × (get_or (put ds e.0 e.1) j (0, 0) ≡ get_or ds k (0, 0))) → ⊥
+        away j s (inl f) = other_num d.0 e.0 q (sym s ∙ ap (λ (x : ℕ × ℕ). x.0) f)
         away j s (inr f) = apart_head d ds o f.0 f.1 (sym (ap (λ (x : ℕ × ℕ). x.0) f.2) ∙ s)
 
 names_later : (d : ℕ × ℕ) (es : List (ℕ × ℕ)) (a v : ℕ) → Names es a v → Names (d ∷ es) a v
 names_later d es a v n = record { place = suc n.place; among = omega (arith, n.among); names = n.names }
 
-put_names : (ds : List (ℕ × ℕ)) (e : ℕ × ℕ) → Names (put e ds) e.0 e.1
+put_names : (ds : List (ℕ × ℕ)) (e : ℕ × ℕ) → Names (put ds e.0 e.1) e.0 e.1
 put_names [] e = record { place = 0; among = omega arith; names = refl }
-put_names (d ∷ ds) e = go (e.0 == d.0) (put_names ds e)
+put_names (d ∷ ds) e = go (d.0 == e.0) (put_names ds e)
   where
-    go : (b : Bool) → Names (put e ds) e.0 e.1 → Names (put_by e d ds (put e ds) b) e.0 e.1
+    go : (b : Bool) → Names (put ds e.0 e.1) e.0 e.1 → Names (if b then (e.0, e.1) ∷ ds else d ∷ put ds e.0 e.1) e.0 e.1
     go true r = record { place = 0; among = omega arith; names = refl }
-    go false r = names_later d (put e ds) e.0 e.1 r
+    go false r = names_later d (put ds e.0 e.1) e.0 e.1 r
 
-names_put : (ds : List (ℕ × ℕ)) (e : ℕ × ℕ) (a v : ℕ) → (e.0 ≡ a → ⊥) → Names ds a v → Names (put e ds) a v
+names_put : (ds : List (ℕ × ℕ)) (e : ℕ × ℕ) (a v : ℕ) → (e.0 ≡ a → ⊥) → Names ds a v → Names (put ds e.0 e.1) a v
 names_put [] e a v away n = absurd (omega (arith, n.among))
-names_put (d ∷ ds) e a v away n = go (e.0 == d.0) refl n.place n.among n.names (λ n. names_put ds e a v away n)
+names_put (d ∷ ds) e a v away n = go (d.0 == e.0) refl n.place n.among n.names (λ n. names_put ds e a v away n)
   where
-    go : (b : Bool) → (e.0 == d.0) ≡ b → (k : ℕ) → k < length (d ∷ ds) → get_or (d ∷ ds) k (0, 0) ≡ (a, v) → (Names ds a v → Names (put e ds) a v) → Names (put_by e d ds (put e ds) b) a v
-    go true q zero l r f = absurd (away (same_num e.0 d.0 q ∙ ap (λ (x : ℕ × ℕ). x.0) r))
+    go : (b : Bool) → (d.0 == e.0) ≡ b → (k : ℕ) → k < length (d ∷ ds) → get_or (d ∷ ds) k (0, 0) ≡ (a, v) → (Names ds a v → Names (put ds e.0 e.1) a v) → Names (if b then (e.0, e.1) ∷ ds else d ∷ put ds e.0 e.1) a v
+    go true q zero l r f = absurd (away (sym (same_num d.0 e.0 q) ∙ ap (λ (x : ℕ × ℕ). x.0) r))
     go true q (suc k) l r f = record { place = suc k; among = omega arith; names = r }
     go false q zero l r f = record { place = 0; among = omega arith; names = r }
-    go false q (suc k) l r f = names_later d (put e ds) a v (f (record { place = k; among = omega arith; names = r }))
+    go false q (suc k) l r f = names_later d (put ds e.0 e.1) a v (f (record { place = k; among = omega arith; names = r }))
 
 -- the same of several entries, one after the other
 pub written_put_all : (xs : List ℕ) (ds es : List (ℕ × ℕ)) → Once ds → written xs (put_all ds es) ≡ written (written xs ds) es
 written_put_all xs ds [] o = refl
-written_put_all xs ds (e ∷ es) o = written_put_all xs (put e ds) es (once_put ds e o) ∙ ap (λ (ys : List ℕ). written ys es) (written_put xs ds e o)
+written_put_all xs ds (e ∷ es) o = written_put_all xs (put ds e.0 e.1) es (once_put ds e o) ∙ ap (λ (ys : List ℕ). written ys es) (written_put xs ds e o)
 
 once_put_all : (ds es : List (ℕ × ℕ)) → Once ds → Once (put_all ds es)
 once_put_all ds [] o = o
-once_put_all ds (e ∷ es) o = once_put_all (put e ds) es (once_put ds e o)
+once_put_all ds (e ∷ es) o = once_put_all (put ds e.0 e.1) es (once_put ds e o)
 
 put_all_from : (ds es : List (ℕ × ℕ)) (j : ℕ) → j < length (put_all ds es) → FromPut ds es (get_or (put_all ds es) j (0, 0))
 put_all_from ds [] j l = inr (j, l, refl)
-put_all_from ds (e ∷ es) j l = go (put_all_from (put e ds) es j l)
+put_all_from ds (e ∷ es) j l = go (put_all_from (put ds e.0 e.1) es j l)
   where
     x : ℕ × ℕ
-    x = get_or (put_all (put e ds) es) j (0, 0)
+    x = get_or (put_all (put ds e.0 e.1) es) j (0, 0)
 
-    go : FromPut (put e ds) es (get_or (put_all (put e ds) es) j (0, 0)) → FromPut ds (e ∷ es) (get_or (put_all (put e ds) es) j (0, 0))
+    go : FromPut (put ds e.0 e.1) es (get_or (put_all (put ds e.0 e.1) es) j (0, 0)) → FromPut ds (e ∷ es) (get_or (put_all (put ds e.0 e.1) es) j (0, 0))
     go (inl f) = inl (suc f.0, omega (arith, f.1), f.2)
     go (inr f) = pick (put_from ds e f.0 f.1)
       where
-        pick : (get_or (put e ds) f.0 (0, 0) ≡ e) ⊎ ((k : ℕ) × (k < length ds) × (get_or (put e ds) f.0 (0, 0) ≡ get_or ds k (0, 0))) → FromPut ds (e ∷ es) (get_or (put_all (put e ds) es) j (0, 0))
+        pick : (get_or (put ds e.0 e.1) f.0 (0, 0) ≡ e) ⊎ ((k : ℕ) × (k < length ds) × (get_or (put ds e.0 e.1) f.0 (0, 0) ≡ get_or ds k (0, 0))) → FromPut ds (e ∷ es) (get_or (put_all (put ds e.0 e.1) es) j (0, 0))
         pick (inl q) = inl (0, omega arith, f.2 ∙ q)
         pick (inr q) = inr (q.0, q.1, f.2 ∙ q.2)
 
 names_put_all : (ds es : List (ℕ × ℕ)) (a v : ℕ) → ((j : ℕ) → j < length es → (get_or es j (0, 0)).0 ≡ a → ⊥) → Names ds a v → Names (put_all ds es) a v
 names_put_all ds [] a v away n = n
-names_put_all ds (e ∷ es) a v away n = names_put_all (put e ds) es a v (λ j l q. away (suc j) (omega arith) q) (names_put ds e a v (λ q. away 0 (omega arith) q) n)
+names_put_all ds (e ∷ es) a v away n = names_put_all (put ds e.0 e.1) es a v (λ j l q. away (suc j) (omega arith) q) (names_put ds e a v (λ q. away 0 (omega arith) q) n)
 
 put_all_names : (ds es : List (ℕ × ℕ)) (k : ℕ) → Once es → k < length es → Names (put_all ds es) (get_or es k (0, 0)).0 (get_or es k (0, 0)).1
 put_all_names ds [] k o l = absurd (omega arith)
-put_all_names ds (e ∷ es) zero o l = names_put_all (put e ds) es e.0 e.1 (apart_head e es o) (put_names ds e)
-put_all_names ds (e ∷ es) (suc k) o l = put_all_names (put e ds) es k (once_tail e es o) (omega arith)
+put_all_names ds (e ∷ es) zero o l = names_put_all (put ds e.0 e.1) es e.0 e.1 (apart_head e es o) (put_names ds e)
+put_all_names ds (e ∷ es) (suc k) o l = put_all_names (put ds e.0 e.1) es k (once_tail e es o) (omega arith)
 
 -- what is known, under what was written, agrees with the list that was written on
 agrees_set : (known : List (Option ℕ)) (xs : List ℕ) (a v : ℕ) → a < length xs → Agrees known xs → Agrees (set known a (Some v)) (set xs a v)
@@ -153,22 +158,23 @@ agrees_set known xs a v l h y u q = go (cases_eq y a) (cases_lt a (length known)
         cc
     go (inr e) k = get_or-set_other xs a y v 0 e ∙ h y u (sym (get_or-set_other known a y (Some v) None e) ∙ q)
 
-pub merged_agrees : (known : List (Option ℕ)) (xs : List ℕ) (ds : List (ℕ × ℕ)) → All (λ (e : ℕ × ℕ). e.0 < length xs) ds → Agrees known xs → Agrees (merged known ds) (written xs ds)
-merged_agrees known xs [] i h = h
-merged_agrees known xs (e ∷ es) i h =
-    merged_agrees (set known e.0 (Some e.1)) (set xs e.0 e.1) es (λ k d l. rw length-set (i (suc k) d (omega arith))) (agrees_set known xs e.0 e.1 (i 0 (0, 0) (omega arith)) h)
+pub over_agrees : (known : List (Option ℕ)) (xs : List ℕ) (ds : List (ℕ × ℕ)) → Once ds → All (λ (e : ℕ × ℕ). e.0 < length xs) ds → Agrees known xs → Agrees (over known ds) (written xs ds)
+over_agrees known xs [] o i h = h
+over_agrees known xs (e ∷ es) o i h =
+    subst (Agrees (set (over known es) e.0 (Some e.1))) (sym (written_set xs es e.0 e.1 (apart_head e es o)))
+    (agrees_set (over known es) (written xs es) e.0 e.1 (rw length-written (i 0 (0, 0) (omega arith))) (over_agrees known xs es (once_tail e es o) (λ k d l. i (suc k) d (omega arith)) h))
 
-pub merged_unknown : (known : List (Option ℕ)) (ds : List (ℕ × ℕ)) (a : ℕ) → get_or (merged known ds) a None ≡ None → get_or known a None ≡ None
-merged_unknown known [] a h = h
-merged_unknown known (e ∷ es) a h = go (cases_eq a e.0) (cases_lt e.0 (length known)) (merged_unknown (set known e.0 (Some e.1)) es a h)
+pub over_unknown : (known : List (Option ℕ)) (ds : List (ℕ × ℕ)) (a : ℕ) → get_or (over known ds) a None ≡ None → get_or known a None ≡ None
+over_unknown known [] a h = h
+over_unknown known (e ∷ es) a h = over_unknown known es a (go (cases_eq a e.0) (cases_lt e.0 (length (over known es))) h)
   where
-    go : (a ≡ e.0) ⊎ (a ≡ e.0 → ⊥) → (e.0 < length known) ⊎ (length known ≤ e.0) → get_or (set known e.0 (Some e.1)) a None ≡ None → get_or known a None ≡ None
+    go : (a ≡ e.0) ⊎ (a ≡ e.0 → ⊥) → (e.0 < length (over known es)) ⊎ (length (over known es) ≤ e.0) → get_or (set (over known es) e.0 (Some e.1)) a None ≡ None → get_or (over known es) a None ≡ None
     go (inl q) (inl l) r =
-        let s : get_or (set known e.0 (Some e.1)) e.0 None ≡ Some e.1 = get_or-set_same known e.0 (Some e.1) None l in
+        let s : get_or (set (over known es) e.0 (Some e.1)) e.0 None ≡ Some e.1 = get_or-set_same (over known es) e.0 (Some e.1) None l in
         let t : None ≡ Some e.1 = sym (rw q at r) ∙ s in
         cc
-    go (inl q) (inr l) r = rw q (get_or_past known e.0 None l)
-    go (inr q) l r = sym (get_or-set_other known e.0 a (Some e.1) None q) ∙ r
+    go (inl q) (inr l) r = rw q (get_or_past (over known es) e.0 None l)
+    go (inr q) l r = sym (get_or-set_other (over known es) e.0 a (Some e.1) None q) ∙ r
 
 names_right : (es ds : List (ℕ × ℕ)) (a v : ℕ) → Names ds a v → Names (es ++ ds) a v
 names_right es ds a v n = record {
@@ -184,12 +190,12 @@ put_names_all : (ds es : List (ℕ × ℕ)) (a v : ℕ) → Once es → Names es
 put_names_all ds es a v o n = subst (λ (x : ℕ × ℕ). Names (put_all ds es) x.0 x.1) n.names (put_all_names ds es n.place o n.among)
 
 -- a call's own cells, by name
-own_names : (S : Setup) (i t : ℕ) (op : List ℕ) (r : RawReply) → S.instrs ≤ 16 → ((j : ℕ) → j < 16 → marked r.shape j ≡ true → (r.shape < 67108864) × (j < length op) × (j < length r.values))
-    → OwnIn S (own_cells S i t (length op) r) (record { caller = i; ticket = t; op = op; raw = r })
+own_names : (S : Setup) (i t : ℕ) (op : List ℕ) (r : RawReply) → S.instrs ≤ MOST_INSTRS → ((j : ℕ) → j < MOST_INSTRS → marked r.shape j ≡ true → (r.shape < ABORTED) × (j < length op) × (j < length r.values))
+    → OwnIn S (own_cells (ticket_cell S i) t (length op) r) (record { caller = i; ticket = t; op = op; raw = r })
 own_names S i t op r narrow marks = record {
-  ticket = names_right (replies (nat_lt r.shape 67108864)) two (ticket_cell S i) t (record { place = 1; among = omega arith; names = refl });
-  shape = names_right (replies (nat_lt r.shape 67108864)) two (shape_cell S i) r.shape (record { place = 0; among = omega arith; names = refl });
-  replies = λ y l m. names_left (replies (nat_lt r.shape 67108864)) two (reply_cell S i y) (get_or r.values y 0) (reply (nat_lt r.shape 67108864) refl y (marks y (omega arith) m));
+  ticket = names_right (replies (nat_lt r.shape ABORTED)) two (ticket_cell S i) t (record { place = 1; among = omega arith; names = refl });
+  shape = names_right (replies (nat_lt r.shape ABORTED)) two (shape_cell S i) r.shape (record { place = 0; among = omega arith; names = refl });
+  replies = λ y l m. names_left (replies (nat_lt r.shape ABORTED)) two (reply_cell S i y) (get_or r.values y 0) (reply (nat_lt r.shape ABORTED) refl y (marks y (omega arith) m));
 }
   where
     replies : Bool → List (ℕ × ℕ)
@@ -198,8 +204,8 @@ own_names S i t op r narrow marks = record {
     two : List (ℕ × ℕ)
     two = (i * (S.instrs + 2) + 1, r.shape) ∷ (i * (S.instrs + 2), t) ∷ []
 
-    reply : (b : Bool) → nat_lt r.shape 67108864 ≡ b → (y : ℕ) → (r.shape < 67108864) × (y < length op) × (y < length r.values) → Names (replies b) (reply_cell S i y) (get_or r.values y 0)
-    reply false e y q = let z : 67108864 ≤ r.shape = grind (arith, nat_tests) in absurd (omega (arith, q.0))
+    reply : (b : Bool) → nat_lt r.shape ABORTED ≡ b → (y : ℕ) → (r.shape < ABORTED) × (y < length op) × (y < length r.values) → Names (replies b) (reply_cell S i y) (get_or r.values y 0)
+    reply false e y q = let z : ABORTED ≤ r.shape = grind (arith, nat_tests) in absurd (omega (arith, q.0))
     reply true e y q =
         let l : y < length (take (length op) r.values) = rw length-take (omega (arith, q.1, q.2)) in record {
           place = y;
@@ -232,16 +238,16 @@ module _ (S : Setup) (Lawful : List ℕ → Type 0) (sound : Sound S.meaning Law
     pub left_lawful : Lawful (written xs ds)
     left_lawful = sound.lawful_from (after_calls S.meaning xs cs) (written xs ds) (calls_length xs cs size) left_length (sym o.effect) (calls_lawful xs cs size lawful)
 
-    pub left_agrees : (known : List (Option ℕ)) → Agrees known xs → Agrees (merged known ds) (written xs ds)
-    left_agrees known h = merged_agrees known xs ds (λ k d l. omega (arith, (o.is_log.entries k d l).0, size)) h
+    pub left_agrees : (known : List (Option ℕ)) → Agrees known xs → Agrees (over known ds) (written xs ds)
+    left_agrees known h = over_agrees known xs ds o.is_log.once (λ k d l. omega (arith, (o.is_log.entries k d l).0, size)) h
 
-    pub walk_fits : (known : List (Option ℕ)) (op : List ℕ) → Agrees known xs → Fits S.meaning (base S) S.cells (merged known ds) (written xs ds) op (S.meaning.walk (merged known ds) op)
-    walk_fits known op h = sound.walks (merged known ds) (written xs ds) op left_length left_lawful (left_agrees known h)
+    pub walk_fits : (known : List (Option ℕ)) (op : List ℕ) → Agrees known xs → Fits S.meaning (base S) S.cells (over known ds) (written xs ds) op (S.meaning.walk (over known ds) op)
+    walk_fits known op h = sound.walks (over known ds) (written xs ds) op left_length left_lawful (left_agrees known h)
 
     -- one call more
-    pub extended : (c t : ℕ) (op : List ℕ) (es : List (ℕ × ℕ)) (r : RawReply) → c < S.callers → t < 4294967296 → length op ≤ S.instrs → base S ≤ S.cells → S.instrs ≤ 16
+    pub extended : (c t : ℕ) (op : List ℕ) (es : List (ℕ × ℕ)) (r : RawReply) → c < S.callers → t < PAYLOADS → length op ≤ S.instrs → base S ≤ S.cells → S.instrs ≤ MOST_INSTRS
         → All (λ (d : Call). d.caller < c) cs → Finishes S.meaning (base S) S.cells (written xs ds) op es r
-        → Overlay S xs (cs ++ record { caller = c; ticket = t; op = op; raw = r } ∷ []) (put_all ds (es ++ own_cells S c t (length op) r))
+        → Overlay S xs (cs ++ record { caller = c; ticket = t; op = op; raw = r } ∷ []) (put_all ds (es ++ own_cells (ticket_cell S c) t (length op) r))
     extended c t op es r h tl n b narrow others f = record {
       is_log = record { entries = entries; once = once; few = once_few S new entries once };
       effect = effect;
@@ -254,19 +260,19 @@ module _ (S : Setup) (Lawful : List ℕ → Type 0) (sound : Sound S.meaning Law
         call = record { caller = c; ticket = t; op = op; raw = r }
 
         own : List (ℕ × ℕ)
-        own = own_cells S c t (length op) r
+        own = own_cells (ticket_cell S c) t (length op) r
 
         all : List (ℕ × ℕ)
         all = es ++ own
 
         new : List (ℕ × ℕ)
-        new = put_all ds (es ++ own_cells S c t (length op) r)
+        new = put_all ds (es ++ own_cells (ticket_cell S c) t (length op) r)
 
-        w : IsLog S (es ++ own_cells S c t (length op) r)
+        w : IsLog S (es ++ own_cells (ticket_cell S c) t (length op) r)
         w = whole_log S c t (length op) (written xs ds) op es r h n tl b f
 
-        i : IsOwn (c * (S.instrs + 2)) (S.instrs + 2) (own_cells S c t (length op) r)
-        i = own_is (c * (S.instrs + 2)) (length op) (S.instrs + 2) t r (omega arith) f.shape tl f.values (nat_lt r.shape 67108864)
+        i : IsOwn (c * (S.instrs + 2)) (S.instrs + 2) (own_cells (ticket_cell S c) t (length op) r)
+        i = own_is (c * (S.instrs + 2)) (length op) (S.instrs + 2) t r (omega arith) f.shape tl f.values (nat_lt r.shape ABORTED)
 
         once : Once new
         once = once_put_all ds all o.is_log.once

@@ -3,6 +3,7 @@ use Rattle.std.proofs.Common.{◌≡◌, ℕ, ◌+◌, ◌-◌, ◌<◌, ◌≤�
 use Rattle.std.proofs.lemmas.Bool.{cases_eq, cases_lt}
 use Rattle.std.proofs.lemmas.Bool.Decides.{nat_tests}
 use Rattle.std.proofs.lemmas.List.{length-replicate, get_or-set_same, get_or-set_other}
+use Rattle.of_cell.specs.declared.word.TheConstants.{PAYLOADS}
 use Rattle.of_cell.specs.Words.{word, seq, pay}
 use Rattle.of_cell.proofs.Order.{pay_small, seq_word, pay_word}
 use Rattle.of_mem.specs.Meaning.{marked}
@@ -11,7 +12,7 @@ use Rattle.of_core.specs.declared.place.Place.TheVariants.{Idle, LoadOwnTicket, 
 use Rattle.of_core.specs.Table.{Setup, data_at, ticket_cell, shape_cell, reply_cell, cell, last}
 use Rattle.of_core.specs.Machine.{Data, Call, learned, no_call}
 use Rattle.of_core.specs.Steps.{took_at, told, asks_more, after_own_ticket, shape_read, after_load_shape, reply_read, after_load_reply, first_mark}
-use Rattle.of_core.specs.World.{World, Start, stepped_at}
+use Rattle.of_core.specs.World.{World, Start, stepped_on}
 use Rattle.of_core.specs.History.{state, batch, at, HasCall, Last, LastCall, InRow, ticket_in}
 use Rattle.of_core.specs.Rounds.{Looks, Finds, ReadUpto, Calm}
 use Rattle.of_core.specs.Scan.{Over}
@@ -61,7 +62,7 @@ module _ (S : Setup) (Lawful : List ℕ → Type 0) (B : Start) where
         is_in : (d.caller < S.callers) × (ticket_in S B w.batches c.number d.caller ≡ d.ticket)
         is_in = g.shared.stands.now c.number c.from (omega (arith, c.upto, at_risen S Lawful B w g i m h n p)) c.place no_call c.among
 
-        small : d.ticket < 4294967296
+        small : d.ticket < PAYLOADS
         small = rw (← is_in.1) (pay_small (at B w.batches c.number (ticket_cell S d.caller)))
 
         word_is : n.heard ≡ word c.number d.ticket
@@ -107,7 +108,7 @@ module _ (S : Setup) (Lawful : List ℕ → Type 0) (B : Start) where
         go y v k (inl z) t = u.replies y z k
         go y v k (inr z) t = absurd (t y z v k)
 
-    pub load_shape_kept : At S B w.words w.batches i m LoadShape → Goes S Lawful B i w (stepped_at S i m LoadShape w)
+    pub load_shape_kept : At S B w.words w.batches i m LoadShape → Goes S Lawful B i w (stepped_on S i m LoadShape w)
     load_shape_kept a = assemble_read S Lawful B w g i h _ _ (took_at S m (cell S w.words (shape_cell S m.caller)) LoadShape) (same_words S Lawful B w g i m h (data_at S (shape_cell S m.caller))) (same_batches S Lawful B w g i m h) (
         go (nat_lt m.seq (seq found)) refl)
       where
@@ -132,7 +133,7 @@ module _ (S : Setup) (Lawful : List ℕ → Type 0) (B : Start) where
             asks_at (shape_read S m found) 0 (omega arith) (looks_as S Lawful B w g i m h m _ a.0 refl refl refl refl refl refl refl refl refl) a.1 (record { heard = a.2.heard; there = a.2.there })
             (record { shape = ap pay is; replies = λ y l. absurd (omega arith); many = length-replicate S.instrs 0 }) (first_mark (pay found) 0 S.instrs) (ap (first_mark (pay found) 0) (omega arith))
 
-    pub load_reply_kept : (j : ℕ) → At S B w.words w.batches i m (LoadReply j) → Goes S Lawful B i w (stepped_at S i m (LoadReply j) w)
+    pub load_reply_kept : (j : ℕ) → At S B w.words w.batches i m (LoadReply j) → Goes S Lawful B i w (stepped_on S i m (LoadReply j) w)
     load_reply_kept j a = assemble_read S Lawful B w g i h _ _ (took_at S m (cell S w.words (reply_cell S m.caller j)) (LoadReply j)) (same_words S Lawful B w g i m h (data_at S (reply_cell S m.caller j))) (same_batches S Lawful B w g i m h) (
         go (nat_lt m.seq (seq found)) refl)
       where
@@ -173,7 +174,7 @@ module _ (S : Setup) (Lawful : List ℕ → Type 0) (B : Start) where
       met = λ l c u. absurd (omega arith);
     })
 
-    pub own_ticket_kept : At S B w.words w.batches i m LoadOwnTicket → Goes S Lawful B i w (stepped_at S i m LoadOwnTicket w)
+    pub own_ticket_kept : At S B w.words w.batches i m LoadOwnTicket → Goes S Lawful B i w (stepped_on S i m LoadOwnTicket w)
     own_ticket_kept a = assemble_read S Lawful B w g i h _ _ (took_at S m (cell S w.words (ticket_cell S m.caller)) LoadOwnTicket) (same_words S Lawful B w g i m h (data_at S (ticket_cell S m.caller))) (same_batches S Lawful B w g i m h) (
         go (nat_lt m.seq (seq found)) (pay found == m.made) (m.seq == S.limit) refl refl refl)
       where

@@ -1,21 +1,20 @@
 -- Filling a log: the puts of write-set and partial memory are those of the definitions, and where no cell stands twice they list the entries one behind the other.
-use Rattle.std.proofs.Common.{◌≡◌, ℕ, zero, suc, ◌+◌, ◌-◌, ◌*◌, ◌/◌, ◌%◌, ◌^◌, ◌<◌, ◌≤◌, ◌==◌, List, [], ◌∷◌, ◌++◌, length, get_or, set, take, drop, Option, Some, None, Bool, true, false, refl, ap, ◌∙◌, sym, subst, arith, append_assoc, length-append, replicate, ◌⊎◌, inl, inr}
-use Rattle.std.proofs.lemmas.List.{get_or_append_left, get_or_push, append-nil, take_more, length-replicate, get_or-replicate, get_or_past, set_comm, get_or-drop, get_or-take, length-take, length-drop, length-take-le, drop_all, take_all, drop-append-le}
-use Rattle.std.proofs.lemmas.Bool.{cases_lt, cases_eq}
+use Rattle.std.proofs.Common.{◌≡◌, ℕ, zero, suc, ◌+◌, ◌-◌, ◌*◌, ◌/◌, ◌%◌, ◌^◌, ◌<◌, ◌≤◌, ◌==◌, List, [], ◌∷◌, ◌++◌, length, get_or, take, drop, Option, Some, None, if◌then◌else◌, Bool, true, false, refl, ap, ◌∙◌, sym, subst, arith, append_assoc, length-append, replicate, ◌⊎◌, inl, inr}
+use Rattle.std.proofs.lemmas.List.{get_or_append_left, get_or_push, append-nil, take_more, length-replicate, get_or-replicate, get_or_past, get_or-drop, get_or-take, length-take, length-drop, length-take-le, drop_all, take_all, drop-append-le}
+use Rattle.std.proofs.lemmas.Bool.{cases_lt}
 use Rattle.std.proofs.lemmas.Bool.Decides.{nat_tests}
 use Rattle.of_wset.specs.Pairs as wset
-use Rattle.of_mem.specs.Pairs as mem
-use Rattle.of_mem.specs.Pad.{Pad, over, newest, wrote}
+use Rattle.of_cell.specs.declared.word.TheConstants.{PAYLOADS}
+use Rattle.of_mem.specs.Pairs.{value_at, put, put_all}
+use Rattle.of_mem.specs.Pad.{Pad, newest, wrote}
 use Rattle.of_mem.specs.Meaning.{Meaning, Sound, Agrees, Once, Fits, Walked, Needs, Gives, marked}
-use Rattle.of_core.specs.Table.{Setup, base}
+use Rattle.of_core.specs.Table.{Setup, base, ticket_cell}
 use Rattle.of_mem.specs.declared.work.TheConstants.{MOST_INSTRS}
 use Rattle.of_mem.specs.declared.work.RawReply.{RawReply}
 use Rattle.of_core.specs.declared.place.Place.{Place}
-use Rattle.of_core.specs.Machine.{Data, put, put_all, merged, flat, log_words, pairs, log_of, own_cells, listed, turned}
-use Rattle.of_core.specs.Steps.{read_ran, next_call, own_raw, first_mark}
-use Rattle.of_core.specs.Fill.{place_behind, newer_raw}
+use Rattle.of_core.specs.Machine.{Data, flat, log_words, pairs, log_of, own_cells, listed, turned}
+use Rattle.of_core.specs.Steps.{read_ran, first_mark}
 use Rattle.of_core.proofs.Logs.{whole_log, once_append}
-use Rattle.of_core.proofs.States.{once_tail}
 
 same_test : (a b : ℕ) → a ≡ b → (a == b) ≡ true
 same_test a b e = grind (arith, nat_tests)
@@ -24,39 +23,22 @@ other_test : (a b : ℕ) → (a ≡ b → ⊥) → (a == b) ≡ false
 other_test a b e = grind (arith, nat_tests)
 
 -- a write-set's put
-pub wset_put : (ds : List (ℕ × ℕ)) (a v : ℕ) → wset.put ds a v ≡ put (a, v) ds
+pub wset_put : (ds : List (ℕ × ℕ)) (a v : ℕ) → wset.put ds a v ≡ put ds a v
 wset_put [] a v = refl
-wset_put (d ∷ ds) a v = go (wset_put ds a v) (cases_eq d.0 a)
-  where
-    go : wset.put ds a v ≡ put (a, v) ds → (d.0 ≡ a) ⊎ (d.0 ≡ a → ⊥) → wset.put (d ∷ ds) a v ≡ put (a, v) (d ∷ ds)
-    go rest (inl e) = rw (same_test d.0 a e, same_test a d.0 (sym e)) refl
-    go rest (inr n) = rw (other_test d.0 a n, other_test a d.0 (λ q. n (sym q))) (ap (λ (xs : List (ℕ × ℕ)). d ∷ xs) rest)
-
--- that of partial memory
-pub mem_put : (ds : List (ℕ × ℕ)) (a v : ℕ) → mem.put ds a v ≡ put (a, v) ds
-mem_put [] a v = refl
-mem_put (d ∷ ds) a v = go (mem_put ds a v) (cases_eq d.0 a)
-  where
-    go : mem.put ds a v ≡ put (a, v) ds → (d.0 ≡ a) ⊎ (d.0 ≡ a → ⊥) → mem.put (d ∷ ds) a v ≡ put (a, v) (d ∷ ds)
-    go rest (inl e) = rw (same_test d.0 a e, same_test a d.0 (sym e)) refl
-    go rest (inr n) = rw (other_test d.0 a n, other_test a d.0 (λ q. n (sym q))) (ap (λ (xs : List (ℕ × ℕ)). d ∷ xs) rest)
-
-pub mem_put_all : (ds es : List (ℕ × ℕ)) → mem.put_all ds es ≡ put_all ds es
-mem_put_all ds [] = refl
-mem_put_all ds (e ∷ es) = ap (λ (xs : List (ℕ × ℕ)). mem.put_all xs es) (mem_put ds e.0 e.1) ∙ mem_put_all (put e ds) es
+wset_put (d ∷ ds) a v = ap (λ (xs : List (ℕ × ℕ)). if d.0 == a then (a, v) ∷ ds else d ∷ xs) (wset_put ds a v)
 
 pub put_all_append : (ds es fs : List (ℕ × ℕ)) → put_all ds (es ++ fs) ≡ put_all (put_all ds es) fs
 put_all_append ds [] fs = refl
-put_all_append ds (e ∷ es) fs = put_all_append (put e ds) es fs
+put_all_append ds (e ∷ es) fs = put_all_append (put ds e.0 e.1) es fs
 
 -- one entry more
-pub put_all_take : (ds es : List (ℕ × ℕ)) (i : ℕ) (d : ℕ × ℕ) → i < length es → put_all ds (take (i + 1) es) ≡ put (get_or es i d) (put_all ds (take i es))
+pub put_all_take : (ds es : List (ℕ × ℕ)) (i : ℕ) (d : ℕ × ℕ) → i < length es → put_all ds (take (i + 1) es) ≡ put (put_all ds (take i es)) (get_or es i d).0 (get_or es i d).1
 put_all_take ds es i d l = ap (put_all ds) (take_more es i d l) ∙ put_all_append ds (take i es) (get_or es i d ∷ [])
 
 -- an entry of a cell that isn't there comes last
-put_absent : (e : ℕ × ℕ) (ds : List (ℕ × ℕ)) → ((k : ℕ) → k < length ds → (get_or ds k (0, 0)).0 ≡ e.0 → ⊥) → put e ds ≡ ds ++ e ∷ []
+put_absent : (e : ℕ × ℕ) (ds : List (ℕ × ℕ)) → ((k : ℕ) → k < length ds → (get_or ds k (0, 0)).0 ≡ e.0 → ⊥) → put ds e.0 e.1 ≡ ds ++ e ∷ []
 put_absent e [] n = refl
-put_absent e (d ∷ ds) n = rw (other_test e.0 d.0 (λ q. n 0 (omega arith) (sym q))) (ap (λ (xs : List (ℕ × ℕ)). d ∷ xs) (put_absent e ds (λ k l q. n (suc k) (omega arith) q)))
+put_absent e (d ∷ ds) n = rw (other_test d.0 e.0 (n 0 (omega arith))) (ap (λ (xs : List (ℕ × ℕ)). d ∷ xs) (put_absent e ds (λ k l q. n (suc k) (omega arith) q)))
 
 pub put_all_apart : (es ds : List (ℕ × ℕ)) → Once (es ++ ds) → put_all es ds ≡ es ++ ds
 put_all_apart es [] o = sym (append-nil es)
@@ -83,20 +65,6 @@ log_of_words es = go es
     go : (es : List (ℕ × ℕ)) → pairs (flat es) ≡ es
     go [] = refl
     go (e ∷ es) = ap (λ (xs : List (ℕ × ℕ)). e ∷ xs) (go es)
-
--- a write that comes first or last, to a cell that the others don't name
-merged_set : (known : List (Option ℕ)) (es : List (ℕ × ℕ)) (a : ℕ) (v : Option ℕ) → ((k : ℕ) → k < length es → (get_or es k (0, 0)).0 ≡ a → ⊥) → merged (set known a v) es ≡ set (merged known es) a v
-merged_set known [] a v n = refl
-merged_set known (e ∷ es) a v n =
-    ap (λ (xs : List (Option ℕ)). merged xs es) (set_comm known a e.0 v (Some e.1) (λ q. n 0 (omega arith) (sym q))) ∙ merged_set (set known e.0 (Some e.1)) es a v (λ k l q. n (suc k) (omega arith) q)
-
--- what lies over the known cells, where no cell stands twice in it
-pub over_merged : (known : List (Option ℕ)) (es : List (ℕ × ℕ)) → Once es → over known es ≡ merged known es
-over_merged known [] o = refl
-over_merged known (e ∷ es) o = ap (λ (xs : List (Option ℕ)). set xs e.0 (Some e.1)) (over_merged known es (once_tail e es o)) ∙ sym (merged_set known es e.0 (Some e.1) absent)
-  where
-    absent : (k : ℕ) → k < length es → (get_or es k (0, 0)).0 ≡ e.0 → ⊥
-    absent k l q = let z : suc k ≡ 0 = o (suc k) 0 (omega arith) (omega arith) q in omega (arith, z)
 
 -- a list of zeros is lawful, and agrees with nothing known
 pub zeros_agree : (M : Meaning) (Lawful : List ℕ → Type 0) (b n : ℕ) → Sound M Lawful b n → (k : ℕ) → (xs : List ℕ) × (length xs ≡ n) × Lawful xs × Agrees (replicate k None) xs
@@ -128,23 +96,14 @@ module _ (S : Setup) (Lawful : List ℕ → Type 0) (sound : Sound S.meaning Law
   needs_cell a e = (walk_fits (Needs a) e).1
 
   -- a run that is over: the own cells come behind what it wrote
-  pub own_behind : (i ticket : ℕ) (es : List (ℕ × ℕ)) (r : RawReply) → i < S.callers → length op ≤ S.instrs → ticket < 4294967296 → base S ≤ S.cells → S.meaning.walk known op ≡ Gives es r
-      → put_all es (own_cells S i ticket (length op) r) ≡ es ++ own_cells S i ticket (length op) r
-  own_behind i ticket es r h c t b e = put_all_apart es (own_cells S i ticket (length op) r) (whole_log S i ticket (length op) xs op es r h c t b (walk_fits (Gives es r) e)).once
+  pub own_behind : (i ticket : ℕ) (es : List (ℕ × ℕ)) (r : RawReply) → i < S.callers → length op ≤ S.instrs → ticket < PAYLOADS → base S ≤ S.cells → S.meaning.walk known op ≡ Gives es r
+      → put_all es (own_cells (ticket_cell S i) ticket (length op) r) ≡ es ++ own_cells (ticket_cell S i) ticket (length op) r
+  own_behind i ticket es r h c t b e = put_all_apart es (own_cells (ticket_cell S i) ticket (length op) r) (whole_log S i ticket (length op) xs op es r h c t b (walk_fits (Gives es r) e)).once
 
 -- where a run needs a cell the place before doesn't matter
 pub read_anywhere : (m : Data) (p : Place) (r : Walked) → read_ran (record m { place = p }) r ≡ read_ran m r
 read_anywhere m p (Needs a) = refl
 read_anywhere m p (Gives es r) = refl
-
--- how a scan goes on, where the choices are by value
-pub next_call_is : (m : Data) (more : Bool) → next_call m more ≡ record m { place = place_behind more; scan = m.scan + 1; steps = m.steps + 1 }
-next_call_is m true = refl
-next_call_is m false = refl
-
-pub own_raw_is : (m : Data) (r : RawReply) (own : Bool) → own_raw m r own ≡ newer_raw r m.raw own
-own_raw_is m r true = refl
-own_raw_is m r false = refl
 
 -- places that a shape marks
 pub mark_true : (shape j : ℕ) → shape / 2 ^ j % 2 ≡ 1 → marked shape j ≡ true
@@ -164,17 +123,17 @@ mark_later shape j zero k l e = absurd (omega arith)
 mark_later shape j (suc n) k l e = let q : n ≡ k = omega arith in rw (e, q) refl
 
 -- what a script of partial memory writes
-pub wrote_script : (p : Pad) (a v : ℕ) → (wrote p a v).script ≡ put (a, v) p.script
+pub wrote_script : (p : Pad) (a v : ℕ) → (wrote p a v).script ≡ put p.script a v
 unfolding wrote
-wrote_script p a v = mem_put p.script a v
+wrote_script p a v = refl
 
 -- a cell that neither script nor batch wrote
-pub newest_known : (p : Pad) (a : ℕ) → p.script ≡ [] → mem.value_at p.batch a ≡ None → newest p a ≡ get_or p.known a None
+pub newest_known : (p : Pad) (a : ℕ) → p.script ≡ [] → value_at p.batch a ≡ None → newest p a ≡ get_or p.known a None
 unfolding newest
 newest_known p a e n = rw (e, n) refl
 
 -- one number more of a reply
-pub put_listed : (ds : List (ℕ × ℕ)) (a : ℕ) (vs : List ℕ) (j : ℕ) → j < length vs → put_all ds (listed a (take (j + 1) vs)) ≡ put (a + j, get_or vs j 0) (put_all ds (listed a (take j vs)))
+pub put_listed : (ds : List (ℕ × ℕ)) (a : ℕ) (vs : List ℕ) (j : ℕ) → j < length vs → put_all ds (listed a (take (j + 1) vs)) ≡ put (put_all ds (listed a (take j vs))) (a + j) (get_or vs j 0)
 put_listed ds a vs j l = ap (λ (k : ℕ). put_all ds (listed a (take k vs))) (let z : j + 1 ≡ suc j = omega arith in z) ∙ ap (put_all ds) (more a vs j l) ∙ put_all_append ds (listed a (take j vs)) ((a + j, get_or vs j 0) ∷ [])
   where
     more : (a : ℕ) (vs : List ℕ) (j : ℕ) → j < length vs → listed a (take (suc j) vs) ≡ listed a (take j vs) ++ (a + j, get_or vs j 0) ∷ []
@@ -185,7 +144,7 @@ put_listed ds a vs j l = ap (λ (k : ℕ). put_all ds (listed a (take k vs))) (l
         ap (λ (xs : List (ℕ × ℕ)). (a, v) ∷ xs) (more (a + 1) vs j (omega arith) ∙ ap (λ (k : ℕ). listed (a + 1) (take j vs) ++ (k, get_or vs j 0) ∷ []) z)
 
 -- one entry more of a part of a log
-pub put_part : (ds es : List (ℕ × ℕ)) (from j : ℕ) → from ≤ j → j < length es → put_all ds (drop from (take (j + 1) es)) ≡ put (get_or es j (0, 0)) (put_all ds (drop from (take j es)))
+pub put_part : (ds es : List (ℕ × ℕ)) (from j : ℕ) → from ≤ j → j < length es → put_all ds (drop from (take (j + 1) es)) ≡ put (put_all ds (drop from (take j es))) (get_or es j (0, 0)).0 (get_or es j (0, 0)).1
 put_part ds es from j p l =
     let size : length (take j es) ≡ j = length-take-le j es (omega arith) in
     ap (λ (xs : List (ℕ × ℕ)). put_all ds (drop from xs)) (take_more es j (0, 0) l)

@@ -3,6 +3,7 @@ use Rattle.std.proofs.Common.{◌≡◌, ℕ, ◌+◌, ◌*◌, ◌<◌, ◌≤�
 use Rattle.std.proofs.lemmas.Bool.{cases_eq, cases_lt, cases_order}
 use Rattle.std.proofs.lemmas.Bool.Decides.{nat_tests}
 use Rattle.std.proofs.lemmas.List.{append-nil}
+use Rattle.of_cell.specs.declared.word.TheConstants.{PAYLOADS}
 use Rattle.of_cell.specs.Words.{word, seq, pay}
 use Rattle.of_cell.proofs.Order.{seq_word, pay_word, seq_mono, word_later, word_next, word_eta}
 use Rattle.of_mem.specs.Meaning.{Sound}
@@ -11,7 +12,7 @@ use Rattle.of_core.specs.declared.place.Place.TheVariants.{RaiseOld, StoreLog, R
 use Rattle.of_core.specs.Table.{Setup, request_at, data_at, log_at, base, durable_at, current_word, request_of, cell, log_word, durable_word, durable_request, durable_cell, durable_log, last, holder, risen}
 use Rattle.of_core.specs.Machine.{Data, entry, log_words}
 use Rattle.of_core.specs.Steps.{after_raise_log, next_entry, after_raise_current, after_raise_closed, took_at}
-use Rattle.of_core.specs.World.{Read, World, Batch, Start, stepped_at}
+use Rattle.of_core.specs.World.{Read, World, Batch, Start, stepped_on}
 use Rattle.of_core.specs.History.{batch}
 use Rattle.of_core.specs.Shared.{IsRequest, IsLogWord, Shared, Held}
 use Rattle.of_core.specs.Rounds.{Helper, Keeps, Begun, Round, Past, Calm}
@@ -65,17 +66,10 @@ module _ (S : Setup) (Lawful : List ℕ → Type 0) (B : Start) where
   }
 
   -- the machine m of caller i raises
-  module _ (w : World) (g : Core S Lawful B w) (i : ℕ) (m : Data) (h : i < S.callers) (own : get_or w.machines i m ≡ m) where
-    -- behind the raise it goes on as n
-    after_raise : {rs : List Read} → (c v : ℕ) (e : IsLoaded S B w.words w.batches (c, v)) (n : Data)
-        → (At S B (raised w c v).words w.batches i m m.place → v ≤ durable_word S (raised w c v).words c → At S B (raised w c v).words w.batches i n n.place)
-        → Goes S Lawful B i w (record { words = set w.words (durable_at S c) (max (durable_word S w.words c) v); machines = set w.machines i n; batches = w.batches ++ []; reads = rs; loaded = w.loaded })
-    after_raise c v e n f =
-        let g1 : Core S Lawful B (raised w c v) = raise_kept w g c v e in
-        record {
-          core = (assemble_read S Lawful B (raised w c v) g1 i h _ _ n refl (append-nil w.batches) (f (g1.each i m h own) (omega (arith, here S Lawful B w.words w.batches g.shared c v e)))).core;
-          moves = rw (append-nil w.batches) (moves_raise w.words w.batches g.shared c v e i);
-        }
+  module _ (w : World) (g : Core S Lawful B w) (i : ℕ) (m : Data) (h : i < S.callers) where
+    -- what its place says stays behind the raise
+    stays : (p : Place) → At S B w.words w.batches i m p → (c v : ℕ) (e : IsLoaded S B w.words w.batches (c, v)) → At S B (raised w c v).words w.batches i m p
+    stays p a c v e = at_stable S Lawful B (i + 1) w.words w.batches (vs S Lawful B w.words w.batches g.shared c v e) w.batches (moves_raise w.words w.batches g.shared c v e (i + 1)) g.shared i h (λ z. omega arith) m p a
 
     -- a word of one's request
     req_loaded : (j v : ℕ) → j < S.callers → Keeps B w.words w.batches j v → IsLoaded S B w.words w.batches (request_at j, v)
@@ -88,11 +82,15 @@ module _ (S : Setup) (Lawful : List ℕ → Type 0) (B : Start) where
       log = λ y x k t q. absurd (omega arith);
     }
 
-    -- what the machine's place says after the raise, and before it goes on
-    module _ (p : Place) (is : m.place ≡ p) (c v : ℕ) (e : IsLoaded S B w.words w.batches (c, v)) where
-      goes_on : {rs : List Read} → (n : Data) → (At S B (raised w c v).words w.batches i m p → v ≤ durable_word S (raised w c v).words c → (durable_word S (raised w c v).words c ≤ get_or (raised w c v).words c 0) → At S B (raised w c v).words w.batches i n n.place)
-          → Goes S Lawful B i w (record { words = set w.words (durable_at S c) (max (durable_word S w.words c) v); machines = set w.machines i n; batches = w.batches ++ []; reads = rs; loaded = w.loaded })
-      goes_on n f = after_raise c v e n (λ b u. f (subst (λ (q : Place). At S B (raised w c v).words w.batches i m q) is b) u (low S Lawful B w.words w.batches g.shared c v e c e.place))
+    -- behind the raise it goes on as n
+    goes_on : {rs : List Read} → (p : Place) → At S B w.words w.batches i m p → (c v : ℕ) (e : IsLoaded S B w.words w.batches (c, v)) (n : Data)
+        → (At S B (raised w c v).words w.batches i m p → v ≤ durable_word S (raised w c v).words c → (durable_word S (raised w c v).words c ≤ get_or (raised w c v).words c 0) → At S B (raised w c v).words w.batches i n n.place)
+        → Goes S Lawful B i w (record { words = set w.words (durable_at S c) (max (durable_word S w.words c) v); machines = set w.machines i n; batches = w.batches ++ []; reads = rs; loaded = w.loaded })
+    goes_on p a c v e n f = record {
+      core = (assemble_read S Lawful B (raised w c v) (raise_kept w g c v e) i h _ _ n refl (append-nil w.batches)
+          (f (stays p a c v e) (omega (arith, here S Lawful B w.words w.batches g.shared c v e)) (low S Lawful B w.words w.batches g.shared c v e c e.place))).core;
+      moves = rw (append-nil w.batches) (moves_raise w.words w.batches g.shared c v e i);
+    }
 
     begun_to : (xs : List ℕ) (n : Data) → Begun S B xs w.batches i m → n.caller ≡ m.caller → n.made ≡ m.made → n.op ≡ m.op → n.rounds ≡ m.rounds → n.first ≡ m.first → Keeps B xs w.batches i n.kept → Begun S B xs w.batches i n
     begun_to xs n p a b o r f k = record {
@@ -136,9 +134,9 @@ module _ (S : Setup) (Lawful : List ℕ → Type 0) (B : Start) where
       left = rw (b, c) p.left;
     }
 
-    pub raise_old_kept : m.place ≡ RaiseOld → At S B w.words w.batches i m RaiseOld → Goes S Lawful B i w (stepped_at S i m RaiseOld w)
-    raise_old_kept p a =
-        goes_on RaiseOld p (request_at m.caller) m.kept (subst (λ (j : ℕ). IsLoaded S B w.words w.batches (request_at j, m.kept)) (sym a.0.looks.round.begun.caller) (req_loaded i m.kept h a.0.looks.round.begun.kept))
+    pub raise_old_kept : At S B w.words w.batches i m RaiseOld → Goes S Lawful B i w (stepped_on S i m RaiseOld w)
+    raise_old_kept a =
+        goes_on RaiseOld a (request_at m.caller) m.kept (subst (λ (j : ℕ). IsLoaded S B w.words w.batches (request_at j, m.kept)) (sym a.0.looks.round.begun.caller) (req_loaded i m.kept h a.0.looks.round.begun.kept))
         (took_at S m (durable_request S w.words m.caller) RaiseOld) (λ b u t. to _ b)
       where
         to : (xs : List ℕ) → At S B xs w.batches i m RaiseOld → At S B xs w.batches i (took_at S m (durable_request S w.words m.caller) RaiseOld) (StoreLog 0)
@@ -158,9 +156,9 @@ module _ (S : Setup) (Lawful : List ℕ → Type 0) (B : Start) where
           omega arith,
         )
 
-    pub raise_log_kept : (x : ℕ) → m.place ≡ RaiseLog x → At S B w.words w.batches i m (RaiseLog x) → Goes S Lawful B i w (stepped_at S i m (RaiseLog x) w)
-    raise_log_kept x p a =
-        goes_on (RaiseLog x) p (log_at S m.caller x) new loads
+    pub raise_log_kept : (x : ℕ) → At S B w.words w.batches i m (RaiseLog x) → Goes S Lawful B i w (stepped_on S i m (RaiseLog x) w)
+    raise_log_kept x a =
+        goes_on (RaiseLog x) a (log_at S m.caller x) new loads
         (took_at S m (durable_log S w.words m.caller x) (RaiseLog x)) (λ b u t. to (raised w (log_at S m.caller x) new).words (nat_lt (x + 1) (length (log_words m.log))) refl b u t)
       where
         new : ℕ
@@ -225,9 +223,9 @@ module _ (S : Setup) (Lawful : List ℕ → Type 0) (B : Start) where
                 whole : length (log_words m.log) ≤ x + 1 → length (log_words m.log) ≡ x + 1
                 whole v = omega (arith, k.1)
 
-    pub raise_request_kept : m.place ≡ RaiseRequest → At S B w.words w.batches i m RaiseRequest → Goes S Lawful B i w (stepped_at S i m RaiseRequest w)
-    raise_request_kept p a =
-        goes_on RaiseRequest p (request_at m.caller) new (subst (λ (j : ℕ). IsLoaded S B w.words w.batches (request_at j, new)) (sym ci) (req_loaded i new h (omega (arith, a.1), is_open_word)))
+    pub raise_request_kept : At S B w.words w.batches i m RaiseRequest → Goes S Lawful B i w (stepped_on S i m RaiseRequest w)
+    raise_request_kept a =
+        goes_on RaiseRequest a (request_at m.caller) new (subst (λ (j : ℕ). IsLoaded S B w.words w.batches (request_at j, new)) (sym ci) (req_loaded i new h (omega (arith, a.1), is_open_word)))
         (took_at S m (durable_request S w.words m.caller) RaiseRequest) (λ b u t. to (raised w (request_at m.caller) new).words b u t)
       where
         new : ℕ
@@ -281,9 +279,9 @@ module _ (S : Setup) (Lawful : List ℕ → Type 0) (B : Start) where
         mode_of true false z q = cc
         mode_of false true z q = cc
 
-    pub raise_current_kept : m.place ≡ RaiseCurrent → At S B w.words w.batches i m RaiseCurrent → Goes S Lawful B i w (stepped_at S i m RaiseCurrent w)
-    raise_current_kept p a =
-        goes_on RaiseCurrent p 0 new loads (took_at S m (durable_word S w.words 0) RaiseCurrent) (λ b u t. to (raised w 0 new).words (nat_lt 0 (length m.log)) refl b u)
+    pub raise_current_kept : At S B w.words w.batches i m RaiseCurrent → Goes S Lawful B i w (stepped_on S i m RaiseCurrent w)
+    raise_current_kept a =
+        goes_on RaiseCurrent a 0 new loads (took_at S m (durable_word S w.words 0) RaiseCurrent) (λ b u t. to (raised w 0 new).words (nat_lt 0 (length m.log)) refl b u)
       where
         new : ℕ
         new = word m.seq m.owner
@@ -321,15 +319,15 @@ module _ (S : Setup) (Lawful : List ℕ → Type 0) (B : Start) where
             let z : length m.log ≡ 0 = grind (arith, nat_tests) in
             (applies_to xs 0 (length m.log) k _ refl refl refl refl refl refl refl refl refl refl refl refl (λ y l. absurd (omega arith)), omega (arith, new_seq, seq_mono new (durable_word S xs 0) u))
 
-    pub raise_target_kept : (j f : ℕ) → m.place ≡ RaiseTarget j f → At S B w.words w.batches i m (RaiseTarget j f) → Goes S Lawful B i w (stepped_at S i m (RaiseTarget j f) w)
-    raise_target_kept j f p a =
-        goes_on (RaiseTarget j f) p (data_at S x) f loads (took_at S m (durable_cell S w.words x) (RaiseTarget j f)) (λ b u t. to (raised w (data_at S x) f).words (nat_lt (j + 1) (length m.log)) refl b u)
+    pub raise_target_kept : (j f : ℕ) → At S B w.words w.batches i m (RaiseTarget j f) → Goes S Lawful B i w (stepped_on S i m (RaiseTarget j f) w)
+    raise_target_kept j f a =
+        goes_on (RaiseTarget j f) a (data_at S x) f loads (took_at S m (durable_cell S w.words x) (RaiseTarget j f)) (λ b u t. to (raised w (data_at S x) f).words (nat_lt (j + 1) (length m.log)) refl b u)
       where
         x : ℕ
         x = (entry m j).0
 
         x_in : x < S.cells
-        x_in = let t = a.0.log.each j a.1 in (subst (λ (e : ℕ × ℕ). (e.0 < S.cells) × (e.1 < 4294967296)) t.2 ((g.shared.counted.logs m.seq a.0.after a.0.upto).entries t.0 (0, 0) t.1)).0
+        x_in = let t = a.0.log.each j a.1 in (subst (λ (e : ℕ × ℕ). (e.0 < S.cells) × (e.1 < PAYLOADS)) t.2 ((g.shared.counted.logs m.seq a.0.after a.0.upto).entries t.0 (0, 0) t.1)).0
 
         loads : IsLoaded S B w.words w.batches (data_at S x, f)
         loads = record {
@@ -399,10 +397,10 @@ module _ (S : Setup) (Lawful : List ℕ → Type 0) (B : Start) where
               shut k l u o (inr (inl z)) = omega (arith, closed, word_later k 0 (word m.seq 1) (omega arith) (omega (arith, seq_word m.seq 1 (omega arith))))
               shut k l u o (inr (inr z)) = absurd (q.unowned k z u o)
 
-  pub raise_closed_kept : (w : World) (g : Core S Lawful B w) (i : ℕ) (m : Data) (h : i < S.callers) (own : get_or w.machines i m ≡ m) → Sound S.meaning Lawful (base S) S.cells → m.place ≡ RaiseClosed → At S B w.words w.batches i m RaiseClosed → Goes S Lawful B i w (stepped_at S i m RaiseClosed w)
-  raise_closed_kept w g i m h own sound p a =
+  pub raise_closed_kept : (w : World) (g : Core S Lawful B w) (i : ℕ) (m : Data) (h : i < S.callers) → Sound S.meaning Lawful (base S) S.cells → At S B w.words w.batches i m RaiseClosed → Goes S Lawful B i w (stepped_on S i m RaiseClosed w)
+  raise_closed_kept w g i m h sound a =
       let g1 : Core S Lawful B (raised w (request_at m.owner) new) = raise_kept w g (request_at m.owner) new loads in
-      let b : At S B (raised w (request_at m.owner) new).words w.batches i m RaiseClosed = subst (λ (q : Place). At S B (raised w (request_at m.owner) new).words w.batches i m q) p (g1.each i m h own) in
+      let b : At S B (raised w (request_at m.owner) new).words w.batches i m RaiseClosed = stays w g i m h RaiseClosed a (request_at m.owner) new loads in
       record {
         core = (assemble_read S Lawful B (raised w (request_at m.owner) new) g1 i h _ _ (after_raise_closed S m m.helps (m.rounds == 0)) refl (append-nil w.batches)
             (left_close (raised w (request_at m.owner) new) g1 i m h sound b.0 b.1 b.2 (omega (arith, here S Lawful B w.words w.batches g.shared (request_at m.owner) new loads)) m.helps (m.rounds == 0) refl refl)).core;

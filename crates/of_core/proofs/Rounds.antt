@@ -9,7 +9,7 @@ use Rattle.of_core.specs.declared.place.Place.TheVariants.{Idle, LoadCurrent, Lo
 use Rattle.of_core.specs.Table.{Setup, announcement_of, current_word, request_of, cell, last, holder, risen}
 use Rattle.of_core.specs.Machine.{Data, unknown, learned}
 use Rattle.of_core.specs.Steps.{after_load_request, entered, is_open, took_at, next_round, first_of}
-use Rattle.of_core.specs.World.{World, Start, stepped_at}
+use Rattle.of_core.specs.World.{World, Start, stepped_on}
 use Rattle.of_core.specs.History.{batch, at, InRow, ticket_in, numbers}
 use Rattle.of_core.specs.Shared.{Opened}
 use Rattle.of_core.specs.Rounds.{WasCurrent, Begun, Round, Looks, Past, Calm}
@@ -25,13 +25,13 @@ use Rattle.of_core.proofs.Assembling.{assemble_read, logs_of, number_at, same_ba
 module _ (S : Setup) (Lawful : List ℕ → Type 0) (B : Start) where
   -- the machine m of caller i, at its place
   module _ (w : World) (g : Core S Lawful B w) (i : ℕ) (m : Data) (h : i < S.callers) where
-    pub idle_kept : At S B w.words w.batches i m m.place → Goes S Lawful B i w (stepped_at S i m Idle w)
+    pub idle_kept : At S B w.words w.batches i m m.place → Goes S Lawful B i w (stepped_on S i m Idle w)
     idle_kept a = assemble_read S Lawful B w g i h _ _ m (same_words S Lawful B w g i m h 0) (same_batches S Lawful B w g i m h) a
 
-    pub load_current_kept : At S B w.words w.batches i m LoadCurrent → Goes S Lawful B i w (stepped_at S i m LoadCurrent w)
+    pub load_current_kept : At S B w.words w.batches i m LoadCurrent → Goes S Lawful B i w (stepped_on S i m LoadCurrent w)
     load_current_kept a = assemble_read S Lawful B w g i h _ _ (took_at S m (current_word w.words) LoadCurrent) (same_words S Lawful B w g i m h 0) (same_batches S Lawful B w g i m h) (go (m.rounds == 0) refl, a.1)
       where
-        go : (b : Bool) → (m.rounds == 0) ≡ b → Round S B w.words w.batches i (record m { place = LoadRequest; seq = last w.words; owner = holder w.words; rounds = m.rounds + 1; first = first_of m (last w.words) b; steps = m.steps + 1 })
+        go : (b : Bool) → (m.rounds == 0) ≡ b → Round S B w.words w.batches i (record m { place = LoadRequest; seq = last w.words; owner = holder w.words; rounds = m.rounds + 1; first = first_of m (last w.words) b })
         go b e = record {
           begun = record {
             caller = a.0.caller;
@@ -163,7 +163,7 @@ module _ (S : Setup) (Lawful : List ℕ → Type 0) (B : Start) where
     pub opened_is : (s f : ℕ) → is_open s f ≡ true → (0 < s) × (f ≡ word s 0)
     opened_is s f e = (grind (arith, nat_tests), grind (arith, nat_tests))
 
-    pub load_request_kept : At S B w.words w.batches i m LoadRequest → Goes S Lawful B i w (stepped_at S i m LoadRequest w)
+    pub load_request_kept : At S B w.words w.batches i m LoadRequest → Goes S Lawful B i w (stepped_on S i m LoadRequest w)
     load_request_kept a = assemble_read S Lawful B w g i h _ _ (took_at S m (request_of w.words m.owner) LoadRequest) (same_words S Lawful B w g i m h (m.owner + 1)) (same_batches S Lawful B w g i m h) (
         go (is_open m.seq (request_of w.words m.owner)) refl)
       where

@@ -9,11 +9,13 @@ use Rattle.of_cell.specs.Words.{word, seq, pay}
 use Rattle.of_cell.proofs.Order.{seq_word, pay_word, word_eta}
 use Rattle.of_mem.specs.Meaning.{Walked, Needs, Gives, Fits, Finishes, Sound, written}
 use Rattle.of_mem.specs.declared.work.RawReply.{RawReply}
+use Rattle.of_mem.specs.Pairs.{put_all}
+use Rattle.of_mem.specs.Pad.{over}
 use Rattle.of_core.specs.declared.place.Place.TheVariants.{LoadAnnouncement, LoadTicket, LoadScript, LoadCell}
 use Rattle.of_core.specs.Table.{Setup, data_at, script_at, ticket_cell, base, script_of, script_word, announcement_of, cell, last}
-use Rattle.of_core.specs.Machine.{Data, Call, learned, own_cells, merged, put_all, no_call}
-use Rattle.of_core.specs.Steps.{ran, after_load_cell, took_at, next_call, with_run, call_run, own_raw, weighed, after_announcement, after_load_ticket, script_more, runs, after_load_script}
-use Rattle.of_core.specs.World.{World, Start, stepped_at}
+use Rattle.of_core.specs.Machine.{Data, Call, learned, own_cells, no_call}
+use Rattle.of_core.specs.Steps.{ran, after_load_cell, took_at, next_call, with_run, call_run, newer_raw, weighed, after_announcement, after_load_ticket, script_more, runs, after_load_script}
+use Rattle.of_core.specs.World.{World, Start, stepped_on}
 use Rattle.of_core.specs.History.{state, batch, Rising, ticket_in, numbers}
 use Rattle.of_core.specs.Rounds.{Begun, Past, Calm}
 use Rattle.of_core.specs.Scan.{Over, Scans, Hears, Reads, Taken, Announced}
@@ -21,7 +23,7 @@ use Rattle.of_core.specs.Invariant.{At, Core}
 use Rattle.of_core.specs.Moves.{Goes}
 use Rattle.of_core.proofs.States.{state_length}
 use Rattle.of_core.proofs.Logs.{room_for}
-use Rattle.of_core.proofs.Overlays.{extended, walk_fits, merged_unknown}
+use Rattle.of_core.proofs.Overlays.{extended, walk_fits, over_unknown}
 use Rattle.of_core.proofs.Alike.{past_as}
 use Rattle.of_core.proofs.Assembling.{assemble_read, logs_of, number_at, same_batches, same_words}
 use Rattle.of_core.proofs.Rounds.{again, at_risen, cell_of, learn_past, own_seq, two_rounds}
@@ -80,7 +82,7 @@ module _ (S : Setup) (Lawful : List ℕ → Type 0) (B : Start) where
     pub ticket_in_cells : (c : ℕ) → c < S.callers → ticket_cell S c < S.cells
     ticket_in_cells c l = omega (arith, room_for c S.callers (S.instrs + 2) l, g.shared.own_in)
 
-    pub load_announcement_kept : At S B w.words w.batches i m LoadAnnouncement → Goes S Lawful B i w (stepped_at S i m LoadAnnouncement w)
+    pub load_announcement_kept : At S B w.words w.batches i m LoadAnnouncement → Goes S Lawful B i w (stepped_on S i m LoadAnnouncement w)
     load_announcement_kept a = assemble_read S Lawful B w g i h _ _ (took_at S m found LoadAnnouncement) (same_words S Lawful B w g i m h (script_at S m.scan S.instrs)) (same_batches S Lawful B w g i m h) (
         go (get_or m.known (ticket_cell S m.scan) None) refl)
       where
@@ -93,7 +95,7 @@ module _ (S : Setup) (Lawful : List ℕ → Type 0) (B : Start) where
             weighed_at (record m { heard = found }) (past_as S Lawful B w g i m h m _ a.0 refl refl refl refl refl refl refl refl refl) a.1 a.2 a.3 (hears_now m.seq m.scan a.3) v
             (sym (a.0.looks.agrees (ticket_cell S m.scan) v e) ∙ number_at S Lawful B w.batches m.seq (ticket_cell S m.scan)) (nat_lt v (seq found)) refl
 
-    pub load_ticket_kept : At S B w.words w.batches i m LoadTicket → Goes S Lawful B i w (stepped_at S i m LoadTicket w)
+    pub load_ticket_kept : At S B w.words w.batches i m LoadTicket → Goes S Lawful B i w (stepped_on S i m LoadTicket w)
     load_ticket_kept a = assemble_read S Lawful B w g i h _ _ (took_at S m found LoadTicket) (same_words S Lawful B w g i m h (data_at S (ticket_cell S m.scan))) (same_batches S Lawful B w g i m h) (
         go (nat_lt m.seq (seq found)) refl)
       where
@@ -137,7 +139,7 @@ module _ (S : Setup) (Lawful : List ℕ → Type 0) (B : Start) where
     -- the call that the scan has come to is run, as far as its cells are known
     runs_at : (n : Data) → Sound S.meaning Lawful (base S) S.cells → Past S B w.words w.batches i n → Calm S B w.words w.batches i n.seq → Scans S B w.words w.batches i n → n.scan < S.callers → Hears S B w.words w.batches i n.seq n.scan n.heard
         → Reads S (state B w.batches n.seq) w.words n.seq n.scan n.heard n.script (pay n.heard) → At S B w.words w.batches i (runs S n) (runs S n).place
-    runs_at n sound p o v l hs rs = go (S.meaning.walk (merged n.known n.log) n.script) refl (walk_fits S Lawful sound xs n.calls n.log size lawful v.over n.known n.script p.looks.agrees)
+    runs_at n sound p o v l hs rs = go (S.meaning.walk (over n.known n.log) n.script) refl (walk_fits S Lawful sound xs n.calls n.log size lawful v.over n.known n.script p.looks.agrees)
       where
         xs : List ℕ
         xs = numbers B w.batches n.seq
@@ -148,8 +150,8 @@ module _ (S : Setup) (Lawful : List ℕ → Type 0) (B : Start) where
         lawful : Lawful (numbers B w.batches n.seq)
         lawful = g.shared.stands.lawful n.seq p.looks.round.from (at_risen S Lawful B w g i m h n p.looks)
 
-        go : (r : Walked) → S.meaning.walk (merged n.known n.log) n.script ≡ r → Fits S.meaning (base S) S.cells (merged n.known n.log) (written xs n.log) n.script (S.meaning.walk (merged n.known n.log) n.script) → At S B w.words w.batches i (ran S n r) (ran S n r).place
-        go (Needs a) e f = let f' = rw e at f in (past_as S Lawful B w g i m h n _ p refl refl refl refl refl refl refl refl refl, o, v, l, hs, rs, f'.1, merged_unknown n.known n.log a f'.2)
+        go : (r : Walked) → S.meaning.walk (over n.known n.log) n.script ≡ r → Fits S.meaning (base S) S.cells (over n.known n.log) (written xs n.log) n.script (S.meaning.walk (over n.known n.log) n.script) → At S B w.words w.batches i (ran S n r) (ran S n r).place
+        go (Needs a) e f = let f' = rw e at f in (past_as S Lawful B w g i m h n _ p refl refl refl refl refl refl refl refl refl, o, v, l, hs, rs, f'.1, over_unknown n.known n.log a f'.2)
         go (Gives es r) e f =
             next_at (with_run S n es r) (past_as S Lawful B w g i m h n _ p refl refl refl refl refl refl refl refl refl) o (ran_over (rw e at f)) l (nat_lt (n.scan + 1) S.callers) refl
           where
@@ -162,7 +164,7 @@ module _ (S : Setup) (Lawful : List ℕ → Type 0) (B : Start) where
             few : length n.script ≤ S.instrs
             few = omega (arith, many, hs.small)
 
-            ran_over : Finishes S.meaning (base S) S.cells (written xs n.log) n.script es r → Over S B w.words w.batches i n.seq n.made n.op (own_raw n r (n.scan == n.caller)) (n.calls ++ call_run n r ∷ []) (put_all n.log (es ++ own_cells S n.scan (seq n.heard) (length n.script) r)) (n.scan + 1)
+            ran_over : Finishes S.meaning (base S) S.cells (written xs n.log) n.script es r → Over S B w.words w.batches i n.seq n.made n.op (newer_raw r n.raw (n.scan == n.caller)) (n.calls ++ call_run n r ∷ []) (put_all n.log (es ++ own_cells (ticket_cell S n.scan) (seq n.heard) (length n.script) r)) (n.scan + 1)
             ran_over f = record {
               over = extended S Lawful sound xs n.calls n.log size lawful v.over n.scan (seq n.heard) n.script es r l hs.ticket few g.shared.own_in g.shared.narrow v.below f;
               taken = all_push (Taken S (state B w.batches n.seq)) n.calls call v.taken (record { caller = l; above = rs.new; words = few });
@@ -182,12 +184,12 @@ module _ (S : Setup) (Lawful : List ℕ → Type 0) (B : Start) where
                 longer : (y : ℕ) → y < length n.calls → y < length (n.calls ++ call ∷ [])
                 longer y u = rw length-append (omega arith)
 
-                own : n.seq ≡ last w.words → i < n.scan + 1 → (n.scan ≡ i) ⊎ (n.scan ≡ i → ⊥) → (y : ℕ) × (y < length (n.calls ++ call ∷ [])) × (get_or (n.calls ++ call ∷ []) y no_call ≡ record { caller = i; ticket = n.made; op = n.op; raw = own_raw n r (n.scan == n.caller) })
+                own : n.seq ≡ last w.words → i < n.scan + 1 → (n.scan ≡ i) ⊎ (n.scan ≡ i → ⊥) → (y : ℕ) × (y < length (n.calls ++ call ∷ [])) × (get_or (n.calls ++ call ∷ []) y no_call ≡ record { caller = i; ticket = n.made; op = n.op; raw = newer_raw r n.raw (n.scan == n.caller) })
                 own q u (inr ne) =
                     let t = v.own q (omega arith) in
                     (t.0, longer t.0 t.1, get_or_append_left n.calls (call ∷ []) no_call t.0 t.1 ∙ t.2 ∙ ap (λ (x : RawReply). record { caller = i; ticket = n.made; op = n.op; raw = x }) (sym (kept_raw (n.scan == n.caller) refl)))
                   where
-                    kept_raw : (b : Bool) → (n.scan == n.caller) ≡ b → own_raw n r b ≡ n.raw
+                    kept_raw : (b : Bool) → (n.scan == n.caller) ≡ b → newer_raw r n.raw b ≡ n.raw
                     kept_raw false e = refl
                     kept_raw true e = let z : n.scan ≡ n.caller = grind (arith, nat_tests) in absurd (ne (z ∙ p.looks.round.begun.caller))
                 own q u (inl e) = (length n.calls, rw length-append (omega arith), get_or_push n.calls call no_call (length n.calls) refl ∙ same)
@@ -207,15 +209,15 @@ module _ (S : Setup) (Lawful : List ℕ → Type 0) (B : Start) where
                     script : n.script ≡ n.op
                     script = rs.words q ∙ ap (script_of S w.words n.scan) count ∙ ap (λ (c : ℕ). script_of S w.words c (length n.op)) e ∙ begun.script
 
-                    new_raw : (b : Bool) → (n.scan == n.caller) ≡ b → own_raw n r b ≡ r
+                    new_raw : (b : Bool) → (n.scan == n.caller) ≡ b → newer_raw r n.raw b ≡ r
                     new_raw true t = refl
                     new_raw false t = absurd (differ n.scan n.caller t (e ∙ sym begun.caller))
 
                     same_call : (c t : ℕ) (op : List ℕ) (x : RawReply) → n.scan ≡ c → seq n.heard ≡ t → n.script ≡ op → x ≡ r → call_run n r ≡ record { caller = c; ticket = t; op = op; raw = x }
                     same_call c t op x e1 e2 e3 e4 = cc
 
-                    same : call_run n r ≡ record { caller = i; ticket = n.made; op = n.op; raw = own_raw n r (n.scan == n.caller) }
-                    same = same_call i n.made n.op (own_raw n r (n.scan == n.caller)) e ticket script (new_raw (n.scan == n.caller) refl)
+                    same : call_run n r ≡ record { caller = i; ticket = n.made; op = n.op; raw = newer_raw r n.raw (n.scan == n.caller) }
+                    same = same_call i n.made n.op (newer_raw r n.raw (n.scan == n.caller)) e ticket script (new_raw (n.scan == n.caller) refl)
 
                 met : B.seq < n.seq → (c : ℕ) → c < n.scan + 1 → c < S.callers → (batch B w.batches n.seq).announcements c ≡ announcement_of S w.words c → (c ≡ n.scan) ⊎ (c ≡ n.scan → ⊥)
                     → (seq (announcement_of S w.words c) ≤ ticket_in S B w.batches n.seq c) ⊎ ((y : ℕ) × (y < length (n.calls ++ call ∷ [])) × ((get_or (n.calls ++ call ∷ []) y no_call).caller ≡ c) × ((get_or (n.calls ++ call ∷ []) y no_call).ticket ≡ seq (announcement_of S w.words c)))
@@ -231,7 +233,7 @@ module _ (S : Setup) (Lawful : List ℕ → Type 0) (B : Start) where
                     let y : announcement_of S w.words n.scan ≡ n.heard = hs.stood after z' in
                     inr (length n.calls, rw length-append (omega arith), ap (λ (d : Call). d.caller) s ∙ sym e, ap (λ (d : Call). d.ticket) s ∙ sym (ap seq y) ∙ ap (λ (x : ℕ). seq (announcement_of S w.words x)) (sym e))
 
-    pub load_script_kept : Sound S.meaning Lawful (base S) S.cells → (j : ℕ) → At S B w.words w.batches i m (LoadScript j) → Goes S Lawful B i w (stepped_at S i m (LoadScript j) w)
+    pub load_script_kept : Sound S.meaning Lawful (base S) S.cells → (j : ℕ) → At S B w.words w.batches i m (LoadScript j) → Goes S Lawful B i w (stepped_on S i m (LoadScript j) w)
     load_script_kept sound j a = assemble_read S Lawful B w g i h _ _ (took_at S m found (LoadScript j)) (same_words S Lawful B w g i m h (script_at S m.scan j)) (same_batches S Lawful B w g i m h) (
         go (nat_lt (j + 1) (pay m.heard)) refl)
       where
@@ -252,7 +254,7 @@ module _ (S : Setup) (Lawful : List ℕ → Type 0) (B : Start) where
             runs_at (record m { script = script_more m found }) sound (past_as S Lawful B w g i m h m _ a.0 refl refl refl refl refl refl refl refl refl) a.1 a.2 a.3 a.4
             (reads (pay m.heard) (omega (arith, not_newer (j + 1) (pay m.heard) e, a.6)))
 
-    pub load_cell_kept : Sound S.meaning Lawful (base S) S.cells → (x : ℕ) → At S B w.words w.batches i m (LoadCell x) → Goes S Lawful B i w (stepped_at S i m (LoadCell x) w)
+    pub load_cell_kept : Sound S.meaning Lawful (base S) S.cells → (x : ℕ) → At S B w.words w.batches i m (LoadCell x) → Goes S Lawful B i w (stepped_on S i m (LoadCell x) w)
     load_cell_kept sound x a = assemble_read S Lawful B w g i h _ _ (took_at S m (cell S w.words x) (LoadCell x)) (same_words S Lawful B w g i m h (data_at S x)) (same_batches S Lawful B w g i m h) (
         go (nat_lt m.seq (seq (cell S w.words x))) refl)
       where

@@ -2,6 +2,7 @@
 use Rattle.std.proofs.Common.{◌≡◌, ℕ, zero, suc, ◌+◌, ◌-◌, ◌<◌, ◌≤◌, ◌⊎◌, inl, inr, List, length, get_or, Bool, true, false, ◌*◌, refl, sym, ◌∙◌, ap, subst, arith, Option, Some, None}
 use Rattle.std.specs.List.{All}
 use Rattle.std.proofs.lemmas.Bool.{cases_lt, cases_order}
+use Rattle.of_cell.specs.declared.word.TheConstants.{PAYLOADS}
 use Rattle.of_cell.proofs.Order.{seq_word, word_inj, seq_mono}
 use Rattle.of_cell.specs.Words.{word, seq, pay}
 use Rattle.of_mem.specs.declared.work.RawReply.{RawReply}
@@ -9,14 +10,14 @@ use Rattle.of_core.specs.declared.place.Place.{Place}
 use Rattle.of_core.specs.declared.place.Place.TheVariants.{Idle, TryCurrent, TryRequest, TryCell, StoreScript, StoreAnnouncement, LoadCurrent, LoadRequest, CopyLog, LookAgain, LoadOwnTicket, LoadShape, LoadReply, LoadAnnouncement, LoadTicket, LoadScript, LoadCell, RaiseOld, StoreLog, RaiseLog, StoreRequest, RaiseRequest, ExchangeCurrent, RaiseCurrent, LoadTarget, ExchangeTarget, ReloadTarget, RaiseTarget, CloseRequest, RaiseClosed}
 use Rattle.of_core.specs.declared.place.Outcome.{Outcome}
 use Rattle.of_core.specs.declared.place.Outcome.TheVariants.{Answered, Spent}
-use Rattle.of_core.specs.Table.{Setup, size, request_at, data_at, log_at, script_of, script_word, announcement_of, current_word, request_of, cell, log_word, durable_word, durable_cell, last, holder, risen}
+use Rattle.of_core.specs.Table.{Setup, size, request_at, data_at, log_at, script_of, script_word, announcement_of, current_word, request_of, cell, log_word, durable_word, durable_request, durable_cell, last, holder, risen}
 use Rattle.of_core.specs.Machine.{Data, Call, entry, log_words}
 use Rattle.of_core.specs.World.{Batch, Start}
 use Rattle.of_core.specs.History.{state, batch, ticket_in, ticket_among}
 use Rattle.of_core.specs.Shared.{Heard, Kinds, IsRequest, IsLogWord, Shared, Held}
 use Rattle.of_core.specs.Rounds.{WasCurrent, Trying, Helper, Watches, Begun, Fresh, Round, Looks, Past, Mine, Quieted, Calm}
 use Rattle.of_core.specs.Scan.{Over, Hears, Reads, Taken, Announced}
-use Rattle.of_core.specs.Transaction.{Applies, Mode, Owns, Logs, Copies, Stored}
+use Rattle.of_core.specs.Transaction.{Applies, Mode, Owns, Logs, Copies, Stored, ClosedDurably}
 use Rattle.of_core.specs.Invariant.{Told, At, HeldAsCurrent, IsLoaded}
 use Rattle.of_core.specs.Moves.{Moves}
 use Rattle.of_core.proofs.Logs.{length-log_words, room_for}
@@ -380,6 +381,13 @@ module _ (S : Setup) (Lawful : List ℕ → Type 0) (B : Start) (i : ℕ) (ws : 
         go (inl new) = absurd (other (sym q ∙ v.newer_owner k new u))
         go (inr past) = omega (arith, h k l past (rw (v.batches k l past) at q), req_up j member)
 
+    closed_stable : ClosedDurably S B ws bs j → ClosedDurably S B vs cs j
+    closed_stable h k l u q = go (cases_lt (last ws) k)
+      where
+        go : (last ws < k) ⊎ (k ≤ last ws) → word k 0 < durable_request S vs j
+        go (inl new) = absurd (other (sym q ∙ v.newer_owner k new u))
+        go (inr past) = omega (arith, h k l past (rw (v.batches k l past) at q), v.durs (request_at j) (omega arith))
+
     req_stays : ((k : ℕ) → B.seq < k → k ≤ last ws → (batch B bs k).owner ≡ j → word k 0 < request_of ws j) → request_of vs j ≡ request_of ws j
     req_stays h = go (v.requests j member other)
       where
@@ -420,7 +428,7 @@ module _ (S : Setup) (Lawful : List ℕ → Type 0) (B : Start) (i : ℕ) (ws : 
     mode_stable m false l u h = owns_stable m l u h
 
     entry_in : (m : Data) (n : ℕ) → Applies S B ws bs j m n → (k : ℕ) → k < length m.log → (entry m k).0 < S.cells
-    entry_in m n h k l = let t = h.log.each k l in (subst (λ (e : ℕ × ℕ). (e.0 < S.cells) × (e.1 < 4294967296)) t.2 ((shared.counted.logs m.seq h.after h.upto).entries t.0 (0, 0) t.1)).0
+    entry_in m n h k l = let t = h.log.each k l in (subst (λ (e : ℕ × ℕ). (e.0 < S.cells) × (e.1 < PAYLOADS)) t.2 ((shared.counted.logs m.seq h.after h.upto).entries t.0 (0, 0) t.1)).0
 
     applies_stable : (m : Data) (n : ℕ) → n ≤ length m.log → Applies S B ws bs j m n → Applies S B vs cs j m n
     applies_stable m n fits h = let same = v.batches m.seq h.after h.upto in record {
@@ -525,7 +533,7 @@ module _ (S : Setup) (Lawful : List ℕ → Type 0) (B : Start) (i : ℕ) (ws : 
     at_stable m (StoreLog x) h = (logs_stable m x x (omega (arith, h.1)) (omega arith) h.0, h.1)
     at_stable m (RaiseLog x) h = (logs_stable m (x + 1) x (omega (arith, h.1)) (omega arith) h.0, h.1)
     at_stable m StoreRequest h = logs_stable m (length (log_words m.log)) (length (log_words m.log)) (omega arith) (omega arith) h
-    at_stable m RaiseRequest h = (stored_stable m (length (log_words m.log)) (length (log_words m.log)) (omega arith) (omega arith) h.0, waits m h.0.past.looks.round h.1 ∙ h.1)
+    at_stable m RaiseRequest h = (stored_stable m (length (log_words m.log)) (length (log_words m.log)) (omega arith) (omega arith) h.0, waits m h.0.past.looks.round h.1 ∙ h.1, closed_stable h.2)
     at_stable m ExchangeCurrent h =
         let q = waits m h.0.past.looks.round h.1 in
         (stored_stable m (length (log_words m.log)) (length (log_words m.log)) (omega arith) (omega arith) h.0, q ∙ h.1, level_stable (request_at j) (omega arith) q (h.2 ∙ sym h.1) ∙ h.2)

@@ -1,11 +1,12 @@
 -- The words of a table at its start, place by place.
 use Rattle.std.proofs.Common.{◌≡◌, ℕ, zero, suc, ◌+◌, ◌*◌, ◌-◌, ◌<◌, ◌≤◌, ◌⊎◌, inl, inr, List, [], ◌∷◌, ◌++◌, length, get_or, set, replicate, refl, sym, ◌∙◌, ap, arith, length-append, length-set, length-drop, length-take-le, drop, take, map}
 use Rattle.std.proofs.lemmas.Bool.{cases_lt, cases_eq}
-use Rattle.std.proofs.lemmas.List.{length-replicate, get_or-replicate, get_or_past, get_or_append_left, get_or-append_right, get_or-set_same, get_or-set_other, set-get_or, replicate-append-replicate, length-map, get_or-take, get_or-drop, append_assoc, take_all}
+use Rattle.std.proofs.lemmas.List.{length-replicate, get_or-replicate, get_or_past, get_or_append_left, get_or-append_right, get_or-set_same, get_or-set_other, set-get_or, replicate-append-replicate, length-map, ext_get_or, get_or-take, get_or-drop, append_assoc, take_all}
 use Rattle.std.specs.Prelude.{slice_range}
 use Rattle.of_cell.specs.Words.{word, seq, pay}
+use Rattle.of_cell.specs.declared.word.TheConstants.{PAYLOADS}
 use Rattle.of_cell.specs.Cells.{data_cell, durable_cells}
-use Rattle.of_cell.proofs.Order.{seq_word, seq_zero, pay_zero, word_eta}
+use Rattle.of_cell.proofs.Order.{seq_word, pay_word, seq_zero, pay_zero, word_eta}
 use Rattle.of_mem.specs.Meaning.{Sound}
 use Rattle.of_core.specs.Table.{Setup, base, size, durable_at, ticket_cell}
 use Rattle.of_core.specs.World.{Start}
@@ -203,3 +204,17 @@ words_filled callers cells B xs ws n len e k w l m =
     let all : take n ws ≡ ws = take_all n ws (omega (arith, long, m)) in
     let rest : n - len ≡ n - (durable_cells callers cells + durable_cells callers cells) = omega (arith, long, l) in
     rw (all, rest, w, ← e) (append_assoc xs xs (replicate (n - (durable_cells callers cells + durable_cells callers cells)) 0))
+
+-- the words at a start tell it
+pub start_back : (S : Setup) (B : Start) → IsStart S B → S.callers < PAYLOADS → (total : ℕ) → size S + size S ≤ total → start_of S.callers S.cells (first_words S.callers S.cells B total) ≡ B
+start_back S B start few total l =
+    let ws : List ℕ = first_words S.callers S.cells B total in
+    let head : get_or ws 0 0 ≡ word B.seq B.owner = word_is S B start total 0 (omega arith) ∙ first_is S B start in
+    let owner : B.owner < PAYLOADS = omega (arith, start.owner_in) in
+    let s : seq (get_or ws 0 0) ≡ B.seq = ap seq head ∙ seq_word B.seq B.owner owner in
+    let o : pay (get_or ws 0 0) ≡ B.owner = ap pay head ∙ pay_word B.seq B.owner owner in
+    let long : length (start_of S.callers S.cells ws).cells ≡ S.cells = part_long ws (data_cell S.callers 0) S.cells (omega (arith, words_long S B start total l)) in
+    let each : (a : ℕ) → a < S.cells → get_or (start_of S.callers S.cells ws).cells a 0 ≡ get_or B.cells a 0 =
+    λ a m. data_is S.callers S.cells ws a m ∙ word_is S B start total (data_cell S.callers a) (omega (arith, m)) ∙ cell_is S B start a m in
+    let cells : (start_of S.callers S.cells ws).cells ≡ B.cells = ext_get_or 0 (start_of S.callers S.cells ws).cells B.cells (long ∙ sym start.size) (λ a m. each a (omega (arith, m, long))) in
+    rw (s, o, cells) refl

@@ -2,13 +2,15 @@
 use Rattle.std.proofs.Common.{◌≡◌, ℕ, zero, suc, ◌+◌, ◌*◌, ◌-◌, ◌<◌, ◌≤◌, ◌==◌, List, [], ◌∷◌, length, get_or, set, replicate, refl, sym, ◌∙◌, ap, subst, arith, Option, Some, None, Bool, true, false, nat_lt}
 use Rattle.std.proofs.Math.Nat.{mul_comm}
 use Rattle.std.proofs.lemmas.Bool.Decides.{nat_tests}
+use Rattle.of_core.specs.declared.machine.trying.TheConstants.{MOST_TRIES}
 use Rattle.of_cell.specs.Words.{word, seq, pay}
 use Rattle.of_mem.specs.Meaning.{Walked, Needs, Gives}
+use Rattle.of_mem.specs.Pad.{over}
 use Rattle.of_core.specs.declared.place.Place.{Place}
 use Rattle.of_core.specs.declared.place.Place.TheVariants.{Idle, TryCurrent, TryRequest, TryCell, StoreScript, StoreAnnouncement, LoadCurrent, LoadRequest, CopyLog, LookAgain, LoadOwnTicket, LoadShape, LoadReply, LoadAnnouncement, LoadTicket, LoadScript, LoadCell, RaiseOld, StoreLog, RaiseLog, StoreRequest, RaiseRequest, ExchangeCurrent, RaiseCurrent, LoadTarget, ExchangeTarget, ReloadTarget, RaiseTarget, CloseRequest, RaiseClosed}
 use Rattle.of_core.specs.Table.{Setup, ticket_cell, shape_cell, reply_cell, cell}
-use Rattle.of_core.specs.Machine.{Data, unknown, learned, merged, log_words, opened, first_place}
-use Rattle.of_core.specs.Steps.{read_on, read_ran, tried, resumed, after_try_request, over_try, after_try_cell, want_at, word_of, took_at, after_store_script, after_load_request, after_copy_log, after_look_again, after_own_ticket, after_load_shape, shape_read, after_load_reply, reply_read, asks_more, first_mark, after_announcement, weighed, after_load_ticket, after_load_script, script_more, ran, next_call, with_run, after_load_cell, after_raise_log, after_exchange, after_raise_current, after_load_target, next_entry, after_raise_closed, is_open, copy_more}
+use Rattle.of_core.specs.Machine.{Data, unknown, learned, log_words, opened, first_place}
+use Rattle.of_core.specs.Steps.{read_on, read_ran, tried, resumed, after_try_request, over_try, after_try_cell, want_at, word_of, took_at, counted_at, after_store_script, after_load_request, after_copy_log, after_look_again, after_own_ticket, after_load_shape, shape_read, after_load_reply, reply_read, asks_more, first_mark, after_announcement, weighed, after_load_ticket, after_load_script, script_more, ran, next_call, with_run, after_load_cell, after_raise_log, after_exchange, after_raise_current, after_load_target, next_entry, after_raise_closed, is_open, copy_more}
 use Rattle.of_core.specs.World.{World, Start}
 use Rattle.of_core.specs.Transaction.{Applies}
 use Rattle.of_core.specs.Invariant.{At, Core}
@@ -31,7 +33,7 @@ unknowns_set (Some x ∷ ks) zero v l e = cc
 unknowns_set (None ∷ ks) (suc a) v l e = omega (arith, unknowns_set ks a v (omega arith) e)
 unknowns_set (Some x ∷ ks) (suc a) v l e = unknowns_set ks a v (omega arith) e
 
-try_cost : (r q : ℕ) → r ≤ 3 → (4 - (r + 1)) * q + q ≡ (4 - r) * q
+try_cost : (r q : ℕ) → r < MOST_TRIES → (MOST_TRIES - (r + 1)) * q + q ≡ (MOST_TRIES - r) * q
 try_cost zero q l = omega arith
 try_cost (suc zero) q l = omega arith
 try_cost (suc (suc zero)) q l = omega arith
@@ -54,10 +56,10 @@ row_cost n s q l = let e : n - s - 1 ≡ n - (s + 1) - 1 + 1 = omega arith in rw
 fewer : (s a b l : ℕ) → s + a ≤ l → b + 1 ≤ a → s + 1 + b ≤ l
 fewer s a b l h k = omega arith
 
-next_sum : (st k x y u t r l : ℕ) → x + k ≡ y → st + 1 + (y + u + t + r) ≤ l → st + 1 + (k + (x + u + t + r)) ≤ l
+next_sum : (st k x y u t r l : ℕ) → x + k ≡ y → st + (y + u + t + r) ≤ l → st + (k + (x + u + t + r)) ≤ l
 next_sum st k x y u t r l e h = omega arith
 
-done_sum : (st y u t r l : ℕ) → st + 1 + (y + u + t + r) ≤ l → st + 1 + (t + r) ≤ l
+done_sum : (st y u t r l : ℕ) → st + (y + u + t + r) ≤ l → st + (t + r) ≤ l
 done_sum st y u t r l h = omega arith
 
 -- one cell more is known
@@ -94,7 +96,7 @@ opened_within S m op = go (S.meaning.reads_only op)
 
 module _ (S : Setup) where
   -- the scan goes on behind the caller that it has come to
-  next_within : (n : Data) → n.scan < S.callers → n.steps + 1 + scan_left S n ≤ bound S → (b : Bool) → nat_lt (n.scan + 1) S.callers ≡ b → Within S (next_call n b) (next_call n b).place
+  next_within : (n : Data) → n.scan < S.callers → n.steps + scan_left S n ≤ bound S → (b : Bool) → nat_lt (n.scan + 1) S.callers ≡ b → Within S (next_call n b) (next_call n b).place
   next_within n l h true e = record {
     told = λ q. cc;
     steps = next_sum n.steps (S.instrs + 1) ((S.callers - (n.scan + 1) - 1) * (S.instrs + 1)) ((S.callers - n.scan - 1) * (S.instrs + 1)) (unknowns n.known) (4 * S.cells + 6) (rounds_left S n) (bound S)
@@ -102,45 +104,49 @@ module _ (S : Setup) where
   }
   next_within n l h false e = record { told = λ q. cc; steps = done_sum n.steps ((S.callers - n.scan - 1) * (S.instrs + 1)) (unknowns n.known) (4 * S.cells + 6) (rounds_left S n) (bound S) h }
 
-  weighed_within : (n : Data) → n.scan < S.callers → n.steps + 1 + (S.instrs + scan_left S n) ≤ bound S → (b : Bool) → Within S (weighed S n b) (weighed S n b).place
+  weighed_within : (n : Data) → n.scan < S.callers → n.steps + (S.instrs + scan_left S n) ≤ bound S → (b : Bool) → Within S (weighed S n b) (weighed S n b).place
   weighed_within n l h true = record { told = λ q. cc; steps = same n.steps S.instrs (scan_left S n) (bound S) h }
     where
-      same : (s k x l : ℕ) → s + 1 + (k + x) ≤ l → s + 1 + (k - 0 + x) ≤ l
+      same : (s k x l : ℕ) → s + (k + x) ≤ l → s + (k - 0 + x) ≤ l
       same s k x l h = omega arith
   weighed_within n l h false = next_within n l (less n.steps S.instrs (scan_left S n) (bound S) h) (nat_lt (n.scan + 1) S.callers) refl
     where
-      less : (s k x l : ℕ) → s + 1 + (k + x) ≤ l → s + 1 + x ≤ l
+      less : (s k x l : ℕ) → s + (k + x) ≤ l → s + x ≤ l
       less s k x l h = omega arith
 
-  ran_within : (n : Data) → n.scan < S.callers → n.steps + 1 + scan_left S n ≤ bound S → (r : Walked) → Within S (ran S n r) (ran S n r).place
+  ran_within : (n : Data) → n.scan < S.callers → n.steps + scan_left S n ≤ bound S → (r : Walked) → Within S (ran S n r) (ran S n r).place
   ran_within n l h (Needs a) = record { told = λ q. cc; steps = h }
   ran_within n l h (Gives es r) = next_within (with_run S n es r) l h (nat_lt (n.scan + 1) S.callers) refl
 
-  asks_within : (n : Data) (x j : ℕ) → n.steps + (S.instrs - x + 1) ≤ bound S → x ≤ j → (r : Option ℕ) → ((k : ℕ) → r ≡ Some k → x ≤ k) → Within S (asks_more n r) (asks_more n r).place
+  asks_within : (n : Data) (x j : ℕ) → n.steps + (S.instrs - x) ≤ bound S → x ≤ j → (r : Option ℕ) → ((k : ℕ) → r ≡ Some k → x ≤ k) → Within S (asks_more n r) (asks_more n r).place
   asks_within n x j h l None f = record { steps = omega arith; told = λ q. omega arith }
   asks_within n x j h l (Some k) f = record { told = λ q. cc; steps = sum n.steps S.instrs x k (bound S) h (f k refl) }
     where
-      sum : (s i x k l : ℕ) → s + (i - x + 1) ≤ l → x ≤ k → s + 1 + (i - k) ≤ l
+      sum : (s i x k l : ℕ) → s + (i - x) ≤ l → x ≤ k → s + (i - k) ≤ l
       sum s i x k l h f = omega arith
 
-  reads_within : (n : Data) → n.steps + 1 + (unknowns n.known + tries_left S n) ≤ bound S → Within S (read_on S n) (read_on S n).place
+  reads_within : (n : Data) → n.steps + (unknowns n.known + tries_left S n) ≤ bound S → Within S (read_on S n) (read_on S n).place
   reads_within n h = go (S.meaning.walk n.known n.op)
     where
-      fewer_by : (s x l : ℕ) → s + 1 + x ≤ l → s + 1 ≤ l
+      fewer_by : (s x l : ℕ) → s + x ≤ l → s ≤ l
       fewer_by s x l h = omega arith
 
       go : (r : Walked) → Within S (read_ran n r) (read_ran n r).place
       go (Needs a) = record { told = λ q. cc; steps = h }
       go (Gives es r) = record { steps = omega arith; told = λ q. fewer_by n.steps (unknowns n.known + tries_left S n) (bound S) h }
 
-  tried_within : (n : Data) → n.steps + 1 + (S.cells + tries_left S n) ≤ bound S → Within S (tried S n) (tried S n).place
+  tried_within : (n : Data) → n.steps + (S.cells + tries_left S n) ≤ bound S → Within S (tried S n) (tried S n).place
   tried_within n h = reads_within (record n { known = unknown S; helps = false }) (rw (unknowns_all S.cells) h)
 
-  resumed_within : (n : Data) (b : Bool) → n.steps + 1 + helped S n b ≤ bound S → Within S (resumed S n b) (resumed S n b).place
+  resumed_within : (n : Data) (b : Bool) → n.steps + helped S n b ≤ bound S → Within S (resumed S n b) (resumed S n b).place
   resumed_within n true h = tried_within n h
   resumed_within n false h = record { told = λ q. cc; steps = h }
 
   module _ (Lawful : List ℕ → Type 0) (B : Start) (w : World) (g : Core S Lawful B w) (i : ℕ) (m : Data) (h : i < S.callers) where
+    -- with the step counted
+    abbrev now : Data
+    now = record m { steps = m.steps + 1 }
+
     pub n_cells : (j : ℕ) → Applies S B w.words w.batches i m j → length m.log ≤ S.cells
     n_cells j p = rw p.log.many (g.shared.counted.logs m.seq p.after p.upto).few
 
@@ -149,9 +155,9 @@ module _ (S : Setup) where
 
     -- each step leaves one less
     pub within : (p : Place) → At S B w.words w.batches i m p → Within S m p → m.place ≡ p
-        → Within S (took_at S m (get_or w.words (word_of (want_at S m p)) 0) p) (took_at S m (get_or w.words (word_of (want_at S m p)) 0) p).place
+        → Within S (took_at S (counted_at p m) (get_or w.words (word_of (want_at S m p)) 0) p) (took_at S (counted_at p m) (get_or w.words (word_of (want_at S m p)) 0) p).place
     within Idle a t e = subst (λ (q : Place). Within S m q) (sym e) t
-    within TryCurrent a t e = record { told = λ q. cc; steps = sum m.steps S.cells ((4 - (m.tries + 1)) * (7 * S.cells + 7)) ((4 - m.tries) * (7 * S.cells + 7)) (announced_left S) (bound S) (try_cost m.tries (7 * S.cells + 7) a.3) t.steps }
+    within TryCurrent a t e = record { told = λ q. cc; steps = sum m.steps S.cells ((MOST_TRIES - (m.tries + 1)) * (7 * S.cells + 7)) ((MOST_TRIES - m.tries) * (7 * S.cells + 7)) (announced_left S) (bound S) (try_cost m.tries (7 * S.cells + 7) a.3) t.steps }
       where
         sum : (s c x y r l : ℕ) → x + (7 * c + 7) ≡ y → s + (y + r) ≤ l → s + 1 + (7 * c + 6 + (x + r)) ≤ l
         sum s c x y r l e h = omega arith
@@ -167,9 +173,9 @@ module _ (S : Setup) where
         trying true q = opens m.steps S.cells (tries_left S m) (bound S) t.steps
         trying false q = absurd (differ m.rounds 0 q a.0.fresh.rounds)
 
-        go : (b : Bool) → Within S (after_try_request S m b) (after_try_request S m b).place
+        go : (b : Bool) → Within S (after_try_request S now b) (after_try_request S now b).place
         go true = record { told = λ q. cc; steps = trying (m.rounds == 0) refl }
-        go false = tried_within m (closed m.steps S.cells (tries_left S m) (bound S) t.steps)
+        go false = tried_within now (closed m.steps S.cells (tries_left S m) (bound S) t.steps)
     within (TryCell x) a t e = go (nat_lt m.seq (seq found))
       where
         found : ℕ
@@ -187,13 +193,13 @@ module _ (S : Setup) where
         less : (s u v r l : ℕ) → v + 1 ≡ u → s + (u + r) ≤ l → s + 1 + (v + r) ≤ l
         less s u v r l e h = omega arith
 
-        over : (b : Bool) → Within S (over_try m b) (over_try m b).place
+        over : (b : Bool) → Within S (over_try now b) (over_try now b).place
         over true = record { told = λ q. cc; steps = again m.steps (unknowns m.known) (unknowns (learned S m x found)) (tries_left S m) (bound S) one t.steps }
-        over false = record { told = λ q. cc; steps = aloud m.steps (unknowns m.known) (unknowns (learned S m x found)) ((4 - m.tries) * (7 * S.cells + 7)) S.instrs (3 * lost S + applying S) (bound S) one t.steps }
+        over false = record { told = λ q. cc; steps = aloud m.steps (unknowns m.known) (unknowns (learned S m x found)) ((MOST_TRIES - m.tries) * (7 * S.cells + 7)) S.instrs (3 * lost S + applying S) (bound S) one t.steps }
 
-        go : (b : Bool) → Within S (after_try_cell S m x found b) (after_try_cell S m x found b).place
-        go true = over (nat_lt m.tries 4)
-        go false = reads_within (record m { known = learned S m x found }) (less m.steps (unknowns m.known) (unknowns (learned S m x found)) (tries_left S m) (bound S) one t.steps)
+        go : (b : Bool) → Within S (after_try_cell S now x found b) (after_try_cell S now x found b).place
+        go true = over (nat_lt m.tries MOST_TRIES)
+        go false = reads_within (record now { known = learned S m x found }) (less m.steps (unknowns m.known) (unknowns (learned S m x found)) (tries_left S m) (bound S) one t.steps)
     within (StoreScript j) a t e = go (nat_lt (j + 1) (length m.op))
       where
         more : (s i j x l : ℕ) → j < i → s + (i - j + 1 + x) ≤ l → s + 1 + (i - (j + 1) + 1 + x) ≤ l
@@ -205,7 +211,7 @@ module _ (S : Setup) where
         j_in : j < S.instrs
         j_in = omega (arith, a.2, a.0.words)
 
-        go : (b : Bool) → Within S (after_store_script m j b) (after_store_script m j b).place
+        go : (b : Bool) → Within S (after_store_script now j b) (after_store_script now j b).place
         go true = record { told = λ q. cc; steps = more m.steps S.instrs j (3 * lost S + applying S) (bound S) j_in t.steps }
         go false = record { told = λ q. cc; steps = last m.steps S.instrs j (3 * lost S + applying S) (bound S) j_in t.steps }
     within StoreAnnouncement a t e = record { told = λ q. cc; steps = sum m.steps m.rounds (lost S) (applying S) (bound S) a.0.rounds t.steps }
@@ -225,7 +231,7 @@ module _ (S : Setup) where
         round false q = opens m.steps S.cells (behind_help S + rounds_left S m) (bound S) t.steps
         round true q = let z : m.rounds ≡ 0 = grind (arith, nat_tests) in absurd (omega (arith, a.0.begun_one))
 
-        go : (b : Bool) → Within S (after_load_request S m b) (after_load_request S m b).place
+        go : (b : Bool) → Within S (after_load_request S now b) (after_load_request S now b).place
         go true = record { told = λ q. cc; steps = round (m.rounds == 0) refl }
         go false = record { told = λ q. cc; steps = closed m.steps S.cells (behind_help S + rounds_left S m) (bound S) t.steps }
     within (CopyLog x) a t e = go (nat_lt (x + 1) (2 * get_or (copy_more m found) 0 0 + 1))
@@ -239,7 +245,7 @@ module _ (S : Setup) where
         last : (s c x k r l : ℕ) → x < c → s + (c - x + 1 + k + r) ≤ l → s + 1 + (1 + k + r) ≤ l
         last s c x k r l z h = omega arith
 
-        go : (b : Bool) → Within S (after_copy_log m x found b) (after_copy_log m x found b).place
+        go : (b : Bool) → Within S (after_copy_log now x found b) (after_copy_log now x found b).place
         go true = record { told = λ q. cc; steps = more m.steps (2 * S.cells + 1) x (applying S) (helped S m (m.rounds == 0)) (bound S) a.2 t.steps }
         go false = record { told = λ q. cc; steps = last m.steps (2 * S.cells + 1) x (applying S) (helped S m (m.rounds == 0)) (bound S) a.2 t.steps }
     within LookAgain a t e = go (get_or w.words (m.owner + 1) 0 == word m.seq 0) (m.rounds == 0) t.steps
@@ -254,9 +260,9 @@ module _ (S : Setup) where
         helping true q = opens m.steps (applying S) (helped S m (m.rounds == 0)) (bound S) t.steps
         helping false q = cc
 
-        go : (b d : Bool) → m.steps + (1 + applying S + helped S m d) ≤ bound S → Within S (after_look_again S m b d) (after_look_again S m b d).place
+        go : (b d : Bool) → m.steps + (1 + applying S + helped S m d) ≤ bound S → Within S (after_look_again S now b d) (after_look_again S now b d).place
         go true d u = record { told = λ q. cc; steps = helping m.helps a.0.helps }
-        go false d u = resumed_within m d (closed m.steps (applying S) (helped S m d) (bound S) u)
+        go false d u = resumed_within now d (closed m.steps (applying S) (helped S m d) (bound S) u)
     within LoadOwnTicket a t e = go (nat_lt m.seq (seq found)) (pay found == m.made) (m.seq == S.limit)
       where
         found : ℕ
@@ -289,7 +295,7 @@ module _ (S : Setup) where
             none_at : (ks : List (Option ℕ)) → ks ≡ unknown S → get_or ks (ticket_cell S m.caller) None ≡ None
             none_at ks q = rw q (none_of S.cells (ticket_cell S m.caller))
 
-        go : (b c d : Bool) → Within S (after_own_ticket S m found b c d) (after_own_ticket S m found b c d).place
+        go : (b c d : Bool) → Within S (after_own_ticket S now found b c d) (after_own_ticket S now found b c d).place
         go true c d = record { told = λ q. cc; steps = newer m.steps (behind_help S) (rounds_left S m) (bound S) (omega arith) t.steps }
         go false true d = record { told = λ q. cc; steps = shape m.steps S.instrs S.cells (S.callers * (S.instrs + 1)) (rounds_left S m) (bound S) words_row t.steps }
         go false false true = record { steps = omega arith; told = λ q. tt }
@@ -303,15 +309,15 @@ module _ (S : Setup) where
         found : ℕ
         found = cell S w.words (shape_cell S m.caller)
 
-        same : (s i l : ℕ) → s + (i + 1) ≤ l → s + (i - 0 + 1) ≤ l
+        same : (s i l : ℕ) → s + (i + 1) ≤ l → s + 1 + (i - 0) ≤ l
         same s i l h = omega arith
 
         fresh : seq (cell S w.words (shape_cell S m.caller)) ≤ m.seq
         fresh = rw a.0.round.begun.caller (own_row_old S Lawful B w g i m h m a.0 (done_now S Lawful B w g i m h m a.2) (shape_cell S i) (omega arith, omega arith))
 
-        go : (b : Bool) → nat_lt m.seq (seq found) ≡ b → Within S (after_load_shape S m found b) (after_load_shape S m found b).place
+        go : (b : Bool) → nat_lt m.seq (seq found) ≡ b → Within S (after_load_shape S now found b) (after_load_shape S now found b).place
         go true q = let z : m.seq < seq found = grind (arith, nat_tests) in absurd (omega (arith, fresh))
-        go false q = asks_within (shape_read S m found) 0 0 (same m.steps S.instrs (bound S) t.steps) (omega arith) (first_mark (pay found) 0 S.instrs) (λ k z. omega arith)
+        go false q = asks_within (shape_read S now found) 0 0 (same m.steps S.instrs (bound S) t.steps) (omega arith) (first_mark (pay found) 0 S.instrs) (λ k z. omega arith)
     within (LoadReply j) a t e = go (nat_lt m.seq (seq found)) refl
       where
         found : ℕ
@@ -320,12 +326,12 @@ module _ (S : Setup) where
         fresh : seq (cell S w.words (reply_cell S m.caller j)) ≤ m.seq
         fresh = rw a.0.round.begun.caller (own_row_old S Lawful B w g i m h m a.0 (done_now S Lawful B w g i m h m a.2) (reply_cell S i j) (omega arith, omega (arith, a.4)))
 
-        less : (s i j l : ℕ) → j < i → s + (i - j) ≤ l → s + (i - (j + 1) + 1) ≤ l
+        less : (s i j l : ℕ) → j < i → s + (i - j) ≤ l → s + 1 + (i - (j + 1)) ≤ l
         less s i j l z h = omega arith
 
-        go : (b : Bool) → nat_lt m.seq (seq found) ≡ b → Within S (after_load_reply S m j found b) (after_load_reply S m j found b).place
+        go : (b : Bool) → nat_lt m.seq (seq found) ≡ b → Within S (after_load_reply S now j found b) (after_load_reply S now j found b).place
         go true q = let z : m.seq < seq found = grind (arith, nat_tests) in absurd (omega (arith, fresh))
-        go false q = asks_within (reply_read m j found) (j + 1) (j + 1) (less m.steps S.instrs j (bound S) a.4 t.steps) (omega arith) (first_mark m.raw.shape (j + 1) (S.instrs - j - 1)) (λ k z. (mark_some m.raw.shape (j + 1) (S.instrs - j - 1) k z).0)
+        go false q = asks_within (reply_read now j found) (j + 1) (j + 1) (less m.steps S.instrs j (bound S) a.4 t.steps) (omega arith) (first_mark m.raw.shape (j + 1) (S.instrs - j - 1)) (λ k z. (mark_some m.raw.shape (j + 1) (S.instrs - j - 1) k z).0)
     within LoadAnnouncement a t e = go (get_or m.known (ticket_cell S m.scan) None)
       where
         found : ℕ
@@ -334,17 +340,17 @@ module _ (S : Setup) where
         less : (s k x l : ℕ) → s + (k + 1 + x) ≤ l → s + 1 + (k + x) ≤ l
         less s k x l h = omega arith
 
-        go : (r : Option ℕ) → Within S (after_announcement S m found r) (after_announcement S m found r).place
+        go : (r : Option ℕ) → Within S (after_announcement S now found r) (after_announcement S now found r).place
         go None = record { told = λ q. cc; steps = less m.steps S.instrs (scan_left S m) (bound S) t.steps }
-        go (Some v) = weighed_within (record m { heard = found }) a.3 (less m.steps S.instrs (scan_left S m) (bound S) t.steps) (nat_lt v (seq found))
+        go (Some v) = weighed_within (record now { heard = found }) a.3 (less m.steps S.instrs (scan_left S m) (bound S) t.steps) (nat_lt v (seq found))
     within LoadTicket a t e = go (nat_lt m.seq (seq found))
       where
         found : ℕ
         found = get_or w.words (word_of (want_at S m LoadTicket)) 0
 
-        go : (b : Bool) → Within S (after_load_ticket S m found b) (after_load_ticket S m found b).place
+        go : (b : Bool) → Within S (after_load_ticket S now found b) (after_load_ticket S now found b).place
         go true = record { told = λ q. cc; steps = again_sum m.steps S.instrs ((S.callers - m.scan - 1) * (S.instrs + 1)) (unknowns m.known) (4 * S.cells + 6) (rounds_left S m) (bound S) (omega arith) t.steps }
-        go false = weighed_within (record m { known = learned S m (ticket_cell S m.scan) found }) a.3
+        go false = weighed_within (record now { known = learned S m (ticket_cell S m.scan) found }) a.3
             (known_sum m.steps S.instrs ((S.callers - m.scan - 1) * (S.instrs + 1)) (unknowns m.known) (unknowns (learned S m (ticket_cell S m.scan) found)) (4 * S.cells + 6) (rounds_left S m) (bound S)
             (unknowns_set m.known (ticket_cell S m.scan) (pay found) (omega (arith, a.0.looks.all, ticket_in_cells S Lawful B w g i m h m.scan a.3)) a.5) t.steps)
             (nat_lt (pay found) (seq m.heard))
@@ -362,20 +368,20 @@ module _ (S : Setup) where
         last : (s i j x l : ℕ) → j < i → s + (i - j + x) ≤ l → s + 1 + x ≤ l
         last s i j x l z h = omega arith
 
-        go : (b : Bool) → Within S (after_load_script S m j found b) (after_load_script S m j found b).place
+        go : (b : Bool) → Within S (after_load_script S now j found b) (after_load_script S now j found b).place
         go true = record { told = λ q. cc; steps = more m.steps S.instrs j (scan_left S m) (bound S) j_in t.steps }
-        go false = ran_within (record m { script = script_more m found }) a.3 (last m.steps S.instrs j (scan_left S m) (bound S) j_in t.steps) (S.meaning.walk (merged m.known m.log) (script_more m found))
+        go false = ran_within (record now { script = script_more m found }) a.3 (last m.steps S.instrs j (scan_left S m) (bound S) j_in t.steps) (S.meaning.walk (over m.known m.log) (script_more m found))
     within (LoadCell x) a t e = go (nat_lt m.seq (seq found))
       where
         found : ℕ
         found = get_or w.words (word_of (want_at S m (LoadCell x))) 0
 
-        go : (b : Bool) → Within S (after_load_cell S m x found b) (after_load_cell S m x found b).place
+        go : (b : Bool) → Within S (after_load_cell S now x found b) (after_load_cell S now x found b).place
         go true = record { told = λ q. cc; steps = again_sum0 m.steps ((S.callers - m.scan - 1) * (S.instrs + 1)) (unknowns m.known) (4 * S.cells + 6) (rounds_left S m) (bound S) (omega arith) t.steps }
-        go false = ran_within (record m { known = learned S m x found }) a.3
+        go false = ran_within (record now { known = learned S m x found }) a.3
             (known_sum0 m.steps ((S.callers - m.scan - 1) * (S.instrs + 1)) (unknowns m.known) (unknowns (learned S m x found)) (4 * S.cells + 6) (rounds_left S m) (bound S)
             (unknowns_set m.known x (pay found) (omega (arith, a.0.looks.all, a.6)) a.7) t.steps)
-            (S.meaning.walk (merged (learned S m x found) m.log) m.script)
+            (S.meaning.walk (over (learned S m x found) m.log) m.script)
     within RaiseOld a t e = record { told = λ q. cc; steps = sum m.steps S.cells (rounds_left S m) (bound S) t.steps }
       where
         sum : (s c r l : ℕ) → s + (4 * c + 6 + r) ≤ l → s + 1 + (2 * (2 * c + 1 - 0) + 3 + r) ≤ l
@@ -395,7 +401,7 @@ module _ (S : Setup) where
         last : (s c x r l : ℕ) → x < c → s + (2 * (c - x) + 2 + r) ≤ l → s + 1 + (3 + r) ≤ l
         last s c x r l z h = omega arith
 
-        go : (b : Bool) → Within S (after_raise_log m x b) (after_raise_log m x b).place
+        go : (b : Bool) → Within S (after_raise_log now x b) (after_raise_log now x b).place
         go true = record { told = λ q. cc; steps = more m.steps (2 * S.cells + 1) x (rounds_left S m) (bound S) x_in t.steps }
         go false = record { told = λ q. cc; steps = last m.steps (2 * S.cells + 1) x (rounds_left S m) (bound S) x_in t.steps }
     within StoreRequest a t e = record { told = λ q. cc; steps = fewer m.steps (3 + rounds_left S m) (2 + rounds_left S m) (bound S) t.steps (omega arith) }
@@ -405,7 +411,7 @@ module _ (S : Setup) where
         won : (s y k l : ℕ) → s + (1 + (y + k)) ≤ l → s + 1 + (k + 0) ≤ l
         won s y k l h = omega arith
 
-        go : (b : Bool) → Within S (after_exchange m b) (after_exchange m b).place
+        go : (b : Bool) → Within S (after_exchange now b) (after_exchange now b).place
         go true = record { told = λ q. cc; steps = won m.steps ((3 - m.rounds) * lost S) (applying S) (bound S) t.steps }
         go false = record { told = λ q. cc; steps = fewer m.steps (1 + rounds_left S m) (rounds_left S m) (bound S) t.steps (omega arith) }
     within RaiseCurrent a t e = go (nat_lt 0 (length m.log))
@@ -416,7 +422,7 @@ module _ (S : Setup) where
         none : (s c r l : ℕ) → s + (4 * c + 3 + r) ≤ l → s + 1 + (2 + r) ≤ l
         none s c r l h = omega arith
 
-        go : (b : Bool) → Within S (after_raise_current m b) (after_raise_current m b).place
+        go : (b : Bool) → Within S (after_raise_current now b) (after_raise_current now b).place
         go true = record { told = λ q. cc; steps = more m.steps S.cells (behind_apply S m m.helps) (bound S) t.steps }
         go false = record { told = λ q. cc; steps = none m.steps S.cells (behind_apply S m m.helps) (bound S) t.steps }
     within (LoadTarget j) a t e = go (nat_lt (seq found) m.seq)
@@ -430,7 +436,7 @@ module _ (S : Setup) where
         newer : (s y r l : ℕ) → s + (y + 2 + r) ≤ l → s + 1 + (y - 1 + r) ≤ l
         newer s y r l h = omega arith
 
-        go : (b : Bool) → Within S (after_load_target m j found b) (after_load_target m j found b).place
+        go : (b : Bool) → Within S (after_load_target now j found b) (after_load_target now j found b).place
         go true = record { told = λ q. cc; steps = older m.steps (4 * (S.cells - j)) (behind_apply S m m.helps) (bound S) t.steps }
         go false = record { told = λ q. cc; steps = newer m.steps (4 * (S.cells - j)) (behind_apply S m m.helps) (bound S) t.steps }
     within (ExchangeTarget j f) a t e = record { told = λ q. cc; steps = sum m.steps (4 * (S.cells - j)) (behind_apply S m m.helps) (bound S) t.steps }
@@ -452,7 +458,7 @@ module _ (S : Setup) where
         last : (s c j r l : ℕ) → j < c → s + (4 * (c - j) - 1 + r) ≤ l → s + 1 + (2 + r) ≤ l
         last s c j r l z h = omega arith
 
-        go : (b : Bool) → Within S (next_entry m j b) (next_entry m j b).place
+        go : (b : Bool) → Within S (next_entry now j b) (next_entry now j b).place
         go true = record { told = λ q. cc; steps = more m.steps S.cells j (behind_apply S m m.helps) (bound S) j_in t.steps }
         go false = record { told = λ q. cc; steps = last m.steps S.cells j (behind_apply S m m.helps) (bound S) j_in t.steps }
     within CloseRequest a t e = record { told = λ q. cc; steps = sum m.steps (behind_apply S m m.helps) (bound S) t.steps }
@@ -467,6 +473,6 @@ module _ (S : Setup) where
         sum0 : (s l : ℕ) → s + (1 + 0) ≤ l → s + 1 ≤ l
         sum0 s l h = omega arith
 
-        go : (b d : Bool) → (m.rounds == 0) ≡ d → m.steps + (1 + behind_apply S m b) ≤ bound S → Within S (after_raise_closed S m b d) (after_raise_closed S m b d).place
-        go true d q u = resumed_within m d (subst (λ (x : Bool). m.steps + 1 + helped S m x ≤ bound S) q (sum m.steps (helped S m (m.rounds == 0)) (bound S) u))
+        go : (b d : Bool) → (m.rounds == 0) ≡ d → m.steps + (1 + behind_apply S m b) ≤ bound S → Within S (after_raise_closed S now b d) (after_raise_closed S now b d).place
+        go true d q u = resumed_within now d (subst (λ (x : Bool). m.steps + 1 + helped S m x ≤ bound S) q (sum m.steps (helped S m (m.rounds == 0)) (bound S) u))
         go false d q u = record { steps = omega arith; told = λ q. sum0 m.steps (bound S) u }

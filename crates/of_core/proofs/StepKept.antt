@@ -1,5 +1,5 @@
 -- Each step of each machine keeps the invariant.
-use Rattle.std.proofs.Common.{List, Bool, true, false, ap, ◌≡◌, ℕ, ◌<◌, ◌⊎◌, inl, inr, refl, sym, ◌∙◌, get_or, set, length, arith, subst}
+use Rattle.std.proofs.Common.{List, Bool, true, false, ap, ◌≡◌, ◌==◌, ◌++◌, ℕ, ◌+◌, ◌<◌, ◌⊎◌, inl, inr, refl, sym, ◌∙◌, get_or, set, length, arith, subst}
 use Rattle.std.proofs.lemmas.Bool.{cases_eq}
 use Rattle.std.proofs.lemmas.List.{get_or-set_same, get_or-set_other}
 use Rattle.of_mem.specs.Meaning.{Sound}
@@ -7,8 +7,8 @@ use Rattle.of_core.specs.declared.place.Place.{Place}
 use Rattle.of_core.specs.declared.place.Place.TheVariants.{Idle, TryCurrent, TryRequest, TryCell, StoreScript, StoreAnnouncement, LoadCurrent, LoadRequest, CopyLog, LookAgain, LoadOwnTicket, LoadShape, LoadReply, LoadAnnouncement, LoadTicket, LoadScript, LoadCell, RaiseOld, StoreLog, RaiseLog, StoreRequest, RaiseRequest, ExchangeCurrent, RaiseCurrent, LoadTarget, ExchangeTarget, ReloadTarget, RaiseTarget, CloseRequest, RaiseClosed}
 use Rattle.of_core.specs.Table.{Setup, base}
 use Rattle.of_core.specs.Machine.{Data}
-use Rattle.of_core.specs.Steps.{want, want_at, word_of, took_at, FoundBy}
-use Rattle.of_core.specs.World.{World, Start, stepped, stepped_at, answers_at, commits_at}
+use Rattle.of_core.specs.Steps.{want, want_at, word_of, took_at, counted_at, FoundBy}
+use Rattle.of_core.specs.World.{World, Start, Batch, stepped, stepped_at, answers_at, commits_at}
 use Rattle.of_core.specs.Invariant.{Good, Core, At, IsLoaded}
 use Rattle.of_core.specs.Moves.{Goes, Moves}
 use Rattle.of_core.specs.Bound.{Within}
@@ -20,7 +20,8 @@ use Rattle.of_core.proofs.StepFacts.{step_facts}
 use Rattle.of_core.proofs.Ordering.{Orderly, idle_is, orderly, orderly_idle, order_after}
 use Rattle.of_core.proofs.Stability.{loaded_stable}
 use Rattle.of_core.proofs.Found.{stepped_is}
-use Rattle.of_cell.specs.Words.{seq}
+use Rattle.of_core.proofs.Counting.{counted_stands, same_batch}
+use Rattle.of_cell.specs.Words.{word, seq}
 use Rattle.of_core.proofs.Tries.{try_current_kept, try_request_kept, try_cell_kept}
 use Rattle.of_core.proofs.Rounds.{idle_kept, load_current_kept, load_request_kept}
 use Rattle.of_core.proofs.Helping.{copy_log_kept, look_again_kept}
@@ -33,48 +34,55 @@ use Rattle.of_core.proofs.Applying.{load_target_kept, exchange_target_kept, relo
 use Rattle.of_core.proofs.RaiseSteps.{raise_old_kept, raise_log_kept, raise_request_kept, raise_current_kept, raise_target_kept, raise_closed_kept}
 
 pub core_kept : (S : Setup) (Lawful : List ℕ → Type 0) → Sound S.meaning Lawful (base S) S.cells → (B : Start) (w : World) → Core S Lawful B w → (i : ℕ) (m : Data) → i < S.callers → get_or w.machines i m ≡ m → Goes S Lawful B i w (stepped_at S i m m.place w)
-core_kept S Lawful sound B w g i m h e = go m.place refl (g.each i m h e)
+core_kept S Lawful sound B w g i m h e = go m.place (g.each i m h e)
   where
-    go : (p : Place) → m.place ≡ p → At S B w.words w.batches i m p → Goes S Lawful B i w (stepped_at S i m p w)
-    go Idle q a = idle_kept S Lawful B w g i m h (g.each i m h e)
-    go LoadCurrent q a = load_current_kept S Lawful B w g i m h a
-    go TryCurrent q a = try_current_kept S Lawful B w g i m h a
-    go TryRequest q a = try_request_kept S Lawful B w g i m h sound a
-    go (TryCell x) q a = try_cell_kept S Lawful B w g i m h sound x a
-    go (StoreScript j) q a = store_script_kept S Lawful B w g i m h j a
-    go StoreAnnouncement q a = store_announcement_kept S Lawful B w g i m h a
-    go LoadRequest q a = load_request_kept S Lawful B w g i m h a
-    go (CopyLog x) q a = copy_log_kept S Lawful B w g i m h x a
-    go LookAgain q a = look_again_kept S Lawful B w g i m h sound a
-    go LoadOwnTicket q a = own_ticket_kept S Lawful B w g i m h a
-    go LoadShape q a = load_shape_kept S Lawful B w g i m h a
-    go (LoadReply j) q a = load_reply_kept S Lawful B w g i m h j a
-    go LoadAnnouncement q a = load_announcement_kept S Lawful B w g i m h a
-    go LoadTicket q a = load_ticket_kept S Lawful B w g i m h a
-    go (LoadScript j) q a = load_script_kept S Lawful B w g i m h sound j a
-    go (LoadCell x) q a = load_cell_kept S Lawful B w g i m h sound x a
-    go RaiseOld q a = raise_old_kept S Lawful B w g i m h e q a
-    go (StoreLog x) q a = store_log_kept S Lawful B w g i m h x a
-    go (RaiseLog x) q a = raise_log_kept S Lawful B w g i m h e x q a
-    go StoreRequest q a = store_request_kept S Lawful B w g i m h a
-    go RaiseRequest q a = raise_request_kept S Lawful B w g i m h e q a
-    go ExchangeCurrent q a = exchange_current_kept S Lawful B w g i m h sound a
-    go RaiseCurrent q a = raise_current_kept S Lawful B w g i m h e q a
-    go (LoadTarget j) q a = load_target_kept S Lawful B w g i m h j a
-    go (ExchangeTarget j f) q a = exchange_target_kept S Lawful B w g i m h j f a
-    go (ReloadTarget j) q a = reload_target_kept S Lawful B w g i m h j a
-    go (RaiseTarget j f) q a = raise_target_kept S Lawful B w g i m h e j f q a
-    go CloseRequest q a = close_request_kept S Lawful B w g i m h a
-    go RaiseClosed q a = raise_closed_kept S Lawful B w g i m h e sound q a
+    -- the machine with its step counted
+    c : Data
+    c = record m { steps = m.steps + 1 }
+
+    now : (p : Place) → At S B w.words w.batches i m p → At S B w.words w.batches i (counted_at p m) p
+    now p a = counted_stands S Lawful B w g i m h p a
+
+    go : (p : Place) → At S B w.words w.batches i m p → Goes S Lawful B i w (stepped_at S i m p w)
+    go Idle a = idle_kept S Lawful B w g i m h (g.each i m h e)
+    go LoadCurrent a = load_current_kept S Lawful B w g i c h (now LoadCurrent a)
+    go TryCurrent a = try_current_kept S Lawful B w g i c h (now TryCurrent a)
+    go TryRequest a = try_request_kept S Lawful B w g i c h sound (now TryRequest a)
+    go (TryCell x) a = try_cell_kept S Lawful B w g i c h sound x (now (TryCell x) a)
+    go (StoreScript j) a = store_script_kept S Lawful B w g i c h j (now (StoreScript j) a)
+    go StoreAnnouncement a = store_announcement_kept S Lawful B w g i c h (now StoreAnnouncement a)
+    go LoadRequest a = load_request_kept S Lawful B w g i c h (now LoadRequest a)
+    go (CopyLog x) a = copy_log_kept S Lawful B w g i c h x (now (CopyLog x) a)
+    go LookAgain a = look_again_kept S Lawful B w g i c h sound (now LookAgain a)
+    go LoadOwnTicket a = own_ticket_kept S Lawful B w g i c h (now LoadOwnTicket a)
+    go LoadShape a = load_shape_kept S Lawful B w g i c h (now LoadShape a)
+    go (LoadReply j) a = load_reply_kept S Lawful B w g i c h j (now (LoadReply j) a)
+    go LoadAnnouncement a = load_announcement_kept S Lawful B w g i c h (now LoadAnnouncement a)
+    go LoadTicket a = load_ticket_kept S Lawful B w g i c h (now LoadTicket a)
+    go (LoadScript j) a = load_script_kept S Lawful B w g i c h sound j (now (LoadScript j) a)
+    go (LoadCell x) a = load_cell_kept S Lawful B w g i c h sound x (now (LoadCell x) a)
+    go RaiseOld a = raise_old_kept S Lawful B w g i c h (now RaiseOld a)
+    go (StoreLog x) a = store_log_kept S Lawful B w g i c h x (now (StoreLog x) a)
+    go (RaiseLog x) a = raise_log_kept S Lawful B w g i c h x (now (RaiseLog x) a)
+    go StoreRequest a = store_request_kept S Lawful B w g i c h (now StoreRequest a)
+    go RaiseRequest a = raise_request_kept S Lawful B w g i c h (now RaiseRequest a)
+    go ExchangeCurrent a = subst (λ (bs : List Batch). Goes S Lawful B i w (record (stepped_at S i m ExchangeCurrent w) { batches = w.batches ++ bs })) (same_batch S w.words m (get_or w.words 0 0 == word m.seq m.owner)) (exchange_current_kept S Lawful B w g i c h sound (now ExchangeCurrent a))
+    go RaiseCurrent a = raise_current_kept S Lawful B w g i c h (now RaiseCurrent a)
+    go (LoadTarget j) a = load_target_kept S Lawful B w g i c h j (now (LoadTarget j) a)
+    go (ExchangeTarget j f) a = exchange_target_kept S Lawful B w g i c h j f (now (ExchangeTarget j f) a)
+    go (ReloadTarget j) a = reload_target_kept S Lawful B w g i c h j (now (ReloadTarget j) a)
+    go (RaiseTarget j f) a = raise_target_kept S Lawful B w g i c h j f (now (RaiseTarget j f) a)
+    go CloseRequest a = close_request_kept S Lawful B w g i c h (now CloseRequest a)
+    go RaiseClosed a = raise_closed_kept S Lawful B w g i c h sound (now RaiseClosed a)
 
 module _ (S : Setup) (Lawful : List ℕ → Type 0) (sound : Sound S.meaning Lawful (base S) S.cells) (B : Start) (w : World) (g : Good S Lawful B w) (i : ℕ) (m : Data) (h : i < S.callers) (own : get_or w.machines i m ≡ m) where
   abbrev new : Data
-  new = took_at S m (get_or w.words (word_of (want_at S m m.place)) 0) m.place
+  new = took_at S (counted_at m.place m) (get_or w.words (word_of (want_at S m m.place)) 0) m.place
 
   goes : Goes S Lawful B i w (stepped_at S i m m.place w)
   goes = core_kept S Lawful sound B w g.core i m h own
 
-  own_within : Within S (took_at S m (get_or w.words (word_of (want_at S m m.place)) 0) m.place) (took_at S m (get_or w.words (word_of (want_at S m m.place)) 0) m.place).place
+  own_within : Within S (took_at S (counted_at m.place m) (get_or w.words (word_of (want_at S m m.place)) 0) m.place) (took_at S (counted_at m.place m) (get_or w.words (word_of (want_at S m m.place)) 0) m.place).place
   own_within = within S Lawful B w g.core i m h m.place (g.core.each i m h own) (g.within i m h own) refl
 
   within_after : (j : ℕ) (n : Data) → j < S.callers → get_or (set w.machines i new) j n ≡ n → (j ≡ i) ⊎ (j ≡ i → ⊥) → Within S n n.place
@@ -84,7 +92,7 @@ module _ (S : Setup) (Lawful : List ℕ → Type 0) (sound : Sound S.meaning Law
       subst (λ (x : Data). Within S x x.place) same own_within
   within_after j n l q (inr r) = g.within j n l (sym (get_or-set_other w.machines i j new n r) ∙ q)
 
-  own_late : Late S (took_at S m (get_or w.words (word_of (want_at S m m.place)) 0) m.place) (took_at S m (get_or w.words (word_of (want_at S m m.place)) 0) m.place).place
+  own_late : Late S (took_at S (counted_at m.place m) (get_or w.words (word_of (want_at S m m.place)) 0) m.place) (took_at S (counted_at m.place m) (get_or w.words (word_of (want_at S m m.place)) 0) m.place).place
   own_late = late S B w.words w.batches i m (get_or w.words (word_of (want_at S m m.place)) 0) m.place (g.core.each i m h own) (g.late i m h own) refl
 
   late_after : (j : ℕ) (n : Data) → j < S.callers → get_or (set w.machines i new) j n ≡ n → (j ≡ i) ⊎ (j ≡ i → ⊥) → Late S n n.place
@@ -94,11 +102,11 @@ module _ (S : Setup) (Lawful : List ℕ → Type 0) (sound : Sound S.meaning Law
       subst (λ (x : Data). Late S x x.place) same own_late
   late_after j n l q (inr r) = g.late j n l (sym (get_or-set_other w.machines i j new n r) ∙ q)
 
-  new_at : At S B (stepped_at S i m m.place w).words (stepped_at S i m m.place w).batches i (took_at S m (get_or w.words (word_of (want_at S m m.place)) 0) m.place) (took_at S m (get_or w.words (word_of (want_at S m m.place)) 0) m.place).place
+  new_at : At S B (stepped_at S i m m.place w).words (stepped_at S i m m.place w).batches i (took_at S (counted_at m.place m) (get_or w.words (word_of (want_at S m m.place)) 0) m.place) (took_at S (counted_at m.place m) (get_or w.words (word_of (want_at S m m.place)) 0) m.place).place
   new_at = goes.core.each i new h (get_or-set_same w.machines i new new (omega (arith, g.core.members)))
 
   orderly_step : (b : Bool) → is_idle m.place ≡ b → Orderly S B i w.words m new (stepped_at S i m m.place w).words (stepped_at S i m m.place w).batches (answers_at new m.place)
-  orderly_step true e = orderly_idle S B i w.words m new _ _ (ap (took_at S m (get_or w.words (word_of (want_at S m m.place)) 0)) (idle_is m.place e)) e
+  orderly_step true e = orderly_idle S B i w.words m new _ _ (ap (λ (p : Place). took_at S (counted_at p m) (get_or w.words (word_of (want_at S m m.place)) 0) p) (idle_is m.place e)) e
   orderly_step false e = orderly S Lawful B w g.core i m h (get_or w.words (word_of (want_at S m m.place)) 0) new (commits_at S w.words m (get_or w.words (word_of (want_at S m m.place)) 0) m.place)
       (step_facts S Lawful B w g.core i m h (get_or w.words (word_of (want_at S m m.place)) 0) m.place e (g.core.each i m h own)) e (λ q. ap (λ (p : Place). seq (get_or w.words (word_of (want_at S m p)) 0)) q) (stepped_at S i m m.place w).words goes.core.shared new_at
 

@@ -1,5 +1,6 @@
 -- What the step of an open call is, in a world that meets the invariant.
 use Rattle.std.proofs.Common.{◌≡◌, ℕ, ◌+◌, ◌<◌, List, [], ◌∷◌, length, get_or, refl, sym, ◌∙◌, ap, subst, arith, Option, Some, None, Bool, true, false, ◌≤◌, ◌⊎◌, inl, inr}
+use Rattle.of_cell.specs.declared.word.TheConstants.{PAYLOADS}
 use Rattle.of_cell.specs.Words.{seq}
 use Rattle.of_cell.proofs.Order.{seq_word}
 use Rattle.of_core.specs.declared.place.Place.{Place}
@@ -8,7 +9,7 @@ use Rattle.of_core.specs.declared.place.Outcome.{Outcome}
 use Rattle.of_core.specs.declared.place.Outcome.TheVariants.{Answered, Spent}
 use Rattle.of_core.specs.Table.{Setup, last}
 use Rattle.of_core.specs.Machine.{Data, IsOpen, is_idle, opened, first_place}
-use Rattle.of_core.specs.Steps.{want, want_at, took, took_at, FoundBy}
+use Rattle.of_core.specs.Steps.{want, want_at, took, took_at, counted_at, FoundBy}
 use Rattle.of_core.specs.World.{World, Start, Batch, Read, added, answered, answers_by, answers_at, read_of, commits_at}
 use Rattle.of_core.specs.Order.{IsTrying}
 use Rattle.of_core.specs.Facts.{Facts, Step, CountsBy, EndsWith, Tells, ReadsFrom, loads, rests, loads_at, rests_at}
@@ -75,7 +76,7 @@ module _ (S : Setup) (Lawful : List ℕ → Type 0) (B : Start) (w : World) (g :
   a = g.core.each i m h own
 
   abbrev d : Data
-  d = took_at S m n m.place
+  d = took_at S (counted_at m.place m) n m.place
 
   abbrev bs : List Batch
   bs = commits_at S w.words m n m.place
@@ -89,7 +90,7 @@ module _ (S : Setup) (Lawful : List ℕ → Type 0) (B : Start) (w : World) (g :
       let c = facts.commits l in
       let x = subst (λ (p : Place). At S B w.words w.batches i m p) c.0 a in
       let y : n ≡ get_or w.words 0 0 = subst (λ (p : Place). FoundBy (want_at S m p) w.words n) c.0 f in
-      let owner : m.owner < 4294967296 = omega (arith, x.0.past.looks.round.owner_in, g.core.shared.few) in
+      let owner : m.owner < PAYLOADS = omega (arith, x.0.past.looks.round.owner_in, g.core.shared.few) in
       let z : last w.words ≡ m.seq = ap seq (sym y ∙ c.1) ∙ seq_word m.seq m.owner owner in
       ap (rests_at m) c.0 ∙ sym z ∙ g.core.shared.counted.count
 

@@ -3,13 +3,14 @@ use Rattle.std.proofs.Common.{◌≡◌, ℕ, ◌+◌, ◌-◌, ◌<◌, ◌≤�
 use Rattle.std.proofs.lemmas.Bool.{cases_eq, cases_lt}
 use Rattle.std.proofs.lemmas.Bool.Decides.{nat_tests}
 use Rattle.std.proofs.lemmas.List.{length-map, length-replicate, get_or-replicate, get_or_past, get_or-set_same, get_or-set_other}
+use Rattle.of_core.specs.declared.machine.trying.TheConstants.{MOST_TRIES}
 use Rattle.of_cell.specs.Words.{word, seq, pay}
 use Rattle.of_mem.specs.Meaning.{Walked, Needs, Gives, Fits, Sound}
 use Rattle.of_core.specs.declared.place.Place.TheVariants.{TryCurrent, TryRequest, TryCell}
 use Rattle.of_core.specs.Table.{Setup, data_at, base, current_word, request_of, cell, last, holder, risen}
 use Rattle.of_core.specs.Machine.{Data, unknown, learned}
 use Rattle.of_core.specs.Steps.{read_on, read_ran, tried, resumed, after_try_request, over_try, after_try_cell, is_open, took_at}
-use Rattle.of_core.specs.World.{World, Start, stepped_at}
+use Rattle.of_core.specs.World.{World, Start, stepped_on}
 use Rattle.of_core.specs.History.{state, at, numbers}
 use Rattle.of_core.specs.Shared.{Opened}
 use Rattle.of_core.specs.Rounds.{WasCurrent, Trying, Helper, Watches, Calm}
@@ -107,7 +108,7 @@ module _ (S : Setup) (Lawful : List ℕ → Type 0) (B : Start) where
     resumed_at n sound (inr p) c o quiet true e = tried_at n sound p c o quiet
     resumed_at n sound (inr p) c o quiet false e = absurd (differ n.rounds 0 e p.fresh.rounds)
 
-    pub try_current_kept : At S B w.words w.batches i m TryCurrent → Goes S Lawful B i w (stepped_at S i m TryCurrent w)
+    pub try_current_kept : At S B w.words w.batches i m TryCurrent → Goes S Lawful B i w (stepped_on S i m TryCurrent w)
     try_current_kept a = assemble_read S Lawful B w g i h _ _ (took_at S m (current_word w.words) TryCurrent) (same_words S Lawful B w g i m h 0) (same_batches S Lawful B w g i m h) (
       record { fresh = fresh_as S Lawful B w g i m h m _ a.0 refl refl refl refl refl; reads = a.2; few = omega (arith, a.3) },
       record {
@@ -121,7 +122,7 @@ module _ (S : Setup) (Lawful : List ℕ → Type 0) (B : Start) where
       a.1,
     )
 
-    pub try_request_kept : Sound S.meaning Lawful (base S) S.cells → At S B w.words w.batches i m TryRequest → Goes S Lawful B i w (stepped_at S i m TryRequest w)
+    pub try_request_kept : Sound S.meaning Lawful (base S) S.cells → At S B w.words w.batches i m TryRequest → Goes S Lawful B i w (stepped_on S i m TryRequest w)
     try_request_kept sound a = assemble_read S Lawful B w g i h _ _ (took_at S m (request_of w.words m.owner) TryRequest) (same_words S Lawful B w g i m h (m.owner + 1)) (same_batches S Lawful B w g i m h) (
         go (is_open m.seq (request_of w.words m.owner)) refl)
       where
@@ -148,15 +149,15 @@ module _ (S : Setup) (Lawful : List ℕ → Type 0) (B : Start) where
         )
         go false eb = tried_at m sound a.0 a.1 a.2 (quiet_from S Lawful B w g i m h m.seq m.owner a.1 (λ l. not_open S Lawful B w g i m h m.seq (request_of w.words m.owner) eb (omega (arith, l))))
 
-    pub try_cell_kept : Sound S.meaning Lawful (base S) S.cells → (x : ℕ) → At S B w.words w.batches i m (TryCell x) → Goes S Lawful B i w (stepped_at S i m (TryCell x) w)
+    pub try_cell_kept : Sound S.meaning Lawful (base S) S.cells → (x : ℕ) → At S B w.words w.batches i m (TryCell x) → Goes S Lawful B i w (stepped_on S i m (TryCell x) w)
     try_cell_kept sound x a = assemble_read S Lawful B w g i h _ _ (took_at S m (cell S w.words x) (TryCell x)) (same_words S Lawful B w g i m h (data_at S x)) (same_batches S Lawful B w g i m h) (
         go (nat_lt m.seq (seq (cell S w.words x))) refl)
       where
-        over : (b : Bool) → nat_lt m.tries 4 ≡ b → At S B w.words w.batches i (over_try m b) (over_try m b).place
+        over : (b : Bool) → nat_lt m.tries MOST_TRIES ≡ b → At S B w.words w.batches i (over_try m b) (over_try m b).place
         over true e = (fresh_as S Lawful B w g i m h m _ a.0.fresh refl refl refl refl refl, calm_more S Lawful B w g i m h m.seq (last w.words) a.1.upto a.2, a.0.reads, let z : m.tries < 4 = grind (arith, nat_tests) in omega arith)
         over false e = (fresh_as S Lawful B w g i m h m _ a.0.fresh refl refl refl refl refl, calm_more S Lawful B w g i m h m.seq (last w.words) a.1.upto a.2, omega (arith, a.0.fresh.some), refl)
 
         go : (b : Bool) → nat_lt m.seq (seq (cell S w.words x)) ≡ b → At S B w.words w.batches i (after_try_cell S m x (cell S w.words x) b) (after_try_cell S m x (cell S w.words x) b).place
-        go true e = over (nat_lt m.tries 4) refl
+        go true e = over (nat_lt m.tries MOST_TRIES) refl
         go false e = reads_at (record m { known = learned S m x (cell S w.words x) }) sound (trying_as S Lawful B w g i m h m _ a.0 refl refl refl refl refl refl) a.1 a.2
             (watch_more m.seq m.owner m a.1 a.3 x a.4 (not_newer m.seq (seq (cell S w.words x)) e))

@@ -1,5 +1,5 @@
 -- Worked schedules, computed by the definitions.
-use Rattle.std.proofs.Common.{◌≡◌, ℕ, ◌+◌, ◌<◌, ◌≤◌, [], ◌∷◌, length, get_or, Some, true, false, refl, arith}
+use Rattle.std.proofs.Common.{◌≡◌, ℕ, [], ◌∷◌, length, get_or, Some, true, false, refl, arith}
 use Rattle.of_cell.specs.Words.{word, seq, pay}
 use Rattle.of_mem.specs.Meaning.{marked}
 use Rattle.of_core.specs.declared.place.Place.TheVariants.{LoadCurrent, RaiseClosed, StoreAnnouncement}

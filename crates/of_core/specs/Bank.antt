@@ -1,21 +1,23 @@
 -- What contracts see of a bank's fields, and what it keeps.
 use Rattle.std.specs.Prelude.{◌≡◌, ◌≤◌, ℕ, List, length}
+use Rattle.of_core.specs.declared.machine.TheConstants.{GREATEST_LIMIT}
 use Rattle.of_mem.specs.Meaning.{Meaning}
 use Rattle.of_mem.specs.declared.work.TheConstants.{MOST_INSTRS}
 use Rattle.of_core.specs.declared.bank.Bank.TheInside.{Inside}
 use Rattle.of_core.specs.Table.{setup_of}
+use Rattle.of_core.specs.Starts.{start_of}
 use Rattle.of_core.specs.Moment.{Bench, Reached, Alike, held, table_words}
 
 abbrev pub bench : {W : Type 0} → Inside W → Bench W
-bench b = record { work = b.work; callers = b.shape.callers; cells = b.shape.cells; limit = b.limit; words = b.words.items; machines = held b.machines.items }
+bench b = record { work = b.work; callers = b.shape.callers; cells = b.shape.cells; limit = b.limit; start = start_of b.shape.callers b.shape.cells b.first.value.items; words = b.words.items; machines = held b.machines.items }
 
 -- the sizes fit one another, and the words and machines are those of a moment
 pub record IsBank {W : Type 0} (many size : W → ℕ) (meaning : W → Meaning) (lawful : W → List ℕ → Type 0) (b : Inside W) : Type 0 where
   pub callers : many b.work ≡ b.shape.callers
   pub instrs : b.shape.instrs ≡ MOST_INSTRS
   pub cells : size b.work ≡ b.shape.cells
-  pub limit : b.limit ≤ 4294967294
+  pub limit : b.limit ≤ GREATEST_LIMIT
   pub room : length b.words.items ≡ table_words (setup_of b.shape.callers b.shape.cells b.limit (meaning b.work))
   pub members : length b.machines.items ≡ b.shape.callers
   pub alike : Alike b.work b.shape.callers b.shape.cells b.limit b.machines.items
-  pub reached : Reached (setup_of b.shape.callers b.shape.cells b.limit (meaning b.work)) (lawful b.work) b.words.items (held b.machines.items)
+  pub reached : Reached (setup_of b.shape.callers b.shape.cells b.limit (meaning b.work)) (lawful b.work) (start_of b.shape.callers b.shape.cells b.first.value.items) b.words.items (held b.machines.items)

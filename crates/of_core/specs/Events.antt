@@ -1,6 +1,7 @@
 -- Events, schedules and the moments that they leave.
 use Rattle.std.specs.Prelude.{◌==◌, Bool, true, false, ℕ, ◌+◌, max, List, [], ◌∷◌, ◌++◌, length, ◌≡◌, ◌≤◌, ◌<◌}
-use Rattle.std.proofs.Common.{get_or, set, replicate, zero, suc}
+use Rattle.std.proofs.Common.{get_or, set, take, replicate, zero, suc}
+use Rattle.of_cell.specs.declared.word.TheConstants.{PAYLOADS}
 use Rattle.of_core.specs.declared.place.Place.TheVariants.{Idle}
 use Rattle.of_cell.specs.Words.{pay}
 use Rattle.of_core.specs.Table.{Setup, size, durable_at, ticket_cell}
@@ -42,7 +43,7 @@ happens S w (Turns i) = stepped S i (machine w i) (finds S w.words (machine w i)
 
 -- when an event may happen: a call begins where none of the caller's is open, with 1 to as many words as an operation may have
 abbrev pub MayHappen : Setup → World → Event → Type 0
-MayHappen S w (Begins i op) = (i < S.callers) × ((machine w i).place ≡ Idle) × (1 ≤ length op) × (length op ≤ S.instrs) × ((machine w i).made + 1 < 4294967296)
+MayHappen S w (Begins i op) = (i < S.callers) × ((machine w i).place ≡ Idle) × (1 ≤ length op) × (length op ≤ S.instrs) × ((machine w i).made + 1 < PAYLOADS)
 MayHappen S w (Loads c) = c < size S
 MayHappen S w (Evicts k) = k < length w.loaded
 MayHappen S w (Raises c) = c < size S
@@ -57,6 +58,11 @@ run S w (e ∷ es) = run S (happens S w e) es
 abbrev pub IsSchedule : Setup → World → List Event → Type 0
 IsSchedule S w [] = Unit {0}
 IsSchedule S w (e ∷ es) = MayHappen S w e × IsSchedule S (happens S w e) es
+
+-- the cell c has held v at one of the moments that the events lead through
+abbrev pub HasStood : Setup → World → List Event → (c v : ℕ) → Type 0
+HasStood S w es c v =
+    (k : ℕ) × (k ≤ length es) × (get_or (run S w (take k es)).words c 0 ≡ v)
 
 -- how many calls caller i has behind it at a start: the number of its ticket cell
 abbrev pub start_ticket : Setup → Start → ℕ → ℕ

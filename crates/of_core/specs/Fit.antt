@@ -1,5 +1,6 @@
 -- What a machine keeps of itself, so that its next step is a step on the table.
 use Rattle.std.specs.Prelude.{◌≡◌, ℕ, ◌+◌, ◌*◌, ◌<◌, ◌≤◌, List, [], Bool, true, false, length}
+use Rattle.of_core.specs.declared.machine.TheConstants.{GREATEST_LIMIT}
 use Rattle.of_cell.specs.Words.{pay}
 use Rattle.of_core.specs.declared.place.Place.{Place}
 use Rattle.of_core.specs.declared.place.Place.TheVariants.{Idle, TryCurrent, TryRequest, TryCell, StoreScript, StoreAnnouncement, LoadCurrent, LoadRequest, CopyLog, LookAgain, LoadOwnTicket, LoadShape, LoadReply, LoadAnnouncement, LoadTicket, LoadScript, LoadCell, RaiseOld, StoreLog, RaiseLog, StoreRequest, RaiseRequest, ExchangeCurrent, RaiseCurrent, LoadTarget, ExchangeTarget, ReloadTarget, RaiseTarget, CloseRequest, RaiseClosed}
@@ -50,7 +51,7 @@ pub record Fit (many size : ℕ) (S : Setup) (m : Data) : Type 0 where
   pub callers : many ≡ S.callers
   pub cells : size ≡ S.cells
   pub own_in : base S ≤ S.cells
-  pub limit : S.limit ≤ 4294967294
+  pub limit : S.limit ≤ GREATEST_LIMIT
   pub caller : m.caller < S.callers
   pub owner : m.owner < S.callers
   pub upto : m.seq ≤ S.limit

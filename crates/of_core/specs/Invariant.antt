@@ -1,6 +1,7 @@
 -- The protocol invariant.
 use Rattle.std.specs.Prelude.{ℕ, ◌+◌, ◌*◌, List, [], length, Option, Some, None, true, false, ◌≡◌, ◌≤◌, ◌<◌, ◌⊎◌}
 use Rattle.std.proofs.Common.{get_or, take}
+use Rattle.of_core.specs.declared.machine.trying.TheConstants.{MOST_TRIES}
 use Rattle.of_cell.specs.Words.{word, seq, pay}
 use Rattle.of_core.specs.declared.place.Place.{Place}
 use Rattle.of_core.specs.declared.place.Place.TheVariants.{Idle, TryCurrent, TryRequest, TryCell, StoreScript, StoreAnnouncement, LoadCurrent, LoadRequest, CopyLog, LookAgain, LoadOwnTicket, LoadShape, LoadReply, LoadAnnouncement, LoadTicket, LoadScript, LoadCell, RaiseOld, StoreLog, RaiseLog, StoreRequest, RaiseRequest, ExchangeCurrent, RaiseCurrent, LoadTarget, ExchangeTarget, ReloadTarget, RaiseTarget, CloseRequest, RaiseClosed}
@@ -14,7 +15,7 @@ use Rattle.of_core.specs.History.{state, batch, numbers, ticket_in, HasCall}
 use Rattle.of_core.specs.Shared.{Held, IsRequest, IsLogWord, Shared}
 use Rattle.of_core.specs.Rounds.{Keeps, Quieted, Fresh, Begun, Round, WasCurrent, Trying, Watches, Between, Looks, Past, Calm, Finds, ReadUpto}
 use Rattle.of_core.specs.Scan.{Over, Hears, Reads, Scans}
-use Rattle.of_core.specs.Transaction.{Applies, Copies, Stored, Logs}
+use Rattle.of_core.specs.Transaction.{Applies, Copies, Stored, ClosedDurably, Logs}
 use Rattle.of_core.specs.Order.{Order}
 use Rattle.of_core.specs.Bound.{Within}
 use Rattle.of_core.specs.Least.{Late}
@@ -39,7 +40,7 @@ pub record Rests (S : Setup) (B : Start) (ws : List ℕ) (bs : List Batch) (i : 
 -- what a place says of its machine
 abbrev pub At : Setup → Start → List ℕ → List Batch → ℕ → Data → Place → Type 0
 At S B ws bs i m Idle = Rests S B ws bs i m
-At S B ws bs i m TryCurrent = Fresh S B ws bs i m × Calm S B ws bs i (last ws) × (S.meaning.reads_only m.op ≡ true) × (m.tries ≤ 3)
+At S B ws bs i m TryCurrent = Fresh S B ws bs i m × Calm S B ws bs i (last ws) × (S.meaning.reads_only m.op ≡ true) × (m.tries < MOST_TRIES)
 At S B ws bs i m TryRequest = Trying S B ws bs i m × WasCurrent S B ws bs m.seq m.owner × Calm S B ws bs i m.seq
 At S B ws bs i m (TryCell a) = Trying S B ws bs i m × WasCurrent S B ws bs m.seq m.owner × Calm S B ws bs i m.seq × Watches S B ws bs m.seq m.known × (a < S.cells) × (get_or m.known a None ≡ None)
 At S B ws bs i m (StoreScript j) = Fresh S B ws bs i m × Calm S B ws bs i (last ws) × (j < length m.op) × (script_of S ws i j ≡ take j m.op)
@@ -59,7 +60,7 @@ At S B ws bs i m RaiseOld = Past S B ws bs i m × Calm S B ws bs i m.seq × Over
 At S B ws bs i m (StoreLog x) = Logs S B ws bs i m x x × (x < length (log_words m.log))
 At S B ws bs i m (RaiseLog x) = Logs S B ws bs i m (x + 1) x × (x < length (log_words m.log))
 At S B ws bs i m StoreRequest = Logs S B ws bs i m (length (log_words m.log)) (length (log_words m.log))
-At S B ws bs i m RaiseRequest = Stored S B ws bs i m (length (log_words m.log)) (length (log_words m.log)) × (request_of ws i ≡ word (m.seq + 1) 0)
+At S B ws bs i m RaiseRequest = Stored S B ws bs i m (length (log_words m.log)) (length (log_words m.log)) × (request_of ws i ≡ word (m.seq + 1) 0) × ClosedDurably S B ws bs i
 At S B ws bs i m ExchangeCurrent = Stored S B ws bs i m (length (log_words m.log)) (length (log_words m.log)) × (request_of ws i ≡ word (m.seq + 1) 0) × (durable_request S ws i ≡ word (m.seq + 1) 0)
 At S B ws bs i m RaiseCurrent = Applies S B ws bs i m 0
 At S B ws bs i m (LoadTarget j) = Applies S B ws bs i m j × (j < length m.log) × (m.seq ≤ risen S ws)

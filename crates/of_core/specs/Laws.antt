@@ -2,6 +2,7 @@
 use Rattle.std.specs.Prelude.{ℕ, ◌+◌, List, [], ◌∷◌, ◌++◌, length, ◌≡◌, ◌≤◌, ◌<◌, ◌⊎◌, true}
 use Rattle.std.specs.List.{All}
 use Rattle.std.proofs.Common.{get_or, set, take, replicate}
+use Rattle.of_cell.specs.declared.word.TheConstants.{PAYLOADS}
 use Rattle.of_cell.specs.Words.{word}
 use Rattle.of_mem.specs.Meaning.{Meaning}
 use Rattle.of_recover.specs.Recovered.{recovered}
@@ -17,7 +18,7 @@ use Rattle.of_core.specs.Facts.{Step, ReadsFrom, rests}
 use Rattle.of_core.specs.Shared.{IsStart, MayStart}
 use Rattle.of_core.specs.Invariant.{Good, IsLoaded}
 use Rattle.of_core.specs.Moves.{Moves}
-use Rattle.of_core.specs.Events.{Event, Turns, MayHappen, begun, happens, evicted, run, turns, IsSchedule, StaysOpen, machine, start_ticket, opening, zeros}
+use Rattle.of_core.specs.Events.{Event, Turns, MayHappen, begun, happens, evicted, run, turns, HasStood, IsSchedule, StaysOpen, machine, start_ticket, opening, zeros}
 use Rattle.of_core.specs.Starts.{first_words, start_of, IsStartRow, IsDurable, recovered_start}
 use Rattle.of_core.specs.Bound.{bound}
 use Rattle.of_core.specs.Claim.{IsSound}
@@ -45,7 +46,7 @@ abbrev pub EachBegin : Setup → (List ℕ → Type 0)
     → (Start → World → ℕ → Data → List ℕ → Type 0) → Type 0
 EachBegin S Lawful Law = EachMachine S Lawful (λ B w i m. m.place ≡ Idle
     → (op : List ℕ) → 1 ≤ length op → length op ≤ S.instrs
-    → m.made + 1 < 4294967296 → Law B w i m op)
+    → m.made + 1 < PAYLOADS → Law B w i m op)
 
 -- at each word that was loaded for an eviction
 abbrev pub EachLoaded : Setup → (List ℕ → Type 0) → (Start → World → ℕ × ℕ → Type 0) → Type 0
@@ -83,6 +84,12 @@ StepMoves S Lawful = EachStep S Lawful (λ B w i m n.
 abbrev pub StepTaken : Setup → (List ℕ → Type 0) → Type 0
 StepTaken S Lawful = EachMachine S Lawful (λ B w i m. IsOpen m.place
     → (n : ℕ) → FoundBy (want S m) w.words n → Step S B w m n (took S m n) (added S w.words m n))
+
+-- each step leaves each durable word as it was, or makes it the word that its cell holds
+abbrev pub StepDurables : Setup → (List ℕ → Type 0) → Type 0
+StepDurables S Lawful = EachStep S Lawful (λ B w i m n. (c : ℕ) → c < size S
+    → (durable_word S (stepped S i m n w).words c ≡ durable_word S w.words c)
+    ⊎ (durable_word S (stepped S i m n w).words c ≡ get_or w.words c 0))
 
 -- the call is the open one of its caller
 abbrev pub IsOpenCall : World → Call → Type 0
@@ -205,6 +212,12 @@ ScheduleKept S Lawful =
 -- every moment of every schedule from every start has what each moment claims
 abbrev pub EveryMoment : Setup → (List ℕ → Type 0) → Type 0
 EveryMoment S Lawful = EachSchedule S Lawful (λ B n es. IsSound S B (run S (opening S B n) es))
+
+-- each durable word is one that its cell has held, at this moment or before
+abbrev pub EveryDurable : Setup → (List ℕ → Type 0) → Type 0
+EveryDurable S Lawful = EachSchedule S Lawful (λ B n es.
+    let w : World = opening S B n in
+    (c : ℕ) → c < size S → HasStood S w es c (durable_word S (run S w es).words c))
 
 -- every schedule from every start leaves each caller's calls as its events begin and end them
 abbrev pub EveryCall : Setup → (List ℕ → Type 0) → Type 0

@@ -1,11 +1,12 @@
 -- One call as a machine: what it holds.
-use Rattle.std.specs.Prelude.{◌≡◌, ℕ, ◌+◌, ◌*◌, ◌==◌, nat_lt, List, [], ◌∷◌, ◌++◌, length, Option, Some, None, Bool, true, false, if◌then◌else◌}
+use Rattle.std.specs.Prelude.{◌≡◌, ℕ, ◌+◌, nat_lt, List, [], ◌∷◌, ◌++◌, length, Option, Some, None, Bool, true, false, if◌then◌else◌}
 use Rattle.std.proofs.Common.{get_or, set, take, drop, replicate}
 use Rattle.of_cell.specs.Words.{pay}
 use Rattle.of_mem.specs.declared.work.RawReply.{RawReply}
 use Rattle.of_core.specs.declared.place.Place.{Place}
 use Rattle.of_core.specs.declared.place.Place.TheVariants.{Idle, TryCurrent, StoreScript}
 use Rattle.of_core.specs.declared.place.Outcome.{Outcome}
+use Rattle.of_core.specs.declared.machine.fill.TheConstants.{ABORTED}
 use Rattle.of_core.specs.Table.{Setup}
 
 -- a call as it was run, with its reply
@@ -129,24 +130,6 @@ log_of (n ∷ ws) = pairs ws
 abbrev pub turned : ℕ → List (ℕ × ℕ) → List (ℕ × ℕ)
 turned f es = drop f es ++ take f es
 
--- A write-set: each cell once, in the order of first writing, with the number written last.
-abbrev pub put_by : ℕ × ℕ → ℕ × ℕ → List (ℕ × ℕ) → List (ℕ × ℕ) → (same : Bool) → List (ℕ × ℕ)
-put_by e d ds rest true = e ∷ ds
-put_by e d ds rest false = d ∷ rest
-
-abbrev pub put : ℕ × ℕ → List (ℕ × ℕ) → List (ℕ × ℕ)
-put e [] = e ∷ []
-put e (d ∷ ds) = put_by e d ds (put e ds) (e.0 == d.0)
-
-abbrev pub put_all : List (ℕ × ℕ) → List (ℕ × ℕ) → List (ℕ × ℕ)
-put_all ds [] = ds
-put_all ds (e ∷ es) = put_all (put e ds) es
-
--- what is known of the cells under a write-set
-abbrev pub merged : List (Option ℕ) → List (ℕ × ℕ) → List (Option ℕ)
-merged known [] = known
-merged known (e ∷ es) = merged (set known e.0 (Some e.1)) es
-
 -- what is known when a word of the data cell a was found
 abbrev pub learned : Setup → Data → (a found : ℕ) → List (Option ℕ)
 learned S m a found = set m.known a (Some (pay found))
@@ -156,8 +139,10 @@ abbrev pub listed : ℕ → List ℕ → List (ℕ × ℕ)
 listed a [] = []
 listed a (v ∷ vs) = (a, v) ∷ listed (a + 1) vs
 
--- what a call of caller i with so many words writes into its own cells: the reply, where the shape isn't that of an abort, then the shape and the ticket
-abbrev pub own_cells : Setup → (i ticket count : ℕ) → RawReply → List (ℕ × ℕ)
-own_cells S i ticket count r =
-    (if nat_lt r.shape 67108864 then listed (i * (S.instrs + 2) + 2) (take count r.values) else [])
-    ++ (i * (S.instrs + 2) + 1, r.shape) ∷ (i * (S.instrs + 2), ticket) ∷ []
+-- the reply cells of the caller whose ticket cell this is, where the shape isn't that of an abort
+abbrev pub reply_cells : (row count : ℕ) → RawReply → List (ℕ × ℕ)
+reply_cells row count r = if nat_lt r.shape ABORTED then listed (row + 2) (take count r.values) else []
+
+-- what a call with so many words writes into its own cells, of which this is the ticket cell: the reply, and then the shape and the ticket
+abbrev pub own_cells : (row ticket count : ℕ) → RawReply → List (ℕ × ℕ)
+own_cells row ticket count r = reply_cells row count r ++ (row + 1, r.shape) ∷ (row, ticket) ∷ []

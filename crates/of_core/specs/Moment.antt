@@ -1,8 +1,9 @@
 -- Words and machines of a moment, and what events leave of them.
-use Rattle.std.specs.Prelude.{◌≡◌, ℕ, ◌+◌, ◌<◌, List, [], length, map}
+use Rattle.std.specs.Prelude.{◌≡◌, ℕ, ◌<◌, List, [], length, map}
 use Rattle.std.proofs.Common.{get_or}
+use Rattle.of_cell.specs.Cells as cells
 use Rattle.of_mem.specs.Meaning.{Meaning}
-use Rattle.of_core.specs.Table.{Setup, setup_of, table_size}
+use Rattle.of_core.specs.Table.{Setup, setup_of}
 use Rattle.of_core.specs.Machine.{Data, no_machine}
 use Rattle.of_core.specs.World.{World, Start}
 use Rattle.of_core.specs.Shared.{MayStart}
@@ -17,6 +18,8 @@ pub record Bench (X : Type 0) : Type 0 where
   pub callers : ℕ
   pub cells : ℕ
   pub limit : ℕ
+  -- where the table started
+  pub start : Start
   -- the words of the table, and each caller's machine
   pub words : List ℕ
   pub machines : List Data
@@ -27,7 +30,7 @@ table meaning b = setup_of b.callers b.cells b.limit (meaning b.work)
 
 -- how many words it has: those of the table, and one for the members
 abbrev pub table_words : Setup → ℕ
-table_words S = table_size S + 1
+table_words S = cells.table_words S.callers S.instrs S.cells
 
 -- caller i's machine
 abbrev pub machine_of : {X : Type 0} → Bench X → ℕ → Data
@@ -41,14 +44,13 @@ world_of b = record { words = b.words; machines = b.machines; batches = []; read
 abbrev pub after : {X : Type 0} → (X → Meaning) → List Event → Bench X → Bench X
 after meaning es b = record b { words = (run (table meaning b) (world_of b) es).words; machines = (run (table meaning b) (world_of b) es).machines }
 
--- the words and machines are those of a moment: a schedule leaves them from some start
-pub record Reached (S : Setup) (Lawful : List ℕ → Type 0) (ws : List ℕ) (ms : List Data) : Type 0 where
-  pub start : Start
-  pub may_start : MayStart S Lawful start
+-- the words and machines are those of a moment: a schedule leaves them from the start
+pub record Reached (S : Setup) (Lawful : List ℕ → Type 0) (B : Start) (ws : List ℕ) (ms : List Data) : Type 0 where
+  pub may_start : MayStart S Lawful B
   pub events : List Event
-  pub schedule : IsSchedule S (opening S start (table_words S)) events
-  pub words : (run S (opening S start (table_words S)) events).words ≡ ws
-  pub machines : (run S (opening S start (table_words S)) events).machines ≡ ms
+  pub schedule : IsSchedule S (opening S B (table_words S)) events
+  pub words : (run S (opening S B (table_words S)) events).words ≡ ws
+  pub machines : (run S (opening S B (table_words S)) events).machines ≡ ms
 
 -- each of the machines runs this work on a table of these sizes
 abbrev pub Alike : {X : Type 0} → X → (callers cells limit : ℕ) → List (Seen X) → Type 0

@@ -1,6 +1,8 @@
 -- What the invariant says of a call that is announced, tried or in a round.
 use Rattle.std.specs.Prelude.{ℕ, ◌+◌, ◌*◌, List, length, Option, true, ◌≡◌, ◌≤◌, ◌<◌, ◌⊎◌}
 use Rattle.std.proofs.Common.{get_or}
+use Rattle.of_cell.specs.declared.word.TheConstants.{PAYLOADS}
+use Rattle.of_core.specs.declared.machine.trying.TheConstants.{MOST_TRIES}
 use Rattle.of_cell.specs.Words.{word, seq, pay}
 use Rattle.of_mem.specs.Meaning.{marked, Agrees}
 use Rattle.std.specs.List.{All}
@@ -21,7 +23,7 @@ Quieted S B ws bs i = (seq (announcement_of S ws i) ≤ ticket_in S B bs (last w
 -- a call that isn't announced yet
 pub record Fresh (S : Setup) (B : Start) (ws : List ℕ) (bs : List Batch) (i : ℕ) (m : Data) : Type 0 where
   pub caller : m.caller ≡ i
-  pub ticket : m.made < 4294967296
+  pub ticket : m.made < PAYLOADS
   pub words : length m.op ≤ S.instrs
   pub some : 1 ≤ length m.op
   pub kept : Keeps B ws bs i m.kept
@@ -40,7 +42,7 @@ Mine B ws bs i t op = (k : ℕ) → B.seq < k → k ≤ last ws → All (λ (c :
 -- a call that is announced
 pub record Begun (S : Setup) (B : Start) (ws : List ℕ) (bs : List Batch) (i : ℕ) (m : Data) : Type 0 where
   pub caller : m.caller ≡ i
-  pub ticket : m.made < 4294967296
+  pub ticket : m.made < PAYLOADS
   pub words : length m.op ≤ S.instrs
   pub some : 1 ≤ length m.op
   pub kept : Keeps B ws bs i m.kept
@@ -90,7 +92,7 @@ pub record WasCurrent (S : Setup) (B : Start) (ws : List ℕ) (bs : List Batch) 
 pub record Trying (S : Setup) (B : Start) (ws : List ℕ) (bs : List Batch) (i : ℕ) (m : Data) : Type 0 where
   pub fresh : Fresh S B ws bs i m
   pub reads : S.meaning.reads_only m.op ≡ true
-  pub few : m.tries ≤ 4
+  pub few : m.tries ≤ MOST_TRIES
 
 -- who helps: a machine in a round or in a try
 abbrev pub Helper : Setup → Start → List ℕ → List Batch → ℕ → Data → Type 0

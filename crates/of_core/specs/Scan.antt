@@ -1,6 +1,7 @@
 -- What the invariant says of a scan: the calls that were run are an overlay on the state of the round.
 use Rattle.std.specs.Prelude.{ℕ, List, length, true, ◌≡◌, ◌≤◌, ◌<◌, ◌⊎◌}
 use Rattle.std.proofs.Common.{get_or}
+use Rattle.of_cell.specs.declared.word.TheConstants.{PAYLOADS}
 use Rattle.of_cell.specs.Words.{word, seq, pay}
 use Rattle.of_mem.specs.declared.work.RawReply.{RawReply}
 use Rattle.of_mem.specs.Meaning.{marked, SameFrom, written}
@@ -59,7 +60,7 @@ pub record Over (S : Setup) (B : Start) (ws : List ℕ) (bs : List Batch) (i s m
 -- the announcement of caller c that a scan at s loaded
 pub record Hears (S : Setup) (B : Start) (ws : List ℕ) (bs : List Batch) (i s c heard : ℕ) : Type 0 where
   pub own : c ≡ i → announcement_of S ws c ≡ heard
-  pub ticket : seq heard < 4294967296
+  pub ticket : seq heard < PAYLOADS
   pub fresh : s ≡ last ws → ticket_in S B bs s c < seq heard → announcement_of S ws c ≡ heard
   pub stood : B.seq < s → (batch B bs s).announcements c ≡ announcement_of S ws c → announcement_of S ws c ≡ heard
   pub small : pay heard ≤ S.instrs

@@ -1,5 +1,5 @@
 -- What contracts see of a machine.
-use Rattle.std.specs.Prelude.{ℕ, ◌+◌, ◌<◌, Option, None}
+use Rattle.std.specs.Prelude.{ℕ, Option, None}
 use Rattle.of_mem.specs.Meaning.{Meaning}
 use Rattle.of_core.specs.declared.place.Place.{Place}
 use Rattle.of_core.specs.declared.place.Place.TheVariants.{Idle}
@@ -22,13 +22,9 @@ pub record Seen (X : Type 0) : Type 0 where
 abbrev pub setup : {X : Type 0} → (X → Meaning) → Seen X → Setup
 setup meaning m = setup_of m.callers m.cells m.limit (meaning m.work)
 
--- the machine after its step from a place found this number
+-- the machine after its step from a place found this number; the step is counted before
 abbrev pub step_from : {X : Type 0} → (X → Meaning) → Place → (found : ℕ) → Seen X → Seen X
 step_from meaning p found m = record m { call = took_at (setup meaning m) m.call found p }
-
--- one step more is still counted
-abbrev pub HasTime : {X : Type 0} → Seen X → Type 0
-HasTime m = m.call.steps + 1 < 18446744073709551616
 
 -- how the last call ended, where none is open
 abbrev pub ended_at : Place → Data → Option Outcome

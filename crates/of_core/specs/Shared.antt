@@ -1,6 +1,8 @@
 -- What the invariant says of words and history alone, in groups.
 use Rattle.std.specs.Prelude.{ℕ, ◌+◌, ◌*◌, ◌-◌, List, length, ◌≡◌, ◌≤◌, ◌<◌, ◌⊎◌, max, map}
 use Rattle.std.proofs.Common.{get_or}
+use Rattle.of_mem.specs.declared.work.TheConstants.{MOST_INSTRS}
+use Rattle.of_cell.specs.declared.word.TheConstants.{PAYLOADS}
 use Rattle.of_cell.specs.Words.{word, seq, pay}
 use Rattle.of_mem.specs.Meaning.{Once, SameFrom}
 use Rattle.std.specs.List.{All}
@@ -11,7 +13,7 @@ use Rattle.of_core.specs.History.{batch, at, numbers, after_calls, Replies, tick
 
 -- an entry of a log that may be: a data cell, and a number that a word holds
 abbrev pub IsEntry : Setup → ℕ × ℕ → Type 0
-IsEntry S e = (e.0 < S.cells) × (e.1 < 4294967296)
+IsEntry S e = (e.0 < S.cells) × (e.1 < PAYLOADS)
 
 -- a batch's log: entries that may be, each cell once
 pub record IsLog (S : Setup) (es : List (ℕ × ℕ)) : Type 0 where
@@ -122,7 +124,7 @@ pub record Heard (S : Setup) (B : Start) (ws : List ℕ) (bs : List Batch) : Typ
   -- an announcement is of so many words at most
   pub small : (i : ℕ) → i < S.callers → pay (announcement_of S ws i) ≤ S.instrs
   -- its ticket is a word
-  pub tickets : (i : ℕ) → i < S.callers → seq (announcement_of S ws i) < 4294967296
+  pub tickets : (i : ℕ) → i < S.callers → seq (announcement_of S ws i) < PAYLOADS
   -- and a ticket above 0 is of one word at least
   pub some : (i : ℕ) → i < S.callers → 0 < seq (announcement_of S ws i) → 1 ≤ pay (announcement_of S ws i)
   -- announcements only rise
@@ -158,9 +160,9 @@ pub record Kinds (S : Setup) (B : Start) (ws : List ℕ) (bs : List Batch) : Typ
 -- all that is said of words and history, and of no machine
 pub record Shared (S : Setup) (Lawful : List ℕ → Type 0) (B : Start) (ws : List ℕ) (bs : List Batch) : Type 0 where
   pub start : IsStart S B
-  pub few : S.callers < 4294967296
-  pub narrow : S.instrs ≤ 16
-  pub little : S.cells < 4294967296
+  pub few : S.callers < PAYLOADS
+  pub narrow : S.instrs ≤ MOST_INSTRS
+  pub little : S.cells < PAYLOADS
   pub own_in : base S ≤ S.cells
   pub room : size S + size S + S.callers * (S.instrs + 1) ≤ length ws
   pub counted : Counted S B ws bs

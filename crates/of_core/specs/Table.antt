@@ -1,10 +1,11 @@
 -- The words of the shared table: which stand where, and what they are called.
-use Rattle.std.specs.Prelude.{ℕ, ◌+◌, ◌*◌, List, [], ◌∷◌, ◌++◌, ◌%◌}
+use Rattle.std.specs.Prelude.{ℕ, List, [], ◌∷◌, ◌++◌, ◌%◌}
 use Rattle.std.proofs.Common.{get_or, zero, suc}
 use Rattle.of_cell.specs.Words.{seq, pay}
 use Rattle.of_cell.specs.Cells.{request_cell, data_cell, log_cell, durable_cells, durable_place, script_place, members_place}
 use Rattle.of_recover.specs.Row.{current_seq}
 use Rattle.of_mem.specs.Meaning.{Meaning}
+use Rattle.of_mem.specs.Places.{ticket_at, shape_at, reply_at, base_of}
 use Rattle.of_mem.specs.declared.work.TheConstants.{MOST_INSTRS}
 
 -- what all machines of a table have in common
@@ -51,27 +52,27 @@ table_size S = members_place S.callers S.instrs S.cells
 
 -- Data cells. Each caller's own come first: the ticket, the shape and the reply of its last announced call that was run.
 abbrev pub ticket_cell : Setup → ℕ → ℕ
-ticket_cell S i = i * (S.instrs + 2)
+ticket_cell S i = ticket_at S.instrs i
 
 abbrev pub shape_cell : Setup → ℕ → ℕ
-shape_cell S i = i * (S.instrs + 2) + 1
+shape_cell S i = shape_at S.instrs i
 
 abbrev pub reply_cell : Setup → ℕ → ℕ → ℕ
-reply_cell S i j = i * (S.instrs + 2) + 2 + j
+reply_cell S i j = reply_at S.instrs i j
 
 -- where the operations' own cells begin
 abbrev pub base : Setup → ℕ
-base S = S.callers * (S.instrs + 2)
+base S = base_of S.callers S.instrs
 
 -- The words themselves.
 abbrev pub current_word : List ℕ → ℕ
 current_word ws = get_or ws 0 0
 
 abbrev pub request_of : List ℕ → ℕ → ℕ
-request_of ws i = get_or ws (i + 1) 0
+request_of ws i = get_or ws (request_at i) 0
 
 abbrev pub cell : Setup → List ℕ → ℕ → ℕ
-cell S ws a = get_or ws (S.callers + 1 + a) 0
+cell S ws a = get_or ws (data_at S a) 0
 
 abbrev pub log_word : Setup → List ℕ → ℕ → ℕ → ℕ
 log_word S ws i x = get_or ws (log_at S i x) 0

@@ -60,6 +60,11 @@ pub record Stored (S : Setup) (B : Start) (ws : List ℕ) (bs : List Batch) (i :
   pub durable : (y : ℕ) → y < z → durable_log S ws i y ≡ word (m.seq + 1) (get_or (log_words m.log) y 0)
   pub rest : (y : ℕ) → x ≤ y → y < 2 * S.cells + 1 → seq (log_word S ws i y) ≤ m.seq
 
+-- each of caller i's batches is closed durably
+abbrev pub ClosedDurably : Setup → Start → List ℕ → List Batch → ℕ → Type 0
+ClosedDurably S B ws bs i = (k : ℕ) → B.seq < k → k ≤ last ws
+    → (batch B bs k).owner ≡ i → word k 0 < durable_request S ws i
+
 -- a machine that stores its log still has its old request
 pub record Logs (S : Setup) (B : Start) (ws : List ℕ) (bs : List Batch) (i : ℕ) (m : Data) (x z : ℕ) : Type 0 where
   pub stored : Stored S B ws bs i m x z

@@ -9,7 +9,7 @@ use Rattle.of_core.specs.declared.place.Outcome.{Outcome}
 use Rattle.of_core.specs.declared.place.Outcome.TheVariants.{Answered, Spent}
 use Rattle.of_core.specs.Table.{Setup, announcement_of}
 use Rattle.of_core.specs.Machine.{Call, Data, is_idle}
-use Rattle.of_core.specs.Steps.{want, took, words_after, want_at, word_of, left, took_at}
+use Rattle.of_core.specs.Steps.{want, took, words_after, want_at, word_of, left, took_at, counted_at}
 
 -- what one exchange of the current-transaction word commits
 pub record Batch : Type 0 where
@@ -93,6 +93,19 @@ stepped S i m n w = record {
 -- the same at the place p, as far as it computes
 abbrev pub stepped_at : Setup → ℕ → Data → Place → World → World
 stepped_at S i m p w =
+    let c = word_of (want_at S m p) in
+    let found = get_or w.words c 0 in
+    record {
+      words = set w.words c (left (want_at S m p) found);
+      machines = set w.machines i (took_at S (counted_at p m) found p);
+      batches = w.batches ++ commits_at S w.words m found p;
+      reads = w.reads ++ answers_at (took_at S (counted_at p m) found p) p;
+      loaded = w.loaded;
+    }
+
+-- and of a machine that has counted its step
+abbrev pub stepped_on : Setup → ℕ → Data → Place → World → World
+stepped_on S i m p w =
     let c = word_of (want_at S m p) in
     let found = get_or w.words c 0 in
     record {

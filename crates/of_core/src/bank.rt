@@ -5,19 +5,21 @@ ghost use Rattle.std.proofs.Common.{get_or, set};
 ghost use Rattle.of_mem.specs.declared.work.TheConstants.{MOST_INSTRS};
 ghost use Rattle.of_cell.specs.Words.{pay};
 ghost use Rattle.of_cell.specs.Cells.{durable_cells, table_words as cell_words};
+ghost use Rattle.of_cell.specs.declared.word.TheConstants.{PAYLOADS};
 ghost use Rattle.of_core.specs.Table.{size, setup_of};
 ghost use Rattle.of_core.specs.Steps.{word_of, left};
 ghost use Rattle.of_core.specs.Events.{Begins, Turns, Raises, zeros, idles, opening};
 ghost use Rattle.of_core.specs.Starts.{IsStartRow, closed_at, first_cells, first_words, start_of};
-ghost use Rattle.of_core.specs.Moment.{after, table, table_words, machine_of};
+ghost use Rattle.of_core.specs.Moment.{Reached, after, machine_of, table, table_words};
 ghost use Rattle.of_core.specs.Turn.{turn_of, told, IsIdle};
 
-use crate::machine::Machine;
+use crate::machine::{GREATEST_LIMIT, Machine};
 use crate::place::{Op, Outcome};
 use of_cell::{Shape, pack, payload_of, seq_of};
 use of_mem::{MOST_INSTRS, Work};
 use std::alloc::{AllocError, Global};
 use std::marker::Model;
+use std::snapshot::Snapshot;
 
 /// What a turn says of its caller's call.
 #[derive(Clone, Copy)]
@@ -30,13 +32,15 @@ pub enum Turn {
     Ended(Outcome),
 }
 
-/// The words of a table, and a machine for each caller. A contract sees them, and that they are those of a moment: some schedule leaves
-/// them.
+/// The words of a table, and a machine for each caller. A contract sees them and where the table started; they are those of a moment,
+/// which a schedule leaves from there.
 #[derive(Drop)]
 pub struct Bank<W: Work> {
     work: W,
     shape: Shape,
     limit: u32,
+    /// The words that the table started with.
+    first: Snapshot<Vec<u64>>,
     words: Vec<u64>,
     machines: Vec<Machine<W>>,
 }
@@ -145,11 +149,12 @@ impl<W: Work> Bank<W> {
         requires callers { shape.callers ≡ W.many work }
         requires instrs { shape.instrs ≡ MOST_INSTRS }
         requires cells { shape.cells ≡ W.size work }
-        requires limit { limit ≤ 4294967294 }
+        requires limit { limit ≤ GREATEST_LIMIT }
         ensures work { IfOk result (λ b. b.work ≡ work) }
         ensures callers { IfOk result (λ b. b.callers ≡ shape.callers) }
         ensures cells { IfOk result (λ b. b.cells ≡ shape.cells) }
         ensures limit { IfOk result (λ b. b.limit ≡ limit) }
+        ensures start { IfOk result (λ b. b.start ≡ zeros (table W.meaning b)) }
         ensures words { IfOk result (λ b. b.words ≡ (opening (table W.meaning b) (zeros (table W.meaning b)) (table_words (table W.meaning b))).words) }
         ensures machines { IfOk result (λ b. b.machines ≡ (opening (table W.meaning b) (zeros (table W.meaning b)) (table_words (table W.meaning b))).machines) }
         ensures idle { IfOk result (λ b. b.machines ≡ idles (table W.meaning b) (λ i. 0) 0 b.callers) }
@@ -164,6 +169,7 @@ impl<W: Work> Bank<W> {
             work,
             shape,
             limit,
+            first: Snapshot::of(&words),
             words,
             machines,
         })
@@ -181,12 +187,13 @@ impl<W: Work> Bank<W> {
         requires callers { shape.callers ≡ W.many work }
         requires instrs { shape.instrs ≡ MOST_INSTRS }
         requires cells { shape.cells ≡ W.size work }
-        requires limit { limit ≤ 4294967294 }
+        requires limit { limit ≤ GREATEST_LIMIT }
         requires row { IsStartRow (setup_of shape.callers shape.cells limit (W.meaning work)) (W.lawful work) durable.now }
         ensures work { IfOk result (λ b. b.work ≡ work) }
         ensures callers { IfOk result (λ b. b.callers ≡ shape.callers) }
         ensures cells { IfOk result (λ b. b.cells ≡ shape.cells) }
         ensures limit { IfOk result (λ b. b.limit ≡ limit) }
+        ensures start { IfOk result (λ b. b.start ≡ start_of shape.callers shape.cells durable.now) }
         ensures words { let start = start_of shape.callers shape.cells durable.now in IfOk result (λ b. b.words ≡ (opening (table W.meaning b) start (table_words (table W.meaning b))).words) }
         ensures machines { let start = start_of shape.callers shape.cells durable.now in IfOk result (λ b. b.machines ≡ (opening (table W.meaning b) start (table_words (table W.meaning b))).machines) }
     {
@@ -201,6 +208,7 @@ impl<W: Work> Bank<W> {
             work,
             shape,
             limit,
+            first: Snapshot::of(&words),
             words,
             machines,
         })
@@ -228,7 +236,7 @@ impl<W: Work> Bank<W> {
         requires idle { IsIdle (machine_of self.old caller) }
         requires some { 1 ≤ length op.now }
         requires few { length op.now ≤ MOST_INSTRS }
-        requires made { (machine_of self.old caller).made + 1 < 4294967296 }
+        requires made { (machine_of self.old caller).made + 1 < PAYLOADS }
         ensures { self.new ≡ after W.meaning (Begins caller op.now ∷ []) self.old }
     {
         let machine = &mut self.machines[caller as usize];
@@ -258,6 +266,14 @@ impl<W: Work> Bank<W> {
     {
         let durable = self.shape.durable_word(cell) as usize;
         self.words[durable] = self.words[durable].max(self.words[cell as usize]);
+    }
+
+    /// The words and machines are those that a schedule leaves from the start. It does nothing.
+    pub fn stands(&self)
+        ensures { Reached (table W.meaning self.now) (W.lawful self.now.work) self.now.start self.now.words self.now.machines }
+    {
+        // to read a field shows what the type keeps
+        let _limit = self.limit;
     }
 
     /// Hands the words out.

@@ -2,11 +2,11 @@
 //! theorems.
 
 ghost use Rattle.of_core.specs.Laws.{setup_for};
-ghost use Rattle.of_core.specs.Laws.{StepKept, StepMoves, StepTaken, NewCalls, BeginKept};
-ghost use Rattle.of_core.specs.Laws.{LoadKept, LoadedStays, RaiseKept, RaiseRises, BesideKept};
-ghost use Rattle.of_core.specs.Laws.{StartKept, GoodIsSound};
+ghost use Rattle.of_core.specs.Laws.{StepKept, StepMoves, StepTaken, StepDurables, NewCalls};
+ghost use Rattle.of_core.specs.Laws.{BeginKept, LoadKept, LoadedStays, RaiseKept, RaiseRises};
+ghost use Rattle.of_core.specs.Laws.{BesideKept, StartKept, GoodIsSound};
 ghost use Rattle.of_core.specs.Laws.{StartCalls, StepCalls, BeginCalls, RaiseCalls, BesideCalls};
-ghost use Rattle.of_core.specs.Laws.{EventKept, ScheduleKept, EveryMoment};
+ghost use Rattle.of_core.specs.Laws.{EventKept, ScheduleKept, EveryDurable, EveryMoment};
 ghost use Rattle.of_core.specs.Laws.{EveryCall, EveryTurn, CallsKept, EndsInTime};
 ghost use Rattle.of_core.specs.Laws.{FirstWords, FirstMachines, ZerosMayStart};
 ghost use Rattle.of_core.specs.Laws.{ZeroWords, ZeroTickets, Restarts};
@@ -22,6 +22,7 @@ pub fn step_kept<W: Work>(limit: u32, work: W)
     ensures kept { StepKept (setup_for W.many W.size W.meaning limit work) (W.lawful work) }
     ensures moves { StepMoves (setup_for W.many W.size W.meaning limit work) (W.lawful work) }
     ensures taken { StepTaken (setup_for W.many W.size W.meaning limit work) (W.lawful work) }
+    ensures durables { StepDurables (setup_for W.many W.size W.meaning limit work) (W.lawful work) }
     ensures new_calls { NewCalls (setup_for W.many W.size W.meaning limit work) (W.lawful work) }
     ensures begins { BeginKept (setup_for W.many W.size W.meaning limit work) (W.lawful work) }
     ensures loads { LoadKept (setup_for W.many W.size W.meaning limit work) (W.lawful work) }
@@ -44,10 +45,12 @@ pub fn calls_kept<W: Work>(limit: u32, work: W)
 {}
 
 /// Each event, and so each schedule, keeps the invariant. From every start every schedule leaves a
-/// moment with a legal history, of which recovery gives the state that its durable words name.
+/// moment with a legal history, of which recovery gives the state that its durable words name; and
+/// no durable word is other than one that its cell has held.
 pub fn every_moment<W: Work>(limit: u32, work: W)
     ensures kept { EventKept (setup_for W.many W.size W.meaning limit work) (W.lawful work) }
     ensures runs { ScheduleKept (setup_for W.many W.size W.meaning limit work) (W.lawful work) }
+    ensures durables { EveryDurable (setup_for W.many W.size W.meaning limit work) (W.lawful work) }
     ensures sound { EveryMoment (setup_for W.many W.size W.meaning limit work) (W.lawful work) }
 {}
 

@@ -3,6 +3,7 @@
 ghost use Rattle.std.specs.Prelude.{◌≡◌, ◌≢◌, ◌<◌, ◌≤◌, ◌+◌, IfOk, IsTrue, ◌↔◌, length};
 ghost use Rattle.std.proofs.Common.{get_or};
 ghost use Rattle.of_mem.specs.declared.work.TheConstants.{MOST_INSTRS};
+ghost use Rattle.of_cell.specs.declared.word.TheConstants.{PAYLOADS};
 ghost use Rattle.of_core.specs.Table.{size, table_size, data_at, ticket_cell, shape_cell, reply_cell};
 ghost use Rattle.of_core.specs.Seen.{setup, ended};
 ghost use Rattle.of_core.specs.Machine.{idle, opened, log_words};
@@ -25,6 +26,9 @@ use of_mem::{MOST_INSTRS, Part, RawReply, Work};
 use of_wset::WriteSet;
 use std::alloc::{AllocError, Global};
 use std::marker::Model;
+
+/// The greatest sequence that may be the last: the log words of the next one are still words.
+pub const GREATEST_LIMIT: u32 = u32::MAX - 1;
 
 /// How many data cells belong to each caller: its ticket, the shape of its reply, and the reply's numbers.
 const OWN_CELLS: u32 = MOST_INSTRS as u32 + 2;
@@ -89,7 +93,7 @@ impl<W: Work> Machine<W> {
         requires instrs { shape.instrs ≡ MOST_INSTRS }
         requires cells { shape.cells ≡ W.size work }
         requires caller { caller < shape.callers }
-        requires limit { limit ≤ 4294967294 }
+        requires limit { limit ≤ GREATEST_LIMIT }
         ensures work { IfOk result (λ m. m.work ≡ work) }
         ensures callers { IfOk result (λ m. m.callers ≡ shape.callers) }
         ensures cells { IfOk result (λ m. m.cells ≡ shape.cells) }
@@ -138,7 +142,7 @@ impl<W: Work> Machine<W> {
         requires idle { self.old.call.place ≡ Place.Idle }
         requires some { 1 ≤ length op.now }
         requires few { length op.now ≤ MOST_INSTRS }
-        requires made { self.old.call.made + 1 < 4294967296 }
+        requires made { self.old.call.made + 1 < PAYLOADS }
         ensures { self.new ≡ record self.old { call = opened (setup W.meaning self.old) self.old.call op.now } }
     {
         self.op.clear();
@@ -338,7 +342,7 @@ impl<W: Work> Machine<W> {
         ensures { self.new ≡ record self.old { call = took (setup W.meaning self.old) self.old.call found } }
     {
         // the step bound keeps the count within its type
-        prove!(self.steps < u64::MAX);
+        self.steps += 1;
         match self.place {
             Place::Idle => unreachable!(),
             Place::TryCurrent => self.after_try_current(found),

@@ -2,6 +2,7 @@
 
 ghost use Rattle.std.specs.Prelude.{◌≡◌, ◌<◌};
 ghost use Rattle.of_mem.specs.Plots.{size};
+ghost use Rattle.schedules.specs.Rows.{stored_row};
 
 use of_cell::{Shape, pack};
 use of_core::{Bank, Outcome, Turn};
@@ -19,6 +20,11 @@ const LOAD_4: u64 = 20 << 31;
 
 /// The word of `store 4 0`; the number that is stored adds to it.
 const STORE_4: u64 = 36 << 31;
+
+/// The words of `store 3 7` and `add 3 1`.
+const STORE_3_7: u64 = (35 << 31) + 7;
+
+const ADD_3_1: u64 = (51 << 31) + 1;
 
 /// How a run of turns of one caller ended, as far as the tests compare it.
 #[derive(Clone, Copy, Debug, PartialEq, Eq)]
@@ -255,5 +261,129 @@ fn an_announced_read_leaves_its_reply(rt: HostRuntime) -> Result<(), Fail> {
         first_other(&shape, words.as_slice(), cells.as_slice()),
         None
     );
+    Ok(())
+}
+
+#[test]
+fn helped_after_the_exchange(rt: HostRuntime) -> Result<(), Fail> {
+    let scripts = Scripts {
+        callers: 2,
+        blocks: 0,
+    };
+    let plot = scripts.plot();
+    let shape = shape_for(&plot);
+    let mut bank = Bank::new(rt.alloc(), shape, 5, scripts)?;
+    bank.begin(0, [STORE_3_7].as_slice());
+    bank.begin(1, [ADD_3_1].as_slice());
+    // the first has exchanged the current-transaction word, and the second begins to help at another entry
+    assert_eq!(rt; turns(&mut bank, 0, 31), Left::Open);
+    assert_eq!(rt; turns(&mut bank, 1, 17), Left::Open);
+    let words = bank.words();
+    assert_eq!(rt;
+        data_word(&shape, words.as_slice(), plot.reply(0, 0)),
+        Some(4_294_967_296)
+    );
+    assert_eq!(rt;
+        data_word(&shape, words.as_slice(), plot.register(3)),
+        Some(0)
+    );
+    assert_eq!(rt; words.get(5).copied(), Some(4_294_967_296));
+    assert_eq!(rt; words.get(42).copied(), Some(0));
+    Ok(())
+}
+
+/// The durable words of one caller that has left 7 in register 3, all with one sequence, with this request.
+fn stored(seq: u32, request: u64) -> [u64; 246]
+    ensures { result ≡ stored_row seq request }
+{
+    let mut row = [0; 246];
+    row[0] = pack(seq, 0);
+    row[1] = request;
+    row[2] = pack(seq, 1);
+    row[3] = pack(seq, 65_536);
+    row[4] = pack(seq, 0);
+    row[23] = pack(seq, 7);
+    row
+}
+
+/// The only caller has begun one call before; it adds 1 to register 3, and this is what a number of turns leaves.
+fn adds(bank: &mut Bank<Scripts>, count: u64) -> Left
+    requires { 0 < bank.old.callers }
+    ensures { bank.new.callers ≡ bank.old.callers }
+{
+    if !bank.is_idle(0) {
+        return Left::Idle;
+    }
+    if bank.made(0) != 1 {
+        return Left::Idle;
+    }
+    bank.begin(0, [ADD_3_1].as_slice());
+    turns(bank, 0, count)
+}
+
+#[test]
+fn a_table_that_starts_behind_a_batch(rt: HostRuntime) -> Result<(), Fail> {
+    let scripts = Scripts {
+        callers: 1,
+        blocks: 0,
+    };
+    let plot = scripts.plot();
+    let shape = shape_for(&plot);
+    let row = stored(1, pack(1, 1));
+    let mut bank = Bank::start(rt.alloc(), shape, 5, scripts, row.as_slice())?;
+    assert_eq!(rt; adds(&mut bank, 48), Left::Open);
+    assert_eq!(rt; turns(&mut bank, 0, 1), Left::Answered(2, true, 65_537, 49));
+    let words = bank.words();
+    let cells = [
+        (plot.ticket(0), pack(2, 2)),
+        (plot.shape(0), pack(2, 65_537)),
+        (plot.reply(0, 0), pack(2, 8)),
+        (plot.register(3), pack(2, 8)),
+    ];
+    assert_eq!(rt;
+        first_other(&shape, words.as_slice(), cells.as_slice()),
+        None
+    );
+    Ok(())
+}
+
+#[test]
+fn a_table_that_starts_with_a_store(rt: HostRuntime) -> Result<(), Fail> {
+    let scripts = Scripts {
+        callers: 1,
+        blocks: 0,
+    };
+    let plot = scripts.plot();
+    let shape = shape_for(&plot);
+    let row = stored(0, 0);
+    let mut bank = Bank::start(rt.alloc(), shape, 5, scripts, row.as_slice())?;
+    assert_eq!(rt; adds(&mut bank, 48), Left::Open);
+    assert_eq!(rt; turns(&mut bank, 0, 1), Left::Answered(1, true, 65_537, 49));
+    let words = bank.words();
+    let cells = [
+        (plot.ticket(0), pack(1, 2)),
+        (plot.shape(0), pack(1, 65_537)),
+        (plot.reply(0, 0), pack(1, 8)),
+        (plot.register(3), pack(1, 8)),
+    ];
+    assert_eq!(rt;
+        first_other(&shape, words.as_slice(), cells.as_slice()),
+        None
+    );
+    Ok(())
+}
+
+#[test]
+fn a_table_that_starts_at_its_limit(rt: HostRuntime) -> Result<(), Fail> {
+    let scripts = Scripts {
+        callers: 1,
+        blocks: 0,
+    };
+    let shape = shape_for(&scripts.plot());
+    let row = stored(1, pack(1, 1));
+    let mut bank = Bank::start(rt.alloc(), shape, 1, scripts, row.as_slice())?;
+    // the script, the announcement, the current word, its request, and one's own ticket
+    assert_eq!(rt; adds(&mut bank, 4), Left::Open);
+    assert_eq!(rt; turns(&mut bank, 0, 1), Left::Spent(1));
     Ok(())
 }

@@ -158,7 +158,7 @@ fn spent_at_the_limit(rt: HostRuntime) -> Result<(), Fail> {
 }
 
 /// The durable words of one caller that has written 7, all with one sequence, with this request.
-fn written(seq: u32, request: u64) -> [u64; 36]
+fn written(seq: u32, request: u64) -> [u64; 60]
     ensures { result ≡ written_row seq request }
 {
     let mut row = [0; 60];

@@ -1,7 +1,7 @@
 //! How a machine goes on at the steps that announce its call.
 
 ghost use Rattle.std.specs.Prelude.{◌≡◌, ◌<◌, ◌+◌};
-ghost use Rattle.of_core.specs.Seen.{step_from, HasTime};
+ghost use Rattle.of_core.specs.Seen.{step_from};
 ghost use Rattle.of_core.specs.declared.place.Place.TheVariants.{StoreScript};
 
 use crate::machine::Machine;
@@ -12,7 +12,6 @@ impl<W: Work> Machine<W> {
     /// From the store of a script word.
     pub(super) fn after_store_script(&mut self, at: u32)
         requires at { self.old.call.place ≡ StoreScript at }
-        requires time { HasTime self.old }
         ensures { self.new ≡ step_from W.meaning (StoreScript at) 0 self.old }
     {
         self.place = if at as usize + 1 < self.op.len() {
@@ -20,15 +19,12 @@ impl<W: Work> Machine<W> {
         } else {
             Place::StoreAnnouncement
         };
-        self.steps += 1;
     }
 
     /// From the store of the announcement.
     pub(super) fn after_store_announcement(&mut self)
-        requires time { HasTime self.old }
         ensures { self.new ≡ step_from W.meaning Place.StoreAnnouncement 0 self.old }
     {
         self.place = Place::LoadCurrent;
-        self.steps += 1;
     }
 }

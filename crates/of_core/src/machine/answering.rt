@@ -3,7 +3,7 @@
 ghost use Rattle.std.specs.Prelude.{◌≡◌, ◌<◌, ◌≤◌, ◌+◌, IfSome, Option, ℕ};
 ghost use Rattle.of_mem.specs.declared.work.TheConstants.{MOST_INSTRS};
 ghost use Rattle.of_core.specs.Steps.{asks_more};
-ghost use Rattle.of_core.specs.Seen.{setup, step_from, HasTime};
+ghost use Rattle.of_core.specs.Seen.{setup, step_from};
 ghost use Rattle.of_core.specs.declared.place.Place.TheVariants.{LoadReply};
 
 use crate::machine::fill::first_mark;
@@ -16,7 +16,6 @@ impl<W: Work> Machine<W> {
     /// From the load of one's own ticket: the call is there, or it is spent at the limit, or the scan begins.
     pub(super) fn after_own_ticket(&mut self, found: u64)
         requires at { self.old.call.place ≡ Place.LoadOwnTicket }
-        requires time { HasTime self.old }
         ensures { self.new ≡ step_from W.meaning Place.LoadOwnTicket found self.old }
     {
         if self.seq < seq_of(found) {
@@ -28,23 +27,19 @@ impl<W: Work> Machine<W> {
             self.place = Place::Idle;
             self.answer = Some(Outcome::Spent { seq: self.seq });
             self.steps = 0;
-            return;
         } else {
             self.part.learn(self.caller * OWN_CELLS, payload_of(found));
             self.place = Place::LoadAnnouncement;
         }
-        self.steps += 1;
     }
 
     /// From the load of the shape of one's own reply.
     pub(super) fn after_load_shape(&mut self, found: u64)
         requires at { self.old.call.place ≡ Place.LoadShape }
-        requires time { HasTime self.old }
         ensures { self.new ≡ step_from W.meaning Place.LoadShape found self.old }
     {
         if self.seq < seq_of(found) {
             self.place = Place::LoadCurrent;
-            self.steps += 1;
         } else {
             self.raw = RawReply {
                 shape: payload_of(found),
@@ -57,12 +52,10 @@ impl<W: Work> Machine<W> {
     /// From the load of a number of one's own reply.
     pub(super) fn after_load_reply(&mut self, at: u32, found: u64)
         requires at { self.old.call.place ≡ LoadReply at }
-        requires time { HasTime self.old }
         ensures { self.new ≡ step_from W.meaning (LoadReply at) found self.old }
     {
         if self.seq < seq_of(found) {
             self.place = Place::LoadCurrent;
-            self.steps += 1;
         } else {
             self.raw.values[at as usize] = payload_of(found);
             self.ask_or_tell(first_mark(self.raw.shape, at + 1, MOST_INSTRS as u32 - at - 1));
@@ -72,13 +65,11 @@ impl<W: Work> Machine<W> {
     /// Asks for a number of the reply, or tells the reply where there is none to ask for.
     fn ask_or_tell(&mut self, next: Option<u32>)
         requires below { IfSome next (λ j. j < MOST_INSTRS) }
-        requires time { HasTime self.old }
         ensures { self.new ≡ record self.old { call = asks_more self.old.call next } }
     {
         match next {
             Some(at) => {
                 self.place = Place::LoadReply(at);
-                self.steps += 1;
             }
             None => {
                 self.place = Place::Idle;
@@ -86,7 +77,7 @@ impl<W: Work> Machine<W> {
                     seq: seq_of(self.heard),
                     announced: true,
                     raw: self.raw,
-                    steps: self.steps + 1,
+                    steps: self.steps,
                 });
                 self.steps = 0;
             }

@@ -1,7 +1,7 @@
 //! How a machine goes on at the steps that apply a transaction, its own or one that it helps with.
 
 ghost use Rattle.std.specs.Prelude.{◌≡◌, ◌≤◌, ◌<◌, ◌+◌, length, IsTrue};
-ghost use Rattle.of_core.specs.Seen.{step_from, HasTime};
+ghost use Rattle.of_core.specs.Seen.{step_from};
 ghost use Rattle.of_core.specs.declared.place.Place.TheVariants.{LoadTarget, ExchangeTarget, ReloadTarget, RaiseTarget};
 
 use crate::machine::Machine;
@@ -13,7 +13,6 @@ impl<W: Work> Machine<W> {
     /// From the raise of the current-transaction word.
     pub(super) fn after_raise_current(&mut self)
         requires at { self.old.call.place ≡ Place.RaiseCurrent }
-        requires time { HasTime self.old }
         ensures { self.new ≡ step_from W.meaning Place.RaiseCurrent 0 self.old }
     {
         self.place = if self.log.is_empty() {
@@ -21,13 +20,11 @@ impl<W: Work> Machine<W> {
         } else {
             Place::LoadTarget(0)
         };
-        self.steps += 1;
     }
 
     /// From the load of an entry's cell.
     pub(super) fn after_load_target(&mut self, entry: u32, found: u64)
         requires at { self.old.call.place ≡ LoadTarget entry }
-        requires time { HasTime self.old }
         ensures { self.new ≡ step_from W.meaning (LoadTarget entry) found self.old }
     {
         self.place = if seq_of(found) < self.seq {
@@ -36,33 +33,27 @@ impl<W: Work> Machine<W> {
             // another has brought the entry there
             Place::RaiseTarget(entry, found)
         };
-        self.steps += 1;
     }
 
     /// From the exchange of an entry's cell.
     pub(super) fn after_exchange_target(&mut self, entry: u32, old: u64)
         requires at { self.old.call.place ≡ ExchangeTarget entry old }
-        requires time { HasTime self.old }
         ensures { self.new ≡ step_from W.meaning (ExchangeTarget entry old) 0 self.old }
     {
         self.place = Place::ReloadTarget(entry);
-        self.steps += 1;
     }
 
     /// From the second load of an entry's cell.
     pub(super) fn after_reload_target(&mut self, entry: u32, found: u64)
         requires at { self.old.call.place ≡ ReloadTarget entry }
-        requires time { HasTime self.old }
         ensures { self.new ≡ step_from W.meaning (ReloadTarget entry) found self.old }
     {
         self.place = Place::RaiseTarget(entry, found);
-        self.steps += 1;
     }
 
     /// From the raise of an entry's cell.
     pub(super) fn after_raise_target(&mut self, entry: u32, raised: u64)
         requires at { self.old.call.place ≡ RaiseTarget entry raised }
-        requires time { HasTime self.old }
         ensures { self.new ≡ step_from W.meaning (RaiseTarget entry raised) 0 self.old }
     {
         let entries = self.log.len();
@@ -71,23 +62,19 @@ impl<W: Work> Machine<W> {
         } else {
             Place::CloseRequest
         };
-        self.steps += 1;
     }
 
     /// From the exchange that closes the request.
     pub(super) fn after_close_request(&mut self)
         requires at { self.old.call.place ≡ Place.CloseRequest }
-        requires time { HasTime self.old }
         ensures { self.new ≡ step_from W.meaning Place.CloseRequest 0 self.old }
     {
         self.place = Place::RaiseClosed;
-        self.steps += 1;
     }
 
     /// From the raise of the closed request: a helper goes on, and an owner's call is answered.
     pub(super) fn after_raise_closed(&mut self)
         requires some { IsTrue self.old.call.helps → 1 ≤ length self.old.call.op }
-        requires time { HasTime self.old }
         ensures { self.new ≡ step_from W.meaning Place.RaiseClosed 0 self.old }
     {
         if self.helps {
@@ -98,7 +85,7 @@ impl<W: Work> Machine<W> {
                 seq: self.seq,
                 announced: true,
                 raw: self.raw,
-                steps: self.steps + 1,
+                steps: self.steps,
             });
             self.kept = pack(self.seq, 1);
             self.steps = 0;

@@ -1,7 +1,7 @@
 //! How a machine goes on at the steps of its own transaction: the log, the request, and the exchange that commits.
 
 ghost use Rattle.std.specs.Prelude.{◌≡◌, ◌<◌, ◌+◌};
-ghost use Rattle.of_core.specs.Seen.{step_from, HasTime};
+ghost use Rattle.of_core.specs.Seen.{step_from};
 ghost use Rattle.of_core.specs.declared.place.Place.TheVariants.{StoreLog, RaiseLog};
 
 use crate::machine::Machine;
@@ -13,28 +13,23 @@ impl<W: Work> Machine<W> {
     /// From the raise of what one's request was.
     pub(super) fn after_raise_old(&mut self)
         requires at { self.old.call.place ≡ Place.RaiseOld }
-        requires time { HasTime self.old }
         ensures { self.new ≡ step_from W.meaning Place.RaiseOld 0 self.old }
     {
         self.place = Place::StoreLog(0);
-        self.steps += 1;
     }
 
     /// From the store of a log word.
     pub(super) fn after_store_log(&mut self, at: u32)
         requires at { self.old.call.place ≡ StoreLog at }
-        requires time { HasTime self.old }
         ensures { self.new ≡ step_from W.meaning (StoreLog at) 0 self.old }
     {
         self.place = Place::RaiseLog(at);
-        self.steps += 1;
     }
 
     #[tactic(auto, using(crate::proofs::LogWords::word_laws))]
     /// From the raise of a log word.
     pub(super) fn after_raise_log(&mut self, at: u32)
         requires at { self.old.call.place ≡ RaiseLog at }
-        requires time { HasTime self.old }
         ensures { self.new ≡ step_from W.meaning (RaiseLog at) 0 self.old }
     {
         let words = 2 * self.log.len() + 1;
@@ -43,34 +38,28 @@ impl<W: Work> Machine<W> {
         } else {
             Place::StoreRequest
         };
-        self.steps += 1;
     }
 
     /// From the store of one's own request.
     pub(super) fn after_store_request(&mut self)
         requires at { self.old.call.place ≡ Place.StoreRequest }
-        requires time { HasTime self.old }
         ensures { self.new ≡ step_from W.meaning Place.StoreRequest 0 self.old }
     {
         self.place = Place::RaiseRequest;
-        self.steps += 1;
     }
 
     /// From the raise of one's own request.
     pub(super) fn after_raise_request(&mut self)
         requires at { self.old.call.place ≡ Place.RaiseRequest }
-        requires time { HasTime self.old }
         ensures { self.new ≡ step_from W.meaning Place.RaiseRequest 0 self.old }
     {
         self.kept = pack(self.seq + 1, 0);
         self.place = Place::ExchangeCurrent;
-        self.steps += 1;
     }
 
     /// From the exchange of the current-transaction word: one that is lost begins the next round.
     pub(super) fn after_exchange(&mut self, found: u64)
         requires at { self.old.call.place ≡ Place.ExchangeCurrent }
-        requires time { HasTime self.old }
         ensures { self.new ≡ step_from W.meaning Place.ExchangeCurrent found self.old }
     {
         if found == pack(self.seq, self.owner) {
@@ -81,6 +70,5 @@ impl<W: Work> Machine<W> {
         } else {
             self.place = Place::LoadCurrent;
         }
-        self.steps += 1;
     }
 }

@@ -3,11 +3,11 @@
 ghost use Rattle.std.specs.Prelude.{◌≡◌, ◌<◌, ◌≤◌, ◌+◌, ◌-◌, ◌%◌, length, ℕ, List, [], IfSome};
 ghost use Rattle.std.specs.List.{All};
 ghost use Rattle.std.proofs.Common.{take, drop};
+ghost use Rattle.of_cell.specs.declared.shape.TheConstants.{MOST_DATA_CELLS};
 ghost use Rattle.of_mem.specs.declared.work.TheConstants.{MOST_INSTRS};
-ghost use Rattle.of_mem.specs.Meaning.{Once};
-ghost use Rattle.of_core.specs.Machine.{log_of, log_words, put_all, turned};
+ghost use Rattle.of_mem.specs.Pairs.{put_all};
+ghost use Rattle.of_core.specs.Machine.{log_of, log_words, own_cells, reply_cells, turned};
 ghost use Rattle.of_core.specs.Steps.{first_mark};
-ghost use Rattle.of_core.specs.Fill.{reply_cells_at, own_cells_at};
 
 use of_mem::{MOST_INSTRS, Part, RawReply};
 use of_wset::WriteSet;
@@ -31,9 +31,9 @@ pub fn collect(part: &mut Part, log: &mut WriteSet)
 /// Writes the reply cells of the caller whose ticket cell is `row`.
 fn put_reply(part: &mut Part, row: u32, count: u32, raw: &RawReply)
     requires room { row + 2 + MOST_INSTRS ≤ length part.old.known }
-    requires small { length part.old.known ≤ 4096 }
+    requires small { length part.old.known ≤ MOST_DATA_CELLS }
     requires count { count ≤ MOST_INSTRS }
-    ensures script { part.new.script ≡ put_all part.old.script (reply_cells_at row count raw.now) }
+    ensures script { part.new.script ≡ put_all part.old.script (reply_cells row count raw.now) }
     ensures known { part.new.known ≡ part.old.known }
     ensures batch { part.new.batch ≡ part.old.batch }
 {
@@ -48,9 +48,9 @@ fn put_reply(part: &mut Part, row: u32, count: u32, raw: &RawReply)
 /// Writes the own cells of the caller whose ticket cell is `row`: the reply's numbers, its shape and the ticket.
 pub fn put_own(part: &mut Part, row: u32, ticket: u32, count: u32, raw: &RawReply)
     requires room { row + 2 + MOST_INSTRS ≤ length part.old.known }
-    requires small { length part.old.known ≤ 4096 }
+    requires small { length part.old.known ≤ MOST_DATA_CELLS }
     requires count { count ≤ MOST_INSTRS }
-    ensures script { part.new.script ≡ put_all part.old.script (own_cells_at row ticket count raw.now) }
+    ensures script { part.new.script ≡ put_all part.old.script (own_cells row ticket count raw.now) }
     ensures known { part.new.known ≡ part.old.known }
     ensures batch { part.new.batch ≡ part.old.batch }
 {

@@ -6,7 +6,7 @@ ghost use Rattle.of_cell.specs.Words.{word, seq, pay};
 ghost use Rattle.of_core.specs.Machine.{log_words};
 ghost use Rattle.of_core.specs.Shared.{IsLog};
 ghost use Rattle.of_core.specs.Steps.{after_load_request, copy_more, entered, resumed};
-ghost use Rattle.of_core.specs.Seen.{setup, step_from, HasTime};
+ghost use Rattle.of_core.specs.Seen.{setup, step_from};
 ghost use Rattle.of_core.specs.declared.place.Place.TheVariants.{CopyLog};
 
 use crate::machine::Machine;
@@ -21,7 +21,6 @@ impl<W: Work> Machine<W> {
         requires owner { pay found < self.old.callers }
         requires upto { seq found ≤ self.old.limit }
         requires rounds { self.old.call.rounds ≤ 2 }
-        requires time { HasTime self.old }
         ensures { self.new ≡ step_from W.meaning Place.LoadCurrent found self.old }
     {
         self.seq = seq_of(found);
@@ -33,12 +32,10 @@ impl<W: Work> Machine<W> {
         };
         self.rounds += 1;
         self.place = Place::LoadRequest;
-        self.steps += 1;
     }
 
     /// From the load of the request of that word's owner.
     pub(super) fn after_load_request(&mut self, found: u64)
-        requires time { HasTime self.old }
         ensures { self.new ≡ step_from W.meaning Place.LoadRequest found self.old }
     {
         if self.seq > 0 && found == pack(self.seq, 0) {
@@ -50,20 +47,17 @@ impl<W: Work> Machine<W> {
 
     /// Begins to copy the log of the open transaction.
     pub(super) fn help(&mut self)
-        requires time { HasTime self.old }
         ensures { self.new ≡ record self.old { call = after_load_request (setup W.meaning self.old) self.old.call true } }
     {
         self.copy.clear();
         self.helps = true;
         self.place = Place::CopyLog(0);
-        self.steps += 1;
     }
 
     /// From the load of a log word.
     pub(super) fn after_copy_log(&mut self, at: u32, found: u64)
         requires at { self.old.call.place ≡ CopyLog at }
         requires count { get_or (copy_more self.old.call found) 0 0 ≤ self.old.cells }
-        requires time { HasTime self.old }
         ensures { self.new ≡ step_from W.meaning (CopyLog at) found self.old }
     {
         match self.copy.push(payload_of(found)) {
@@ -76,21 +70,18 @@ impl<W: Work> Machine<W> {
         } else {
             Place::LookAgain
         };
-        self.steps += 1;
     }
 
     /// From the second look at the request: a copy that was made while the transaction was open is its log.
     pub(super) fn after_look_again(&mut self, found: u64)
         requires some { 1 ≤ length self.old.call.op }
         requires copied { found ≡ word self.old.call.seq 0 → (es : List (ℕ × ℕ)) × (self.old.call.copy ≡ log_words es) × IsLog (setup W.meaning self.old) es }
-        requires time { HasTime self.old }
         ensures { self.new ≡ step_from W.meaning Place.LookAgain found self.old }
     {
         if found == pack(self.seq, 0) {
             self.log.clear();
             put_copy(&mut self.log, self.copy.as_slice(), self.caller);
             self.place = Place::RaiseCurrent;
-            self.steps += 1;
         } else {
             self.resume();
         }
@@ -99,7 +90,6 @@ impl<W: Work> Machine<W> {
     /// Goes on with the try or the round behind its help.
     pub(super) fn resume(&mut self)
         requires some { 1 ≤ length self.old.call.op }
-        requires time { HasTime self.old }
         ensures { self.new ≡ record self.old { call = resumed (setup W.meaning self.old) self.old.call (self.old.call.rounds == 0) } }
     {
         if self.rounds == 0 {
@@ -111,7 +101,6 @@ impl<W: Work> Machine<W> {
 
     /// Begins to read the state of a round, behind the look at the request or the help.
     pub(super) fn enter(&mut self)
-        requires time { HasTime self.old }
         ensures { self.new ≡ record self.old { call = entered (setup W.meaning self.old) self.old.call } }
     {
         self.part.clear();
@@ -120,6 +109,5 @@ impl<W: Work> Machine<W> {
         self.helps = false;
         self.scan = 0;
         self.place = Place::LoadOwnTicket;
-        self.steps += 1;
     }
 }

@@ -5,12 +5,12 @@ ghost use Rattle.of_cell.specs.Words.{seq, pay};
 ghost use Rattle.of_mem.specs.declared.work.TheConstants.{MOST_INSTRS};
 ghost use Rattle.of_mem.specs.Meaning.{Agrees};
 ghost use Rattle.of_mem.specs.Pairs.{value_at};
+ghost use Rattle.of_mem.specs.Pad.{over};
 ghost use Rattle.of_core.specs.Table.{ticket_cell};
-ghost use Rattle.of_core.specs.Machine.{learned, merged};
-ghost use Rattle.of_core.specs.Steps.{runs, weighed};
-ghost use Rattle.of_core.specs.Fill.{place_behind, newer_raw};
+ghost use Rattle.of_core.specs.Machine.{learned};
+ghost use Rattle.of_core.specs.Steps.{newer_raw, place_behind, runs, weighed};
 ghost use Rattle.of_core.specs.Fit.{Scanning, is_scanning};
-ghost use Rattle.of_core.specs.Seen.{setup, step_from, HasTime};
+ghost use Rattle.of_core.specs.Seen.{setup, step_from};
 ghost use Rattle.of_core.specs.declared.place.Place.TheVariants.{LoadScript, LoadCell};
 
 use crate::machine::fill::{collect, put_own, words_of};
@@ -45,7 +45,6 @@ impl<W: Work> Machine<W> {
         requires small { pay found ≤ MOST_INSTRS }
         requires some { 0 < seq found → 1 ≤ pay found }
         requires unnamed { value_at self.old.call.log (ticket_cell (setup W.meaning self.old) self.old.call.scan) ≡ None }
-        requires time { HasTime self.old }
         ensures { self.new ≡ step_from W.meaning Place.LoadAnnouncement found self.old }
     {
         self.heard = found;
@@ -53,7 +52,6 @@ impl<W: Work> Machine<W> {
             Ok(ticket) => self.weigh(ticket < seq_of(found)),
             Err(_) => {
                 self.place = Place::LoadTicket;
-                self.steps += 1;
             }
         }
     }
@@ -63,12 +61,10 @@ impl<W: Work> Machine<W> {
         requires at { self.old.call.place ≡ Place.LoadTicket }
         requires small { pay self.old.call.heard ≤ MOST_INSTRS }
         requires some { 0 < seq self.old.call.heard → 1 ≤ pay self.old.call.heard }
-        requires time { HasTime self.old }
         ensures { self.new ≡ step_from W.meaning Place.LoadTicket found self.old }
     {
         if self.seq < seq_of(found) {
             self.place = Place::LoadCurrent;
-            self.steps += 1;
         } else {
             self.part.learn(self.scan * OWN_CELLS, payload_of(found));
             self.weigh(payload_of(found) < seq_of(self.heard));
@@ -81,7 +77,6 @@ impl<W: Work> Machine<W> {
         requires scan { Scanning (setup W.meaning self.old) self.old.call }
         requires small { pay self.old.call.heard ≤ MOST_INSTRS }
         requires some { IsTrue new → 0 < pay self.old.call.heard }
-        requires time { HasTime self.old }
         ensures { self.new ≡ record self.old { call = weighed (setup W.meaning self.old) self.old.call new } }
     {
         if new {
@@ -91,15 +86,13 @@ impl<W: Work> Machine<W> {
             self.scan += 1;
             self.place = place_behind(self.scan < self.shape.callers);
         }
-        self.steps += 1;
     }
 
     /// From the load of a script word.
     pub(super) fn after_load_script(&mut self, at: u32, found: u64)
         requires at { self.old.call.place ≡ LoadScript at }
         requires many { length self.old.call.script ≡ at }
-        requires agrees { (xs : List ℕ) × (length xs ≡ self.old.cells) × W.lawful self.old.work xs × Agrees (merged self.old.call.known self.old.call.log) xs }
-        requires time { HasTime self.old }
+        requires agrees { (xs : List ℕ) × (length xs ≡ self.old.cells) × W.lawful self.old.work xs × Agrees (over self.old.call.known self.old.call.log) xs }
         ensures { self.new ≡ step_from W.meaning (LoadScript at) found self.old }
     {
         match self.script.push(found) {
@@ -109,7 +102,6 @@ impl<W: Work> Machine<W> {
         }
         if at + 1 < payload_of(self.heard) {
             self.place = Place::LoadScript(at + 1);
-            self.steps += 1;
         } else {
             self.run();
         }
@@ -119,13 +111,11 @@ impl<W: Work> Machine<W> {
     pub(super) fn after_load_cell(&mut self, addr: u32, found: u64)
         requires at { self.old.call.place ≡ LoadCell addr }
         requires some { 1 ≤ length self.old.call.script }
-        requires agrees { seq found ≤ self.old.call.seq → (xs : List ℕ) × (length xs ≡ self.old.cells) × W.lawful self.old.work xs × Agrees (merged (learned (setup W.meaning self.old) self.old.call addr found) self.old.call.log) xs }
-        requires time { HasTime self.old }
+        requires agrees { seq found ≤ self.old.call.seq → (xs : List ℕ) × (length xs ≡ self.old.cells) × W.lawful self.old.work xs × Agrees (over (learned (setup W.meaning self.old) self.old.call addr found) self.old.call.log) xs }
         ensures { self.new ≡ step_from W.meaning (LoadCell addr) found self.old }
     {
         if self.seq < seq_of(found) {
             self.place = Place::LoadCurrent;
-            self.steps += 1;
         } else {
             self.part.learn(addr, payload_of(found));
             self.run();
@@ -137,13 +127,10 @@ impl<W: Work> Machine<W> {
         requires scanning { is_scanning self.old.call.place ≡ true }
         requires scan { Scanning (setup W.meaning self.old) self.old.call }
         requires some { 1 ≤ length self.old.call.script }
-        requires agrees { (xs : List ℕ) × (length xs ≡ self.old.cells) × W.lawful self.old.work xs × Agrees (merged self.old.call.known self.old.call.log) xs }
-        requires time { HasTime self.old }
+        requires agrees { (xs : List ℕ) × (length xs ≡ self.old.cells) × W.lawful self.old.work xs × Agrees (over self.old.call.known self.old.call.log) xs }
         ensures { self.new ≡ record self.old { call = runs (setup W.meaning self.old) self.old.call } }
     {
         let work = self.work;
-        // a log names no cell twice
-        let _entries = self.log.len();
         let mut raw = RawReply {
             shape: 0,
             values: [0; MOST_INSTRS],
@@ -175,11 +162,9 @@ impl<W: Work> Machine<W> {
                 self.raw = newer_raw(self.scan == self.caller, &raw, &self.raw);
                 self.scan += 1;
                 self.place = place_behind(self.scan < self.shape.callers);
-                self.steps += 1;
             }
             Err(need) => {
                 self.place = Place::LoadCell(need.addr);
-                self.steps += 1;
             }
         }
     }

@@ -6,7 +6,7 @@ ghost use Rattle.of_mem.specs.Meaning.{Agrees};
 ghost use Rattle.of_core.specs.Machine.{learned};
 ghost use Rattle.of_core.specs.Steps.{over_try, read_on, tried};
 ghost use Rattle.of_core.specs.Fit.{is_reading};
-ghost use Rattle.of_core.specs.Seen.{setup, step_from, HasTime};
+ghost use Rattle.of_core.specs.Seen.{setup, step_from};
 ghost use Rattle.of_core.specs.declared.place.Place.TheVariants.{TryCell};
 
 use crate::machine::Machine;
@@ -22,21 +22,18 @@ impl<W: Work> Machine<W> {
     pub(super) fn after_try_current(&mut self, found: u64)
         requires owner { pay found < self.old.callers }
         requires upto { seq found ≤ self.old.limit }
-        requires tries { self.old.call.tries ≤ 3 }
-        requires time { HasTime self.old }
+        requires tries { self.old.call.tries < MOST_TRIES }
         ensures { self.new ≡ step_from W.meaning Place.TryCurrent found self.old }
     {
         self.seq = seq_of(found);
         self.owner = payload_of(found);
         self.tries += 1;
         self.place = Place::TryRequest;
-        self.steps += 1;
     }
 
     /// From the load of the request of that word's owner.
     pub(super) fn after_try_request(&mut self, found: u64)
         requires some { 1 ≤ length self.old.call.op }
-        requires time { HasTime self.old }
         ensures { self.new ≡ step_from W.meaning Place.TryRequest found self.old }
     {
         if self.seq > 0 && found == pack(self.seq, 0) {
@@ -51,7 +48,6 @@ impl<W: Work> Machine<W> {
         requires at { self.old.call.place ≡ TryCell addr }
         requires some { 1 ≤ length self.old.call.op }
         requires agrees { seq found ≤ self.old.call.seq → (xs : List ℕ) × (length xs ≡ self.old.cells) × W.lawful self.old.work xs × Agrees (learned (setup W.meaning self.old) self.old.call addr found) xs }
-        requires time { HasTime self.old }
         ensures { self.new ≡ step_from W.meaning (TryCell addr) found self.old }
     {
         if self.seq < seq_of(found) {
@@ -65,21 +61,18 @@ impl<W: Work> Machine<W> {
     /// Tries once more, or announces the call.
     fn end_try(&mut self)
         requires some { 1 ≤ length self.old.call.op }
-        requires time { HasTime self.old }
-        ensures { self.new ≡ record self.old { call = over_try self.old.call (nat_lt self.old.call.tries 4) } }
+        ensures { self.new ≡ record self.old { call = over_try self.old.call (nat_lt self.old.call.tries MOST_TRIES) } }
     {
         self.place = if self.tries < MOST_TRIES {
             Place::TryCurrent
         } else {
             Place::StoreScript(0)
         };
-        self.steps += 1;
     }
 
     /// Begins the run of a try, behind the look at the request or the help.
     pub(super) fn begin_reading(&mut self)
         requires some { 1 ≤ length self.old.call.op }
-        requires time { HasTime self.old }
         ensures { self.new ≡ record self.old { call = tried (setup W.meaning self.old) self.old.call } }
     {
         self.part.clear();
@@ -94,7 +87,6 @@ impl<W: Work> Machine<W> {
         requires reading { is_reading self.old.call.place ≡ true }
         requires some { 1 ≤ length self.old.call.op }
         requires agrees { (xs : List ℕ) × (length xs ≡ self.old.cells) × W.lawful self.old.work xs × Agrees self.old.call.known xs }
-        requires time { HasTime self.old }
         ensures { self.new ≡ record self.old { call = read_on (setup W.meaning self.old) self.old.call } }
     {
         let work = self.work;
@@ -110,13 +102,12 @@ impl<W: Work> Machine<W> {
                     seq: self.seq,
                     announced: false,
                     raw,
-                    steps: self.steps + 1,
+                    steps: self.steps,
                 });
                 self.steps = 0;
             }
             Err(need) => {
                 self.place = Place::TryCell(need.addr);
-                self.steps += 1;
             }
         }
     }

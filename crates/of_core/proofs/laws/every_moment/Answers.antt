@@ -3,6 +3,7 @@ use Rattle.of_core.proofs.laws.every_moment.Goals as goal
 use Rattle.of_core.specs.Laws.{setup_for}
 use Rattle.of_core.proofs.Happenings.{event_good}
 use Rattle.of_core.proofs.Moments.{run_good, every_moment}
+use Rattle.of_core.proofs.HeldWords.{every_durable}
 
 pub returns : goal.returns
 returns g c =
@@ -14,5 +15,6 @@ returns g c =
     record {
       kept = λ B w h e may. event_good S L B w h sound e may;
       runs = λ B w h es s. run_good S L sound B es w h s;
+      durables = λ B may total room es s. every_durable S L sound B may fits.some (omega (arith, fits.few)) fits.own total room (omega arith) (omega (arith, fits.small)) es s;
       sound = λ B may total room. every_moment S L sound B may fits.some (omega (arith, fits.few)) fits.own total room (omega arith) (omega (arith, fits.small));
     }

@@ -1,7 +1,9 @@
 use Rattle.std.proofs.Common.{◌≡◌, ℕ, ◌+◌, ◌<◌, [], ◌∷◌, length, set, arith, ap, ◌∙◌, length-set}
+use Rattle.of_cell.specs.declared.word.TheConstants.{PAYLOADS}
 use Rattle.of_core.specs.Table.{Setup, setup_of}
 use Rattle.of_core.specs.Seen.{Seen, setup}
 use Rattle.of_core.specs.Machine.{Data, opened}
+use Rattle.of_core.specs.Bank.{bench}
 use Rattle.of_core.specs.Moment.{Bench, held}
 use Rattle.of_core.specs.Events.{Begins}
 use Rattle.of_core.specs.declared.place.Place.TheVariants.{Idle}
@@ -25,7 +27,7 @@ invariant_of-self g c =
     let put : t ≡ record s { call = d } = c.begin.ensures ∙ ap (λ (T : Setup). record s { call = opened T s.call c.args.op.now }) same in
     let machines : held (set b.machines.items i t) ≡ set (held b.machines.items) i d = held_put b.work b.shape.callers b.shape.cells b.limit b.machines.items i t d (ap (λ (x : Seen _). x.call) put) in
     let is_idle : s.call.place ≡ Idle = rw (← seen.1) (rw (← c.self.view_is) at c.requires.idle) in
-    let made : s.call.made + 1 < 4294967296 = rw (← seen.1) (rw (← c.self.view_is) at c.requires.made) in
+    let made : s.call.made + 1 < PAYLOADS = rw (← seen.1) (rw (← c.self.view_is) at c.requires.made) in
     record {
       callers = inv.callers;
       instrs = inv.instrs;
@@ -34,7 +36,7 @@ invariant_of-self g c =
       room = inv.room;
       members = length-set b.machines.items i t ∙ inv.members;
       alike = alike_set b.work b.shape.callers b.shape.cells b.limit b.machines.items i t inv.alike (alike_call b.work b.shape.callers b.shape.cells b.limit s t d seen.0 put);
-      reached = rw machines (begins S _ _ _ inv.reached i c.args.op.now s.call seen.1 inside is_idle c.requires.some c.requires.few made);
+      reached = rw machines (begins S _ _ _ _ inv.reached i c.args.op.now s.call seen.1 inside is_idle c.requires.some c.requires.few made);
     }
 
 pub returns : goal.returns
@@ -53,5 +55,5 @@ returns g c =
     let d : Data = opened S s.call c.args.op.now in
     let put : t ≡ record s { call = d } = c.begin.ensures ∙ ap (λ (T : Setup). record s { call = opened T s.call c.args.op.now }) same in
     let machines : held (set b.machines.items i t) ≡ set (held b.machines.items) i d = held_put b.work b.shape.callers b.shape.cells b.limit b.machines.items i t d (ap (λ (x : Seen _). x.call) put) in
-    let old : Bench _ = record { work = b.work; callers = b.shape.callers; cells = b.shape.cells; limit = b.limit; words = b.words.items; machines = held b.machines.items } in
+    let old : Bench _ = bench b in
     carry M _ old _ (Begins i c.args.op.now ∷ []) c.self.view_is (begun_after M old i s.call seen.1 c.args.op.now _ machines)

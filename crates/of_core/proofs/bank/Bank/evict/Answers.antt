@@ -1,6 +1,7 @@
 use Rattle.std.proofs.Common.{◌≡◌, ℕ, ◌<◌, List, [], ◌∷◌, get_or, set, max, arith, ◌∙◌, refl, length-set}
 use Rattle.of_core.specs.Table.{Setup, setup_of, size, durable_at}
-use Rattle.of_core.specs.Moment.{Bench, held}
+use Rattle.of_core.specs.Bank.{bench}
+use Rattle.of_core.specs.Moment.{Bench}
 use Rattle.of_core.specs.Events.{Raises}
 use Rattle.std.proofs.lemmas.List.{get_or_read}
 use Rattle.of_core.proofs.Benches.{raises, raised_after, carry}
@@ -14,9 +15,9 @@ invariant_of-self g c =
     let ws : List ℕ = b.words.items in
     let low : c.args.cell < size S = rw (← c.self.view_is) at c.requires in
     let place : c.durable_word-durable.result ≡ durable_at S c.args.cell = c.durable_word-durable.ensures.value in
-    let old : c.index.result.now ≡ get_or ws c.durable_word-durable.result 0 = get_or_read ws _ _ (omega (arith, inv.room)) c.index.ensures 0 in
+    let before : c.index.result.now ≡ get_or ws c.durable_word-durable.result 0 = get_or_read ws _ _ (omega (arith, inv.room)) c.index.ensures 0 in
     let now : c.index-2.result.now ≡ get_or ws c.args.cell 0 = get_or_read ws _ _ (omega (arith, inv.room)) c.index-2.ensures 0 in
-    let word : set ws c.durable_word-durable.result c.max.result ≡ set ws (durable_at S c.args.cell) (max (get_or ws (durable_at S c.args.cell) 0) (get_or ws c.args.cell 0)) = rw (c.max.ensures, old, now, place) refl in
+    let word : set ws c.durable_word-durable.result c.max.result ≡ set ws (durable_at S c.args.cell) (max (get_or ws (durable_at S c.args.cell) 0) (get_or ws c.args.cell 0)) = rw (c.max.ensures, before, now, place) refl in
     record {
       callers = inv.callers;
       instrs = inv.instrs;
@@ -25,7 +26,7 @@ invariant_of-self g c =
       room = length-set ws _ _ ∙ inv.room;
       members = inv.members;
       alike = inv.alike;
-      reached = rw word (raises S _ _ _ inv.reached c.args.cell low);
+      reached = rw word (raises S _ _ _ _ inv.reached c.args.cell low);
     }
 
 pub returns : goal.returns
@@ -36,8 +37,8 @@ returns g c =
     let ws : List ℕ = b.words.items in
     let low : c.args.cell < size S = rw (← c.self.view_is) at c.requires in
     let place : c.durable_word-durable.result ≡ durable_at S c.args.cell = c.durable_word-durable.ensures.value in
-    let old : c.index.result.now ≡ get_or ws c.durable_word-durable.result 0 = get_or_read ws _ _ (omega (arith, inv.room)) c.index.ensures 0 in
+    let before : c.index.result.now ≡ get_or ws c.durable_word-durable.result 0 = get_or_read ws _ _ (omega (arith, inv.room)) c.index.ensures 0 in
     let now : c.index-2.result.now ≡ get_or ws c.args.cell 0 = get_or_read ws _ _ (omega (arith, inv.room)) c.index-2.ensures 0 in
-    let word : set ws c.durable_word-durable.result c.max.result ≡ set ws (durable_at S c.args.cell) (max (get_or ws (durable_at S c.args.cell) 0) (get_or ws c.args.cell 0)) = rw (c.max.ensures, old, now, place) refl in
-    let bench : Bench _ = record { work = b.work; callers = b.shape.callers; cells = b.shape.cells; limit = b.limit; words = b.words.items; machines = held b.machines.items } in
-    carry g.W.Work.meaning _ bench _ (Raises c.args.cell ∷ []) c.self.view_is (raised_after g.W.Work.meaning bench c.args.cell _ word)
+    let word : set ws c.durable_word-durable.result c.max.result ≡ set ws (durable_at S c.args.cell) (max (get_or ws (durable_at S c.args.cell) 0) (get_or ws c.args.cell 0)) = rw (c.max.ensures, before, now, place) refl in
+    let old : Bench _ = bench b in
+    carry g.W.Work.meaning _ old _ (Raises c.args.cell ∷ []) c.self.view_is (raised_after g.W.Work.meaning old c.args.cell _ word)

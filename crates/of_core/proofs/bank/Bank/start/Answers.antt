@@ -1,13 +1,13 @@
-use Rattle.std.proofs.Common.{◌≡◌, ℕ, length, arith, ap, ◌∙◌, sym, length-append}
+use Rattle.std.proofs.Common.{◌≡◌, ℕ, length, arith, ap, subst, ◌∙◌, sym, length-append}
 use Rattle.of_cell.specs.Cells.{table_words as cell_words}
 use Rattle.of_core.specs.Table.{Setup, setup_of}
 use Rattle.of_core.specs.World.{Start}
 use Rattle.of_core.specs.Seen.{setup}
 use Rattle.of_core.specs.Machine.{idle}
-use Rattle.of_core.specs.Moment.{held, table_words}
+use Rattle.of_core.specs.Moment.{Reached, held, table_words}
 use Rattle.of_core.specs.Events.{idles, start_ticket}
 use Rattle.of_core.specs.Starts.{first_words, start_of}
-use Rattle.of_core.proofs.Starts.{words_long}
+use Rattle.of_core.proofs.Starts.{start_back, words_long}
 use Rattle.of_core.proofs.Benches.{at_end, alike_new, alike_push, held_push, begun_at}
 use Rattle.of_core.proofs.bank.Bank.start.Goals as goal
 
@@ -41,6 +41,15 @@ loop-caller-preserved g c =
       machines = rw pushed (held_push a.work a.shape.callers a.shape.cells a.limit ms S (start_ticket S B) m c.loop-caller.caller inv.machines idle_is);
     }
 
+pub returns-clause-start : goal.returns-clause-start
+returns-clause-start g c =
+    let a = c.args in
+    let S : Setup = setup_of a.shape.callers a.shape.cells a.limit (g.W.Work.meaning a.work) in
+    let B : Start = start_of a.shape.callers a.shape.cells a.durable.now in
+    let words : c.in_ok-words.words.items ≡ first_words a.shape.callers a.shape.cells B (table_words S) =
+    c.in_ok-words.ensures ∙ ap (λ (k : ℕ). first_words a.shape.callers a.shape.cells B (cell_words a.shape.callers k a.shape.cells)) c.requires.instrs in
+    ap (λ v. start_of a.shape.callers a.shape.cells v.items) c.of.ensures ∙ ap (start_of a.shape.callers a.shape.cells) words ∙ start_back S B c.requires.row.may_start.start (omega (arith, a.shape.few_callers)) (table_words S) (omega arith)
+
 pub returns-clause-words : goal.returns-clause-words
 returns-clause-words g c =
     let a = c.args in
@@ -65,6 +74,8 @@ invariant_of-result g c =
     c.in_ok-words.ensures ∙ ap (λ (k : ℕ). first_words a.shape.callers a.shape.cells B (cell_words a.shape.callers k a.shape.cells)) c.requires.instrs in
     let all : c.loop-caller.caller ≡ a.shape.callers = at_end _ _ c.loop-caller.auto.caller-end c.loop-caller-test.false in
     let machines : held c.loop-caller.machines.items ≡ idles S (start_ticket S B) 0 a.shape.callers = c.loop-caller.invariant.machines ∙ ap (idles S (start_ticket S B) 0) all in
+    let start : start_of a.shape.callers a.shape.cells c.of.result.value.items ≡ B =
+    ap (λ v. start_of a.shape.callers a.shape.cells v.items) c.of.ensures ∙ ap (start_of a.shape.callers a.shape.cells) words ∙ start_back S B c.requires.row.may_start.start (omega (arith, a.shape.few_callers)) (table_words S) (omega arith) in
     record {
       callers = sym c.requires.callers;
       instrs = c.requires.instrs;
@@ -73,5 +84,5 @@ invariant_of-result g c =
       room = ap length words ∙ words_long S B c.requires.row.may_start.start (table_words S) (omega arith);
       members = c.loop-caller.invariant.members ∙ all;
       alike = c.loop-caller.invariant.alike;
-      reached = rw (words, machines) (begun_at S L B c.requires.row.may_start);
+      reached = subst (λ (T : Start). Reached S L T c.in_ok-words.words.items (held c.loop-caller.machines.items)) (sym start) (rw (words, machines) (begun_at S L B c.requires.row.may_start));
     }

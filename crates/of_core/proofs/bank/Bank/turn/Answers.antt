@@ -2,6 +2,7 @@ use Rattle.std.proofs.Common.{◌≡◌, ℕ, ◌<◌, ◌≤◌, List, [], ◌�
 use Rattle.of_core.specs.Table.{Setup, setup_of, base, table_size}
 use Rattle.of_core.specs.Seen.{Seen, setup}
 use Rattle.of_core.specs.Machine.{Data}
+use Rattle.of_core.specs.Bank.{bench}
 use Rattle.of_core.specs.Moment.{Bench, held}
 use Rattle.of_core.specs.Events.{Turns}
 use Rattle.of_core.specs.declared.place.Place.TheVariants.{Idle}
@@ -25,7 +26,7 @@ returns-then-is_idle-clause-after g c =
     let s = c.index-machine.result.now in
     let seen = seen_at b.work b.shape.callers b.shape.cells b.limit b.machines.items i s inv.alike here c.index-machine.ensures in
     let same : setup M s ≡ S = ap (setup M) seen.0 in
-    let old : Bench _ = record { work = b.work; callers = b.shape.callers; cells = b.shape.cells; limit = b.limit; words = b.words.items; machines = held b.machines.items } in
+    let old : Bench _ = bench b in
     let is_idle : s.call.place ≡ Idle = c.if-is_idle.ensures.0 refl in
     sym c.self.view_is ∙ carry M _ old _ (Turns i ∷ []) c.self.view_is (rests_after M old i s.call seen.1 is_idle)
 
@@ -101,7 +102,7 @@ take-requires-clause-good g c =
     let own : base S ≤ S.cells = omega (arith, fits.own, inv.callers, inv.cells) in
     let work : s.work ≡ b.work = ap (λ (x : Seen _). x.work) seen.0 in
     let member : i < length (held b.machines.items) = omega (arith, held_length b.work b.shape.callers b.shape.cells b.limit b.machines.items) in
-    λ κs within. rw (same, work, found) (meets S (g.W.Work.lawful b.work) sound b.shape.some_callers (omega (arith, b.shape.few_callers)) own (omega arith) (omega (arith, b.shape.few_cells)) _ _ inv.reached i s.call inside member seen.1)
+    λ κs within. rw (same, work, found) (meets S (g.W.Work.lawful b.work) sound b.shape.some_callers (omega (arith, b.shape.few_callers)) own (omega arith) (omega (arith, b.shape.few_cells)) _ _ _ inv.reached i s.call inside member seen.1)
 
 pub invariant_of-self : goal.invariant_of-self
 invariant_of-self g c =
@@ -135,7 +136,7 @@ invariant_of-self g c =
       room = ap length table ∙ length-set ws _ _ ∙ inv.room;
       members = length-set b.machines.items i t ∙ inv.members;
       alike = alike_set b.work b.shape.callers b.shape.cells b.limit b.machines.items i t inv.alike (alike_call b.work b.shape.callers b.shape.cells b.limit s t d seen.0 put);
-      reached = rw (table, machines) (turns S _ _ _ inv.reached i s.call seen.1 inside);
+      reached = rw (table, machines) (turns S _ _ _ _ inv.reached i s.call seen.1 inside);
     }
 
 pub returns-clause-after : goal.returns-clause-after
@@ -162,7 +163,7 @@ returns-clause-after g c =
     let d : Data = took S s.call (finds S ws s.call) in
     let put : t ≡ record s { call = d } = c.take.ensures ∙ ap (λ (T : Setup). record s { call = took T s.call c.perform-found.result }) same ∙ ap (λ (n : ℕ). record s { call = took S s.call n }) found in
     let machines : held (set b.machines.items i t) ≡ set (held b.machines.items) i d = held_put b.work b.shape.callers b.shape.cells b.limit b.machines.items i t d (ap (λ (x : Seen _). x.call) put) in
-    let old : Bench _ = record { work = b.work; callers = b.shape.callers; cells = b.shape.cells; limit = b.limit; words = b.words.items; machines = held b.machines.items } in
+    let old : Bench _ = bench b in
     carry M _ old _ (Turns i ∷ []) c.self.view_is (turned_after M old i s.call seen.1 _ _ table machines)
 
 pub returns-clause-turn : goal.returns-clause-turn

@@ -10,42 +10,42 @@ use Rattle.of_core.proofs.machine.Machine.take.Goals as goal
 pub after_try_current-requires-clause-owner : goal.after_try_current-requires-clause-owner
 after_try_current-requires-clause-owner g c κs within =
     let place : c.args.self.now.call.place ≡ TryCurrent = rw (← c.self.view_is) c.in-TryCurrent.is in
-    try_current_owner (setup g.W.Work.meaning c.args.self.now) (g.W.Work.lawful c.args.self.now.work) c.args.self.now.call c.args.found c.requires.good place
+    rw (← c.self.view_is) at (try_current_owner (setup g.W.Work.meaning c.args.self.now) (g.W.Work.lawful c.args.self.now.work) c.args.self.now.call c.args.found c.requires.good place)
 
 pub after_try_current-requires-clause-upto : goal.after_try_current-requires-clause-upto
 after_try_current-requires-clause-upto g c κs within =
     let place : c.args.self.now.call.place ≡ TryCurrent = rw (← c.self.view_is) c.in-TryCurrent.is in
-    try_current_upto (setup g.W.Work.meaning c.args.self.now) (g.W.Work.lawful c.args.self.now.work) c.args.self.now.call c.args.found c.requires.good place
+    rw (← c.self.view_is) at (try_current_upto (setup g.W.Work.meaning c.args.self.now) (g.W.Work.lawful c.args.self.now.work) c.args.self.now.call c.args.found c.requires.good place)
 
 pub after_try_cell-requires-clause-agrees : goal.after_try_cell-requires-clause-agrees
 after_try_cell-requires-clause-agrees g c κs within =
     let place : c.args.self.now.call.place ≡ TryCell c.in-TryCell.addr = rw (← c.self.view_is) c.in-TryCell.is in
-    try_agrees (setup g.W.Work.meaning c.args.self.now) (g.W.Work.lawful c.args.self.now.work) c.args.self.now.call c.args.found c.requires.good c.in-TryCell.addr place
+    rw (← c.self.view_is) at (try_agrees (setup g.W.Work.meaning c.args.self.now) (g.W.Work.lawful c.args.self.now.work) c.args.self.now.call c.args.found c.requires.good c.in-TryCell.addr place)
 
 pub after_load_current-requires-clause-owner : goal.after_load_current-requires-clause-owner
 after_load_current-requires-clause-owner g c κs within =
     let place : c.args.self.now.call.place ≡ LoadCurrent = rw (← c.self.view_is) c.in-LoadCurrent.is in
-    load_current_owner (setup g.W.Work.meaning c.args.self.now) (g.W.Work.lawful c.args.self.now.work) c.args.self.now.call c.args.found c.requires.good place
+    rw (← c.self.view_is) at (load_current_owner (setup g.W.Work.meaning c.args.self.now) (g.W.Work.lawful c.args.self.now.work) c.args.self.now.call c.args.found c.requires.good place)
 
 pub after_load_current-requires-clause-upto : goal.after_load_current-requires-clause-upto
 after_load_current-requires-clause-upto g c κs within =
     let place : c.args.self.now.call.place ≡ LoadCurrent = rw (← c.self.view_is) c.in-LoadCurrent.is in
-    load_current_upto (setup g.W.Work.meaning c.args.self.now) (g.W.Work.lawful c.args.self.now.work) c.args.self.now.call c.args.found c.requires.good place
+    rw (← c.self.view_is) at (load_current_upto (setup g.W.Work.meaning c.args.self.now) (g.W.Work.lawful c.args.self.now.work) c.args.self.now.call c.args.found c.requires.good place)
 
 pub after_copy_log-requires-clause-count : goal.after_copy_log-requires-clause-count
 after_copy_log-requires-clause-count g c κs within =
     let place : c.args.self.now.call.place ≡ CopyLog c.in-CopyLog.at = rw (← c.self.view_is) c.in-CopyLog.is in
-    copy_count (setup g.W.Work.meaning c.args.self.now) (g.W.Work.lawful c.args.self.now.work) c.args.self.now.call c.args.found c.requires.good c.in-CopyLog.at place
+    rw (← c.self.view_is) at (copy_count (setup g.W.Work.meaning c.args.self.now) (g.W.Work.lawful c.args.self.now.work) c.args.self.now.call c.args.found c.requires.good c.in-CopyLog.at place)
 
 pub after_look_again-requires-clause-some : goal.after_look_again-requires-clause-some
 after_look_again-requires-clause-some g c κs within =
     let place : c.args.self.now.call.place ≡ LookAgain = rw (← c.self.view_is) c.in-LookAgain.is in
-    look_words (setup g.W.Work.meaning c.args.self.now) (g.W.Work.lawful c.args.self.now.work) c.args.self.now.call c.args.found c.requires.good place
+    rw (← c.self.view_is) at (look_words (setup g.W.Work.meaning c.args.self.now) (g.W.Work.lawful c.args.self.now.work) c.args.self.now.call c.args.found c.requires.good place)
 
 pub after_look_again-requires-clause-copied : goal.after_look_again-requires-clause-copied
 after_look_again-requires-clause-copied g c κs within =
     let place : c.args.self.now.call.place ≡ LookAgain = rw (← c.self.view_is) c.in-LookAgain.is in
-    look_log (setup g.W.Work.meaning c.args.self.now) (g.W.Work.lawful c.args.self.now.work) c.args.self.now.call c.args.found c.requires.good place
+    rw (← c.self.view_is) at (look_log (setup g.W.Work.meaning c.args.self.now) (g.W.Work.lawful c.args.self.now.work) c.args.self.now.call c.args.found c.requires.good place)
 
 pub after_load_announcement-requires-clause-small : goal.after_load_announcement-requires-clause-small
 after_load_announcement-requires-clause-small g c κs within =
@@ -60,7 +60,7 @@ after_load_announcement-requires-clause-some g c κs within =
 pub after_load_announcement-requires-clause-unnamed : goal.after_load_announcement-requires-clause-unnamed
 after_load_announcement-requires-clause-unnamed g c κs within =
     let place : c.args.self.now.call.place ≡ LoadAnnouncement = rw (← c.self.view_is) c.in-LoadAnnouncement.is in
-    ticket_unnamed (setup g.W.Work.meaning c.args.self.now) (g.W.Work.lawful c.args.self.now.work) c.args.self.now.call c.args.found c.requires.good place
+    rw (← c.self.view_is) at (ticket_unnamed (setup g.W.Work.meaning c.args.self.now) (g.W.Work.lawful c.args.self.now.work) c.args.self.now.call c.args.found c.requires.good place)
 
 pub after_load_script-requires-clause-agrees : goal.after_load_script-requires-clause-agrees
 after_load_script-requires-clause-agrees g c κs within =
@@ -71,7 +71,7 @@ after_load_script-requires-clause-agrees g c κs within =
     let f = c.self.invariant.fit in
     let inner : Setup = setup_of c.self.inside.shape.callers c.self.inside.shape.cells c.self.inside.limit (g.W.Work.meaning c.self.inside.work) in
     let sound : Sound S.meaning (g.W.Work.lawful now.work) (base S) S.cells = rw (← c.self.view_is) (sound_at inner (g.W.Work.meaning c.self.inside.work) (g.W.Work.lawful c.self.inside.work) _ _ f.callers f.cells refl (laws.sound c.self.inside.work)) in
-    script_agrees (setup g.W.Work.meaning c.args.self.now) (g.W.Work.lawful c.args.self.now.work) c.args.self.now.call c.args.found c.requires.good sound c.in-LoadScript.at place
+    rw (← c.self.view_is) at (script_agrees (setup g.W.Work.meaning c.args.self.now) (g.W.Work.lawful c.args.self.now.work) c.args.self.now.call c.args.found c.requires.good sound c.in-LoadScript.at place)
 
 pub after_load_cell-requires-clause-agrees : goal.after_load_cell-requires-clause-agrees
 after_load_cell-requires-clause-agrees g c κs within =
@@ -82,9 +82,9 @@ after_load_cell-requires-clause-agrees g c κs within =
     let f = c.self.invariant.fit in
     let inner : Setup = setup_of c.self.inside.shape.callers c.self.inside.shape.cells c.self.inside.limit (g.W.Work.meaning c.self.inside.work) in
     let sound : Sound S.meaning (g.W.Work.lawful now.work) (base S) S.cells = rw (← c.self.view_is) (sound_at inner (g.W.Work.meaning c.self.inside.work) (g.W.Work.lawful c.self.inside.work) _ _ f.callers f.cells refl (laws.sound c.self.inside.work)) in
-    cell_agrees (setup g.W.Work.meaning c.args.self.now) (g.W.Work.lawful c.args.self.now.work) c.args.self.now.call c.args.found c.requires.good sound c.in-LoadCell.addr place
+    rw (← c.self.view_is) at (cell_agrees (setup g.W.Work.meaning c.args.self.now) (g.W.Work.lawful c.args.self.now.work) c.args.self.now.call c.args.found c.requires.good sound c.in-LoadCell.addr place)
 
 pub after_raise_closed-requires-clause-some : goal.after_raise_closed-requires-clause-some
 after_raise_closed-requires-clause-some g c κs within =
     let place : c.args.self.now.call.place ≡ RaiseClosed = rw (← c.self.view_is) c.in-RaiseClosed.is in
-    closed_words (setup g.W.Work.meaning c.args.self.now) (g.W.Work.lawful c.args.self.now.work) c.args.self.now.call c.args.found c.requires.good place
+    rw (← c.self.view_is) at (closed_words (setup g.W.Work.meaning c.args.self.now) (g.W.Work.lawful c.args.self.now.work) c.args.self.now.call c.args.found c.requires.good place)

@@ -1,5 +1,5 @@
 use Rattle.std.proofs.Common.{◌≡◌, take}
-use Rattle.of_core.specs.Machine.{put_all}
+use Rattle.of_mem.specs.Pairs.{put_all}
 use Rattle.of_core.proofs.machine.fill.collect.Given as goal
 
 abbrev pub invariant-loop-i : goal.invariant-loop-i

@@ -1,5 +1,6 @@
 use Rattle.std.proofs.Common.{◌≡◌, ◌+◌, take}
-use Rattle.of_core.specs.Machine.{listed, put_all}
+use Rattle.of_mem.specs.Pairs.{put_all}
+use Rattle.of_core.specs.Machine.{listed}
 use Rattle.of_core.proofs.machine.fill.put_reply.Given as goal
 
 abbrev pub invariant-loop-j : goal.invariant-loop-j

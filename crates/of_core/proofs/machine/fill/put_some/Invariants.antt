@@ -1,5 +1,6 @@
 use Rattle.std.proofs.Common.{◌≡◌, drop, take}
-use Rattle.of_core.specs.Machine.{log_of, put_all}
+use Rattle.of_mem.specs.Pairs.{put_all}
+use Rattle.of_core.specs.Machine.{log_of}
 use Rattle.of_core.proofs.machine.fill.put_some.Given as goal
 
 abbrev pub invariant-loop-j : goal.invariant-loop-j
