@@ -6,7 +6,6 @@ pub mod StoresRecovered
 pub mod StoresLeast
 pub mod StoresZeros
 pub mod PlansKeepLaws
-pub mod Schedules
 pub mod RecordsLists
 pub mod RecordsCalls
 pub mod RecordsFacts
@@ -15,8 +14,10 @@ pub mod RecordsHistory
 pub mod RecordsLawful
 pub mod RecordsAllowance
 pub mod Records
+pub mod RecordsReports
 pub mod RecordsReplies
 pub mod CallSteps
 pub mod CallerSteps
 pub mod BrakeCharges
 pub mod SpentSteps
+pub mod Schedules

@@ -8,15 +8,14 @@ use Rattle.of_core.specs.Least.{least_read}
 use Rattle.of_core.specs.World.{World, Read, Start as TableStart}
 use Rattle.of_caller.specs.Tables.{setup_for}
 use Rattle.of_caller.specs.Moments.{script_of_ticket}
-use Rattle.of_caller.specs.Runs.{IsMomentOf, IsRunOf, RunsAreLawful, RunsKeepTheLimit, RunsMakeLeastSteps}
+use Rattle.of_caller.specs.Runs.{IsMomentOf, IsRunOf, RunsAreLawful}
 use Rattle.of_caller.proofs.StoresHeld.{held_is}
 use Rattle.of_caller.proofs.StoresMoments.{operation_is}
 use Rattle.of_caller.proofs.Stores.{announced_held, read_held}
 use Rattle.of_caller.proofs.StoresRecovered.{recovered_seq_is, recovered_ticket, stands_for}
 use Rattle.of_caller.proofs.StoresLeast.{least_reads}
 use Rattle.of_caller.proofs.RecordsFacts.{CallerFacts, HasNone, IsLast}
-use Rattle.of_caller.proofs.RecordsOwn.{answer_is}
-use Rattle.of_caller.proofs.RecordsLawful.{MomentFacts, narrow, lawful_left}
+use Rattle.of_caller.proofs.RecordsLawful.{MomentFacts, lawful_left}
 
 module _ (p : Plan) (s : Start) (B : TableStart) (w : World) (e : Run) (run : IsRunOf p s B w e) where
   abbrev ops : ℕ → List (List ℕ)
@@ -88,13 +87,3 @@ module _ (p : Plan) (s : Start) (B : TableStart) (w : World) (e : Run) (run : Is
 
 pub runs_are_lawful : RunsAreLawful
 runs_are_lawful = run_is_lawful
-
-pub runs_keep_the_limit : RunsKeepTheLimit
-runs_keep_the_limit p s B w e run r lawful =
-    let sound = run.moment.sound in
-    omega (arith, lawful.report.seq, recovered_seq_is p s B w run.operations run.outcomes run.moment e run.words, sound.reaches, sound.limit)
-
-pub runs_make_least_steps : RunsMakeLeastSteps
-runs_make_least_steps p s B w e run c x none lt among =
-    let f = facts p s B w e run in
-    (answer_is p s B w f.sound e c (run.operations c) (run.outcomes c) lt (narrow p s B w e run.operations run.outcomes f c lt) (f.callers c lt) x none among).least

@@ -1,4 +1,5 @@
--- What is known of a moment of a plan's table, of the calls that led to it and of what a run has left of it: the premises of its record.
+-- What is known of a moment of a plan's table, of the calls that led to it and of what a run has
+-- left of it: the premises of its record.
 use Rattle.std.proofs.Common.{◌≡◌, ℕ, ◌+◌, ◌<◌, ◌≤◌, ◌⊎◌, false, true, IsTrue, List, [], length, get_or}
 use Rattle.std.specs.Prelude.{All}
 use Rattle.of_cell.specs.Words.{word}
@@ -40,7 +41,8 @@ pub record IsAnnounced (p : Plan) (s : Start) (B : TableStart) (w : World) (c t 
   pub ticket : (call_at B w k place).ticket ≡ t
   pub reply : Responds raw (response_at p s B w k place)
 
--- the call of caller c with the ticket t is a read of the store after sequence k, and has the reply that its script has there
+-- the call of caller c with the ticket t is a read of the store after sequence k, and has the reply
+-- that its script has there
 pub record IsRead (p : Plan) (s : Start) (B : TableStart) (w : World) (c t k : ℕ) (raw : RawReply) : Type 0 where
   pub from : B.seq ≤ k
   pub upto : k ≤ risen (setup_for p) w.words

@@ -1,6 +1,8 @@
 -- What a run leaves of a world is a lawful record, where its premises hold.
-use Rattle.std.proofs.Common.{◌≡◌, ℕ, ◌<◌, ◌≤◌, inl, inr, List, [], length, sym, ap, ◌∙◌, arith}
+use Rattle.std.proofs.Common.{◌≡◌, ℕ, ◌<◌, ◌≤◌, inl, inr, List, [], ◌∷◌, length, sym, ap, ◌∙◌, arith}
+use Rattle.std.specs.Prelude.{All}
 use Rattle.std.proofs.lemmas.Bool.{cases_lt}
+use Rattle.std.proofs.lemmas.List.Elements.{All-nil, All-cons}
 use Rattle.std.proofs.lemmas.List.Sums.{get_or-le-sum_by}
 use Rattle.of_cell.specs.Cells.{table_words}
 use Rattle.of_script.specs.declared.instr.Instr.{Instr}
@@ -9,7 +11,11 @@ use Rattle.of_eval.specs.Lawful.{StandsFor}
 use Rattle.of_eval.specs.Record.{cells_in, recovered_seq, recovered_number, line_for, IsRecord, IsLawful}
 use Rattle.of_plan.specs.Plan.{Plan, IsPlan, scripts_of}
 use Rattle.of_plan.specs.Report.{CallEntry, done, Report, Start, entries_of}
-use Rattle.of_plan.specs.Ended.{Run}
+use Rattle.of_plan.specs.declared.answer.Answer.{Answer}
+use Rattle.of_plan.specs.Ended.{Run, answers_of}
+use Rattle.of_eval.specs.Shapes.{IsWhole}
+use Rattle.of_core.specs.declared.place.Outcome.TheVariants.{Answered, Spent}
+use Rattle.of_caller.specs.Ends.{AreAnswers}
 use Rattle.of_plan.specs.Legal.{IsLegal}
 use Rattle.of_plan.specs.Histories.{history_report}
 use Rattle.of_plan.proofs.HistoriesLegal.{histories_legal}
@@ -23,7 +29,8 @@ use Rattle.of_caller.proofs.RecordsFacts.{CallerFacts}
 use Rattle.of_caller.proofs.RecordsOwn.{own_entries, IsOwnOf, answer_is, own_at}
 use Rattle.of_caller.proofs.RecordsHistory.{moment_history, moment_lines, is_history, line_is, lines_fit}
 
--- of a world, where the callers have begun these operations and their calls have ended so, and of what a run has left of it
+-- of a world, where the callers have begun these operations and their calls have ended so, and of
+-- what a run has left of it
 pub record MomentFacts (p : Plan) (s : Start) (B : TableStart) (w : World) (e : Run) (ops : ℕ → List (List ℕ)) (outs : ℕ → List Outcome) : Type 0 where
   pub plan : IsPlan p
   pub seqs : B.seq ≡ s.seq
@@ -34,6 +41,14 @@ pub record MomentFacts (p : Plan) (s : Start) (B : TableStart) (w : World) (e : 
   pub words : length e.words ≡ table_words p.callers MOST_INSTRS (cells_in p)
   pub seq : recovered_seq p e ≡ risen (setup_for p) w.words
   pub stands_for : StandsFor p.callers MOST_INSTRS p.blocks (recovered_number p e) (store_after p B s.store w (risen (setup_for p) w.words))
+
+-- answers that outcomes tell are whole
+told_whole : (outs : List Outcome) (answers : List Answer) → AreAnswers outs answers → All (λ (a : Answer). IsWhole a.reply) answers
+told_whole [] [] told = All-nil (λ (a : Answer). IsWhole a.reply)
+told_whole [] (a ∷ others) told = absurd told
+told_whole (Answered s announced raw steps ∷ outs) [] told = absurd told
+told_whole (Answered s announced raw steps ∷ outs) (a ∷ others) told = All-cons (λ (b : Answer). IsWhole b.reply) a others told.0.2.0 (told_whole outs others told.1)
+told_whole (Spent s ∷ outs) answers told = told_whole outs answers told
 
 -- a caller's scripts are few
 pub few_scripts : (p : Plan) → IsPlan p → (c : ℕ) → c < p.callers → length (scripts_of p c) ≤ 20000
@@ -72,5 +87,5 @@ module _ (p : Plan) (s : Start) (B : TableStart) (w : World) (e : Run) (ops : �
   pub lawful_left : (r : Report) × IsLawful p s e r
   lawful_left = (
     history_report p s (moment_history p s B w e extras) (moment_lines p s e extras),
-    record { answers = facts.answers; endings = facts.endings; words = facts.words; report = record_left; legal = legal_left.0 },
+    record { answers = facts.answers; endings = facts.endings; words = facts.words; whole = λ c lt. told_whole (outs c) (answers_of e c) (facts.callers c lt).tells.told; report = record_left; legal = legal_left.0 },
   )

@@ -1,4 +1,5 @@
--- The entries of one caller in a history: its answers, and its open call where a durable batch has it.
+-- The entries of one caller in a history: its answers, and its open call where a durable batch has
+-- it.
 use Rattle.std.proofs.Common.{◌≡◌, ◌≢◌, ℕ, suc, ◌+◌, ◌<◌, ◌≤◌, ◌⊎◌, inl, inr, Bool, true, false, IsTrue, cond, eqb, List, [], ◌∷◌, ◌++◌, length, get_or, map, take, drop, refl, sym, ap, subst, ◌∙◌, arith, Some, None, Option, length-append, length-take-le}
 use Rattle.std.specs.Prelude.{All}
 use Rattle.std.specs.List.{range_with_len, AllByRecursion as Each}
@@ -49,7 +50,8 @@ use Rattle.of_caller.proofs.RecordsFacts.{CallerFacts, HasNone, IsLast}
 abbrev pub own_entries : Start → Run → ℕ → List CallEntry → List CallEntry
 own_entries s e c extra = answer_entries c (finished_of s c) (answers_of e c) ++ extra
 
--- the entries of a caller stand each at its place, they are all that durable batches have of it, and they end as the caller has ended
+-- the entries of a caller stand each at its place, they are all that durable batches have of it,
+-- and they end as the caller has ended
 pub record IsOwnOf (p : Plan) (s : Start) (B : TableStart) (w : World) (e : Run) (c : ℕ) (extra : List CallEntry) : Type 0 where
   pub each : Each (λ f. (f.caller ≡ c) × Stands p s B w f f.announced) (own_entries s e c extra)
   pub indices : map (λ (f : CallEntry). f.index) (own_entries s e c extra) ≡ range_with_len (finished_of s c) (length (own_entries s e c extra))
@@ -59,7 +61,8 @@ pub record IsOwnOf (p : Plan) (s : Start) (B : TableStart) (w : World) (e : Run)
   pub open_call : HasOpenCall (state_of (ending_of e c)) (length (answers_of e c)) (length (own_entries s e c extra))
   pub ending : HasEnded (state_of (ending_of e c)) (length (answers_of e c)) (to_do p s c) (risen (setup_for p) w.words) p.limit
 
--- an answer is that of a call that stands, and its steps are within the bound and no fewer than the least
+-- an answer is that of a call that stands, and its steps are within the bound and no fewer than the
+-- least
 pub record IsAnswerOf (p : Plan) (s : Start) (B : TableStart) (w : World) (c index : ℕ) (a : Answer) : Type 0 where
   pub stands : Stands p s B w (answer_entry c index a) a.announced
   pub within : a.steps ≤ bound (setup_for p)

@@ -1,4 +1,5 @@
--- The cells of a history stand for the stores of serial replay from the start, and the replies are those of that replay.
+-- The cells of a history stand for the stores of serial replay from the start, and the replies are
+-- those of that replay.
 use Rattle.std.proofs.Common.{◌≡◌, ℕ, zero, suc, ◌+◌, ◌-◌, ◌≤◌, ◌<◌, Bool, true, false, List, [], ◌∷◌, ◌++◌, length, get_or, map, take, refl, sym, ap, subst, ◌∙◌, arith}
 use Rattle.std.specs.Prelude.{IsTrue}
 use Rattle.std.specs.List.{All, AllByRecursion as Each}
@@ -47,7 +48,8 @@ pub record IsReadOf (p : Plan) (s : Start) (B : TableStart) (w : World) (r : Rea
   pub upto : r.seq ≤ risen (setup_for p) w.words
   pub reply : HasReply r.raw (run (store_after p B s.store w r.seq) (script_of_ticket p r.caller r.ticket)).1
 
--- the call of caller i with the ticket t stands in batch k, and the raw reply is that of serial replay
+-- the call of caller i with the ticket t stands in batch k, and the raw reply is that of serial
+-- replay
 pub record IsAnnouncedAt (p : Plan) (s : Start) (B : TableStart) (w : World) (i t k : ℕ) (raw : RawReply) : Type 0 where
   pub some : B.seq < k
   pub upto : k ≤ risen (setup_for p) w.words
@@ -57,7 +59,8 @@ pub record IsAnnouncedAt (p : Plan) (s : Start) (B : TableStart) (w : World) (i 
   pub ticket : (get_or (batch_calls B w k) place no_call).ticket ≡ t
   pub reply : HasReply raw (get_or (replies (store_after p B s.store w (k - 1)) (batch_scripts p B w k)) place no_response)
 
--- the call of caller i with the ticket t is a read of the store after sequence k, and the raw reply is that of its script there
+-- the call of caller i with the ticket t is a read of the store after sequence k, and the raw reply
+-- is that of its script there
 pub record IsReadAt (p : Plan) (s : Start) (B : TableStart) (w : World) (i t k : ℕ) (raw : RawReply) : Type 0 where
   pub from : B.seq ≤ k
   pub upto : k ≤ risen (setup_for p) w.words

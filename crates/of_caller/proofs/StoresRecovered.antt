@@ -1,4 +1,5 @@
--- What recovery finds stands for a store of serial replay, and for each caller's last call, or the start's where it has none.
+-- What recovery finds stands for a store of serial replay, and for each caller's last call, or the
+-- start's where it has none.
 use Rattle.std.proofs.Common.{◌≡◌, ℕ, zero, suc, ◌+◌, ◌-◌, ◌≤◌, ◌<◌, ◌⊎◌, inl, inr, Bool, true, if◌then◌else◌, List, [], ◌∷◌, length, get_or, map, refl, sym, ap, subst, ◌∙◌, arith}
 use Rattle.std.specs.Prelude.{nat_lt}
 use Rattle.std.specs.List.{range_with_len}
@@ -38,7 +39,8 @@ use Rattle.of_caller.proofs.StoresMoments.{op_is}
 use Rattle.of_caller.proofs.StoresReplay.{no_response, number_at, state_start}
 use Rattle.of_caller.proofs.Stores.{is_stored, replied}
 
--- the last call of caller c from the start up to the recovered sequence: its ticket is the recovered one, and the recovered own cells hold its reply
+-- the last call of caller c from the start up to the recovered sequence: its ticket is the
+-- recovered one, and the recovered own cells hold its reply
 pub record IsLastCall (p : Plan) (s : Start) (B : TableStart) (w : World) (e : Run) (c : ℕ) : Type 0 where
   pub number : ℕ
   pub some : B.seq < number
@@ -51,7 +53,8 @@ pub record IsLastCall (p : Plan) (s : Start) (B : TableStart) (w : World) (e : R
   pub ticket_is : recovered_number p e (ticket_at MOST_INSTRS c) ≡ (get_or (batch_calls B w number) place no_call).ticket
   pub reply : HasReply (reply_in MOST_INSTRS (recovered_number p e) c) (get_or (replies (store_after p B s.store w (number - 1)) (batch_scripts p B w number)) place no_response)
 
--- caller c has no call from the start up to the recovered sequence: its recovered ticket is the start's, and its own cells stand as there
+-- caller c has no call from the start up to the recovered sequence: its recovered ticket is the
+-- start's, and its own cells stand as there
 pub record HasNoCall (p : Plan) (s : Start) (B : TableStart) (w : World) (e : Run) (c : ℕ) : Type 0 where
   pub absent : Absent B w.batches c B.seq (risen (setup_for p) w.words)
   pub ticket_is : recovered_number p e (ticket_at MOST_INSTRS c) ≡ finished_of s c
@@ -184,7 +187,8 @@ module _ (p : Plan) (s : Start) (B : TableStart) (w : World) (ops : ℕ → List
           reply = has_reply p raw (length call.op) (get_or (replies (store_after p B s.store w (q.number - 1)) (batch_scripts p B w q.number)) q.place no_response) has.some has.few has.fits (subst (SameReply S raw) has.raw (shape, number));
         }
 
-  -- the recovered ticket is that of the caller's last call up to there, or the start's where there is none
+  -- the recovered ticket is that of the caller's last call up to there, or the start's where there
+  -- is none
   pub recovered_ticket : (c : ℕ) → c < p.callers → HasNoCall p s B w e c ⊎ IsLastCall p s B w e c
   recovered_ticket c l = elim (h.sound.own c l) [
     | inl q ↦ inl (no_call_yet c l q.0 q.1)

@@ -2,7 +2,7 @@
 use Rattle.std.specs.Prelude.{ℕ, List}
 use Rattle.of_plan.specs.Plan.{Plan}
 use Rattle.of_core.specs.Table.{Setup}
-use Rattle.of_core.specs.Laws.{StepTaken, FindsWord, GoodIsSound, StartKept, EventKept, ScheduleKept, EveryMoment, EveryCall, EveryTurn, CallsKept, ZerosMayStart, ZeroWords}
+use Rattle.of_core.specs.Laws.{StepTaken, FindsWord, GoodIsSound, StartKept, EventKept, ScheduleKept, EveryMoment, EveryCall, EveryTurn, CallsKept, FirstWords, ZerosMayStart}
 use Rattle.of_caller.specs.Tables.{setup_for, lawful_for}
 
 -- what the laws say of a table with this setup, whose data cells are lawful so
@@ -20,9 +20,9 @@ pub record TableLaws (S : Setup) (Lawful : List ℕ → Type 0) : Type 0 where
   pub calls : EveryCall S Lawful
   pub more_calls : CallsKept S Lawful
   pub turns : EveryTurn S Lawful
-  -- a table of zeros is a start
+  -- the first words of a table hold its start, and zeros are one
+  pub words : FirstWords S
   pub zero_start : ZerosMayStart S Lawful
-  pub zero_words : ZeroWords S
 
 -- the laws hold at the table of the plan
 abbrev pub KeepsLaws : Plan → Type 0

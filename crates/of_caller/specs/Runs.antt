@@ -1,15 +1,17 @@
--- What a run of a plan leaves, from a start: the facts of its table and of its callers that make its record lawful.
-use Rattle.std.specs.Prelude.{◌≡◌, ℕ, ◌+◌, ◌-◌, ◌==◌, ◌≤◌, ◌<◌, if◌then◌else◌, List, length, map, take, drop, Some}
+-- What a run of a plan leaves, from a start: the facts of its table and of its callers that make
+-- its record lawful.
+use Rattle.std.specs.Prelude.{◌≡◌, ℕ, ◌+◌, ◌-◌, ◌==◌, ◌≤◌, ◌<◌, if◌then◌else◌, List, [], length, map, take, drop, replicate, Some}
+use Rattle.std.specs.List.{range_with_len}
 use Rattle.std.proofs.Common.{get_or}
-use Rattle.of_eval.specs.Record.{answer_entry, state_of, IsLawful}
-use Rattle.of_plan.specs.declared.answer.Answer.{Answer}
+use Rattle.of_eval.specs.Record.{state_of, IsLawful}
+use Rattle.of_eval.specs.Reported.{ReportsRun}
 use Rattle.of_plan.specs.declared.answer.Ending.{Ending}
 use Rattle.of_plan.specs.declared.answer.Ending.TheVariants.{Done}
 use Rattle.of_plan.specs.Plan.{Plan, IsPlan, scripts_of}
 use Rattle.of_plan.specs.Report.{Start, Report, stopped, finished_of}
 use Rattle.of_plan.specs.Legal.{to_do}
 use Rattle.of_plan.specs.Ended.{Run, answers_of, ending_of}
-use Rattle.of_plan.specs.Allowance.{least_steps, KeepsAllowance}
+use Rattle.of_plan.specs.Allowance.{KeepsAllowance}
 use Rattle.of_core.specs.declared.place.Outcome.{Outcome}
 use Rattle.of_core.specs.World.{World, Start as TableStart}
 use Rattle.of_core.specs.Bound.{bound}
@@ -28,11 +30,14 @@ pub record AreNext (p : Plan) (behind c : ℕ) (ops : List (List ℕ)) : Type 0 
   pub few : count ≤ length (scripts_of p c) - behind
   pub are : ops ≡ map operation_of (take count (drop behind (scripts_of p c)))
 
--- how a caller ends whose calls have ended so, of which so many are answered: one that has a script left is spent where its last call was, and else stopped, having asked for one step more than its open call has made
+-- how a caller ends whose calls have ended so, of which so many are answered: one that has a script
+-- left is spent where its last call was, and else stopped, having asked for one step more than its
+-- open call has made
 abbrev pub ends_at : (outs : List Outcome) → (steps to_do answered : ℕ) → Ending
 ends_at outs steps n a = if a == n then Done else halted (last_of outs) steps
 
--- the plan's table has come from the start to this world, where the callers have begun these next scripts of theirs, and they have ended so
+-- the plan's table has come from the start to this world, where the callers have begun these next
+-- scripts of theirs, and they have ended so
 pub record IsMomentOf (p : Plan) (s : Start) (B : TableStart) (w : World) (ops : ℕ → List (List ℕ)) (outs : ℕ → List Outcome) : Type 0 where
   pub plan : IsPlan p
   pub starts : StartsAt p s B
@@ -40,7 +45,8 @@ pub record IsMomentOf (p : Plan) (s : Start) (B : TableStart) (w : World) (ops :
   pub scripts : (c : ℕ) → c < p.callers → AreNext p (finished_of s c) c (ops c)
   pub calls : (c : ℕ) → c < p.callers → Calls (setup_for p) B (finished_of s c) w c (ops c) (outs c)
 
--- what the run has left of caller c tells how its calls have ended; as answers are told by place, none stands behind a spent call, whose script it would be taken for
+-- what the run has left of caller c tells how its calls have ended; answers are told by place, so
+-- none stands behind a spent call, whose script it would be taken for
 pub record TellsCalls (p : Plan) (s : Start) (w : World) (e : Run) (c : ℕ) (outs : List Outcome) : Type 0 where
   pub answers_first : AnswersFirst outs
   pub told : AreAnswers outs (answers_of e c)
@@ -57,43 +63,64 @@ pub record IsRunOf (p : Plan) (s : Start) (B : TableStart) (w : World) (e : Run)
   pub words : e.words ≡ w.words
   pub room : length w.words ≡ table_words (setup_for p)
 
--- from each start of a plan that a table may have, each schedule in which the callers begin their next scripts leads to a moment of the plan
+-- ---- what holds of a plan's starts and moments
+
+-- from each start of a plan that a table may have, each schedule in which the callers begin their
+-- next scripts leads to a moment of the plan
 abbrev pub SchedulesAreMoments : Plan → Type 0
 SchedulesAreMoments p =
     (s : Start) (B : TableStart) → StartsAt p s B → IsStart (setup_for p) B → B.seq ≤ p.limit
-    → (es : List Event) → IsSchedule (setup_for p) (opening_at p B) es → ((c : ℕ) → c < p.callers → AreNext p (finished_of s c) c (operations es c))
-    → IsMomentOf p s B (run (setup_for p) (opening_at p B) es) (operations es) (outcomes (setup_for p) (opening_at p B) es)
+    → (es : List Event) → IsSchedule (setup_for p) (opening_at p B) es
+    → ((c : ℕ) → c < p.callers → AreNext p (finished_of s c) c (operations es c))
+    → IsMomentOf p s B (run (setup_for p) (opening_at p B) es)
+    (operations es) (outcomes (setup_for p) (opening_at p B) es)
+
+-- what a start leaves before anything has happened: no answers, and each caller that has a script
+-- left is stopped
+abbrev pub untouched : Plan → Start → TableStart → Run
+untouched p s B = record {
+  answers = replicate p.callers [];
+  endings = map (λ (c : ℕ). ends_at [] 0 (to_do p s c) 0) (range_with_len 0 p.callers);
+  words = (opening_at p B).words;
+}
+
+-- each start of a plan that a table may have is left so by a run
+abbrev pub StartsAreRuns : Plan → Type 0
+StartsAreRuns p =
+    (s : Start) (B : TableStart) → StartsAt p s B → IsStart (setup_for p) B → B.seq ≤ p.limit
+    → IsRunOf p s B (opening_at p B) (untouched p s B)
+
+-- at each moment of a plan the raw reply of an answered call is that of some reply
+abbrev pub RepliesAreHeld : Type 0
+RepliesAreHeld =
+    (p : Plan) (s : Start) (B : TableStart) (w : World)
+    → (ops : ℕ → List (List ℕ)) (outs : ℕ → List Outcome) → IsMomentOf p s B w ops outs
+    → (c x : ℕ) → c < p.callers → x < length (outs c) → HoldsReply (get_or (outs c) x no_outcome)
 
 -- ---- what holds of all runs
 
 -- what such a run leaves is a lawful record
 abbrev pub RunsAreLawful : Type 0
-RunsAreLawful = (p : Plan) (s : Start) (B : TableStart) (w : World) (e : Run) → IsRunOf p s B w e → (r : Report) × IsLawful p s e r
-
--- whose sequence is within the plan's limit
-abbrev pub RunsKeepTheLimit : Type 0
-RunsKeepTheLimit = (p : Plan) (s : Start) (B : TableStart) (w : World) (e : Run) → IsRunOf p s B w e → (r : Report) → IsLawful p s e r → r.seq ≤ p.limit
-
--- each of its answers tells the least steps of its call at least
-abbrev pub RunsMakeLeastSteps : Type 0
-RunsMakeLeastSteps =
+RunsAreLawful =
     (p : Plan) (s : Start) (B : TableStart) (w : World) (e : Run) → IsRunOf p s B w e
-    → (c x : ℕ) (none : Answer) → c < p.callers → x < length (answers_of e c)
-    → least_steps p (answer_entry c (finished_of s c + x) (get_or (answers_of e c) x none)) ≤ (get_or (answers_of e c) x none).steps
+    → (r : Report) × IsLawful p s e r
+
+-- and of its report all holds that holds of every run
+abbrev pub RunsAreReported : Type 0
+RunsAreReported =
+    (p : Plan) (s : Start) (B : TableStart) (w : World) (e : Run) → IsRunOf p s B w e
+    → (r : Report) → IsLawful p s e r → ReportsRun p s e r
 
 -- the steps that the outcomes of caller c tell, and those of its open call
 abbrev pub steps_made : World → (c : ℕ) → List Outcome → ℕ
 steps_made w c outs = steps_told outs + (machine w c).steps
 
--- a caller that has made at most n steps, and just n where it is stopped with no call spent, keeps them as its allowance, where its open call has a step left
+-- in it a caller that has made at most n steps, and just n where it is stopped with no call spent,
+-- keeps them as its allowance, where its open call has a step left
 abbrev pub RunsKeepAllowances : Type 0
 RunsKeepAllowances =
-    (p : Plan) (s : Start) (B : TableStart) (w : World) (e : Run) (run : IsRunOf p s B w e) (r : Report) → IsLawful p s e r
-    → (c n : ℕ) → c < p.callers → (machine w c).steps < bound (setup_for p) → steps_made w c (run.outcomes c) ≤ n
-    → (state_of (ending_of e c) ≡ stopped → NoneSpent (run.outcomes c) → steps_made w c (run.outcomes c) ≡ n) → KeepsAllowance p r c (Some n)
-
--- at each moment the raw reply of an answered call is that of some reply
-abbrev pub RepliesAreHeld : Type 0
-RepliesAreHeld =
-    (p : Plan) (s : Start) (B : TableStart) (w : World) (ops : ℕ → List (List ℕ)) (outs : ℕ → List Outcome) → IsMomentOf p s B w ops outs
-    → (c x : ℕ) → c < p.callers → x < length (outs c) → HoldsReply (get_or (outs c) x no_outcome)
+    (p : Plan) (s : Start) (B : TableStart) (w : World) (e : Run) (run : IsRunOf p s B w e)
+    → (r : Report) → IsLawful p s e r → (c n : ℕ) → c < p.callers
+    → (machine w c).steps < bound (setup_for p) → steps_made w c (run.outcomes c) ≤ n
+    → (state_of (ending_of e c) ≡ stopped → NoneSpent (run.outcomes c) → steps_made w c (run.outcomes c) ≡ n)
+    → KeepsAllowance p r c (Some n)

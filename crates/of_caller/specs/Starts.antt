@@ -16,7 +16,8 @@ use Rattle.of_caller.specs.Tables.{setup_for}
 abbrev pub number_in : TableStart → ℕ → ℕ
 number_in B a = memory (map pay B.cells) a
 
--- a table starts where a plan does: its sequence is the start's, its cells stand for the start's store, and each caller's ticket cell holds how many of its scripts are done
+-- a table starts where a plan does: its sequence is the start's, its cells stand for the start's
+-- store, and each caller's ticket cell holds how many of its scripts are done
 pub record StartsAt (p : Plan) (s : Start) (B : TableStart) : Type 0 where
   pub seq : B.seq ≡ s.seq
   pub size : length B.cells ≡ cells_in p

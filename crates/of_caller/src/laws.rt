@@ -1,20 +1,23 @@
-//! Laws of plans' tables, and of what a run leaves: functions that change nothing, whose contracts are the theorems.
+//! Laws of plans' tables, of what a run leaves, and of new members: functions that change nothing, whose contracts are the theorems.
 
+ghost use Rattle.of_plan.specs.Plan.{IsPlan};
 ghost use Rattle.of_caller.specs.Callers.{EnrolledAreNew};
 ghost use Rattle.of_caller.specs.PlanLaws.{KeepsLaws};
 ghost use Rattle.of_caller.specs.Starts.{ZerosAreEmpty};
-ghost use Rattle.of_caller.specs.Runs.{SchedulesAreMoments, RepliesAreHeld, RunsAreLawful, RunsKeepTheLimit, RunsMakeLeastSteps, RunsKeepAllowances};
+ghost use Rattle.of_caller.specs.Runs.{SchedulesAreMoments, StartsAreRuns, RepliesAreHeld, RunsAreLawful, RunsAreReported, RunsKeepAllowances};
 
 use of_core::laws::{every_call, every_moment, machines, starts, step_kept};
 use of_eval::Scripts;
 use of_mem::Work;
 use of_plan::Plan;
 
-/// The laws of the protocol hold at the table of a plan. So from every start of the plan its schedules lead to moments of it; a table
-/// of zeros is at its empty start.
+/// The laws of the protocol hold at the table of a plan. So from every start of the plan its schedules lead to moments of it, and what
+/// is left before anything has happened is what a run leaves. A table of zeros is at the plan's empty start.
 pub fn plan_keeps_laws(plan: &Plan)
+    ensures plan { IsPlan plan.now }
     ensures laws { KeepsLaws plan.now }
     ensures moments { SchedulesAreMoments plan.now }
+    ensures starts { StartsAreRuns plan.now }
     ensures zeros { ZerosAreEmpty plan.now }
 {
     let limit = plan.limit();
@@ -30,12 +33,13 @@ pub fn plan_keeps_laws(plan: &Plan)
 }
 
 /// What a run of a plan leaves is a lawful record from the run's start, where its table has come to a moment of the plan and what is
-/// left of each caller tells how its calls have ended. Each caller keeps to the steps that it has made.
+/// left of each caller tells how its calls have ended. Its report says what holds of every run: the sequence is within the limit, an
+/// entry beyond a caller's answers was announced, and each answered call made its least steps. Each caller keeps to the steps that it
+/// has made.
 pub fn runs_are_lawful()
     ensures replies { RepliesAreHeld }
     ensures lawful { RunsAreLawful }
-    ensures limit { RunsKeepTheLimit }
-    ensures least { RunsMakeLeastSteps }
+    ensures reported { RunsAreReported }
     ensures allowances { RunsKeepAllowances }
 {}
 

@@ -16,3 +16,4 @@ pub mod Lawful
 pub mod Record
 pub mod Faults
 pub mod Walking
+pub mod Reported

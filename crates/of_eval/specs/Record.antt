@@ -1,5 +1,5 @@
 -- The record of a run: what its answers and the cells that recovery finds say of the history, and when the record is lawful.
-use Rattle.std.specs.Prelude.{◌≡◌, ℕ, ◌+◌, ◌==◌, ◌<◌, true, false, Bool, List, [], ◌∷◌, ◌++◌, length}
+use Rattle.std.specs.Prelude.{◌≡◌, ℕ, ◌+◌, ◌==◌, ◌<◌, true, false, Bool, List, [], ◌∷◌, ◌++◌, length, All}
 use Rattle.std.proofs.Common.{get_or}
 use Rattle.of_cell.specs.Words.{seq, pay}
 use Rattle.of_cell.specs.Cells.{durable_place, table_words}
@@ -17,7 +17,7 @@ use Rattle.of_plan.specs.Ended.{Run, answers_of, ending_of, longest}
 use Rattle.of_plan.specs.Report as plain
 use Rattle.of_plan.specs.Report.{CallEntry, EndState, Start, entries_of, line_of, finished_of}
 use Rattle.of_plan.specs.Legal.{IsLegal}
-use Rattle.of_eval.specs.Shapes.{IsHeldBy}
+use Rattle.of_eval.specs.Shapes.{IsHeldBy, IsWhole}
 use Rattle.of_eval.specs.Lawful.{reply_in, StandsFor}
 
 -- how many data cells a plan has
@@ -87,10 +87,11 @@ pub record IsRecord (p : Plan) (s : Start) (e : Run) (r : plain.Report) : Type 0
   pub seq : r.seq ≡ recovered_seq p e
   pub store : StandsFor p.callers MOST_INSTRS p.blocks (recovered_number p e) r.store
 
--- what a run leaves is a record of the plan from the start, whose report is this one and is legal
+-- what a run leaves is a record of the plan from the start, whose replies are whole, and whose report is this one and is legal
 pub record IsLawful (p : Plan) (s : Start) (e : Run) (r : plain.Report) : Type 0 where
   pub answers : length e.answers ≡ p.callers
   pub endings : length e.endings ≡ p.callers
   pub words : length e.words ≡ table_words p.callers MOST_INSTRS (cells_in p)
+  pub whole : (c : ℕ) → c < p.callers → All (λ a. IsWhole a.reply) (answers_of e c)
   pub report : IsRecord p s e r
   pub legal : IsLegal p s r

@@ -1,9 +1,11 @@
 //! What operations mean.
 
 ghost use Rattle.std.specs.Prelude.{◌≡◌, ℕ};
+ghost use Rattle.of_script.specs.declared.instr.Reply.{Reply};
 ghost use Rattle.of_store.specs.State.{State};
 ghost use Rattle.of_eval.specs.Faults.{FaultsExclude, OneFirstFault};
 ghost use Rattle.of_eval.specs.Means.{MeansWords, WordsMeanScript};
+ghost use Rattle.of_eval.specs.Shapes.{IsWhole, IsHeldBy, cells_of};
 ghost use Rattle.of_eval.specs.Stored.{IsStored};
 
 use crate::scripts::Scripts;
@@ -32,4 +34,9 @@ pub fn faults_exclude_stores()
 /// The first cell at fault is one.
 pub fn first_fault_is_one()
     ensures { OneFirstFault }
+{}
+
+/// A reply is held by the cells in which it is written; so `reply_of` of what `reply_cells` makes of it is that reply.
+pub fn replies_are_held()
+    ensures { (r : Reply) → IsWhole r → IsHeldBy (cells_of r) r }
 {}

@@ -1,42 +1,16 @@
--- A worked history: two callers, of whom the second reads before it writes, and the first after it wrote.
-use Rattle.std.proofs.Common.{◌≡◌, ℕ, zero, suc, ◌<◌, ◌≤◌, inl, inr, Bool, true, false, Option, Some, None, List, [], ◌∷◌, refl, arith}
+-- The worked report is that of a history: two callers, of whom the second reads before it writes, and the first after it wrote.
+use Rattle.std.proofs.Common.{◌≡◌, ℕ, zero, suc, ◌<◌, ◌≤◌, inl, inr, List, [], ◌∷◌, get_or, refl, subst, arith}
 use Rattle.std.specs.Prelude.{IsTrue, All}
 use Rattle.std.proofs.lemmas.List.Elements.{All-nil, All-cons}
 use Rattle.of_script.specs.declared.instr.Instr.TheVariants.{Load, Store, Add}
 use Rattle.of_script.specs.Language.{reads_only}
-use Rattle.of_store.specs.State.{State, Answered, empty_store, last_store}
-use Rattle.of_plan.specs.Plan.{Plan}
-use Rattle.of_plan.specs.Report.{CallEntry, empty_start}
-use Rattle.of_plan.specs.Legal.{StandsBefore}
-use Rattle.of_plan.specs.Histories.{History, IsBatch, IsOwn, IsHistory, history_entries}
+use Rattle.of_store.specs.State.{State, empty_store, last_store}
+use Rattle.of_plan.specs.Report.{CallEntry, CallerLine, empty_start, no_line}
+use Rattle.of_plan.specs.Legal.{StandsBefore, IsLegal}
+use Rattle.of_plan.specs.Histories.{History, IsBatch, IsOwn, IsHistory, FitsLine, history_report}
+use Rattle.of_plan.specs.Worked.{two_callers, stores_five, loads_six, loads_nothing, adds_one, both_done, legal_report}
+use Rattle.of_plan.proofs.HistoriesLegal.{histories_legal}
 use Rattle.of_plan.proofs.HistoriesLists.{pairs_in_line}
-
--- one caller stores and loads, the other loads and adds
-abbrev two_callers : Plan
-two_callers = record {
-  callers = 2;
-  blocks = 0;
-  limit = 9;
-  scripts = ((Store 0 5 ∷ []) ∷ (Load 0 ∷ []) ∷ []) ∷ ((Load 0 ∷ []) ∷ (Add 0 1 ∷ []) ∷ []) ∷ [];
-  stops = None ∷ None ∷ [];
-  schedule = [];
-}
-
--- an entry whose script answers one number or none
-abbrev entry : (seq caller index : ℕ) → Bool → Option ℕ → CallEntry
-entry seq caller index announced value = record { seq = seq; caller = caller; index = index; announced = announced; reply = Answered (value ∷ []) }
-
-abbrev stores_five : CallEntry
-stores_five = entry 1 0 0 true None
-
-abbrev loads_six : CallEntry
-loads_six = entry 1 0 1 false (Some 6)
-
-abbrev loads_nothing : CallEntry
-loads_nothing = entry 0 1 0 false (Some 0)
-
-abbrev adds_one : CallEntry
-adds_one = entry 1 1 1 true (Some 6)
 
 abbrev batches : ℕ → List CallEntry
 batches zero = []
@@ -53,9 +27,12 @@ stores (suc k) = last_store (empty_store 0) ((Store 0 5 ∷ []) ∷ (Add 0 1 ∷
 abbrev history : History
 history = record { last = 1; runs = batches; own = own; stores = stores }
 
+abbrev lines : List CallerLine
+lines = both_done ∷ both_done ∷ []
+
 -- the first read stands before the batch, and the second behind it
-entries : history_entries two_callers (empty_start two_callers) history ≡ loads_nothing ∷ stores_five ∷ adds_one ∷ loads_six ∷ []
-entries = refl
+report_is : history_report two_callers (empty_start two_callers) history lines ≡ legal_report
+report_is = refl
 
 reads_first : All (λ i. IsTrue (reads_only i)) (Load 0 ∷ [])
 reads_first = All-cons (λ i. IsTrue (reads_only i)) (Load 0) [] refl (All-nil (λ i. IsTrue (reads_only i)))
@@ -89,3 +66,13 @@ each_own (suc (suc c)) lt = absurd (omega arith)
 -- it is a history
 is_history : IsHistory two_callers (empty_start two_callers) history
 is_history = record { from = omega arith; begins = refl; batches = one_batch; own = each_own }
+
+-- a caller that is done has both its scripts among the entries
+lines_fit : (c : ℕ) → c < 2 → FitsLine two_callers (empty_start two_callers) history c (get_or lines c no_line)
+lines_fit zero lt = record { entries = refl; open_call = refl; ending = refl; within = (omega arith, λ none. absurd (omega (arith, none))) }
+lines_fit (suc zero) lt = record { entries = refl; open_call = refl; ending = refl; within = (omega arith, λ none. absurd (omega (arith, none))) }
+lines_fit (suc (suc c)) lt = absurd (omega arith)
+
+-- so the report is legal
+pub worked_is_legal : IsLegal two_callers (empty_start two_callers) legal_report
+worked_is_legal = subst (IsLegal two_callers (empty_start two_callers)) report_is (histories_legal two_callers (empty_start two_callers) history lines is_history (record { each_caller = refl; each = lines_fit })).0

@@ -11,6 +11,7 @@ pub record Run : Type 0 where
   pub endings : List Ending
   pub words : List ℕ
 
+-- what contracts see of it
 abbrev pub run_of : Ended → Run
 run_of e = record { answers = map (λ v. v.items) e.answers.items; endings = e.endings.items; words = e.words.items }
 

@@ -1,7 +1,7 @@
 -- The grammar of plans: which texts are in it, the plan of each, and the bad line of every other text.
 use Rattle.of_cell.specs.declared.shape.TheConstants.{MOST_CALLERS}
 use Rattle.of_store.specs.declared.store.TheConstants.{MOST_BLOCKS}
-use Rattle.of_plan.specs.declared.plan.TheConstants.{GREATEST_LIMIT, MOST_SCRIPTS, MOST_TURNS}
+use Rattle.of_plan.specs.declared.plan.TheConstants.{GREATEST_LIMIT, LATEST_STOP, MOST_SCRIPTS, MOST_TURNS}
 use Rattle.std.specs.Prelude.{◌≡◌, ℕ, ◌≤◌, ◌<◌, ◌⊎◌, List, [], ◌∷◌, ◌++◌, length, take, map, sum_by, filter_map, if◌then◌else◌, ◌==◌, Option, Some, None, IfSome}
 use Rattle.std.specs.Option.{unwrap_or}
 use Rattle.std.specs.List.{AllByRecursion, range_with_len}
@@ -23,10 +23,12 @@ pub record Heading : Type 0 where
   pub blocks : ℕ
   pub limit : Option ℕ
 
+-- the line of the limit, where there is one
 abbrev pub limit_lines : Option ℕ → List Line
 limit_lines None = []
 limit_lines (Some x) = Limit x ∷ []
 
+-- the first lines
 abbrev pub heading_lines : Heading → List Line
 heading_lines h = Title ∷ Callers h.callers ∷ Blocks h.blocks ∷ limit_lines h.limit
 
@@ -34,6 +36,7 @@ heading_lines h = Title ∷ Callers h.callers ∷ Blocks h.blocks ∷ limit_line
 abbrev pub plan_lines : Heading → List Entry → List Line
 plan_lines h entries = heading_lines h ++ (map Body entries ++ End ∷ [])
 
+-- the ranges of the heading
 pub record IsHeading (h : Heading) : Type 0 where
   pub some_callers : 1 ≤ h.callers
   pub few_callers : h.callers ≤ MOST_CALLERS
@@ -43,7 +46,7 @@ pub record IsHeading (h : Heading) : Type 0 where
 -- scripts, stops and turns are of a caller of the heading, and evictions of a cell that has a durable word; the bound on all turns bounds each
 abbrev pub InRange : Heading → Entry → Type 0
 InRange h (Script c script) = (c < h.callers) × IsScript script
-InRange h (Stop c x) = (c < h.callers) × (x ≤ 4294967295)
+InRange h (Stop c x) = (c < h.callers) × (x ≤ LATEST_STOP)
 InRange h (Turns c x) = (c < h.callers) × (1 ≤ x)
 InRange h (Evict a) = a < durable_cells h.callers (data_cells h.callers h.blocks)
 
@@ -75,6 +78,7 @@ pub record AreEntries (h : Heading) (entries : List Entry) : Type 0 where
   pub few_turns : sum_by turns_of (filter_map item_of entries) ≤ MOST_TURNS
   pub one_stop : (c : ℕ) → length (filter_map (stop_at c) entries) ≤ 1
 
+-- the first, where there is one
 abbrev pub first_of : List ℕ → Option ℕ
 first_of [] = None
 first_of (x ∷ xs) = Some x
@@ -83,6 +87,7 @@ first_of (x ∷ xs) = Some x
 abbrev pub scripts_in : List Entry → ℕ → List (List Instr)
 scripts_in entries c = filter_map (script_at c) entries
 
+-- the stop of a caller, where an entry is one
 abbrev pub stop_in : List Entry → ℕ → Option ℕ
 stop_in entries c = first_of (filter_map (stop_at c) entries)
 

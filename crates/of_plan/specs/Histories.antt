@@ -4,7 +4,7 @@ use Rattle.std.specs.List.{range_with_len, AllByRecursion as Each}
 use Rattle.of_script.specs.Language.{reads_only}
 use Rattle.of_store.specs.State.{State, replies, last_store, run}
 use Rattle.of_plan.specs.Plan.{Plan}
-use Rattle.of_plan.specs.Report.{CallEntry, CallerLine, done, Report, Start, entries_of, finished_of}
+use Rattle.of_plan.specs.Report.{CallEntry, CallerLine, no_line, Report, Start, entries_of, finished_of}
 use Rattle.of_plan.specs.Legal.{script_of, to_do, StandsBefore, HasOpenCall, HasEnded, IsWithinBound, IsLegal}
 
 -- it is one of them
@@ -39,6 +39,7 @@ pub record IsOwn (p : Plan) (s : Start) (h : History) (c : ℕ) : Type 0 where
   pub few : length (h.own c) ≤ to_do p s c
   pub order : AllPairs StandsBefore (h.own c)
 
+-- sequence by sequence its announced entries lead from the start's store to the last one, and each caller has its own entries
 pub record IsHistory (p : Plan) (s : Start) (h : History) : Type 0 where
   pub from : s.seq ≤ h.last
   pub begins : h.stores s.seq ≡ s.store
@@ -53,6 +54,7 @@ reads_at p h k = flat_map (λ c. filter (λ e. not e.announced && (e.seq == k)) 
 abbrev pub history_entries : Plan → Start → History → List CallEntry
 history_entries p s h = reads_at p h s.seq ++ flat_map (λ k. h.runs k ++ reads_at p h k) (range_with_len (s.seq + 1) (h.last - s.seq))
 
+-- the report that a history with these lines is
 abbrev pub history_report : Plan → Start → History → List CallerLine → Report
 history_report p s h lines = record { entries = history_entries p s h; callers = lines; seq = h.last; store = h.stores h.last }
 
@@ -63,9 +65,10 @@ pub record FitsLine (p : Plan) (s : Start) (h : History) (c : ℕ) (l : CallerLi
   pub ending : HasEnded l.state l.answered (to_do p s c) h.last p.limit
   pub within : IsWithinBound p l
 
+-- each caller has a line, which fits the history
 pub record FitLines (p : Plan) (s : Start) (h : History) (lines : List CallerLine) : Type 0 where
   pub each_caller : length lines ≡ p.callers
-  pub each : (c : ℕ) → c < p.callers → FitsLine p s h c (slice_index_or lines c (record { state = done; answered = 0; entries = 0; longest = 0 }))
+  pub each : (c : ℕ) → c < p.callers → FitsLine p s h c (slice_index_or lines c no_line)
 
 -- the report of a history is legal, and its entries of a caller are the caller's
 abbrev pub HistoriesAreLegal : Plan → Start → Type 0

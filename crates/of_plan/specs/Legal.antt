@@ -41,6 +41,7 @@ StandsBeforeWithin true false e f = Unit {0}
 StandsBeforeWithin false true e f = ⊥
 StandsBeforeWithin false false e f = (e.caller < f.caller) ⊎ ((e.caller ≡ f.caller) × (e.index < f.index))
 
+-- one entry comes before another: by sequence, and then within it
 abbrev pub StandsBefore : CallEntry → CallEntry → Type 0
 StandsBefore e f = (e.seq < f.seq) ⊎ ((e.seq ≡ f.seq) × StandsBeforeWithin e.announced f.announced e f)
 

@@ -1,8 +1,9 @@
 -- How the code reads a line: the ranges of its numbers, and what its words say.
 use Rattle.of_cell.specs.declared.shape.TheConstants.{MOST_CALLERS}
 use Rattle.of_store.specs.declared.store.TheConstants.{MOST_BLOCKS}
-use Rattle.of_plan.specs.declared.plan.TheConstants.{GREATEST_LIMIT, MOST_TURNS}
-use Rattle.std.specs.Prelude.{◌≡◌, ℕ, ◌≤◌, false, ◌&&◌, List, [], ◌∷◌, if◌then◌else◌, codes, decimal, Option, None}
+use Rattle.of_plan.specs.declared.plan.TheConstants.{GREATEST_LIMIT, LATEST_STOP, MOST_TURNS}
+use Rattle.of_plan.specs.declared.line.TheConstants.{GREATEST_CELL}
+use Rattle.std.specs.Prelude.{◌≡◌, ℕ, ◌-◌, ◌≤◌, false, ◌&&◌, List, [], ◌∷◌, if◌then◌else◌, codes, decimal, Option, None}
 use Rattle.std.specs.Str.{bytes_eq}
 use Rattle.of_script.specs.declared.instr.Instr.{Instr}
 use Rattle.of_script.specs.Language.{IsScript}
@@ -19,10 +20,10 @@ LineInRange Title = Unit {0}
 LineInRange (Callers n) = n ≤ MOST_CALLERS
 LineInRange (Blocks n) = n ≤ MOST_BLOCKS
 LineInRange (Limit x) = x ≤ GREATEST_LIMIT
-LineInRange (Body (Script c script)) = (c ≤ 15) × IsScript script
-LineInRange (Body (Stop c x)) = (c ≤ 15) × (x ≤ 4294967295)
-LineInRange (Body (Turns c x)) = (c ≤ 15) × (x ≤ MOST_TURNS)
-LineInRange (Body (Evict a)) = a ≤ 4294967295
+LineInRange (Body (Script c script)) = (c ≤ MOST_CALLERS - 1) × IsScript script
+LineInRange (Body (Stop c x)) = (c ≤ MOST_CALLERS - 1) × (x ≤ LATEST_STOP)
+LineInRange (Body (Turns c x)) = (c ≤ MOST_CALLERS - 1) × (x ≤ MOST_TURNS)
+LineInRange (Body (Evict a)) = a ≤ GREATEST_CELL
 LineInRange End = Unit {0}
 
 -- the words are those of this line
@@ -44,8 +45,9 @@ title_of (w ∷ v ∷ ws) = if bytes_eq w (codes "plan") && bytes_eq v (codes "1
 
 -- the words after `script` are a caller's number and a script
 abbrev pub ScriptLine : List (List ℕ) → Line → Type 0
-ScriptLine ws (Body (Script c script)) = (ws ≡ decimal c ∷ script_words script) × (c ≤ 15) × IsScript script
+ScriptLine ws (Body (Script c script)) = (ws ≡ decimal c ∷ script_words script) × (c ≤ MOST_CALLERS - 1) × IsScript script
 ScriptLine ws _ = ⊥
 
+-- the words after `script` are no caller's number and script
 abbrev pub NoScriptLine : List (List ℕ) → Type 0
-NoScriptLine ws = (c : ℕ) (script : List Instr) → c ≤ 15 → IsScript script → ws ≡ decimal c ∷ script_words script → ⊥
+NoScriptLine ws = (c : ℕ) (script : List Instr) → c ≤ MOST_CALLERS - 1 → IsScript script → ws ≡ decimal c ∷ script_words script → ⊥

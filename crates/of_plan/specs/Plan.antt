@@ -1,16 +1,18 @@
 -- Plans: for each caller its scripts and its stop, and the schedule.
 use Rattle.of_cell.specs.declared.shape.TheConstants.{MOST_CALLERS}
 use Rattle.of_store.specs.declared.store.TheConstants.{MOST_BLOCKS}
-use Rattle.of_plan.specs.declared.plan.TheConstants.{GREATEST_LIMIT, MOST_SCRIPTS, MOST_TURNS}
-use Rattle.std.specs.Prelude.{◌≡◌, ℕ, ◌+◌, ◌*◌, ◌≤◌, ◌<◌, List, [], length, sum_by, slice_index_or, IfSome, Option, None}
+use Rattle.of_plan.specs.declared.plan.TheConstants.{GREATEST_LIMIT, LATEST_STOP, MOST_SCRIPTS, MOST_TURNS}
+use Rattle.std.specs.Prelude.{◌≡◌, ℕ, ◌≤◌, ◌<◌, List, [], length, sum_by, slice_index_or, IfSome, Option, None}
 use Rattle.std.specs.List.{AllByRecursion}
 use Rattle.of_cell.specs.Cells.{durable_cells, step_bound}
+use Rattle.of_mem.specs.Places.{base_of, cells_at}
 use Rattle.of_script.specs.declared.instr.Instr.{Instr}
 use Rattle.of_script.specs.declared.instr.TheConstants.{MOST_INSTRS}
 use Rattle.of_script.specs.Language.{IsScript}
 use Rattle.of_plan.specs.declared.plan.Item.{Item}
 use Rattle.of_plan.specs.declared.plan.Item.TheVariants.{Turns, Evict}
 
+-- how many callers and blocks there are, the greatest sequence, and each caller's scripts and stop, and what happens step by step
 pub record Plan : Type 0 where
   pub callers : ℕ
   pub blocks : ℕ
@@ -27,18 +29,19 @@ scripts_of p c = slice_index_or p.scripts c []
 abbrev pub stop_of : Plan → ℕ → Option ℕ
 stop_of p c = slice_index_or p.stops c None
 
--- a data cell for each ticket, shape and reply number, each register, the allocator's three, the list heads, and three for each block
+-- the data cells of so many callers and blocks: each caller's own, and behind them the store's
 abbrev pub data_cells : (callers blocks : ℕ) → ℕ
-data_cells callers blocks = callers * (MOST_INSTRS + 2) + 63 + 3 * blocks
+data_cells callers blocks = cells_at (base_of callers MOST_INSTRS) blocks
 
--- the cells of a plan that have a durable word
-abbrev pub cells_of : Plan → ℕ
-cells_of p = durable_cells p.callers (data_cells p.callers p.blocks)
+-- how many cells of a plan's table have a durable word
+abbrev pub durable_cells_of : Plan → ℕ
+durable_cells_of p = durable_cells p.callers (data_cells p.callers p.blocks)
 
 -- the steps that a call of a plan takes at most
 abbrev pub bound_of : Plan → ℕ
 bound_of p = step_bound p.callers MOST_INSTRS (data_cells p.callers p.blocks)
 
+-- how many turns an item is
 abbrev pub turns_of : Item → ℕ
 turns_of (Turns c x) = x
 turns_of (Evict a) = 0
@@ -46,7 +49,7 @@ turns_of (Evict a) = 0
 -- turns are of a caller, and evictions of a cell that has a durable word
 abbrev pub IsItem : Plan → Item → Type 0
 IsItem p (Turns c x) = (c < p.callers) × (1 ≤ x)
-IsItem p (Evict a) = a < cells_of p
+IsItem p (Evict a) = a < durable_cells_of p
 
 -- the ranges of a plan
 pub record IsPlan (p : Plan) : Type 0 where
@@ -59,6 +62,6 @@ pub record IsPlan (p : Plan) : Type 0 where
   pub each_script : AllByRecursion (AllByRecursion IsScript) p.scripts
   pub few_scripts : sum_by length p.scripts ≤ MOST_SCRIPTS
   pub each_stop : length p.stops ≡ p.callers
-  pub stop_range : AllByRecursion (λ o. IfSome o (λ x. x ≤ 4294967295)) p.stops
+  pub stop_range : AllByRecursion (λ o. IfSome o (λ x. x ≤ LATEST_STOP)) p.stops
   pub each_item : AllByRecursion (IsItem p) p.schedule
   pub few_turns : sum_by turns_of p.schedule ≤ MOST_TURNS

@@ -23,9 +23,11 @@ line_body (Body (Turns c x)) = codes "turns " ++ decimal c ++ codes " " ++ decim
 line_body (Body (Evict a)) = codes "evict " ++ decimal a
 line_body End = codes "end"
 
+-- a line with its newline
 abbrev pub line_text : Line → List ℕ
 line_text l = line_body l ++ codes "\n"
 
+-- the lines of entries
 abbrev pub entries_text : List Entry → List ℕ
 entries_text entries = flat_map line_text (map Body entries)
 
@@ -44,6 +46,7 @@ stop_entries c [] = []
 stop_entries c (None ∷ others) = stop_entries (c + 1) others
 stop_entries c (Some x ∷ others) = Stop c x ∷ stop_entries (c + 1) others
 
+-- the entry of an item
 abbrev pub item_entry : Item → Entry
 item_entry (TurnsItem c x) = Turns c x
 item_entry (EvictItem a) = Evict a
@@ -56,5 +59,6 @@ printed_heading p = record { callers = p.callers; blocks = p.blocks; limit = Som
 abbrev pub printed_entries : Plan → List Entry
 printed_entries p = script_entries 0 p.scripts ++ (stop_entries 0 p.stops ++ map item_entry p.schedule)
 
+-- the lines one after the other
 abbrev pub plan_text : Plan → List ℕ
 plan_text p = flat_map line_text (plan_lines (printed_heading p) (printed_entries p))

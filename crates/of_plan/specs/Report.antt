@@ -45,9 +45,13 @@ empty_start p = record { store = empty_store p.blocks; seq = 0; finished = repli
 abbrev pub entries_of : Report → ℕ → List CallEntry
 entries_of r c = filter (λ e. e.caller == c) r.entries
 
+-- the line of nobody
+abbrev pub no_line : CallerLine
+no_line = record { state = done; answered = 0; entries = 0; longest = 0 }
+
 -- the line of a caller
 abbrev pub line_of : Report → ℕ → CallerLine
-line_of r c = slice_index_or r.callers c (record { state = done; answered = 0; entries = 0; longest = 0 })
+line_of r c = slice_index_or r.callers c no_line
 
 -- how many scripts of a caller are done at the start
 abbrev pub finished_of : Start → ℕ → ℕ

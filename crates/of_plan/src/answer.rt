@@ -20,9 +20,9 @@ pub struct Answer {
 pub enum Ending {
     /// All its scripts are answered.
     Done,
-    /// Its brake denied a step, the last of `asked` that its open call asked for.
+    /// It was stopped before that.
     Stopped {
-        /// How often the open call asked.
+        /// How many steps its open call has asked for: those that it made, and the one that it didn't get. 1 where none is open.
         asked: u64,
     },
     /// No sequence was left for its next call.

@@ -1,10 +1,14 @@
-//! Laws of plans and reports.
+//! Laws of plans and reports, and the numbers of plans.
 
+ghost use Rattle.std.specs.Prelude.{◌≡◌};
 ghost use Rattle.of_plan.specs.Plan.{Plan};
 ghost use Rattle.of_plan.specs.Report.{Start, empty_start};
 ghost use Rattle.of_plan.specs.Legal.{IsLegal};
 ghost use Rattle.of_plan.specs.Histories.{HistoriesAreLegal};
 ghost use Rattle.of_plan.specs.Serial.{serial_report};
+ghost use Rattle.of_plan.specs.Worked.{two_callers, legal_report, script_twice, entry_too_many, sequence_left_out, stale_read, writes_lost, stopped_at_the_end, step_too_many};
+
+use crate::plan::{GREATEST_LIMIT, LATEST_STOP, MOST_SCRIPTS, MOST_TURNS};
 
 /// The report of a plan whose scripts run one after the other is legal from the empty start.
 pub fn serial_is_legal()
@@ -15,4 +19,24 @@ pub fn serial_is_legal()
 /// caller's in the order of its calls.
 pub fn histories_are_legal()
     ensures { (p : Plan) (s : Start) → HistoriesAreLegal p s }
+{}
+
+/// A worked report is legal, and for each clause of legality a report that is one field away from it is refused.
+pub fn worked_reports()
+    ensures legal { IsLegal two_callers (empty_start two_callers) legal_report }
+    ensures in_order { IsLegal two_callers (empty_start two_callers) script_twice → ⊥ }
+    ensures open_calls { IsLegal two_callers (empty_start two_callers) entry_too_many → ⊥ }
+    ensures by_sequence { IsLegal two_callers (empty_start two_callers) sequence_left_out → ⊥ }
+    ensures replies { IsLegal two_callers (empty_start two_callers) stale_read → ⊥ }
+    ensures final_store { IsLegal two_callers (empty_start two_callers) writes_lost → ⊥ }
+    ensures endings { IsLegal two_callers (empty_start two_callers) stopped_at_the_end → ⊥ }
+    ensures within_bound { IsLegal two_callers (empty_start two_callers) step_too_many → ⊥ }
+{}
+
+/// The greatest limit and stop, and how many scripts and turns a plan has at most.
+pub fn numbers()
+    ensures limit { GREATEST_LIMIT ≡ 4294967294 }
+    ensures stop { LATEST_STOP ≡ 4294967295 }
+    ensures scripts { MOST_SCRIPTS ≡ 20000 }
+    ensures turns { MOST_TURNS ≡ 10000000 }
 {}

@@ -10,3 +10,5 @@ pub mod Cells
 pub mod OpenCalls
 pub mod Records
 pub mod Worked
+pub mod EqualTexts
+pub mod OneReport

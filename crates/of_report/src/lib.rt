@@ -10,4 +10,4 @@ pub mod store;
 #[cfg(test)]
 mod tests;
 
-pub use report::{Entry, Line, Report};
+pub use report::{EndState, Entry, Line, Report};

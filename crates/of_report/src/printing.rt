@@ -3,13 +3,11 @@
 ghost use Rattle.std.specs.Prelude.{◌≡◌, ◌++◌, IfOk, OnOk, flat_map, map, take, string_bytes};
 ghost use Rattle.std.specs.List.{enumerate_from};
 ghost use Rattle.of_store.specs.Replies.{response_of};
-ghost use Rattle.of_eval.specs.Record.{state_of};
-ghost use Rattle.of_report.specs.Report.{entry_of, line_of, report_of};
+ghost use Rattle.of_report.specs.Report.{entry_of, line_of, report_of, state_of};
 ghost use Rattle.of_report.specs.ReportText.{value_text, cause_text, reply_text, kind_text, entry_line, state_text, caller_line, seq_line, report_text};
 
-use crate::report::{Entry, Line, Report};
+use crate::report::{EndState, Entry, Line, Report};
 use crate::store::put_store;
-use of_plan::Ending;
 use of_script::{Cause, Reply};
 use std::alloc::{AllocError, Global};
 use std::fmt::Write;
@@ -82,14 +80,14 @@ fn put_entry(out: &mut String, entry: &Entry) -> Result<(), AllocError>
     out.push_str("\n")
 }
 
-// The word of an ending.
-fn ending_name(ending: Ending) -> &'static str
-    ensures { result.now ≡ state_text (state_of ending) }
+// The word for how a caller ended.
+fn state_name(state: EndState) -> &'static str
+    ensures { result.now ≡ state_text (state_of state) }
 {
-    match ending {
-        Ending::Done => "done",
-        Ending::Stopped { .. } => "stopped",
-        Ending::Spent { .. } => "spent",
+    match state {
+        EndState::Done => "done",
+        EndState::Stopped => "stopped",
+        EndState::Spent => "spent",
     }
 }
 
@@ -97,8 +95,8 @@ fn ending_name(ending: Ending) -> &'static str
 fn put_caller(out: &mut String, caller: usize, line: &Line) -> Result<(), AllocError>
     ensures { OnOk result (string_bytes out.new ≡ string_bytes out.old ++ caller_line (caller, line_of line.now)) }
 {
-    let ending = ending_name(line.ending);
-    write!(out, "caller {caller} {ending}")?;
+    let state = state_name(line.state);
+    write!(out, "caller {caller} {state}")?;
     write!(out, " {} {}", line.answered, line.entries)?;
     writeln!(out, " {}", line.longest)
 }

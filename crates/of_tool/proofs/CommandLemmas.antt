@@ -12,7 +12,7 @@ use Rattle.of_tool.specs.declared.command.Command.TheVariants.{Serial, Play, Hel
 use Rattle.of_tool.specs.declared.command.TheConstants.{HELP, VERSION}
 use Rattle.of_tool.specs.declared.status.TheConstants.{DONE}
 use Rattle.of_tool.specs.Commands.{words_of}
-use Rattle.of_tool.specs.Verdicts.{Verdict, Helped, Named, Replayed, Played, NoCommand, ReadFault, TooLong, BadPlan, HasCause, status_of, text_of, SourceState, SinkState, IsAnswer, IsWritten, IsReplayed, PlaysPlan, AskForPlan, IsPlanInput, IsValidInput}
+use Rattle.of_tool.specs.Verdicts.{Verdict, ShowsHelp, ShowsVersion, Replayed, Played, NoCommand, ReadFault, TooLong, BadPlan, HasCause, status_of, text_of, SourceState, SinkState, IsAnswer, IsWritten, IsReplayed, PlaysPlan, AskForPlan, IsPlanInput, IsValidInput}
 
 first_same : (x y : List ℕ) → x ∷ [] ≡ y ∷ [] → x ≡ y
 first_same x y e = cc
@@ -44,8 +44,8 @@ asks_none words c is no_serial no_play (inl h) = no_serial (words_of_injective c
 asks_none words c is no_serial no_play (inr h) = no_play (words_of_injective c Play (sym is ∙ h))
 
 helped : (words : List (List ℕ)) (before after : SourceState) (v : Verdict) → words ≡ words_of Help → HasCause words before after v → (status_of v ≡ DONE) × (text_of v ≡ HELP.now)
-helped words before after Helped is h = (refl, refl)
-helped words before after Named is h = absurd (let e = words_of_injective Help Version (sym is ∙ h) in cc)
+helped words before after ShowsHelp is h = (refl, refl)
+helped words before after ShowsVersion is h = absurd (let e = words_of_injective Help Version (sym is ∙ h) in cc)
 helped words before after (Replayed plan) is h = absurd (let e = words_of_injective Help Serial (sym is ∙ h.0) in cc)
 helped words before after (Played plan report) is h = absurd (let e = words_of_injective Help Play (sym is ∙ h.0) in cc)
 helped words before after NoCommand is h = absurd (h Help is)
@@ -54,8 +54,8 @@ helped words before after TooLong is h = absurd (asks_none words Help is (λ e. 
 helped words before after (BadPlan line) is h = absurd (asks_none words Help is (λ e. cc) (λ e. cc) h.0)
 
 named : (words : List (List ℕ)) (before after : SourceState) (v : Verdict) → words ≡ words_of Version → HasCause words before after v → (status_of v ≡ DONE) × (text_of v ≡ VERSION.now)
-named words before after Helped is h = absurd (let e = words_of_injective Version Help (sym is ∙ h) in cc)
-named words before after Named is h = (refl, refl)
+named words before after ShowsHelp is h = absurd (let e = words_of_injective Version Help (sym is ∙ h) in cc)
+named words before after ShowsVersion is h = (refl, refl)
 named words before after (Replayed plan) is h = absurd (let e = words_of_injective Version Serial (sym is ∙ h.0) in cc)
 named words before after (Played plan report) is h = absurd (let e = words_of_injective Version Play (sym is ∙ h.0) in cc)
 named words before after NoCommand is h = absurd (h Version is)
@@ -74,8 +74,8 @@ version_answer words before after status text is a =
     let v = named words before after a.verdict is a.cause in (a.status_is ∙ v.0, a.text_is ∙ v.1)
 
 replayed : (words : List (List ℕ)) (before after : SourceState) (old new : SinkState) (v : Verdict) → words ≡ words_of Serial → status_of v ≡ DONE → HasCause words before after v → IsWritten old new (text_of v) → IsReplayed before after old new
-replayed words before after old new Helped is done h w = absurd (let e = words_of_injective Serial Help (sym is ∙ h) in cc)
-replayed words before after old new Named is done h w = absurd (let e = words_of_injective Serial Version (sym is ∙ h) in cc)
+replayed words before after old new ShowsHelp is done h w = absurd (let e = words_of_injective Serial Help (sym is ∙ h) in cc)
+replayed words before after old new ShowsVersion is done h w = absurd (let e = words_of_injective Serial Version (sym is ∙ h) in cc)
 replayed words before after old new (Replayed plan) is done h w = record { plan = plan; read = h.1; legal = serial_legal plan; written = w }
 replayed words before after old new (Played plan report) is done h w = absurd (let e = words_of_injective Serial Play (sym is ∙ h.0) in cc)
 replayed words before after old new NoCommand is done h w = absurd (h Serial is)
@@ -90,8 +90,8 @@ serial_answer words before after old new status text is done a w =
     replayed words before after old new a.verdict is (sym a.status_is ∙ done) a.cause (let P : List ℕ → Type 0 = IsWritten old new in subst P a.text_is w)
 
 plays : (words : List (List ℕ)) (before after : SourceState) (old new : SinkState) (v : Verdict) → words ≡ words_of Play → status_of v ≡ DONE → HasCause words before after v → IsWritten old new (text_of v) → PlaysPlan before after old new
-plays words before after old new Helped is done h w = absurd (let e = words_of_injective Play Help (sym is ∙ h) in cc)
-plays words before after old new Named is done h w = absurd (let e = words_of_injective Play Version (sym is ∙ h) in cc)
+plays words before after old new ShowsHelp is done h w = absurd (let e = words_of_injective Play Help (sym is ∙ h) in cc)
+plays words before after old new ShowsVersion is done h w = absurd (let e = words_of_injective Play Version (sym is ∙ h) in cc)
 plays words before after old new (Replayed plan) is done h w = absurd (let e = words_of_injective Play Serial (sym is ∙ h.0) in cc)
 plays words before after old new (Played plan report) is done h w = record { plan = plan; read = h.1; report = report; played = h.2; written = w }
 plays words before after old new NoCommand is done h w = absurd (h Play is)
@@ -118,8 +118,8 @@ valid_plan words command left is (inl asks) valid = let P : Command → Type 0 =
 valid_plan words command left is (inr asks) valid = let P : Command → Type 0 = λ c. IsValidInput c left in subst P (words_of_injective command Play (sym is ∙ asks)) valid
 
 completed : (words : List (List ℕ)) (before after : SourceState) (command : Command) (v : Verdict) → words ≡ words_of command → IsValidInput command before.left → ¬ (Rose before.faults after.faults) → HasCause words before after v → status_of v ≡ DONE
-completed words before after command Helped is valid calm h = refl
-completed words before after command Named is valid calm h = refl
+completed words before after command ShowsHelp is valid calm h = refl
+completed words before after command ShowsVersion is valid calm h = refl
 completed words before after command (Replayed plan) is valid calm h = refl
 completed words before after command (Played plan report) is valid calm h = refl
 completed words before after command NoCommand is valid calm h = absurd (h command is)

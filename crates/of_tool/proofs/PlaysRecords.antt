@@ -1,4 +1,5 @@
--- What a plan's schedule leaves is what a run of it leaves from the empty start, so it is a lawful record, and each caller keeps to its turns.
+-- What a plan's schedule leaves is what a run of it leaves from the empty start, so it is a lawful
+-- record, and each caller keeps to its turns.
 use Rattle.std.proofs.Common.{◌≡◌, ℕ, suc, ◌+◌, ◌<◌, ◌≤◌, inl, inr, List, [], ◌∷◌, length, get_or, Some, None, Option, refl, sym, ap, ◌∙◌, arith, cond, eqb, false}
 use Rattle.of_eval.specs.Record.{state_of, IsLawful}
 use Rattle.of_plan.specs.declared.answer.Ending.{Ending}
@@ -16,7 +17,8 @@ use Rattle.of_core.specs.Calls.{operations, outcomes, no_outcome, NeverIdle, las
 use Rattle.of_caller.specs.Tables.{setup_for, opening_for}
 use Rattle.of_caller.specs.Ends.{is_spent, AnswersFirst, NoneAnswered, halted, ending_at}
 use Rattle.of_caller.specs.Left.{IsLeftBy, IsOfPlan, moment_after}
-use Rattle.of_caller.specs.Runs.{ends_at, TellsCalls, IsRunOf, RunsAreLawful, RunsKeepAllowances}
+use Rattle.of_eval.specs.Reported.{ReportsRun}
+use Rattle.of_caller.specs.Runs.{ends_at, TellsCalls, IsRunOf, RunsAreLawful, RunsAreReported, RunsKeepAllowances}
 use Rattle.of_tool.specs.Play.{IsPlayed, play_events}
 use Rattle.of_tool.proofs.PlaysMoments.{IsPlayable, idle_or_open, calls_here, turns_here, open_unspent, idle_steps, words_left}
 use Rattle.of_tool.proofs.PlaysStart.{none_finished, moment_here}
@@ -97,7 +99,11 @@ module _ (p : Plan) (play : IsPlayable p) (es : List Event) (schedule : IsSchedu
   pub left_is_lawful : RunsAreLawful → (r : Report) × IsLawful p (empty_start p) e r
   left_is_lawful law = law p (empty_start p) (zeros (setup_for p)) (moment_after p es) e run_here
 
-  -- and of it each caller keeps to its turns, of which a stopped one has made each in a call
+  -- of its report all holds that holds of every run's
+  pub left_reports : RunsAreReported → (r : Report) → IsLawful p (empty_start p) e r → ReportsRun p (empty_start p) e r
+  left_reports law r lawful = law p (empty_start p) (zeros (setup_for p)) (moment_after p es) e run_here r lawful
+
+  -- and in it each caller keeps to its turns, of which a stopped one has made each in a call
   pub left_keeps_allowance : RunsKeepAllowances → (r : Report) → IsLawful p (empty_start p) e r → (c : ℕ) → c < p.callers → (state_of (ending_of e c) ≡ stopped → NeverIdle (setup_for p) (opening_for p) es c) → KeepsAllowance p r c (Some (turns c es))
   unfolding run_here
   left_keeps_allowance law r lawful c lt busy =
@@ -112,6 +118,10 @@ module _ (p : Plan) (play : IsPlayable p) (schedule : IsSchedule (setup_for p) (
   -- what a plan's own schedule leaves is a lawful record
   pub played_is_lawful : RunsAreLawful → (r : Report) × IsLawful p (empty_start p) e r
   played_is_lawful law = left_is_lawful p play (play_events p) schedule of_plan (play_spent_last p play schedule) e played law
+
+  -- with the report that every run has
+  pub played_reports : RunsAreReported → (r : Report) → IsLawful p (empty_start p) e r → ReportsRun p (empty_start p) e r
+  played_reports law r lawful = left_reports p play (play_events p) schedule of_plan (play_spent_last p play schedule) e played law r lawful
 
   -- and each caller keeps to its turns in it
   pub played_keeps_allowance : RunsKeepAllowances → (r : Report) → IsLawful p (empty_start p) e r → (c : ℕ) → c < p.callers → (state_of (ending_of e c) ≡ stopped → NeverIdle (setup_for p) (opening_for p) (play_events p) c)

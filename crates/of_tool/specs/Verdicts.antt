@@ -1,7 +1,7 @@
--- What the top call answers: a verdict has a status, a text and a cause, and the causes exclude each other.
+-- What the top call answers: a verdict has a status, a text and a cause. Of a source that tells its bytes the causes exclude each other, but that one whose count of faults rose may be answered as a read fault in place of another verdict on its input.
 use Rattle.std.specs.Prelude.{◌≡◌, ℕ, ◌≤◌, ◌<◌, ◌⊎◌, Bool, IsTrue, List, ◌++◌, length, codes, decimal, Option, Some}
 use Rattle.std.specs.Io.KnownBytes.{Appends, Consumes, IsAtEnd}
-use Rattle.of_io.specs.Faults.{Rose, AppendsFront, TakesMoreThan}
+use Rattle.of_io.specs.Faults.{Rose, AppendsFront, TakesMoreThan, TakesAtMost}
 use Rattle.of_plan.specs.Plan.{Plan}
 use Rattle.of_plan.specs.Ended.{Run}
 use Rattle.of_plan.specs.Grammar.{SpellsPlan, IsBadLine}
@@ -9,7 +9,7 @@ use Rattle.of_plan.specs.Report.{Report, empty_start}
 use Rattle.of_plan.specs.Legal.{IsLegal}
 use Rattle.of_plan.specs.Serial.{serial_report}
 use Rattle.of_plan.specs.Allowance.{KeepsAllowance, turns_for}
-use Rattle.of_eval.specs.Record.{IsLawful}
+use Rattle.of_eval.specs.Reported.{ReportsRun}
 use Rattle.of_report.specs.ReportText.{report_text}
 use Rattle.of_tool.specs.declared.command.Command.{Command}
 use Rattle.of_tool.specs.declared.command.Command.TheVariants.{Serial, Play, Help, Version}
@@ -19,16 +19,17 @@ use Rattle.of_tool.specs.declared.top.TheConstants.{MOST_INPUT}
 use Rattle.of_tool.specs.Commands.{words_of, IsNoCommand}
 use Rattle.of_tool.specs.Play.{IsPlayed}
 
--- the report of what a plan's schedule leaves: its sequence, its store and the recovered calls are what recovery finds in the table, it is one legal history, and each caller keeps to its turns
+-- the report of what a plan's schedule leaves: it says of that run what holds of every run, and each caller keeps to its turns
 pub record IsPlayedReport (p : Plan) (r : Report) : Type 0 where
   pub run : Run
   pub played : IsPlayed p run
-  pub lawful : IsLawful p (empty_start p) run r
+  pub reports : ReportsRun p (empty_start p) run r
   pub allowance : (c : ℕ) → c < p.callers → KeepsAllowance p r c (Some (turns_for p c))
 
+-- what the words and the input lead to
 pub data Verdict : Type 0 where
-  Helped : Verdict
-  Named : Verdict
+  ShowsHelp : Verdict
+  ShowsVersion : Verdict
   Replayed : Plan → Verdict
   Played : Plan → Report → Verdict
   NoCommand : Verdict
@@ -36,9 +37,10 @@ pub data Verdict : Type 0 where
   TooLong : Verdict
   BadPlan : ℕ → Verdict
 
+-- its status
 abbrev pub status_of : Verdict → ℕ
-status_of Helped = DONE
-status_of Named = DONE
+status_of ShowsHelp = DONE
+status_of ShowsVersion = DONE
 status_of (Replayed plan) = DONE
 status_of (Played plan report) = DONE
 status_of NoCommand = USAGE
@@ -48,8 +50,8 @@ status_of (BadPlan line) = BAD_PLAN
 
 -- what is to be written
 abbrev pub text_of : Verdict → List ℕ
-text_of Helped = HELP.now
-text_of Named = VERSION.now
+text_of ShowsHelp = HELP.now
+text_of ShowsVersion = VERSION.now
 text_of (Replayed plan) = report_text (serial_report plan)
 text_of (Played plan report) = report_text report
 text_of NoCommand = codes "error: usage\n"
@@ -62,6 +64,7 @@ pub record SourceState : Type 0 where
   pub left : Option (List ℕ)
   pub faults : ℕ
 
+-- of these parts
 abbrev pub source_state : Option (List ℕ) → ℕ → SourceState
 source_state left faults = record { left = left; faults = faults }
 
@@ -71,6 +74,7 @@ pub record SinkState : Type 0 where
   pub finished : Bool
   pub faults : ℕ
 
+-- of these parts
 abbrev pub sink_state : Option (List ℕ) → Bool → ℕ → SinkState
 sink_state bytes finished faults = record { bytes = bytes; finished = finished; faults = faults }
 
@@ -99,12 +103,12 @@ AskForPlan words = (words ≡ words_of Serial) ⊎ (words ≡ words_of Play)
 
 -- why a verdict comes
 abbrev pub HasCause : List (List ℕ) → SourceState → SourceState → Verdict → Type 0
-HasCause words before after Helped = words ≡ words_of Help
-HasCause words before after Named = words ≡ words_of Version
+HasCause words before after ShowsHelp = words ≡ words_of Help
+HasCause words before after ShowsVersion = words ≡ words_of Version
 HasCause words before after (Replayed plan) = (words ≡ words_of Serial) × ReadsPlan before after plan
 HasCause words before after (Played plan report) = (words ≡ words_of Play) × ReadsPlan before after plan × IsPlayedReport plan report
 HasCause words before after NoCommand = IsNoCommand words
-HasCause words before after ReadFault = AskForPlan words × Rose before.faults after.faults
+HasCause words before after ReadFault = AskForPlan words × Rose before.faults after.faults × TakesAtMost MOST_INPUT before.left after.left
 HasCause words before after TooLong = AskForPlan words × TakesMoreThan MOST_INPUT before.left after.left
 HasCause words before after (BadPlan line) = AskForPlan words × ReadsNoPlan before after line
 

@@ -123,8 +123,6 @@ fn decide<S: Source>(alloc: Global, words: &[String], source: &mut S) -> Result<
 }
 
 /// Does what the words say with the source's bytes, and answers the exit status.
-///
-/// A runtime for threads, brakes and the record of a run come with the commands that need them.
 pub fn tool<S: Source, K: Sink>(alloc: Global, words: &[String], source: &mut S, sink: &mut K) -> u8
     // Each status comes exactly for its cause, and what is written is its text.
     ensures answered { Answers (texts words.now)

@@ -1,6 +1,6 @@
 use Rattle.of_caller.specs.PlanLaws.{KeepsLaws}
 use Rattle.of_caller.proofs.PlansKeepLaws.{laws_at}
-use Rattle.of_caller.proofs.Schedules.{schedules_are_moments}
+use Rattle.of_caller.proofs.Schedules.{schedules_are_moments, starts_are_runs}
 use Rattle.of_caller.proofs.StoresZeros.{zeros_are_empty}
 use Rattle.of_caller.proofs.laws.plan_keeps_laws.Goals as goal
 
@@ -18,8 +18,8 @@ kept c =
       calls = c.every_call.ensures.calls;
       more_calls = c.every_call.ensures.kept;
       turns = c.every_call.ensures.turns;
+      words = c.starts.ensures.words;
       zero_start = c.starts.ensures.zeros;
-      zero_words = c.starts.ensures.zero_words;
     })
 
 pub returns-clause-laws : goal.returns-clause-laws
@@ -27,6 +27,9 @@ returns-clause-laws c = kept c
 
 pub returns-clause-moments : goal.returns-clause-moments
 returns-clause-moments c = schedules_are_moments c.args.plan.now c.callers.ensures.plan (kept c)
+
+pub returns-clause-starts : goal.returns-clause-starts
+returns-clause-starts c = starts_are_runs c.args.plan.now c.callers.ensures.plan (kept c)
 
 pub returns-clause-zeros : goal.returns-clause-zeros
 returns-clause-zeros c = zeros_are_empty c.args.plan.now c.callers.ensures.plan

@@ -1,10 +1,10 @@
 use Rattle.std.proofs.Common.{refl, ◌∙◌}
-use Rattle.of_tool.specs.Verdicts.{Helped, Named, NoCommand}
+use Rattle.of_tool.specs.Verdicts.{ShowsHelp, ShowsVersion, NoCommand}
 use Rattle.of_tool.proofs.top.decide.Goals as goal
 
 pub returns-in_ok-from_slice-in-Some-Help-clause-answered : goal.returns-in_ok-from_slice-in-Some-Help-clause-answered
 returns-in_ok-from_slice-in-Some-Help-clause-answered g c = record {
-  verdict = Helped;
+  verdict = ShowsHelp;
   cause = rw c.in-Some-Help.field-0-is at c.in-Some-Help.ensures;
   status_is = refl;
   text_is = c.in_ok-from_slice-in-Some-Help.ensures.items ∙ c.as_bytes.ensures.value;
@@ -12,7 +12,7 @@ returns-in_ok-from_slice-in-Some-Help-clause-answered g c = record {
 
 pub returns-in_ok-from_slice-in-Some-Version-clause-answered : goal.returns-in_ok-from_slice-in-Some-Version-clause-answered
 returns-in_ok-from_slice-in-Some-Version-clause-answered g c = record {
-  verdict = Named;
+  verdict = ShowsVersion;
   cause = rw c.in-Some-Version.field-0-is at c.in-Some-Version.ensures;
   status_is = refl;
   text_is = c.in_ok-from_slice-in-Some-Version.ensures.items ∙ c.as_bytes-in-Some-Version.ensures.value;

@@ -6,7 +6,7 @@ use Rattle.of_tool.proofs.top.read_plan.Goals as goal
 pub returns-in-Err-Fault : goal.returns-in-Err-Fault
 returns-in-Err-Fault g c = λ words asks. record {
   verdict = ReadFault;
-  cause = (asks, c.in-Err-Fault.ensures.fault (cc));
+  cause = (asks, c.in-Err-Fault.ensures.fault (cc), c.in-Err-Fault.ensures.not_too_long (λ e. cc));
   status_is = refl;
   text_is = c.in_ok-from_slice-in-Err-Fault.ensures.items;
 }

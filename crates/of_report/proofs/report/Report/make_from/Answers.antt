@@ -1,9 +1,10 @@
 use Rattle.std.proofs.Common.{rules, ℕ, List, get_or, sym, ap, ◌∙◌}
 use Rattle.std.specs.Prelude.{slice_index}
+use Rattle.std.proofs.lemmas.List.Sorted.{All-permutation}
 use Rattle.std.proofs.lemmas.Fn.{always_returns_same}
 use Rattle.of_plan.specs.Report.{entries_of}
 use Rattle.of_plan.specs.Ended.{run_of}
-use Rattle.of_report.specs.Report.{entry_of, report_of}
+use Rattle.of_report.specs.Report.{entry_of, report_of, HasWholeReply}
 use Rattle.of_report.specs.Order.{place_of}
 use Rattle.of_report.proofs.Records.{whole, lines, in_order, same_report, found_store}
 use Rattle.of_report.proofs.report.Report.make_from.Goals as goal
@@ -11,11 +12,14 @@ use Rattle.of_report.proofs.report.Report.make_from.Goals as goal
 pub store-requires : goal.store-requires
 store-requires c = (c.requires.1.store, found_store c.args.plan.now c.requires.0 (run_of c.args.ended.now) c.in_ok-found.found c.in_ok-found.ensures c.requires.1 c.requires.3.report)
 
-pub gather-requires-clause-whole : goal.gather-requires-clause-whole
-gather-requires-clause-whole c = whole c.args.plan.now c.in_ok-found.ensures.plan c.requires.0 (run_of c.args.ended.now) c.requires.1 c.requires.3 (slice_index c.args.done.now) (λ d. ap (λ (xs : List ℕ). get_or xs d 0) c.requires.2)
+pub gather-requires-clause-complete : goal.gather-requires-clause-complete
+gather-requires-clause-complete c = whole c.args.plan.now c.in_ok-found.ensures.plan c.requires.0 (run_of c.args.ended.now) c.requires.1 c.requires.3 (slice_index c.args.done.now) (λ d. ap (λ (xs : List ℕ). get_or xs d 0) c.requires.2)
 
-pub returns : goal.returns
-returns c s r done lawful =
+pub returns-clause-whole : goal.returns-clause-whole
+returns-clause-whole c = All-permutation HasWholeReply c.in_ok-entries.entries.items c.sort_unstable_by_key.new.self.items c.sort_unstable_by_key.ensures.permutation c.in_ok-entries.ensures.whole
+
+pub returns-clause-report : goal.returns-clause-report
+returns-clause-report c s r done lawful =
     let p = c.args.plan.now in
     let e = run_of c.args.ended.now in
     let plan = c.in_ok-found.ensures.plan in

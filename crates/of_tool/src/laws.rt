@@ -1,0 +1,30 @@
+//! Laws of schedules, and the numbers of the commands.
+
+ghost use Rattle.std.specs.Prelude.{◌≡◌};
+ghost use Rattle.of_core.specs.Events.{IsSchedule};
+ghost use Rattle.of_caller.specs.Tables.{setup_for, opening_for};
+ghost use Rattle.of_tool.specs.Play.{play_events};
+
+use crate::status::{BAD_PLAN, DONE, OUT_OF_MEMORY, READ_FAULT, TOO_LONG, USAGE, WRITE_FAULT};
+use crate::top::MOST_INPUT;
+use of_caller::laws::plan_keeps_laws;
+use of_plan::Plan;
+
+/// Each event of a plan's schedule may happen when it comes; so what they leave is a moment, with all that holds of every moment.
+pub fn plans_have_schedules(plan: &Plan)
+    ensures { IsSchedule (setup_for plan.now) (opening_for plan.now) (play_events plan.now) }
+{
+    plan_keeps_laws(plan);
+}
+
+/// The exit statuses, and how many bytes a command reads at most.
+pub fn numbers()
+    ensures done { DONE ≡ 0 }
+    ensures out_of_memory { OUT_OF_MEMORY ≡ 1 }
+    ensures usage { USAGE ≡ 2 }
+    ensures read_fault { READ_FAULT ≡ 3 }
+    ensures write_fault { WRITE_FAULT ≡ 4 }
+    ensures bad_plan { BAD_PLAN ≡ 5 }
+    ensures too_long { TOO_LONG ≡ 6 }
+    ensures input { MOST_INPUT ≡ 1048576 }
+{}
