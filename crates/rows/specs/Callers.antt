@@ -1,0 +1,36 @@
+-- Rows of scripts, and their callers.
+use Rattle.std.specs.Prelude.{◌≡◌, ℕ, List, []}
+use Rattle.of_eval.specs.declared.scripts.Scripts.{Scripts}
+use Rattle.of_eval.specs.Scripts.{cells_in, scripts_meaning, LawfulCells}
+use Rattle.of_core.specs.Table.{setup_of}
+use Rattle.of_core.specs.Events.{zeros}
+use Rattle.of_row.specs.Views.{Sight}
+use Rattle.of_row.specs.Rule.{Meets}
+use Rattle.of_row.specs.declared.member.Pass.{Pass}
+use Rattle.of_row.specs.declared.row.Row.{Row}
+use Rattle.of_row.specs.Rows.{key_of, setup_at, start_at, IsOf, RunsOn, IsMemberOf}
+use Rattle.rows.specs.declared.caller.Caller.{Caller}
+
+-- the row is one of these scripts, with this limit
+abbrev pub IsRowOf : Row Scripts → Scripts → (limit : ℕ) → Type 0
+IsRowOf r scripts limit =
+    ((key_of r).callers ≡ scripts.callers) × ((key_of r).cells ≡ cells_in scripts)
+    × ((key_of r).limit ≡ limit) × ((key_of r).work ≡ scripts)
+
+-- it began at zeros
+abbrev pub IsAtZeros : Row Scripts → Type 0
+IsAtZeros r = start_at scripts_meaning r ≡ zeros (setup_at scripts_meaning r)
+
+-- the member and the machine are of this row, and the member stands for the machine
+abbrev pub IsCallerOf : Row Scripts → Caller → Type 0
+IsCallerOf r c = IsOf r c.member.seat × RunsOn r c.machine × IsMemberOf scripts_meaning c.member c.machine
+
+-- the pass is of this row, and keeps nobody
+abbrev pub IsOnlooker : Row Scripts → Pass → Type 0
+IsOnlooker r p = IsOf r p.seat × (p.seat.me.0.kept ≡ [])
+
+-- words and view meet the rule of a row of zeros for these scripts
+abbrev pub MeetsRule : Scripts → (limit : ℕ) → List ℕ → Sight → Type 0
+MeetsRule scripts limit ws v =
+    let S = setup_of scripts.callers (cells_in scripts) limit (scripts_meaning scripts) in
+    Meets S (LawfulCells scripts) (zeros S) ws v

@@ -1,0 +1,9 @@
+//! The tests of the row: worked schedules beside the bank, callers in threads, and rows that start. There is nothing to call here.
+
+#![tactic(auto)]
+
+mod caller;
+mod scene;
+#[cfg(test)]
+mod tests;
+mod threads;
