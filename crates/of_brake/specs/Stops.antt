@@ -30,3 +30,8 @@ Counts (Some left) (Some rest) granted = CountsFrom left rest granted
 -- whether the number stands in the list
 abbrev pub is_listed : ℕ → List ℕ → Bool
 is_listed n xs = list_any (λ m. m == n) xs
+
+-- one answered call more was told of, where they are counted
+abbrev pub Heard : (before after : Option ℕ) → Type 0
+Heard None after = after ≡ None
+Heard (Some n) after = after ≡ Some (next n)

@@ -1,7 +1,7 @@
 //! What is asked before each step of a caller.
 
 ghost use Rattle.std.specs.Prelude.{◌≡◌, ℕ, ◌≤◌, false, Option};
-ghost use Rattle.of_brake.specs.Stops.{Rose, Armed, Counts};
+ghost use Rattle.of_brake.specs.Stops.{Rose, Armed, Counts, Heard};
 
 /// It is asked before each step of one caller, and may deny it. Whether it tells the steps left never changes.
 pub trait Brake: Drop {
@@ -11,19 +11,25 @@ pub trait Brake: Drop {
     /// Where they are told, the steps left, or none where there is no end.
     ghost left: { Self → Option (Option ℕ) };
 
+    /// Where they are counted, the answered calls that it was told of.
+    ghost answers: { Self → Option ℕ };
+
     /// Sets the steps left; None is no end.
     fn arm(&mut self, stop: Option<u64>)
         ensures denials { denials self.old ≤ denials self.new }
-        ensures armed { Armed (left self.old) stop (left self.new) };
+        ensures armed { Armed (left self.old) stop (left self.new) }
+        ensures answers { answers self.new ≡ answers self.old };
 
     /// Whether the next step may be made.
     fn ask(&mut self) -> bool
         ensures denials { denials self.old ≤ denials self.new }
         ensures cause { result ≡ false → Rose (denials self.old) (denials self.new) }
-        ensures left { Counts (left self.old) (left self.new) result };
+        ensures left { Counts (left self.old) (left self.new) result }
+        ensures answers { answers self.new ≡ answers self.old };
 
     /// Is called after each answered call.
     fn answered(&mut self)
         ensures denials { denials self.old ≤ denials self.new }
-        ensures left { left self.new ≡ left self.old };
+        ensures left { left self.new ≡ left self.old }
+        ensures answers { Heard (answers self.old) (answers self.new) };
 }

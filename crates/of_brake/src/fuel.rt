@@ -29,6 +29,8 @@ impl Brake for Fuel {
 
     ghost left = { λ f. Some f.left };
 
+    ghost answers = { λ _. None };
+
     fn arm(&mut self, stop: Option<u64>) {
         self.left = stop;
     }

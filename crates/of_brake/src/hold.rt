@@ -64,6 +64,8 @@ impl Brake for Holder {
 
     ghost left = { λ _. None };
 
+    ghost answers = { λ _. None };
+
     fn arm(&mut self, _stop: Option<u64>) {}
 
     fn ask(&mut self) -> bool
@@ -88,6 +90,8 @@ impl Brake for Teller {
     ghost denials = { λ _. 0 };
 
     ghost left = { λ _. None };
+
+    ghost answers = { λ _. None };
 
     fn arm(&mut self, _stop: Option<u64>) {}
 

@@ -33,6 +33,8 @@ impl Brake for Pattern {
 
     ghost left = { λ _. None };
 
+    ghost answers = { λ _. None };
+
     fn arm(&mut self, _stop: Option<u64>) {}
 
     fn ask(&mut self) -> bool

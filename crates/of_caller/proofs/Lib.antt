@@ -16,4 +16,8 @@ pub mod RecordsAllowance
 pub mod Records
 pub mod RecordsReports
 pub mod RecordsReplies
+pub mod CallSteps
+pub mod CallerSteps
+pub mod BrakeCharges
+pub mod SpentSteps
 pub mod Schedules

@@ -1,0 +1,179 @@
+//! A row of scripts with callers, and calls of one instruction whose ends the tests compare.
+
+ghost use Rattle.std.specs.Prelude.{◌≡◌, ◌<◌, ◌≤◌, true, IfOk};
+ghost use Rattle.of_mem.specs.Plots.{size};
+ghost use Rattle.of_eval.specs.Scripts.{scripts_meaning};
+ghost use Rattle.of_row.specs.Rows.{IsOf};
+ghost use Rattle.of_row.specs.Passes.{IsFirst};
+ghost use Rattle.of_caller.specs.Callers.{IsCaller};
+ghost use Rattle.callers.specs.Rows.{IsRowOf};
+
+use of_brake::{Brake, Steps};
+use of_caller::laws::enrolled_are_new;
+use of_caller::{CallErr, Caller};
+use of_cell::Shape;
+use of_core::Outcome;
+use of_eval::Scripts;
+use of_mem::Plot;
+use of_row::{Pass, Row};
+use std::alloc::{AllocError, Global};
+use std::marker::Brand;
+use std::sync::ledger::{Blank, Ledger};
+
+/// More calls than a test makes of one caller.
+const MOST_CALLS: u32 = 1_000;
+
+/// How a call ended, or why it wasn't made, as far as the tests compare it.
+#[derive(Clone, Copy, Debug, PartialEq, Eq)]
+pub enum End {
+    /// The sequence, the reply's shape and first number, and the steps.
+    Answered(u32, u32, u32, u64),
+    /// How often the brake was asked.
+    Stopped(u64),
+    /// The sequence.
+    Spent(u32),
+    /// A call was open where one was to begin, or none where one was to go on.
+    Unfit,
+    /// There was no memory for a brake.
+    NoMemory,
+}
+
+fn end_of(told: Result<Outcome, CallErr>) -> End {
+    match told {
+        Ok(
+            Outcome::Answered {
+                seq,
+                announced: _,
+                raw,
+                steps,
+            },
+        ) => End::Answered(seq, raw.shape, raw.values[0], steps),
+        Ok(Outcome::Spent { seq }) => End::Spent(seq),
+        Err(CallErr::Stopped { asked }) => End::Stopped(asked),
+        Err(CallErr::Spent { seq }) => End::Spent(seq),
+    }
+}
+
+/// The shape of a table for the callers and cells of a plot.
+fn shape_for(plot: &Plot) -> Shape
+    ensures callers { result.callers ≡ plot.now.callers }
+    ensures instrs { result.instrs ≡ plot.now.instrs }
+    ensures cells { result.cells ≡ size plot.now }
+{
+    Shape {
+        callers: plot.callers,
+        instrs: plot.instrs,
+        cells: plot.cells(),
+    }
+}
+
+/// A row of zeros for scripts, with its first pass.
+pub fn row_of(
+    alloc: Global,
+    scripts: Scripts,
+    limit: u32,
+) -> Result<(Row<Scripts>, Pass), AllocError>
+    requires limit { limit ≤ 4294967294 }
+    ensures row { IfOk result (λ r. IsRowOf r.0 scripts limit) }
+    ensures pass { IfOk result (λ r. IsFirst r.0 r.1) }
+{
+    let (row, pass) = Row::new(alloc, shape_for(&scripts.plot()), limit, scripts)?;
+    Ok((row, pass))
+}
+
+/// A caller with a number that is free, and the pass that got it.
+pub fn caller_of(
+    alloc: Global,
+    row: &Row<Scripts>,
+    pass: Pass,
+    number: u32,
+    scripts: Scripts,
+    limit: u32,
+) -> Result<(Caller<Scripts>, Pass), AllocError>
+    requires row { IsRowOf row.now scripts limit }
+    requires limit { limit ≤ 4294967294 }
+    requires pass { IsOf row.now pass.seat }
+    requires first { pass.seat.me.0.first ≡ true }
+    requires number { number < scripts.callers }
+    ensures caller { IfOk result (λ r. IsCaller scripts_meaning row.now r.0) }
+    ensures pass { IfOk result (λ r. IsOf row.now r.1.seat) }
+    ensures first { IfOk result (λ r. r.1.seat.me.0.first ≡ true) }
+{
+    enrolled_are_new(scripts);
+    match row.enrol(pass, number) {
+        Ok((member, pass)) => match Caller::new(alloc, row, member) {
+            Ok(caller) => Ok((caller, pass)),
+            Err((_, error)) => Err(error),
+        },
+        Err(_) => Err(AllocError),
+    }
+}
+
+/// Makes a call of one instruction, where none is open.
+pub fn call(
+    row: &Row<Scripts>,
+    caller: &mut Caller<Scripts>,
+    word: u64,
+    brake: &mut Box<dyn Brake + Send>,
+) -> End
+    requires { IsCaller scripts_meaning row.now caller.old }
+    ensures { IsCaller scripts_meaning row.now caller.new }
+{
+    counted_call::<Brand>(row, caller, word, brake, Blank::new(1))
+}
+
+/// Makes it with a count of its steps.
+fn counted_call<L: Ledger>(
+    row: &Row<Scripts>,
+    caller: &mut Caller<Scripts>,
+    word: u64,
+    brake: &mut Box<dyn Brake + Send>,
+    blank: Blank,
+) -> End
+    requires name { blank.name ≡ L.name }
+    requires parts { (blank.parts ≡ L.parts) × (blank.parts ≡ 1) }
+    requires caller { IsCaller scripts_meaning row.now caller.old }
+    ensures { IsCaller scripts_meaning row.now caller.new }
+{
+    let mut steps: Steps<L> = Steps::new(blank);
+    if !caller.is_idle() {
+        return End::Unfit;
+    }
+    if caller.made() > MOST_CALLS {
+        return End::Unfit;
+    }
+    let op = [word];
+    end_of(caller.call(row, op.as_slice(), brake, &mut steps))
+}
+
+/// Goes on with the open call, where one is open.
+pub fn go_on(
+    row: &Row<Scripts>,
+    caller: &mut Caller<Scripts>,
+    brake: &mut Box<dyn Brake + Send>,
+) -> End
+    requires { IsCaller scripts_meaning row.now caller.old }
+    ensures { IsCaller scripts_meaning row.now caller.new }
+{
+    counted_go_on::<Brand>(row, caller, brake, Blank::new(1))
+}
+
+/// Goes on with a count of the steps.
+fn counted_go_on<L: Ledger>(
+    row: &Row<Scripts>,
+    caller: &mut Caller<Scripts>,
+    brake: &mut Box<dyn Brake + Send>,
+    blank: Blank,
+) -> End
+    requires name { blank.name ≡ L.name }
+    requires parts { (blank.parts ≡ L.parts) × (blank.parts ≡ 1) }
+    requires caller { IsCaller scripts_meaning row.now caller.old }
+    ensures { IsCaller scripts_meaning row.now caller.new }
+{
+    of_core::laws::machines();
+    let mut steps: Steps<L> = Steps::new(blank);
+    if caller.is_idle() {
+        return End::Unfit;
+    }
+    end_of(caller.go_on(row, brake, &mut steps))
+}

@@ -1,0 +1,172 @@
+-- What the steps of a call come to: each step leads from what is told of a call on its way to what is told behind it.
+use Rattle.std.proofs.Common.{◌≡◌, ◌↔◌, IsTrue, ℕ, zero, suc, ◌+◌, ◌-◌, ◌<◌, ◌≤◌, inl, inr, Bool, true, false, List, [], ◌∷◌, ◌++◌, Option, Some, None, refl, sym, ap, ◌∙◌, subst, arith, append_assoc}
+use mathlib.Core.List.{append-nil, IsPrefix}
+use Rattle.of_core.specs.declared.place.Outcome.{Outcome}
+use Rattle.of_core.specs.Table.{Setup}
+use Rattle.of_core.specs.Machine.{Data, IsOpen, is_idle, opened}
+use Rattle.of_core.specs.Steps.{took}
+use Rattle.of_core.specs.World.{Start}
+use Rattle.of_core.specs.Bound.{bound}
+use Rattle.of_core.specs.Turn.{IsIdle}
+use Rattle.of_core.specs.Calls.{Beyond}
+use Rattle.of_core.specs.Laws.{IdleOrOpen}
+use Rattle.of_row.specs.Views.{Ended, Kept, Sight, reach, shown}
+use Rattle.of_row.specs.Rule.{HasEnded}
+use Rattle.of_row.specs.Turned.{StandsFor, IsMember, Turned, Meant, Tells, since_by, since_after, ended_by, ended_at, of_answer, kept_after}
+use Rattle.of_caller.specs.CallsTold.{HasClosed, IsOpenStill, StepsTold}
+use Rattle.of_caller.proofs.SpentSteps.{spent_exactly}
+
+-- a call on its way: n steps of it have led from the machine m and the view v to d and w
+pub record Progress (S : Setup) (L : List ℕ → Type 0) (B : Start) (m : Data) (v : Sight) (n : ℕ) (d : Data) (w : Sight) : Type 0 where
+  pub seen : IsPrefix v.seen w.seen
+  pub caller : d.caller ≡ m.caller
+  pub made : d.made ≡ m.made
+  pub op : d.op ≡ m.op
+  pub before : Kept
+  pub kept : Kept
+  pub kept_before : v.kept ≡ before ∷ []
+  pub kept_now : w.kept ≡ kept ∷ []
+  pub none : n ≡ 0 → (w ≡ v) × (d ≡ m)
+  pub some : 0 < n → StepsTold S B d w kept
+  pub since : 0 < n → kept.since ≡ since_after B v before
+  pub still : IsOpen d.place → IsOpenStill S m before n d kept
+  pub ended : IsIdle d → (o : Outcome) × HasClosed S L B m v before n d w kept o
+
+-- ---- lists
+
+first_kept : List Kept → Kept → Kept
+first_kept [] x = x
+first_kept (y ∷ ys) x = y
+
+pub same_kept : (x y : Kept) → ◌≡◌ {A = List Kept} (x ∷ []) (y ∷ []) → x ≡ y
+unfolding first_kept
+same_kept x y e = ap (λ l. first_kept l x) e
+
+prefix_trans : {A : Type 0} (xs ys zs : List A) → IsPrefix xs ys → IsPrefix ys zs → IsPrefix xs zs
+prefix_trans xs ys zs p q = (p.0 ++ q.0, sym (append_assoc xs p.0 q.0) ∙ (ap (λ l. l ++ q.0) p.1 ∙ q.1))
+
+-- ---- the start of a call
+
+open_not_idle : (d : Data) → IsOpen d.place → IsIdle d → ⊥
+open_not_idle d o idle = absurd (let z : true ≡ false = sym (ap is_idle idle) ∙ o in cc)
+
+pub starts_at : (S : Setup) (L : List ℕ → Type 0) (B : Start) (d : Data) (v : Sight) → IsOpen d.place → d.steps < bound S → (x : Kept) → v.kept ≡ x ∷ [] → Progress S L B d v 0 d v
+starts_at S L B d v o within x one = record {
+  seen = ([], append-nil v.seen);
+  caller = refl;
+  made = refl;
+  op = refl;
+  before = x;
+  kept = x;
+  kept_before = one;
+  kept_now = one;
+  none = λ z. (refl, refl);
+  some = λ h. absurd (omega (arith, h));
+  since = λ h. absurd (omega (arith, h));
+  still = λ z. record { open_call = o; steps = omega arith; within = within; kept = refl };
+  ended = λ idle. absurd (open_not_idle d o idle);
+}
+
+-- ---- one step more
+
+pub none_ended : (e : Data) → IsOpen e.place → ended_at e ≡ []
+none_ended e o = ap (λ (b : Bool). ended_by e b) o
+
+pub one_ended : (e : Data) (o : Outcome) → IsIdle e → e.answer ≡ Some o → ended_at e ≡ record { op = e.op; outcome = o } ∷ []
+one_ended e o idle answer = ap (λ (b : Bool). ended_by e b) (ap is_idle idle) ∙ ap (λ (a : Option Outcome). of_answer e.op a) answer
+
+module _ (S : Setup) (L : List ℕ → Type 0) (B : Start) (d0 : Data) (v0 : Sight) (n : ℕ) (d : Data) (v : Sight) (found : ℕ) (w : Sight) (p : Progress S L B d0 v0 n d v) (o : IsOpen d.place) (t : Turned S L B d v found w) where
+  abbrev e : Data
+  e = took S d found
+
+  -- what was seen when the call began stays known
+  since_is : since_after B v p.kept ≡ since_after B v0 p.before
+  since_is = go n refl
+    where
+      go : (m : ℕ) → n ≡ m → since_after B v p.kept ≡ since_after B v0 p.before
+      go zero z =
+          let same = p.none z in
+          let kept : p.kept ≡ p.before = same_kept p.kept p.before (sym p.kept_now ∙ ap (λ (u : Sight). u.kept) same.0 ∙ p.kept_before) in
+          ap (λ (u : Sight). since_after B u p.kept) same.0 ∙ ap (λ (x : Kept). since_after B v0 x) kept
+      go (suc m) z =
+          let shows = p.some (omega (arith, z)) in
+          ap (λ (b : Bool). since_by b (reach B v.seen) p.kept.since) (ap (λ (m : Data). is_idle m.place) shows.machine ∙ o) ∙ p.since (omega (arith, z))
+
+  abbrev next : Kept
+  next = kept_after B v p.kept e
+
+  stays : IsOpen e.place → IsOpenStill S d0 p.before (n + 1) e next
+  stays opened = record {
+    open_call = opened;
+    steps = omega (arith, (t.goes_on opened).0, (p.still o).steps);
+    within = (t.goes_on opened).1;
+    kept = ap (λ (l : List Ended). p.kept.ended ++ l) (none_ended e opened) ∙ append-nil p.kept.ended ∙ (p.still o).kept;
+  }
+
+  closes : IsIdle e → (q : Outcome) × HasClosed S L B d0 v0 p.before (n + 1) e w next q
+  closes idle =
+      let ends = t.ends p.kept p.kept_now idle in
+      let q = ends.outcome in
+      let steps : d.steps + 1 ≡ d0.steps + (n + 1) = omega (arith, (p.still o).steps) in (
+        q,
+        record {
+          idle = idle;
+          answer = ends.answer;
+          kept = ap (λ (l : List Ended). p.kept.ended ++ l) (one_ended e q idle ends.answer) ∙ ap (λ (l : List Ended). l ++ record { op = e.op; outcome = q } ∷ []) (p.still o).kept
+              ∙ ap (λ (op : List ℕ). p.before.ended ++ record { op = op; outcome = q } ∷ []) (t.op ∙ p.op);
+          stands = subst (λ (i : ℕ). HasEnded S B (shown w.seen) (reach B w.seen) i d0.made d0.op q) p.caller
+              (subst (λ (k : ℕ). HasEnded S B (shown w.seen) (reach B w.seen) d.caller k d0.op q) p.made
+              (subst (λ (op : List ℕ). HasEnded S B (shown w.seen) (reach B w.seen) d.caller d.made op q) p.op ends.stands));
+          meant = subst (λ (op : List ℕ). Meant S B (shown w.seen) op q) p.op ends.meant;
+          steps = subst (λ (k : ℕ). Tells k q) steps ends.steps;
+          beyond = subst (λ (k : ℕ). Beyond k q) since_is ends.beyond;
+          last = record { machine = d; found = found; meets = t.meets; open_call = o; leads = refl; spent = spent_exactly S d found o idle q ends.answer };
+        },
+      )
+
+  pub goes_by : Progress S L B d0 v0 (n + 1) e w
+  goes_by = record {
+    seen = prefix_trans v0.seen v.seen w.seen p.seen t.more;
+    caller = t.caller ∙ p.caller;
+    made = t.made ∙ p.made;
+    op = t.op ∙ p.op;
+    before = p.before;
+    kept = next;
+    kept_before = p.kept_before;
+    kept_now = t.kept p.kept p.kept_now;
+    none = λ z. absurd (omega (arith, z));
+    some = λ h. record { machine = refl; legal = t.legal; own = t.own p.kept p.kept_now };
+    since = λ h. since_is;
+    still = stays;
+    ended = closes;
+  }
+
+-- ---- the steps left
+
+-- the steps that the open call has left at most
+abbrev pub left_by : Setup → Data → (idle : Bool) → ℕ
+left_by S d true = 0
+left_by S d false = bound S - d.steps
+
+abbrev pub left_of : Setup → Data → ℕ
+left_of S d = left_by S d (is_idle d.place)
+
+left_open : (S : Setup) (d : Data) → IsOpen d.place → left_of S d ≡ bound S - d.steps
+left_open S d o = ap (left_by S d) o
+
+left_idle : (S : Setup) (d : Data) → IsIdle d → left_of S d ≡ 0
+left_idle S d idle = ap (left_by S d) (ap is_idle idle)
+
+-- a step leaves fewer
+pub falls_by : (S : Setup) (L : List ℕ → Type 0) (B : Start) (d : Data) (v : Sight) (found : ℕ) (w : Sight) → IdleOrOpen → IsOpen d.place → d.steps < bound S → Turned S L B d v found w → left_of S (took S d found) < left_of S d
+falls_by S L B d v found w either o few t = elim (either (took S d found).place) [
+  | inl idle ↦ omega (arith, left_idle S (took S d found) idle, left_open S d o, few)
+  | inr opened ↦ omega (arith, left_open S (took S d found) opened, left_open S d o, few, (t.goes_on opened).0, (t.goes_on opened).1)
+]
+
+-- a machine that a test found not idle has an open call
+pub open_where : IdleOrOpen → (d : Data) (b : Bool) → IsTrue b ↔ IsIdle d → b ≡ false → IsOpen d.place
+open_where either d b is no_idle = elim (either d.place) [
+  | inl idle ↦ absurd (let z : true ≡ false = sym (is.1 idle) ∙ no_idle in cc)
+  | inr open_call ↦ open_call
+]

@@ -1,0 +1,50 @@
+use Rattle.std.proofs.Common.{◌∙◌, arith, rules, le_trans}
+use Rattle.of_core.specs.Machine.{IsOpen}
+use Rattle.of_caller.specs.declared.caller.Caller.{Caller}
+use Rattle.of_caller.specs.Callers.{call_of}
+use Rattle.of_caller.proofs.CallerSteps.{within_after, falls, goes}
+use Rattle.of_caller.proofs.CallSteps.{open_where}
+use Rattle.of_caller.proofs.BrakeCharges.{gave_more, gave_same, heard_from}
+use Rattle.of_caller.proofs.caller.Caller.go_on.Goals as goal
+
+pub loop-asked-preserved : goal.loop-asked-preserved
+loop-asked-preserved g c =
+    let inv = c.loop-asked.invariant in
+    let row = c.args.row.now in
+    let before = c.loop-asked.self in
+    let now : Caller _ = record { member = c.step.new.member; machine = c.step.new.machine } in
+    let opened = open_where c.machines.ensures.idle_or_open (call_of before) c.is_idle.result c.is_idle.ensures c.loop-asked-test.true in
+    let step = c.in-Ok.ensures.step in
+    record {
+      caller = record {
+        row = c.in-Ok.ensures.row;
+        machine = c.in-Ok.ensures.machine;
+        member = c.in-Ok.ensures.member;
+        within = within_after g.W.Work.meaning g.W.Work.lawful row before inv.caller opened now step;
+      };
+      progress = goes g.W.Work.meaning g.W.Work.lawful row before inv.caller opened now step _ _ _ inv.progress;
+      steps = omega (arith, inv.steps, c.tick.ensures);
+      denials = le_trans inv.denials c.in-Ok.ensures.denials;
+      answers = c.in-Ok.ensures.answers ∙ inv.answers;
+      uses =
+          let b0 = c.args.brake.now in let b1 = c.loop-asked.brake in let b2 = c.step.new.brake in
+          let left0 = (goal.Brake-dyn g (b0.vtable, b0.value)).left b0.value in let left1 = (goal.Brake-dyn g (b1.vtable, b1.value)).left b1.value in let left2 = (goal.Brake-dyn g (b2.vtable, b2.value)).left b2.value in
+          gave_more left0 left1 left2 c.loop-asked.asked inv.uses c.in-Ok.ensures.left;
+    }
+
+pub loop-asked-smaller : goal.loop-asked-smaller
+loop-asked-smaller g c =
+    let inv = c.loop-asked.invariant in
+    let row = c.args.row.now in
+    let before = c.loop-asked.self in
+    let now : Caller _ = record { member = c.step.new.member; machine = c.step.new.machine } in
+    let opened = open_where c.machines.ensures.idle_or_open (call_of before) c.is_idle.result c.is_idle.ensures c.loop-asked-test.true in
+    falls g.W.Work.meaning g.W.Work.lawful row before inv.caller opened now c.in-Ok.ensures.step c.machines.ensures.idle_or_open
+
+pub returns-in-Some-clause-left : goal.returns-in-Some-clause-left
+returns-in-Some-clause-left g c =
+    let inv = c.loop-asked.invariant in
+    (c.loop-asked.asked, inv.steps, gave_same _ _ _ _ inv.uses c.tell.ensures.left)
+
+pub returns-in-Some-clause-answers : goal.returns-in-Some-clause-answers
+returns-in-Some-clause-answers g c = heard_from _ _ _ c.loop-asked.invariant.answers c.tell.ensures.answers

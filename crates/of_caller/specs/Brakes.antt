@@ -1,0 +1,47 @@
+-- What a call takes off the steps of its brake, and what it tells it.
+use Rattle.std.specs.Prelude.{◌≡◌, ℕ, ◌+◌, Option, Some, None, Result, Ok, Err}
+use Rattle.of_brake.specs.Stops.{Heard}
+use Rattle.of_core.specs.declared.place.Outcome.{Outcome}
+use Rattle.of_caller.specs.declared.caller.CallErr.{CallErr}
+use Rattle.of_caller.specs.declared.caller.CallErr.TheVariants.{Stopped, Spent}
+
+abbrev pub IsStop : Result Outcome CallErr → Type 0
+IsStop (Ok o) = ⊥
+IsStop (Err (Stopped asked)) = Unit {0}
+IsStop (Err (Spent seq)) = ⊥
+
+-- of the steps left n were taken; none of no end
+abbrev pub GaveOf : (before after : Option ℕ) → (n : ℕ) → Type 0
+GaveOf None after n = after ≡ None
+GaveOf (Some left) after n = (rest : ℕ) × (left ≡ n + rest) × (after ≡ Some rest)
+
+-- the same of a brake, where it tells its steps left; whether it does never changes
+abbrev pub Gave : (before after : Option (Option ℕ)) → (n : ℕ) → Type 0
+Gave None after n = after ≡ None
+Gave (Some left) None n = ⊥
+Gave (Some left) (Some rest) n = GaveOf left rest n
+
+-- the brake gave as many steps as were counted from a to b
+abbrev pub Uses : (before after : Option (Option ℕ)) → (a b : ℕ) → Type 0
+Uses before after a b = (n : ℕ) × (b ≡ a + n) × Gave before after n
+
+-- the last of so many asks is denied just where one step fewer is left; where there is no end, none is
+abbrev pub StopsOf : (left : Option ℕ) → (asked : ℕ) → Type 0
+StopsOf None asked = ⊥
+StopsOf (Some left) asked = asked ≡ left + 1
+
+-- the same of a brake, where it tells its steps left
+abbrev pub StopsTold : (left : Option (Option ℕ)) → (asked : ℕ) → Type 0
+StopsTold None asked = Unit {0}
+StopsTold (Some left) asked = StopsOf left asked
+
+-- a stop comes only where the steps left are used up
+abbrev pub StopsAt : (left : Option (Option ℕ)) → Result Outcome CallErr → Type 0
+StopsAt left (Ok o) = Unit {0}
+StopsAt left (Err (Stopped asked)) = StopsTold left asked
+StopsAt left (Err (Spent seq)) = Unit {0}
+
+-- the brake was told of an answer, once, and else of none, where it counts them
+abbrev pub HearsOf : (before after : Option ℕ) → Result Outcome CallErr → Type 0
+HearsOf before after (Ok o) = Heard before after
+HearsOf before after (Err e) = after ≡ before

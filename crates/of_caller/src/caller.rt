@@ -1,0 +1,162 @@
+//! One caller: it makes its calls with a member of a row.
+
+ghost use Rattle.std.specs.Prelude.{◌≡◌, ◌+◌, ◌<◌, ◌≤◌, ◌↔◌, IfOk, IfErr, IsTrue, length};
+ghost use Rattle.of_mem.specs.declared.work.TheConstants.{MOST_INSTRS};
+ghost use Rattle.of_core.specs.Machine.{IsOpen};
+ghost use Rattle.of_core.specs.Turn.{IsIdle};
+ghost use Rattle.of_brake.specs.Stops.{Rose, Heard};
+ghost use Rattle.of_row.specs.Keys.{FitsWork};
+ghost use Rattle.of_row.specs.Rows.{key_of, IsOf, setup_at};
+
+use of_brake::{Brake, Steps};
+use of_core::{Machine, Outcome};
+use of_mem::Work;
+use of_row::laws::{machines, members};
+use of_row::{Member, Row};
+use std::alloc::{AllocError, Global};
+use std::sync::ledger::Ledger;
+
+/// Why a call has no answer.
+#[derive(Clone, Copy)]
+pub enum CallErr {
+    /// The brake was asked so many times in this call, and denied the last of them. The call stays open.
+    Stopped { asked: u64 },
+    /// The sequence has come to the row's limit `seq` without the call, which is over.
+    Spent { seq: u32 },
+}
+
+/// One caller: a member of a row, and the machine that its calls are made with.
+#[derive(Drop)]
+pub struct Caller<W: Work> {
+    member: Member,
+    machine: Machine<W>,
+}
+
+// Tells a brake of an answer.
+fn tell(brake: &mut Box<dyn Brake + Send>)
+    ensures denials { denials brake.old ≤ denials brake.new }
+    ensures left { left brake.new ≡ left brake.old }
+    ensures answers { Heard (answers brake.old) (answers brake.new) }
+{
+    brake.answered();
+}
+
+impl<W: Work> Caller<W> {
+    ghost use Rattle.of_caller.specs.Callers.{IsCaller, IsNewcomer, call_of, made_of};
+    ghost use Rattle.of_caller.specs.CallsTold.{CallTold, GoesOnTold};
+    ghost use Rattle.of_caller.specs.Brakes.{IsStop, StopsAt, Uses, HearsOf};
+
+    /// The caller of a member that has made no call on the row. The error hands the member back: there is no memory.
+    pub fn new(
+        alloc: Global,
+        row: &Row<W>,
+        member: Member,
+    ) -> Result<Caller<W>, (Member, AllocError)>
+        requires row { IsOf row.now member.seat }
+        requires sizes { FitsWork W.many W.size (key_of row.now) }
+        requires limit { (key_of row.now).limit ≤ 4294967294 }
+        requires number { member.number < (key_of row.now).callers }
+        requires newcomer { IsNewcomer (setup_at W.meaning row.now) member }
+        ensures caller { IfOk result (IsCaller W.meaning row.now) }
+        ensures member { IfOk result (λ c. c.member ≡ member) }
+        ensures idle { IfOk result (λ c. IsIdle (call_of c)) }
+        ensures made { IfOk result (λ c. made_of c ≡ member.made) }
+        ensures memory { IfErr result (λ e. e.0 ≡ member) }
+    {
+        machines(row.work());
+        let number = member.number();
+        let made = member.made();
+        match Machine::new(alloc, row.shape(), row.limit(), number, made, row.work()) {
+            Ok(machine) => Ok(Caller { member, machine }),
+            Err(error) => Err((member, error)),
+        }
+    }
+
+    /// Makes a call of 1 to `MOST_INSTRS` words. The brake is asked before each of its steps, and told of its answer. A stopped call
+    /// stays open for `go_on`; a spent one is over.
+    pub fn call<L: Ledger>(
+        &mut self,
+        row: &Row<W>,
+        op: &[u64],
+        brake: &mut Box<dyn Brake + Send>,
+        steps: &mut Steps<L>,
+    ) -> Result<Outcome, CallErr>
+        requires caller { IsCaller W.meaning row.now self.old }
+        requires idle { IsIdle (call_of self.old) }
+        requires some { 1 ≤ length op.now }
+        requires few { length op.now ≤ MOST_INSTRS }
+        requires made { made_of self.old + 1 < 4294967296 }
+        ensures caller { IsCaller W.meaning row.now self.new }
+        ensures told { CallTold W.meaning W.lawful row.now op.now
+            self.old self.new steps.old steps.new result }
+        ensures denials { denials brake.old ≤ denials brake.new }
+        ensures cause { IsStop result → Rose (denials brake.old) (denials brake.new) }
+        ensures stop { StopsAt (left brake.old) result }
+        ensures left { Uses (left brake.old) (left brake.new) steps.old steps.new }
+        ensures answers { HearsOf (answers brake.old) (answers brake.new) result }
+    {
+        members(row.work());
+        machines(row.work());
+        self.machine.begin(op);
+        self.go_on(row, brake, steps)
+    }
+
+    /// Goes on with the open call, as `call` does. The steps of its answer are those of the whole call.
+    pub fn go_on<L: Ledger>(
+        &mut self,
+        row: &Row<W>,
+        brake: &mut Box<dyn Brake + Send>,
+        steps: &mut Steps<L>,
+    ) -> Result<Outcome, CallErr>
+        requires caller { IsCaller W.meaning row.now self.old }
+        requires open { IsOpen (call_of self.old).place }
+        ensures caller { IsCaller W.meaning row.now self.new }
+        ensures told { GoesOnTold W.meaning W.lawful row.now
+            self.old self.new steps.old steps.new result }
+        ensures denials { denials brake.old ≤ denials brake.new }
+        ensures cause { IsStop result → Rose (denials brake.old) (denials brake.new) }
+        ensures stop { StopsAt (left brake.old) result }
+        ensures left { Uses (left brake.old) (left brake.new) steps.old steps.new }
+        ensures answers { HearsOf (answers brake.old) (answers brake.new) result }
+    {
+        of_core::laws::machines();
+        let mut asked: u64 = 0;
+        while !self.machine.is_idle() {
+            asked += 1;
+            let Ok(()) = row.step(&mut self.member, &mut self.machine, brake) else {
+                return Err(CallErr::Stopped { asked });
+            };
+            steps.tick();
+        }
+        match self.machine.answer() {
+            Some(Outcome::Spent { seq }) => Err(CallErr::Spent { seq }),
+            Some(outcome) => {
+                tell(brake);
+                Ok(outcome)
+            }
+            None => unreachable!(),
+        }
+    }
+
+    /// Whether no call is open.
+    pub fn is_idle(&self) -> bool
+        ensures { IsTrue result ↔ IsIdle (call_of self.now) }
+    {
+        self.machine.is_idle()
+    }
+
+    /// How many calls of its number were begun, those before the row's start with them.
+    pub fn made(&self) -> u32
+        ensures { result ≡ made_of self.now }
+    {
+        self.machine.made()
+    }
+
+    /// The member again, with all that it knows. An open call stays open in it.
+    pub fn leave(self) -> Member
+        ensures { result ≡ self.member }
+    {
+        let Caller { member, machine: _ } = self;
+        member
+    }
+}
