@@ -1,5 +1,6 @@
 -- All lives: their entries together are one history from the first start.
-use Rattle.std.proofs.Common.{◌≡◌, ℕ, zero, suc, ◌<◌, ◌≤◌, inl, inr, List, [], ◌∷◌, ◌++◌, length, get_or, map, refl, sym, ap, ◌∙◌, arith}
+use Rattle.std.proofs.Common.{◌≡◌, ℕ, zero, suc, ◌<◌, ◌≤◌, inl, inr, List, [], ◌∷◌, ◌++◌, length, get_or, map, refl, sym, ap, subst, ◌∙◌, arith}
+use Rattle.std.specs.Prelude.{filter}
 use Rattle.std.specs.List.{AllByRecursion as Each}
 use Rattle.std.proofs.lemmas.Bool.{cases_lt}
 use Rattle.std.proofs.lemmas.List.{map-append}
@@ -12,8 +13,8 @@ use Rattle.of_plan.specs.Legal.{script_of, IsLegal}
 use Rattle.of_plan.specs.Histories.{IsIn}
 use Rattle.of_plan.proofs.HistoriesLists.{each_at, each_from_in, each_weaker, each_append, in_left, in_right, any_in, in_line_append, pairs_in_line, InLine}
 use Rattle.of_lives.specs.Lives.{Life, done_behind, start_behind, start_behind_all, EachLife, AreLives}
-use Rattle.of_lives.specs.OneHistory.{entries_in, scripts_in, own_in, Precedes, GoesOn, IsBetween, IsAnnouncedAt, IsBehind, IsCall, HasReads, HasAnswered, LivesAreOneHistory}
-use Rattle.of_lives.proofs.Tickets.{done_append}
+use Rattle.of_lives.specs.OneHistory.{entries_in, scripts_in, own_in, Precedes, GoesOn, IsBetween, IsAnnouncedAt, IsKnownTo, IsBehind, NoneAnnouncedOf, IsCall, HasReads, HasAnswered, LivesAreOneHistory}
+use Rattle.of_lives.proofs.Tickets.{done_append, not_done}
 use Rattle.of_lives.proofs.Callers.{is_of}
 use Rattle.of_lives.proofs.OneLife.{IsDoneBehind, Lived, lived}
 
@@ -26,6 +27,8 @@ record Joined (s : Start) (ls : List Life) : Type 0 where
   from : s.seq ≤ (start_behind_all s ls).seq
   sequences : Each (IsBetween s (start_behind_all s ls)) (entries_in ls)
   each_seq : (k : ℕ) → s.seq < k → k ≤ (start_behind_all s ls).seq → (e : CallEntry) × IsIn e (entries_in ls) × IsAnnouncedAt k e
+  wider : length s.finished ≤ length (start_behind_all s ls).finished
+  known : Each (IsKnownTo (start_behind_all s ls)) (entries_in ls)
   behind : Each (IsBehind s) (entries_in ls)
   all_done : (c x : ℕ) → finished_of s c ≤ x → x < finished_of (start_behind_all s ls) c → (e : CallEntry) × IsIn e (entries_in ls) × IsCall c x e
   tickets : (c : ℕ) → finished_of (start_behind_all s ls) c ≡ done_behind (finished_of s c) (own_in ls c)
@@ -45,6 +48,8 @@ joined_none s = record {
   from = omega arith;
   sequences = tt;
   each_seq = λ k low high. absurd (omega (arith, low, high));
+  wider = omega arith;
+  known = tt;
   behind = tt;
   all_done = λ c x low high. absurd (omega (arith, low, high));
   tickets = λ c. refl;
@@ -126,6 +131,8 @@ module _ (s : Start) (l : Life) (ls : List Life) (legal : IsLegal l.plan s l.rep
     from = omega (arith, legal.by_sequence.from_start, rest.from);
     sequences = sequences;
     each_seq = each_seq;
+    wider = omega (arith, one.wider, rest.wider);
+    known = each_append (IsKnownTo last) first later (each_weaker (IsKnownTo t) (IsKnownTo last) (λ e lt. omega (arith, lt, rest.wider)) first one.known) rest.known;
     behind = each_append (IsBehind s) first later one.behind (each_weaker (IsBehind t) (IsBehind s) (λ e low. omega (arith, low, one.grown e.caller)) later rest.behind);
     all_done = all_done;
     tickets = tickets;
@@ -143,6 +150,15 @@ each_answered : (s : Start) (ls : List Life) → AreLives s ls → EachLife HasA
 each_answered s [] lives = tt
 each_answered s (l ∷ ls) lives = ((lived s l lives.0).answered, each_answered (start_behind s l) ls lives.1)
 
+open_read : (s : Start) (ls : List Life) → Joined s ls → (es fs : List CallEntry) (e : CallEntry) → entries_in ls ≡ es ++ e ∷ fs → NoneAnnouncedOf e.caller (e ∷ fs)
+    → finished_of (start_behind_all s ls) e.caller ≤ e.index
+open_read s ls all es fs e is none =
+    let there : IsIn e (entries_in ls) = subst (IsIn e) (sym is) (in_right e es (e ∷ fs) (inl refl)) in
+    let low = each_at (IsBehind s) e (entries_in ls) all.behind there in
+    let line : InLine GoesOn (es ++ e ∷ fs) = subst (InLine GoesOn) is all.once in
+    let same = ap (λ (ds : List CallEntry). done_behind (finished_of s e.caller) (filter (is_of e.caller) ds)) is in
+    omega (arith, all.tickets e.caller, same, not_done (finished_of s e.caller) es fs e line low none)
+
 pub any_lives : LivesAreOneHistory
 any_lives s ls lives =
     let all = joined s ls lives in
@@ -154,9 +170,11 @@ any_lives s ls lives =
       from_start = all.from;
       none_left_out = λ k low high. let found = all.each_seq k low high in any_in (IsAnnouncedAt k) found.0 (entries_in ls) found.1 found.2;
       once = pairs_in_line GoesOn (entries_in ls) all.once;
+      known = All-from_recursion (IsKnownTo (start_behind_all s ls)) (entries_in ls) all.known;
       behind_start = All-from_recursion (IsBehind s) (entries_in ls) all.behind;
       all_done = λ c x low high. let found = all.all_done c x low high in any_in (IsCall c x) found.0 (entries_in ls) found.1 found.2;
       tickets = all.tickets;
+      not_done = λ es fs e is none. open_read s ls all es fs e is none;
       reads = each_reads s ls lives;
       answered = each_answered s ls lives;
     }

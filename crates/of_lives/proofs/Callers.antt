@@ -11,7 +11,7 @@ use Rattle.of_plan.proofs.HistoriesLists.{each_at, each_from_in, each_filter, in
 abbrev pub is_of : ℕ → CallEntry → Bool
 is_of c e = eqb e.caller c
 
-is_caller : (a b : ℕ) → eqb a b ≡ true → a ≡ b
+pub is_caller : (a b : ℕ) → eqb a b ≡ true → a ≡ b
 is_caller a b is = elim (eqb_tells a b) [
   | inl here ↦ here.1
   | inr other ↦ absurd (let two : true ≡ false = sym is ∙ other.0 in cc)

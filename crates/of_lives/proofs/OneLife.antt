@@ -13,7 +13,7 @@ use Rattle.of_plan.specs.Legal.{StandsBefore, StandsBeforeWithin, HasSequence, H
 use Rattle.of_plan.specs.Histories.{IsIn}
 use Rattle.of_plan.proofs.HistoriesLists.{each_at, each_from_in, each_weaker, any_in, InLine, in_line_pairs, in_line_weaker}
 use Rattle.of_lives.specs.Lives.{Life, done_behind, callers_with, finished_behind, start_behind}
-use Rattle.of_lives.specs.OneHistory.{Precedes, GoesOn, IsBetween, IsBehind, IsCall, ReadsOnly, HasReads, HasAnswered}
+use Rattle.of_lives.specs.OneHistory.{Precedes, GoesOn, IsBetween, IsKnownTo, IsBehind, IsCall, ReadsOnly, HasReads, HasAnswered}
 use Rattle.of_lives.proofs.Indices.{Rises, OneByOne, from_first, rise, upto_last, has_index}
 use Rattle.of_lives.proofs.Tickets.{done_low, done_high, done_above}
 use Rattle.of_lives.proofs.Callers.{own_entry, among_all, none_of, merged}
@@ -23,6 +23,8 @@ abbrev pub IsDoneBehind : Start → Life → CallEntry → Type 0
 IsDoneBehind s l e = IsTrue e.announced → e.index < finished_of (start_behind s l) e.caller
 
 pub record Lived (s : Start) (l : Life) : Type 0 where
+  pub wider : length s.finished ≤ length (start_behind s l).finished
+  pub known : Each (IsKnownTo (start_behind s l)) l.report.entries
   pub behind : Each (IsBehind s) l.report.entries
   pub done_then : Each (IsDoneBehind s l) l.report.entries
   pub sequences : Each (IsBetween s (start_behind s l)) l.report.entries
@@ -84,11 +86,13 @@ module _ (s : Start) (l : Life) (legal : IsLegal l.plan s l.report) where
     | inr past ↦ subst (OneByOne (before c)) (sym (no_own c past)) refl
   ]
 
+  as_many : length (finished_behind s l) ≡ callers_with s l
+  as_many = length-map-range_with_len (λ d. done_behind (before d) (own d)) 0 (callers_with s l)
+
   tickets : (c : ℕ) → finished_of (start_behind s l) c ≡ done_behind (before c) (own c)
   tickets c = elim (cases_lt c (callers_with s l)) [
     | inl known ↦ get_or-map-range_with_len (λ d. done_behind (before d) (own d)) 0 (callers_with s l) c c 0 known (omega arith)
     | inr past ↦
-        let as_many : length (finished_behind s l) ≡ callers_with s l = length-map-range_with_len (λ d. done_behind (before d) (own d)) 0 (callers_with s l) in
         let none : own c ≡ [] = no_own c (omega (arith, past, le-max_right (length s.finished) l.plan.callers)) in
         let unknown : before c ≡ 0 = get_or_past s.finished c 0 (omega (arith, past, le-max_left (length s.finished) l.plan.callers)) in
         get_or_past (finished_behind s l) c 0 (omega (arith, past, as_many)) ∙ sym (ap (done_behind (before c)) none ∙ unknown)
@@ -118,7 +122,9 @@ module _ (s : Start) (l : Life) (legal : IsLegal l.plan s l.report) where
 
   all_done : (c x : ℕ) → before c ≤ x → x < finished_of (start_behind s l) c → (e : CallEntry) × IsIn e l.report.entries × IsCall c x e
   all_done c x low high =
-      let most = done_high (before c + length (own c)) (before c) (own c) (omega arith) (upto_last (before c) (own c) (indices c)) in
+      let upto = each_weaker (λ (e : CallEntry). e.index + 1 ≤ before c + length (own c)) (λ (e : CallEntry). e.announced ≡ true → e.index + 1 ≤ before c + length (own c))
+      (λ e high is. high) (own c) (upto_last (before c) (own c) (indices c)) in
+      let most = done_high (before c + length (own c)) (before c) (own c) (omega arith) upto in
       found c x low (omega (arith, high, most, tickets c))
 
   answered : HasAnswered s l
@@ -135,6 +141,9 @@ module _ (s : Start) (l : Life) (legal : IsLegal l.plan s l.report) where
   -- a legal report tells all this of its life
   pub lived : Lived s l
   lived = record {
+    wider = omega (arith, as_many, le-max_left (length s.finished) l.plan.callers);
+    known = each_weaker (λ (e : CallEntry). e.caller < l.plan.callers) (IsKnownTo (start_behind s l))
+        (λ e lt. omega (arith, lt, as_many, le-max_right (length s.finished) l.plan.callers)) l.report.entries callers;
     behind = each_from_in (IsBehind s) l.report.entries behind_one;
     done_then = each_from_in (IsDoneBehind s l) l.report.entries done_one;
     sequences = each_weaker (λ e. HasSequence l.plan s e × (e.seq ≤ l.report.seq)) (IsBetween s (start_behind s l))

@@ -28,7 +28,11 @@ finished_behind s l =
 
 -- where a life leaves: its last store, its sequence, and each caller behind its last announced call
 abbrev pub start_behind : Start → Life → Start
-start_behind s l = record { store = l.report.store; seq = l.report.seq; finished = finished_behind s l }
+start_behind s l = record {
+  store = l.report.store;
+  seq = l.report.seq;
+  finished = finished_behind s l;
+}
 
 -- where they leave all together
 abbrev pub start_behind_all : Start → List Life → Start

@@ -1,5 +1,5 @@
 -- What the entries of lives are together: one history from where the first life starts.
-use Rattle.std.specs.Prelude.{◌≡◌, ℕ, ◌+◌, ◌≤◌, ◌<◌, ◌⊎◌, ◌==◌, false, IsTrue, List, map, filter, flat_map, All, Any, AllPairs}
+use Rattle.std.specs.Prelude.{◌≡◌, ℕ, ◌+◌, ◌≤◌, ◌<◌, ◌⊎◌, ◌==◌, false, IsTrue, List, ◌∷◌, ◌++◌, length, map, filter, flat_map, All, Any, AllPairs}
 use Rattle.of_script.specs.declared.instr.Instr.{Instr}
 use Rattle.of_script.specs.Language.{reads_only}
 use Rattle.of_store.specs.State.{replies, last_store}
@@ -23,12 +23,16 @@ own_in ls c = filter (λ e. e.caller == c) (entries_in ls)
 abbrev pub indices_in : List Life → ℕ → List ℕ
 indices_in ls c = map (λ e. e.index) (own_in ls c)
 
+-- the first was announced at the same sequence, by a lower caller
+abbrev pub IsAnnouncedBefore : CallEntry → CallEntry → Type 0
+IsAnnouncedBefore e f = (e.seq ≡ f.seq) × IsTrue e.announced × (e.caller < f.caller)
+
 -- sequences don't fall, and an announced entry comes behind all of lower sequences
 -- and, within its own, behind announced ones of lower callers alone
 abbrev pub Precedes : CallEntry → CallEntry → Type 0
 Precedes e f =
     (e.seq ≤ f.seq)
-    × (IsTrue f.announced → (e.seq < f.seq) ⊎ ((e.seq ≡ f.seq) × IsTrue e.announced × (e.caller < f.caller)))
+    × (IsTrue f.announced → (e.seq < f.seq) ⊎ IsAnnouncedBefore e f)
 
 -- behind an announced call of a caller come only later ones of it, so it isn't run again
 abbrev pub GoesOn : CallEntry → CallEntry → Type 0
@@ -46,15 +50,23 @@ IsAnnouncedAt k e = IsTrue e.announced × (e.seq ≡ k)
 abbrev pub IsBehind : Start → CallEntry → Type 0
 IsBehind s e = finished_of s e.caller ≤ e.index
 
+-- its caller is one of those that the start knows
+abbrev pub IsKnownTo : Start → CallEntry → Type 0
+IsKnownTo s e = e.caller < length s.finished
+
 -- it is this script of this caller
 abbrev pub IsCall : (caller index : ℕ) → CallEntry → Type 0
 IsCall c x e = (e.caller ≡ c) × (e.index ≡ x)
+
+-- none of these entries is an announced one of the caller
+abbrev pub NoneAnnouncedOf : (caller : ℕ) → List CallEntry → Type 0
+NoneAnnouncedOf c es = All (λ e. e.caller ≡ c → e.announced ≡ false) es
 
 -- an entry that wasn't announced is of a script that only reads
 abbrev pub ReadsOnly : Life → CallEntry → Type 0
 ReadsOnly l e = e.announced ≡ false → All (λ i. IsTrue (reads_only i)) (script_of l.plan e)
 
--- each entry of a life that wasn't announced is a read
+-- so is each of a life
 abbrev pub HasReads : Start → Life → Type 0
 HasReads s l = All (ReadsOnly l) l.report.entries
 
@@ -77,7 +89,9 @@ pub record AreOneHistory (s : Start) (ls : List Life) : Type 0 where
       (k : ℕ) → s.seq < k → k ≤ (start_behind_all s ls).seq → Any (IsAnnouncedAt k) (entries_in ls)
   -- each announced call stands once, in its caller's order
   pub once : AllPairs GoesOn (entries_in ls)
-  -- none stands there that was done at the start, and each from there to the last that is done does
+  -- none stands there that was done at the start, and each from there to the last that is done does;
+  -- all are of callers that the last start knows
+  pub known : All (IsKnownTo (start_behind_all s ls)) (entries_in ls)
   pub behind_start : All (IsBehind s) (entries_in ls)
   pub all_done :
       (c x : ℕ) → finished_of s c ≤ x → x < finished_of (start_behind_all s ls) c
@@ -85,6 +99,11 @@ pub record AreOneHistory (s : Start) (ls : List Life) : Type 0 where
   -- a caller's ticket is that of its last announced call, or the start's where it has none
   pub tickets :
       (c : ℕ) → finished_of (start_behind_all s ls) c ≡ done_behind (finished_of s c) (own_in ls c)
+  -- what wasn't announced, and has no announced call of its caller behind it, isn't done: so the next
+  -- life begins its caller with it, or with one before it
+  pub not_done :
+      (es fs : List CallEntry) (e : CallEntry) → entries_in ls ≡ es ++ e ∷ fs
+      → NoneAnnouncedOf e.caller (e ∷ fs) → finished_of (start_behind_all s ls) e.caller ≤ e.index
   -- what wasn't announced is a read, and each life has an entry for each call that it answered
   pub reads : EachLife HasReads s ls
   pub answered : EachLife HasAnswered s ls

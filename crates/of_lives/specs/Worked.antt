@@ -21,7 +21,12 @@ one_more_script = record two_callers {
 
 -- the line of a caller that is done, with so many calls
 abbrev pub done_with : (calls longest : ℕ) → CallerLine
-done_with calls longest = record { state = done; answered = calls; entries = calls; longest = longest }
+done_with calls longest = record {
+  state = done;
+  answered = calls;
+  entries = calls;
+  longest = longest;
+}
 
 -- the second caller adds, as its script x at sequence k, and both know v behind that
 abbrev pub adds : (x k v : ℕ) → List CallEntry → CallerLine → Life
