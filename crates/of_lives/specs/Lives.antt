@@ -11,12 +11,12 @@ pub record Life : Type 0 where
   pub report : Report
 
 -- how many scripts of a caller are done behind these entries of it, where n were done before:
--- those up to its last announced one. A read that was not announced leaves no ticket
+-- those up to its last announced one. A read that wasn't announced leaves no ticket
 abbrev pub done_behind : (n : ℕ) → List CallEntry → ℕ
 done_behind n [] = n
 done_behind n (e ∷ es) = done_behind (if e.announced then e.index + 1 else n) es
 
--- as many callers as the start and the plan know together
+-- as many callers as the start or the plan has, whichever has more
 abbrev pub callers_with : Start → Life → ℕ
 callers_with s l = max (length s.finished) l.plan.callers
 

@@ -19,10 +19,6 @@ scripts_in ls = flat_map (λ l. map (script_of l.plan) l.report.entries) ls
 abbrev pub own_in : List Life → ℕ → List CallEntry
 own_in ls c = filter (λ e. e.caller == c) (entries_in ls)
 
--- which scripts of a caller they are
-abbrev pub indices_in : List Life → ℕ → List ℕ
-indices_in ls c = map (λ e. e.index) (own_in ls c)
-
 -- the first was announced at the same sequence, by a lower caller
 abbrev pub IsAnnouncedBefore : CallEntry → CallEntry → Type 0
 IsAnnouncedBefore e f = (e.seq ≡ f.seq) × IsTrue e.announced × (e.caller < f.caller)
@@ -66,7 +62,7 @@ NoneAnnouncedOf c es = All (λ e. e.caller ≡ c → e.announced ≡ false) es
 abbrev pub ReadsOnly : Life → CallEntry → Type 0
 ReadsOnly l e = e.announced ≡ false → All (λ i. IsTrue (reads_only i)) (script_of l.plan e)
 
--- so is each of a life
+-- so it is with each entry of a life
 abbrev pub HasReads : Start → Life → Type 0
 HasReads s l = All (ReadsOnly l) l.report.entries
 
@@ -86,19 +82,21 @@ pub record AreOneHistory (s : Start) (ls : List Life) : Type 0 where
   pub sequences : All (IsBetween s (start_behind_all s ls)) (entries_in ls)
   pub from_start : s.seq ≤ (start_behind_all s ls).seq
   pub none_left_out :
-      (k : ℕ) → s.seq < k → k ≤ (start_behind_all s ls).seq → Any (IsAnnouncedAt k) (entries_in ls)
+      (k : ℕ) → s.seq < k → k ≤ (start_behind_all s ls).seq
+      → Any (IsAnnouncedAt k) (entries_in ls)
   -- each announced call stands once, in its caller's order
   pub once : AllPairs GoesOn (entries_in ls)
-  -- none stands there that was done at the start, and each from there to the last that is done does;
-  -- all are of callers that the last start knows
-  pub known : All (IsKnownTo (start_behind_all s ls)) (entries_in ls)
+  -- none stands there that was done at the start, and each from there to the last that is done does
   pub behind_start : All (IsBehind s) (entries_in ls)
   pub all_done :
       (c x : ℕ) → finished_of s c ≤ x → x < finished_of (start_behind_all s ls) c
       → Any (IsCall c x) (entries_in ls)
+  -- all are of callers that are known in the end
+  pub known : All (IsKnownTo (start_behind_all s ls)) (entries_in ls)
   -- a caller's ticket is that of its last announced call, or the start's where it has none
   pub tickets :
-      (c : ℕ) → finished_of (start_behind_all s ls) c ≡ done_behind (finished_of s c) (own_in ls c)
+      (c : ℕ)
+      → finished_of (start_behind_all s ls) c ≡ done_behind (finished_of s c) (own_in ls c)
   -- what wasn't announced, and has no announced call of its caller behind it, isn't done: so the next
   -- life begins its caller with it, or with one before it
   pub not_done :

@@ -1,8 +1,8 @@
 //! Laws of lives: functions that change nothing, whose contracts are the theorems.
 
-ghost use Rattle.std.specs.Prelude.{◌≡◌, [], ◌∷◌};
-ghost use Rattle.of_lives.specs.OneHistory.{LivesAreOneHistory, indices_in};
-ghost use Rattle.of_lives.specs.Worked.{AreWorkedLives, first_life, second_life, runs_again, begins_anew, forgets_store, skips_read, left_behind};
+ghost use Rattle.std.specs.Prelude.{◌≡◌, Some, None, [], ◌∷◌};
+ghost use Rattle.of_lives.specs.OneHistory.{LivesAreOneHistory};
+ghost use Rattle.of_lives.specs.Worked.{FollowsFirst, second_life, runs_again, begins_anew, forgets_store, skips_read, asked_by, replies_to, answers, done_in_both};
 
 use of_plan::laws::worked_reports;
 
@@ -15,16 +15,17 @@ pub fn any_lives()
 {}
 
 /// A worked second life asks again for a read of the first, finds what was added in between, and
-/// runs no announced call again. Four that are a field or two away from it do not go on from there.
+/// runs no announced call again. Four that are a number or an entry away from it are refused.
 pub fn worked_lives()
-    ensures lives { AreWorkedLives second_life }
-    ensures asked_again { indices_in (first_life ∷ second_life ∷ []) 0 ≡ 0 ∷ 1 ∷ 1 ∷ [] }
-    ensures not_run_again { indices_in (first_life ∷ second_life ∷ []) 1 ≡ 0 ∷ 1 ∷ 2 ∷ [] }
-    ensures tickets { left_behind second_life ≡ 1 ∷ 3 ∷ [] }
-    ensures run_again { AreWorkedLives runs_again → ⊥ }
-    ensures begun_anew { AreWorkedLives begins_anew → ⊥ }
-    ensures store_forgotten { AreWorkedLives forgets_store → ⊥ }
-    ensures read_skipped { AreWorkedLives skips_read → ⊥ }
+    ensures follows { FollowsFirst second_life }
+    ensures asked_again { asked_by 0 ≡ 0 ∷ 1 ∷ 1 ∷ [] }
+    ensures in_its_place { replies_to 0 ≡ answers None ∷ answers (Some 6) ∷ answers (Some 7) ∷ [] }
+    ensures not_run_again { asked_by 1 ≡ 0 ∷ 1 ∷ 2 ∷ [] }
+    ensures tickets { done_in_both ≡ 1 ∷ 3 ∷ [] }
+    ensures call_run_again { FollowsFirst runs_again → ⊥ }
+    ensures sequence_forgotten { FollowsFirst begins_anew → ⊥ }
+    ensures store_forgotten { FollowsFirst forgets_store → ⊥ }
+    ensures read_skipped { FollowsFirst skips_read → ⊥ }
 {
     worked_reports();
 }

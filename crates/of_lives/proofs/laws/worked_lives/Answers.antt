@@ -3,11 +3,11 @@ use Rattle.of_plan.specs.Worked.{entry}
 use Rattle.of_lives.proofs.WorkedLives.{second_is_legal}
 use Rattle.of_lives.proofs.laws.worked_lives.Goals as goal
 
-pub returns-clause-lives : goal.returns-clause-lives
-returns-clause-lives c = (c.worked_reports.ensures.legal, (second_is_legal, tt))
+pub returns-clause-follows : goal.returns-clause-follows
+returns-clause-follows c = (c.worked_reports.ensures.legal, (second_is_legal, tt))
 
-pub returns-clause-begun_anew : goal.returns-clause-begun_anew
-returns-clause-begun_anew c lives = let e = lives.1.0.by_sequence.sequences 0 (entry 0 0 0 true None) (omega arith) in absurd (omega (arith, e.0))
+pub returns-clause-sequence_forgotten : goal.returns-clause-sequence_forgotten
+returns-clause-sequence_forgotten c lives = let e = lives.1.0.by_sequence.sequences 0 (entry 0 0 0 true None) (omega arith) in absurd (omega (arith, e.0))
 
 pub returns-clause-read_skipped : goal.returns-clause-read_skipped
 returns-clause-read_skipped c lives = let e = lives.1.0.endings 0 (omega arith) in absurd (omega (arith, e))
