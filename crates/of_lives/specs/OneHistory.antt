@@ -97,8 +97,8 @@ pub record AreOneHistory (s : Start) (ls : List Life) : Type 0 where
   pub tickets :
       (c : ℕ)
       → finished_of (start_behind_all s ls) c ≡ done_behind (finished_of s c) (own_in ls c)
-  -- what wasn't announced, and has no announced call of its caller behind it, isn't done: so the next
-  -- life begins its caller with it, or with one before it
+  -- what wasn't announced, and has no announced call of its caller behind it, isn't done:
+  -- so the next life begins its caller with it, or with one before it
   pub not_done :
       (es fs : List CallEntry) (e : CallEntry) → entries_in ls ≡ es ++ e ∷ fs
       → NoneAnnouncedOf e.caller (e ∷ fs) → finished_of (start_behind_all s ls) e.caller ≤ e.index
