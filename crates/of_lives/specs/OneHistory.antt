@@ -77,7 +77,7 @@ pub record AreOneHistory (s : Start) (ls : List Life) : Type 0 where
   -- serial replay of all lives in order gives all replies, each at its place, and the last store
   pub replies : map (λ e. e.reply) (entries_in ls) ≡ replies s.store (scripts_in ls)
   pub final_store : (start_behind_all s ls).store ≡ last_store s.store (scripts_in ls)
-  -- entries stand by sequence, and each one above the start's, up to the last, has an announced entry
+  -- entries stand by sequence; each one above the start's, up to the last, has an announced entry
   pub order : AllPairs Precedes (entries_in ls)
   pub sequences : All (IsBetween s (start_behind_all s ls)) (entries_in ls)
   pub from_start : s.seq ≤ (start_behind_all s ls).seq
