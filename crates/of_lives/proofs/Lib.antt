@@ -1,0 +1,6 @@
+pub mod Indices
+pub mod Callers
+pub mod Tickets
+pub mod OneLife
+pub mod AllLives
+pub mod WorkedLives

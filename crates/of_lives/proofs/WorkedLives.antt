@@ -1,0 +1,68 @@
+-- The worked second life is legal from where the first one leaves.
+use Rattle.std.proofs.Common.{◌≡◌, ℕ, zero, suc, ◌<◌, ◌≤◌, inl, inr, true, [], ◌∷◌, length, map, Some, refl, arith}
+use Rattle.std.specs.Prelude.{IsTrue, All}
+use Rattle.std.specs.List.{range_with_len}
+use Rattle.std.proofs.lemmas.List.Elements.{All-nil, All-cons, All-from_recursion}
+use Rattle.of_script.specs.declared.instr.Instr.TheVariants.{Load}
+use Rattle.of_script.specs.Language.{reads_only}
+use Rattle.of_plan.specs.Report.{CallEntry, Report, Start, entries_of, finished_of, line_of}
+use Rattle.of_plan.specs.Legal.{to_do, StandsBefore, HasSequence, HasOpenCall, HasEnded, IsWithinBound, IsLegal}
+use Rattle.of_plan.specs.Worked.{entry}
+use Rattle.of_plan.proofs.HistoriesLists.{any_in, pairs_in_line}
+use Rattle.of_lives.specs.Lives.{start_behind}
+use Rattle.of_lives.specs.Worked.{first_life, second_life, one_more_script, worked_start}
+
+abbrev middle : Start
+middle = start_behind worked_start first_life
+
+abbrev told : Report
+told = second_life.report
+
+reads : All (λ i. IsTrue (reads_only i)) (Load 0 ∷ [])
+reads = All-cons (λ i. IsTrue (reads_only i)) (Load 0) [] refl (All-nil (λ i. IsTrue (reads_only i)))
+
+one_by_one : (c : ℕ) → c < 2 → map (λ (e : CallEntry). e.index) (entries_of told c) ≡ range_with_len (finished_of middle c) (length (entries_of told c))
+one_by_one zero lt = refl
+one_by_one (suc zero) lt = refl
+one_by_one (suc (suc c)) lt = absurd (omega (arith, lt))
+
+of_scripts : (c : ℕ) → c < 2 → length (entries_of told c) ≤ to_do one_more_script middle c
+of_scripts zero lt = omega arith
+of_scripts (suc zero) lt = omega arith
+of_scripts (suc (suc c)) lt = absurd (omega (arith, lt))
+
+entries : (c : ℕ) → c < 2 → (line_of told c).entries ≡ length (entries_of told c)
+entries zero lt = refl
+entries (suc zero) lt = refl
+entries (suc (suc c)) lt = absurd (omega (arith, lt))
+
+endings : (c : ℕ) → c < 2 → HasEnded (line_of told c).state (line_of told c).answered (to_do one_more_script middle c) 2 9
+endings zero lt = refl
+endings (suc zero) lt = refl
+endings (suc (suc c)) lt = absurd (omega (arith, lt))
+
+pub second_is_legal : IsLegal one_more_script middle told
+second_is_legal = record {
+  in_order = record {
+    of_callers = All-from_recursion (λ (e : CallEntry). e.caller < 2) told.entries (omega arith, (omega arith, tt));
+    one_by_one = one_by_one;
+    of_scripts = of_scripts;
+  };
+  open_calls = record {
+    each_caller = refl;
+    entries = entries;
+    open_call = All-from_recursion (λ l. HasOpenCall l.state l.answered l.entries) told.callers (refl, (refl, tt));
+  };
+  by_sequence = record {
+    order = pairs_in_line StandsBefore told.entries ((inr (refl, tt), tt), (tt, tt));
+    sequences = All-from_recursion (λ e. HasSequence one_more_script middle e × (e.seq ≤ 2)) told.entries
+        ((omega arith, omega arith), (((omega arith, reads), omega arith), tt));
+    from_start = omega arith;
+    none_left_out = λ k low high. any_in (λ (e : CallEntry). IsTrue e.announced × (e.seq ≡ k)) (entry 2 1 2 true (Some 7)) told.entries (inl refl) (refl, omega (arith, low, high));
+  };
+  replies = refl;
+  final_store = refl;
+  endings = endings;
+  within_bound = All-from_recursion (IsWithinBound one_more_script) told.callers
+      ((omega arith, λ none. absurd (omega (arith, none))), ((omega arith, λ none. absurd (omega (arith, none))), tt));
+}

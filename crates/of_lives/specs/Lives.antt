@@ -1,0 +1,53 @@
+-- Lives: runs of plans one after the other, each from where the one before has left.
+use Rattle.std.specs.Prelude.{ℕ, ◌+◌, max, List, [], ◌∷◌, length, map, if◌then◌else◌}
+use Rattle.std.specs.List.{range_with_len}
+use Rattle.of_plan.specs.Plan.{Plan}
+use Rattle.of_plan.specs.Report.{CallEntry, Report, Start, entries_of, finished_of}
+use Rattle.of_plan.specs.Legal.{IsLegal}
+
+-- a life: a plan, and the report of its run
+pub record Life : Type 0 where
+  pub plan : Plan
+  pub report : Report
+
+-- how many scripts of a caller are done behind these entries of it, where n were done before:
+-- those up to its last announced one. A read that wasn't announced leaves no ticket
+abbrev pub done_behind : (n : ℕ) → List CallEntry → ℕ
+done_behind n [] = n
+done_behind n (e ∷ es) = done_behind (if e.announced then e.index + 1 else n) es
+
+-- as many callers as the start or the plan has, whichever has more
+abbrev pub callers_with : Start → Life → ℕ
+callers_with s l = max (length s.finished) l.plan.callers
+
+-- how many scripts of each caller are done behind a life
+abbrev pub finished_behind : Start → Life → List ℕ
+finished_behind s l =
+    map (λ c. done_behind (finished_of s c) (entries_of l.report c))
+    (range_with_len 0 (callers_with s l))
+
+-- where a life leaves: its last store, its sequence, and each caller behind its last announced call
+abbrev pub start_behind : Start → Life → Start
+start_behind s l = record {
+  store = l.report.store;
+  seq = l.report.seq;
+  finished = finished_behind s l;
+}
+
+-- where they leave all together
+abbrev pub start_behind_all : Start → List Life → Start
+start_behind_all s [] = s
+start_behind_all s (l ∷ ls) = start_behind_all (start_behind s l) ls
+
+-- this holds of each life and of where the one before it has left
+abbrev pub EachLife : (Start → Life → Type 0) → Start → List Life → Type 0
+EachLife P s [] = Unit {0}
+EachLife P s (l ∷ ls) = P s l × EachLife P (start_behind s l) ls
+
+-- its report is legal from there
+abbrev pub IsLifeFrom : Start → Life → Type 0
+IsLifeFrom s l = IsLegal l.plan s l.report
+
+-- each life has a legal report from where the one before has left
+abbrev pub AreLives : Start → List Life → Type 0
+AreLives s ls = EachLife IsLifeFrom s ls

@@ -1,0 +1,94 @@
+-- Two worked lives, and four that can't be the second, each a number or an entry away from it.
+use Rattle.std.specs.Prelude.{ℕ, true, false, Option, Some, List, [], ◌∷◌, map}
+use Rattle.of_script.specs.declared.instr.Instr.TheVariants.{Load, Store, Add}
+use Rattle.of_store.specs.State.{Response, Answered, empty_store, with_register}
+use Rattle.of_plan.specs.Plan.{Plan}
+use Rattle.of_plan.specs.Report.{CallEntry, CallerLine, done, Start, empty_start}
+use Rattle.of_plan.specs.Worked.{two_callers, entry, legal_report}
+use Rattle.of_lives.specs.Lives.{Life, start_behind_all, AreLives}
+use Rattle.of_lives.specs.OneHistory.{own_in}
+
+-- nothing is stored and nothing is done before the first life
+abbrev pub worked_start : Start
+worked_start = empty_start two_callers
+
+-- the first caller stores, and then reads a 6 that isn't announced; the second reads, and then adds
+abbrev pub first_life : Life
+first_life = record { plan = two_callers; report = legal_report }
+
+-- the same scripts, and one more of the second caller that adds again
+abbrev pub one_more_script : Plan
+one_more_script = record two_callers {
+  scripts =
+      ((Store 0 5 ∷ []) ∷ (Load 0 ∷ []) ∷ [])
+      ∷ ((Load 0 ∷ []) ∷ (Add 0 1 ∷ []) ∷ (Add 0 1 ∷ []) ∷ []) ∷ [];
+}
+
+-- the line of a caller that is done, with so many calls
+abbrev pub done_with : (calls longest : ℕ) → CallerLine
+done_with calls longest = record {
+  state = done;
+  answered = calls;
+  entries = calls;
+  longest = longest;
+}
+
+-- the second caller adds, by its script x at sequence k, and answers v; and then there are reads
+abbrev pub adds : (x k v : ℕ) → List CallEntry → CallerLine → Life
+adds x k v reads line = record {
+  plan = one_more_script;
+  report = record {
+    entries = entry k 1 x true (Some v) ∷ reads;
+    callers = line ∷ done_with 1 60 ∷ [];
+    seq = k;
+    store = with_register (empty_store 0) 0 v;
+  };
+}
+
+-- and then the first caller asks for its read again, and is answered the same
+abbrev pub adds_and_reads : (x k v : ℕ) → Life
+adds_and_reads x k v = adds x k v (entry k 0 1 false (Some v) ∷ []) (done_with 1 60)
+
+-- the second life goes on behind the announced calls: with the third script of the second caller
+abbrev pub second_life : Life
+second_life = adds_and_reads 2 2 7
+
+-- one life, and then the other
+abbrev pub both_lives : List Life
+both_lives = first_life ∷ second_life ∷ []
+
+-- which scripts of a caller are entries of both, in their order
+abbrev pub asked_by : (caller : ℕ) → List ℕ
+asked_by c = map (λ e. e.index) (own_in both_lives c)
+
+-- and their replies
+abbrev pub replies_to : (caller : ℕ) → List Response
+replies_to c = map (λ e. e.reply) (own_in both_lives c)
+
+-- how many scripts of each caller are done behind both
+abbrev pub done_in_both : List ℕ
+done_in_both = (start_behind_all worked_start both_lives).finished
+
+-- the answer of a script of one instruction
+abbrev pub answers : Option ℕ → Response
+answers v = Answered (v ∷ [])
+
+-- a call that was announced is run again
+abbrev pub runs_again : Life
+runs_again = adds_and_reads 1 2 7
+
+-- it begins at sequence 0 again
+abbrev pub begins_anew : Life
+begins_anew = adds_and_reads 2 1 7
+
+-- it begins with an empty store
+abbrev pub forgets_store : Life
+forgets_store = adds_and_reads 2 2 1
+
+-- the read is taken for done, and isn't asked for again
+abbrev pub skips_read : Life
+skips_read = adds 2 2 7 [] (done_with 0 0)
+
+-- it goes on from where the first life has left
+abbrev pub FollowsFirst : Life → Type 0
+FollowsFirst l = AreLives worked_start (first_life ∷ l ∷ [])

@@ -1,0 +1,31 @@
+//! Laws of lives: functions that change nothing, whose contracts are the theorems.
+
+ghost use Rattle.std.specs.Prelude.{◌≡◌, Some, None, [], ◌∷◌};
+ghost use Rattle.of_lives.specs.OneHistory.{LivesAreOneHistory};
+ghost use Rattle.of_lives.specs.Worked.{FollowsFirst, second_life, runs_again, begins_anew, forgets_store, skips_read, asked_by, replies_to, answers, done_in_both};
+
+use of_plan::laws::worked_reports;
+
+/// The entries of any number of lives are one history together, where each life has a report that
+/// is legal from where the one before has left: serial replay of them all gives all replies and the
+/// last store, each announced call stands once, in its caller's order, and a read that was not
+/// announced leaves no ticket, so a later life may ask for it again.
+pub fn any_lives()
+    ensures { LivesAreOneHistory }
+{}
+
+/// A worked second life asks again for a read of the first, finds what was added in between, and
+/// runs no announced call again. Four that are a number or an entry away from it are refused.
+pub fn worked_lives()
+    ensures follows { FollowsFirst second_life }
+    ensures asked_again { asked_by 0 ≡ 0 ∷ 1 ∷ 1 ∷ [] }
+    ensures in_its_place { replies_to 0 ≡ answers None ∷ answers (Some 6) ∷ answers (Some 7) ∷ [] }
+    ensures not_run_again { asked_by 1 ≡ 0 ∷ 1 ∷ 2 ∷ [] }
+    ensures tickets { done_in_both ≡ 1 ∷ 3 ∷ [] }
+    ensures call_run_again { FollowsFirst runs_again → ⊥ }
+    ensures sequence_forgotten { FollowsFirst begins_anew → ⊥ }
+    ensures store_forgotten { FollowsFirst forgets_store → ⊥ }
+    ensures read_skipped { FollowsFirst skips_read → ⊥ }
+{
+    worked_reports();
+}
