@@ -13,7 +13,7 @@ use Rattle.of_cell.specs.Words.{word, pay}
 use Rattle.of_cell.proofs.Order.{pay_word}
 use Rattle.of_mem.specs.declared.work.RawReply.{RawReply}
 use Rattle.of_mem.specs.Meaning.{Once, written, Finishes}
-use Rattle.of_core.specs.declared.machine.fill.TheConstants.{ABORTED}
+use Rattle.of_mem.specs.declared.work.TheConstants.{LEAST_ABORT}
 use Rattle.of_core.specs.Table.{Setup, base, ticket_cell}
 use Rattle.of_core.specs.Machine.{listed, own_cells, flat, log_words, turned}
 use Rattle.of_core.specs.History.{changed}
@@ -172,7 +172,7 @@ whole_log S i ticket count xs op es r h c t b f = record {
     own = own_cells (ticket_cell S i) ticket count r
 
     o : IsOwn (i * (S.instrs + 2)) (S.instrs + 2) own
-    o = own_is (i * (S.instrs + 2)) count (S.instrs + 2) ticket r (omega arith) f.shape t f.values (nat_lt r.shape ABORTED)
+    o = own_is (i * (S.instrs + 2)) count (S.instrs + 2) ticket r (omega arith) f.shape t f.values (nat_lt r.shape LEAST_ABORT)
 
     low : i * (S.instrs + 2) + (S.instrs + 2) ≤ base S
     low = room_for i S.callers (S.instrs + 2) h
@@ -189,7 +189,7 @@ pub own_below : (S : Setup) (i ticket count : ℕ) (r : RawReply) → i < S.call
 own_below S i ticket count r h c t a vs = λ k d l. omega (arith, (o.inside k d l).1, room_for i S.callers (S.instrs + 2) h)
   where
     o : IsOwn (i * (S.instrs + 2)) (S.instrs + 2) (own_cells (ticket_cell S i) ticket count r)
-    o = own_is (i * (S.instrs + 2)) count (S.instrs + 2) ticket r (omega arith) a t vs (nat_lt r.shape ABORTED)
+    o = own_is (i * (S.instrs + 2)) count (S.instrs + 2) ticket r (omega arith) a t vs (nat_lt r.shape LEAST_ABORT)
 
 pub length-flat : (es : List (ℕ × ℕ)) → length (flat es) ≡ 2 * length es
 length-flat [] = refl

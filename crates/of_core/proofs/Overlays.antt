@@ -5,13 +5,12 @@ use Rattle.std.proofs.lemmas.Bool.{cases_eq, cases_lt}
 use Rattle.std.proofs.lemmas.Bool.Decides.{nat_tests}
 use Rattle.std.proofs.lemmas.List.Elements.{All-append}
 use Rattle.std.proofs.lemmas.List.{get_or_append_left, get_or-append_right, get_or-set_same, get_or-set_other, set-set, set_comm, get_or_past, get_or-take, length-take, get_or_push, get_or_default}
-use Rattle.of_mem.specs.declared.work.TheConstants.{MOST_INSTRS}
+use Rattle.of_mem.specs.declared.work.TheConstants.{LEAST_ABORT, MOST_INSTRS}
 use Rattle.of_cell.specs.declared.word.TheConstants.{PAYLOADS}
 use Rattle.of_mem.specs.declared.work.RawReply.{RawReply}
 use Rattle.of_mem.specs.Meaning.{Once, written, SameFrom, Meaning, Finishes, Sound, Fits, Agrees, marked}
 use Rattle.of_mem.specs.Pairs.{put, put_all}
 use Rattle.of_mem.specs.Pad.{over}
-use Rattle.of_core.specs.declared.machine.fill.TheConstants.{ABORTED}
 use Rattle.of_core.specs.Table.{Setup, base, ticket_cell, shape_cell, reply_cell}
 use Rattle.of_core.specs.Machine.{Call, listed, own_cells, no_call}
 use Rattle.of_core.specs.History.{InRow, after_calls, Replies}
@@ -190,12 +189,12 @@ put_names_all : (ds es : List (ℕ × ℕ)) (a v : ℕ) → Once es → Names es
 put_names_all ds es a v o n = subst (λ (x : ℕ × ℕ). Names (put_all ds es) x.0 x.1) n.names (put_all_names ds es n.place o n.among)
 
 -- a call's own cells, by name
-own_names : (S : Setup) (i t : ℕ) (op : List ℕ) (r : RawReply) → S.instrs ≤ MOST_INSTRS → ((j : ℕ) → j < MOST_INSTRS → marked r.shape j ≡ true → (r.shape < ABORTED) × (j < length op) × (j < length r.values))
+own_names : (S : Setup) (i t : ℕ) (op : List ℕ) (r : RawReply) → S.instrs ≤ MOST_INSTRS → ((j : ℕ) → j < MOST_INSTRS → marked r.shape j ≡ true → (r.shape < LEAST_ABORT) × (j < length op) × (j < length r.values))
     → OwnIn S (own_cells (ticket_cell S i) t (length op) r) (record { caller = i; ticket = t; op = op; raw = r })
 own_names S i t op r narrow marks = record {
-  ticket = names_right (replies (nat_lt r.shape ABORTED)) two (ticket_cell S i) t (record { place = 1; among = omega arith; names = refl });
-  shape = names_right (replies (nat_lt r.shape ABORTED)) two (shape_cell S i) r.shape (record { place = 0; among = omega arith; names = refl });
-  replies = λ y l m. names_left (replies (nat_lt r.shape ABORTED)) two (reply_cell S i y) (get_or r.values y 0) (reply (nat_lt r.shape ABORTED) refl y (marks y (omega arith) m));
+  ticket = names_right (replies (nat_lt r.shape LEAST_ABORT)) two (ticket_cell S i) t (record { place = 1; among = omega arith; names = refl });
+  shape = names_right (replies (nat_lt r.shape LEAST_ABORT)) two (shape_cell S i) r.shape (record { place = 0; among = omega arith; names = refl });
+  replies = λ y l m. names_left (replies (nat_lt r.shape LEAST_ABORT)) two (reply_cell S i y) (get_or r.values y 0) (reply (nat_lt r.shape LEAST_ABORT) refl y (marks y (omega arith) m));
 }
   where
     replies : Bool → List (ℕ × ℕ)
@@ -204,8 +203,8 @@ own_names S i t op r narrow marks = record {
     two : List (ℕ × ℕ)
     two = (i * (S.instrs + 2) + 1, r.shape) ∷ (i * (S.instrs + 2), t) ∷ []
 
-    reply : (b : Bool) → nat_lt r.shape ABORTED ≡ b → (y : ℕ) → (r.shape < ABORTED) × (y < length op) × (y < length r.values) → Names (replies b) (reply_cell S i y) (get_or r.values y 0)
-    reply false e y q = let z : ABORTED ≤ r.shape = grind (arith, nat_tests) in absurd (omega (arith, q.0))
+    reply : (b : Bool) → nat_lt r.shape LEAST_ABORT ≡ b → (y : ℕ) → (r.shape < LEAST_ABORT) × (y < length op) × (y < length r.values) → Names (replies b) (reply_cell S i y) (get_or r.values y 0)
+    reply false e y q = let z : LEAST_ABORT ≤ r.shape = grind (arith, nat_tests) in absurd (omega (arith, q.0))
     reply true e y q =
         let l : y < length (take (length op) r.values) = rw length-take (omega (arith, q.1, q.2)) in record {
           place = y;
@@ -272,7 +271,7 @@ module _ (S : Setup) (Lawful : List ℕ → Type 0) (sound : Sound S.meaning Law
         w = whole_log S c t (length op) (written xs ds) op es r h n tl b f
 
         i : IsOwn (c * (S.instrs + 2)) (S.instrs + 2) (own_cells (ticket_cell S c) t (length op) r)
-        i = own_is (c * (S.instrs + 2)) (length op) (S.instrs + 2) t r (omega arith) f.shape tl f.values (nat_lt r.shape ABORTED)
+        i = own_is (c * (S.instrs + 2)) (length op) (S.instrs + 2) t r (omega arith) f.shape tl f.values (nat_lt r.shape LEAST_ABORT)
 
         once : Once new
         once = once_put_all ds all o.is_log.once

@@ -6,7 +6,7 @@ use Rattle.of_mem.specs.declared.work.RawReply.{RawReply}
 use Rattle.of_core.specs.declared.place.Place.{Place}
 use Rattle.of_core.specs.declared.place.Place.TheVariants.{Idle, TryCurrent, StoreScript}
 use Rattle.of_core.specs.declared.place.Outcome.{Outcome}
-use Rattle.of_core.specs.declared.machine.fill.TheConstants.{ABORTED}
+use Rattle.of_mem.specs.declared.work.TheConstants.{LEAST_ABORT}
 use Rattle.of_core.specs.Table.{Setup}
 
 -- a call as it was run, with its reply
@@ -141,7 +141,7 @@ listed a (v ∷ vs) = (a, v) ∷ listed (a + 1) vs
 
 -- the reply cells of the caller whose ticket cell this is, where the shape isn't that of an abort
 abbrev pub reply_cells : (row count : ℕ) → RawReply → List (ℕ × ℕ)
-reply_cells row count r = if nat_lt r.shape ABORTED then listed (row + 2) (take count r.values) else []
+reply_cells row count r = if nat_lt r.shape LEAST_ABORT then listed (row + 2) (take count r.values) else []
 
 -- what a call with so many words writes into its own cells, of which this is the ticket cell: the reply, and then the shape and the ticket
 abbrev pub own_cells : (row ticket count : ℕ) → RawReply → List (ℕ × ℕ)

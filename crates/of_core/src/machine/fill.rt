@@ -9,11 +9,8 @@ ghost use Rattle.of_mem.specs.Pairs.{put_all};
 ghost use Rattle.of_core.specs.Machine.{log_of, log_words, own_cells, reply_cells, turned};
 ghost use Rattle.of_core.specs.Steps.{first_mark};
 
-use of_mem::{MOST_INSTRS, Part, RawReply};
+use of_mem::{LEAST_ABORT, MOST_INSTRS, Part, RawReply};
 use of_wset::WriteSet;
-
-/// The least shape of a reply that is an abort.
-const ABORTED: u32 = 1 << 26;
 
 /// Hands what the script wrote to the log and to the batch.
 pub fn collect(part: &mut Part, log: &mut WriteSet)
@@ -37,7 +34,7 @@ fn put_reply(part: &mut Part, row: u32, count: u32, raw: &RawReply)
     ensures known { part.new.known ≡ part.old.known }
     ensures batch { part.new.batch ≡ part.old.batch }
 {
-    if raw.shape >= ABORTED {
+    if raw.shape >= LEAST_ABORT {
         return;
     }
     for j in 0..count {
