@@ -1,5 +1,5 @@
 -- A step ends a call as spent exactly where a round at the limit looks for the call in vain.
-use Rattle.std.proofs.Common.{◌≡◌, ◌≢◌, ◌↔◌, ℕ, ◌+◌, ◌*◌, ◌-◌, ◌<◌, ◌≤◌, ◌==◌, ◌⊎◌, inl, inr, nat_lt, Bool, true, false, List, [], ◌∷◌, length, get_or, Option, Some, None, refl, sym, ap, ◌∙◌, subst, arith}
+use Rattle.std.proofs.Common.{◌≡◌, ◌≢◌, ◌↔◌, ℕ, ◌+◌, ◌*◌, ◌-◌, ◌≤◌, ◌==◌, ◌⊎◌, inl, inr, nat_lt, Bool, true, false, length, get_or, Option, Some, None, refl, sym, ◌∙◌, subst}
 use Rattle.std.proofs.lemmas.Bool.{ltb-false, le-ltb, eqb-true, eq-eqb}
 use Rattle.std.proofs.lemmas.Bool.Decides.{eqb_tells}
 use Rattle.of_cell.specs.Words.{word, seq, pay}
@@ -9,8 +9,8 @@ use Rattle.of_core.specs.declared.place.Place.TheVariants.{Idle, TryCurrent, Try
 use Rattle.of_core.specs.declared.place.Outcome.{Outcome}
 use Rattle.of_core.specs.declared.place.Outcome.TheVariants.{Answered, Spent}
 use Rattle.of_core.specs.Table.{Setup, ticket_cell}
-use Rattle.of_core.specs.Machine.{Data, IsOpen, is_idle, learned, log_of, log_words, unknown}
-use Rattle.of_core.specs.Steps.{took, took_at, counted_at, after_store_script, read_ran, read_on, tried, over_try, after_try_cell, is_open, after_try_request, next_round, entered, resumed, after_load_request, copy_more, after_copy_log, after_look_again, spent, told, not_there, own_found, after_own_ticket, first_mark, asks_more, shape_read, after_load_shape, reply_read, after_load_reply, next_call, weighed, after_announcement, after_load_ticket, call_run, with_run, ran, runs, script_more, after_load_script, after_load_cell, after_raise_log, after_exchange, after_raise_current, after_load_target, next_entry, after_raise_closed}
+use Rattle.of_core.specs.Machine.{Data, IsOpen, learned, log_words, unknown}
+use Rattle.of_core.specs.Steps.{took, took_at, counted_at, after_store_script, read_ran, tried, over_try, after_try_cell, is_open, after_try_request, resumed, after_load_request, copy_more, after_copy_log, after_look_again, not_there, own_found, after_own_ticket, first_mark, asks_more, shape_read, after_load_shape, reply_read, after_load_reply, next_call, weighed, after_announcement, after_load_ticket, with_run, ran, runs, script_more, after_load_script, after_load_cell, after_raise_log, after_exchange, after_raise_current, after_load_target, next_entry, after_raise_closed}
 use Rattle.of_caller.specs.Vain.{LooksInVain, IsSpent}
 
 -- the machine isn't one whose call was just spent
