@@ -1,5 +1,5 @@
 -- What the steps of a call come to: each step leads from what is told of a call on its way to what is told behind it.
-use Rattle.std.proofs.Common.{◌≡◌, ◌↔◌, IsTrue, ℕ, zero, suc, ◌+◌, ◌-◌, ◌<◌, ◌≤◌, inl, inr, Bool, true, false, List, [], ◌∷◌, ◌++◌, Option, Some, None, refl, sym, ap, ◌∙◌, subst, arith, append_assoc}
+use Rattle.std.proofs.Common.{◌≡◌, ◌↔◌, IsTrue, ℕ, zero, suc, ◌+◌, ◌-◌, ◌<◌, inl, inr, Bool, true, false, List, [], ◌∷◌, ◌++◌, Option, Some, refl, sym, ap, ◌∙◌, subst, arith, append_assoc}
 use mathlib.Core.List.{append-nil, IsPrefix}
 use Rattle.of_core.specs.declared.place.Outcome.{Outcome}
 use Rattle.of_core.specs.Table.{Setup}
@@ -12,7 +12,7 @@ use Rattle.of_core.specs.Calls.{Beyond}
 use Rattle.of_core.specs.Laws.{IdleOrOpen}
 use Rattle.of_row.specs.Views.{Ended, Kept, Sight, reach, shown}
 use Rattle.of_row.specs.Rule.{HasEnded}
-use Rattle.of_row.specs.Turned.{StandsFor, IsMember, Turned, Meant, Tells, since_by, since_after, ended_by, ended_at, of_answer, kept_after}
+use Rattle.of_row.specs.Turned.{Turned, Meant, Tells, since_by, since_after, ended_by, ended_at, of_answer, kept_after}
 use Rattle.of_caller.specs.CallsTold.{HasClosed, IsOpenStill, StepsTold}
 use Rattle.of_caller.proofs.SpentSteps.{spent_exactly}
 

@@ -1,20 +1,20 @@
 -- A caller after a step on its row, and after the begin of a call.
-use Rattle.std.proofs.Common.{◌≡◌, ℕ, ◌+◌, ◌<◌, ◌≤◌, inl, List, [], ◌∷◌, length, refl, sym, ap, ◌∙◌, subst, arith}
+use Rattle.std.proofs.Common.{◌≡◌, ℕ, ◌+◌, ◌<◌, List, sym, ap, subst}
 use Rattle.of_mem.specs.Meaning.{Meaning}
 use Rattle.of_core.specs.Table.{Setup}
-use Rattle.of_core.specs.Machine.{Data, IsOpen, opened, idle}
+use Rattle.of_core.specs.Machine.{Data, IsOpen, idle}
 use Rattle.of_core.specs.Steps.{took}
 use Rattle.of_core.specs.World.{Start}
 use Rattle.of_core.specs.Bound.{bound}
 use Rattle.of_core.specs.Seen.{Seen, setup}
 use Rattle.of_core.specs.Laws.{IdleOrOpen}
 use Rattle.of_row.specs.Views.{Sight, reach}
-use Rattle.of_row.specs.Turned.{Turned, newcomer}
+use Rattle.of_row.specs.Turned.{newcomer}
 use Rattle.of_row.specs.Passes.{HasEnrolled}
 use Rattle.of_row.specs.declared.member.Pass.{Pass}
 use Rattle.of_row.specs.declared.member.Member.{Member}
 use Rattle.of_row.specs.declared.row.Row.{Row}
-use Rattle.of_row.specs.Rows.{RunsOn, Steps, key_of, setup_at, start_at}
+use Rattle.of_row.specs.Rows.{Steps, key_of, setup_at, start_at}
 use Rattle.of_caller.specs.declared.caller.Caller.{Caller}
 use Rattle.of_caller.specs.Callers.{IsCaller, IsNewcomer, call_of, sight_of}
 use Rattle.of_caller.proofs.CallSteps.{Progress, goes_by, left_of, falls_by}

@@ -1,5 +1,5 @@
 -- A step ends a call as spent exactly where a round at the limit looks for the call in vain.
-use Rattle.std.proofs.Common.{◌≡◌, ◌≢◌, ◌↔◌, ℕ, ◌+◌, ◌*◌, ◌-◌, ◌<◌, ◌≤◌, ◌==◌, ◌⊎◌, inl, inr, nat_lt, Bool, true, false, List, [], ◌∷◌, length, get_or, Option, Some, None, refl, sym, ap, ◌∙◌, subst, arith}
+use Rattle.std.proofs.Common.{◌≡◌, ◌≢◌, ◌↔◌, ℕ, ◌+◌, ◌*◌, ◌-◌, ◌≤◌, ◌==◌, ◌⊎◌, inl, inr, nat_lt, Bool, true, false, length, get_or, Option, Some, None, refl, sym, ◌∙◌, subst}
 use Rattle.std.proofs.lemmas.Bool.{ltb-false, le-ltb, eqb-true, eq-eqb}
 use Rattle.std.proofs.lemmas.Bool.Decides.{eqb_tells}
 use Rattle.of_cell.specs.Words.{word, seq, pay}
@@ -9,8 +9,8 @@ use Rattle.of_core.specs.declared.place.Place.TheVariants.{Idle, TryCurrent, Try
 use Rattle.of_core.specs.declared.place.Outcome.{Outcome}
 use Rattle.of_core.specs.declared.place.Outcome.TheVariants.{Answered, Spent}
 use Rattle.of_core.specs.Table.{Setup, ticket_cell}
-use Rattle.of_core.specs.Machine.{Data, IsOpen, is_idle, learned, log_of, log_words, merged, turned, unknown}
-use Rattle.of_core.specs.Steps.{took, took_at, after_store_script, read_ran, read_on, tried, over_try, after_try_cell, is_open, after_try_request, next_round, entered, resumed, after_load_request, copy_more, after_copy_log, after_look_again, spent, told, not_there, own_found, after_own_ticket, first_mark, asks_more, shape_read, after_load_shape, reply_read, after_load_reply, next_call, weighed, after_announcement, after_load_ticket, call_run, with_run, ran, runs, script_more, after_load_script, after_load_cell, after_raise_log, after_exchange, after_raise_current, after_load_target, next_entry, after_raise_closed}
+use Rattle.of_core.specs.Machine.{Data, IsOpen, learned, log_words, unknown}
+use Rattle.of_core.specs.Steps.{took, took_at, counted_at, after_store_script, read_ran, tried, over_try, after_try_cell, is_open, after_try_request, resumed, after_load_request, copy_more, after_copy_log, after_look_again, not_there, own_found, after_own_ticket, first_mark, asks_more, shape_read, after_load_shape, reply_read, after_load_reply, next_call, weighed, after_announcement, after_load_ticket, with_run, ran, runs, script_more, after_load_script, after_load_cell, after_raise_log, after_exchange, after_raise_current, after_load_target, next_entry, after_raise_closed}
 use Rattle.of_caller.specs.Vain.{LooksInVain, IsSpent}
 
 -- the machine isn't one whose call was just spent
@@ -91,7 +91,7 @@ ran_is S m (Needs a) = λ s e f. cc
 ran_is S m (Gives es r) = next_is (with_run S m es r) (nat_lt (m.scan + 1) S.callers)
 
 runs_is : (S : Setup) (m : Data) → NotSpent (runs S m)
-runs_is S m = ran_is S m (S.meaning.walk (merged m.known m.log) m.script)
+runs_is S m = ran_is S m _
 
 load_script : (S : Setup) (m : Data) (j n : ℕ) (more : Bool) → NotSpent (after_load_script S m j n more)
 load_script S m j n true = λ s e f. cc
@@ -186,14 +186,26 @@ spent_at S m n p at limit old vain = subst (λ (q : Place). (took_at S m n q).an
 
 -- ---- the last step of a call
 
+-- with the step counted
+abbrev behind : Data → Data
+behind m = record m { steps = m.steps + 1 }
+
+counted_is : (p : Place) (m : Data) → IsOpen p → counted_at p m ≡ behind m
+counted_is Idle m o = absurd (let z : true ≡ false = o in cc)
+counted_is p m o = refl
+
 pub spent_exactly : (S : Setup) (m : Data) (n : ℕ) → IsOpen m.place → (took S m n).place ≡ Idle → (o : Outcome) → (took S m n).answer ≡ Some o → IsSpent o ↔ LooksInVain S m n
 unfolding took
-spent_exactly S m n opened idle o answer = (in_vain o answer, spent_by o answer)
+spent_exactly S m n opened idle o answer =
+    let counted = counted_is m.place m opened in
+    let ends = subst (λ (k : Data). (took_at S k n m.place).place ≡ Idle) counted idle in
+    let tells = subst (λ (k : Data). (took_at S k n m.place).answer ≡ Some o) counted answer in
+    (in_vain o ends tells, spent_by o tells)
   where
-    in_vain : (o : Outcome) → (took_at S m n m.place).answer ≡ Some o → IsSpent o → LooksInVain S m n
-    in_vain (Answered s announced raw steps) a is = absurd is
-    in_vain (Spent s) a is = vain_at S m n m.place refl opened s idle a
+    in_vain : (o : Outcome) → (took_at S (behind m) n m.place).place ≡ Idle → (took_at S (behind m) n m.place).answer ≡ Some o → IsSpent o → LooksInVain S m n
+    in_vain (Answered s announced raw steps) e a is = absurd is
+    in_vain (Spent s) e a is = vain_at S (behind m) n m.place refl opened s e a
 
-    spent_by : (o : Outcome) → (took_at S m n m.place).answer ≡ Some o → LooksInVain S m n → IsSpent o
+    spent_by : (o : Outcome) → (took_at S (behind m) n m.place).answer ≡ Some o → LooksInVain S m n → IsSpent o
     spent_by (Spent s) a vain = tt
-    spent_by (Answered s announced raw steps) a vain = absurd (let z : Some (Answered s announced raw steps) ≡ Some (Spent m.seq) = sym a ∙ spent_at S m n m.place vain.0 vain.1 vain.2 vain.3 in cc)
+    spent_by (Answered s announced raw steps) a vain = absurd (let z : Some (Answered s announced raw steps) ≡ Some (Spent m.seq) = sym a ∙ spent_at S (behind m) n m.place vain.0 vain.1 vain.2 vain.3 in cc)

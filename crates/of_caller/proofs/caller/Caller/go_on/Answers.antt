@@ -1,5 +1,4 @@
-use Rattle.std.proofs.Common.{◌∙◌, arith, rules, le_trans}
-use Rattle.of_core.specs.Machine.{IsOpen}
+use Rattle.std.proofs.Common.{◌∙◌, arith, le_trans}
 use Rattle.of_caller.specs.declared.caller.Caller.{Caller}
 use Rattle.of_caller.specs.Callers.{call_of}
 use Rattle.of_caller.proofs.CallerSteps.{within_after, falls, goes}
