@@ -1,5 +1,6 @@
 -- What follows from the rule of a row.
 use Rattle.std.specs.Prelude.{◌≡◌, ◌≤◌, ◌<◌, ◌+◌, ℕ, List, length, map, false}
+use Rattle.of_cell.specs.declared.word.TheConstants.{PAYLOADS}
 use Rattle.of_mem.specs.Meaning.{Meaning}
 use Rattle.of_core.specs.Table.{Setup}
 use Rattle.of_core.specs.World.{Start}
@@ -9,8 +10,8 @@ use Rattle.of_core.specs.Seen.{Seen, setup}
 use Rattle.of_row.specs.declared.member.Member.{Member}
 use Rattle.of_row.specs.declared.member.Pass.{Pass}
 use Rattle.of_row.specs.declared.row.Row.{Row}
-use Rattle.of_row.specs.Views.{Sight, bare}
-use Rattle.of_row.specs.Rule.{Meets, KeepsAll, done_before}
+use Rattle.of_row.specs.Views.{Sight, bare, Each}
+use Rattle.of_row.specs.Rule.{HasOwn, Meets, KeepsAll, done_before}
 use Rattle.of_row.specs.Rows.{key_of, setup_at, start_at, RunsOn, IsMemberOf}
 use Rattle.of_row.specs.Passes.{HasEnrolled}
 
@@ -19,6 +20,13 @@ abbrev pub SeesWhole : (List ℕ → Type 0) → Type 0
 SeesWhole Lawful =
     (S : Setup) (B : Start) (ws : List ℕ) (v : Sight) (m : Meets S Lawful B ws v)
     → v.spent ≡ false → KeepsAll S ws v → v.seen ≡ map bare m.rule.batches
+
+-- of each caller that a view keeps, its calls as far as was seen are just those that it made, and they have
+-- ended as their outcomes say
+abbrev pub SeesOwn : (List ℕ → Type 0) → Type 0
+SeesOwn Lawful =
+    (S : Setup) (B : Start) (ws : List ℕ) (v : Sight) → Meets S Lawful B ws v
+    → v.spent ≡ false → Each (HasOwn S B v.seen) v.kept
 
 -- a member that enrolled stands for an idle machine of its number, with as many calls behind it
 abbrev pub NewMember : {X : Type 0} → (X → Meaning) → X → Type 0
@@ -32,7 +40,7 @@ NewMember {X} meaning work =
 abbrev pub BegunMember : {X : Type 0} → (X → Meaning) → X → Type 0
 BegunMember {X} meaning work =
     (member : Member) (m now : Seen X) (op : List ℕ) → IsMemberOf meaning member m → m.call.place ≡ Idle
-    → 1 ≤ length op → length op ≤ (setup meaning m).instrs → m.call.made + 1 < 4294967296
+    → 1 ≤ length op → length op ≤ (setup meaning m).instrs → m.call.made + 1 < PAYLOADS
     → now ≡ record m { call = opened (setup meaning m) m.call op } → IsMemberOf meaning member now
 
 -- a machine with the row's work and sizes runs on the row

@@ -1,6 +1,6 @@
 //! What follows from the rule of a row: functions that do nothing, whose contracts are the theorems.
 
-ghost use Rattle.of_row.specs.Laws.{SeesWhole, NewMember, BegunMember, NewRuns, StillRuns};
+ghost use Rattle.of_row.specs.Laws.{SeesWhole, SeesOwn, NewMember, BegunMember, NewRuns, StillRuns};
 
 use of_mem::Work;
 
@@ -9,7 +9,14 @@ pub fn sees_whole<W: Work>(work: W)
     ensures { SeesWhole (W.lawful work) }
 {}
 
-/// When a member stands for a machine: at first for an idle one of its number, and on from the begin of a call.
+/// Whoever keeps a caller has its own calls in what was seen, each as it ended, whatever passes and
+/// members were parted, met or joined before.
+pub fn sees_own<W: Work>(work: W)
+    ensures { SeesOwn (W.lawful work) }
+{}
+
+/// When a member stands for a machine: at first for an idle one of its number, and on from the
+/// begin of a call.
 pub fn members<W: Work>(work: W)
     ensures first { NewMember W.meaning work }
     ensures begun { BegunMember W.meaning work }

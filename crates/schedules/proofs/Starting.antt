@@ -1,17 +1,14 @@
 -- A table of scripts may start from the row.
-use Rattle.std.proofs.Common.{◌≡◌, ℕ, zero, suc, ◌≤◌, List, refl, sym, ◌∙◌, arith, length, get_or, replicate, drop, [], ◌∷◌, ◌++◌, lit<, lit≤, Bool, true, false, nat_le, if◌then◌else◌}
+use Rattle.std.proofs.Common.{◌≡◌, ℕ, zero, suc, ◌≤◌, List, refl, sym, ◌∙◌, arith, length, get_or, replicate, drop, [], ◌∷◌, ◌++◌, lit<, Bool, true, false, nat_le, if◌then◌else◌}
 use Rattle.std.proofs.lemmas.Bool.Decides.{nat_tests}
 use Rattle.of_cell.specs.Words.{word, seq, pay}
 use Rattle.of_cell.proofs.Order.{seq_zero}
 use Rattle.of_recover.specs.Recovered.{recovered}
 use Rattle.of_script.specs.Table.{form_at}
 use Rattle.of_script.specs.Reading.{instr_at}
-use Rattle.of_eval.specs.declared.scripts.Scripts.{Scripts}
 use Rattle.of_eval.specs.Scripts.{LawfulCells, scripts_meaning}
 use Rattle.of_eval.specs.SoundScripts.{scripts_sound}
-use Rattle.of_core.specs.Table.{setup_of}
-use Rattle.of_core.specs.Starts.{IsStartRow}
-use Rattle.schedules.specs.Rows.{stored_row}
+use Rattle.schedules.specs.Rows.{alone, stored_row, MayStartFrom}
 
 -- whether no word is newer than the sequence
 abbrev are_old : ℕ → List ℕ → Bool
@@ -32,10 +29,7 @@ zero_at zero a = refl
 zero_at (suc n) zero = refl
 zero_at (suc n) (suc a) = zero_at n a
 
--- one caller without blocks, and the words of its script store 3 7
-abbrev pub alone : Scripts
-alone = record { callers = 1; blocks = 0; some_callers = lit≤ tt; few_callers = lit≤ tt; few_blocks = lit≤ tt }
-
+-- the words of its script store 3 7
 abbrev store_3_7 : List ℕ
 store_3_7 = 75161927687 ∷ []
 
@@ -49,7 +43,7 @@ lawful xs l e =
     let same : drop 18 left ≡ 0 ∷ 0 ∷ 0 ∷ 7 ∷ replicate 59 0 = refl in
     sound.lawful_from left xs (sound.keeps_length (replicate 81 0) store_3_7 refl) l (same ∙ sym e) (sound.leads (replicate 81 0) store_3_7 refl zeros)
 
-pub starts_at_one : (limit : ℕ) → 1 ≤ limit → IsStartRow (setup_of 1 81 limit (scripts_meaning alone)) (LawfulCells alone) (stored_row 1 (word 1 1))
+pub starts_at_one : (limit : ℕ) → 1 ≤ limit → MayStartFrom alone limit (stored_row 1 (word 1 1))
 unfolding recovered word seq pay
 starts_at_one limit l = record {
   long = refl;
@@ -61,7 +55,7 @@ starts_at_one limit l = record {
   };
 }
 
-pub starts_at_zero : (limit : ℕ) → IsStartRow (setup_of 1 81 limit (scripts_meaning alone)) (LawfulCells alone) (stored_row 0 0)
+pub starts_at_zero : (limit : ℕ) → MayStartFrom alone limit (stored_row 0 0)
 unfolding recovered word seq pay
 starts_at_zero limit = record {
   long = refl;

@@ -1,13 +1,15 @@
 //! The bank on scripts: words, outcomes and step counts of worked schedules.
 
-ghost use Rattle.std.specs.Prelude.{◌≡◌, ◌<◌};
+ghost use Rattle.std.specs.Prelude.{◌≡◌, ◌<◌, ◌≤◌, IfOk};
 ghost use Rattle.of_mem.specs.Plots.{size};
-ghost use Rattle.schedules.specs.Rows.{stored_row};
+ghost use Rattle.schedules.specs.Rows.{alone, MayStartFrom};
 
+use crate::starts::{behind_a_batch, with_a_store};
 use of_cell::{Shape, pack};
 use of_core::{Bank, Outcome, Turn};
 use of_eval::Scripts;
 use of_mem::Plot;
+use std::alloc::{AllocError, Global};
 use std::test::Fail;
 
 /// The word of `put 5 7`.
@@ -292,18 +294,23 @@ fn helped_after_the_exchange(rt: HostRuntime) -> Result<(), Fail> {
     Ok(())
 }
 
-/// The durable words of one caller that has left 7 in register 3, all with one sequence, with this request.
-fn stored(seq: u32, request: u64) -> [u64; 246]
-    ensures { result ≡ stored_row seq request }
+/// A bank of one caller that starts from the row.
+fn started(alloc: Global, limit: u32, row: [u64; 246]) -> Result<Bank<Scripts>, AllocError>
+    requires limit { limit ≤ 4294967294 }
+    requires row { MayStartFrom alone limit row }
+    ensures callers { IfOk result (λ b. b.callers ≡ 1) }
 {
-    let mut row = [0; 246];
-    row[0] = pack(seq, 0);
-    row[1] = request;
-    row[2] = pack(seq, 1);
-    row[3] = pack(seq, 65_536);
-    row[4] = pack(seq, 0);
-    row[23] = pack(seq, 7);
-    row
+    let scripts = Scripts {
+        callers: 1,
+        blocks: 0,
+    };
+    Bank::start(
+        alloc,
+        shape_for(&scripts.plot()),
+        limit,
+        scripts,
+        row.as_slice(),
+    )
 }
 
 /// The only caller has begun one call before; it adds 1 to register 3, and this is what a number of turns leaves.
@@ -329,8 +336,7 @@ fn a_table_that_starts_behind_a_batch(rt: HostRuntime) -> Result<(), Fail> {
     };
     let plot = scripts.plot();
     let shape = shape_for(&plot);
-    let row = stored(1, pack(1, 1));
-    let mut bank = Bank::start(rt.alloc(), shape, 5, scripts, row.as_slice())?;
+    let mut bank = started(rt.alloc(), 5, behind_a_batch(5))?;
     assert_eq!(rt; adds(&mut bank, 48), Left::Open);
     assert_eq!(rt; turns(&mut bank, 0, 1), Left::Answered(2, true, 65_537, 49));
     let words = bank.words();
@@ -355,8 +361,7 @@ fn a_table_that_starts_with_a_store(rt: HostRuntime) -> Result<(), Fail> {
     };
     let plot = scripts.plot();
     let shape = shape_for(&plot);
-    let row = stored(0, 0);
-    let mut bank = Bank::start(rt.alloc(), shape, 5, scripts, row.as_slice())?;
+    let mut bank = started(rt.alloc(), 5, with_a_store(5))?;
     assert_eq!(rt; adds(&mut bank, 48), Left::Open);
     assert_eq!(rt; turns(&mut bank, 0, 1), Left::Answered(1, true, 65_537, 49));
     let words = bank.words();
@@ -375,13 +380,7 @@ fn a_table_that_starts_with_a_store(rt: HostRuntime) -> Result<(), Fail> {
 
 #[test]
 fn a_table_that_starts_at_its_limit(rt: HostRuntime) -> Result<(), Fail> {
-    let scripts = Scripts {
-        callers: 1,
-        blocks: 0,
-    };
-    let shape = shape_for(&scripts.plot());
-    let row = stored(1, pack(1, 1));
-    let mut bank = Bank::start(rt.alloc(), shape, 1, scripts, row.as_slice())?;
+    let mut bank = started(rt.alloc(), 1, behind_a_batch(1))?;
     // the script, the announcement, the current word, its request, and one's own ticket
     assert_eq!(rt; adds(&mut bank, 4), Left::Open);
     assert_eq!(rt; turns(&mut bank, 0, 1), Left::Spent(1));
