@@ -10,8 +10,8 @@ use Rattle.of_core.specs.Seen.{Seen, setup}
 use Rattle.of_row.specs.declared.member.Member.{Member}
 use Rattle.of_row.specs.declared.member.Pass.{Pass}
 use Rattle.of_row.specs.declared.row.Row.{Row}
-use Rattle.of_row.specs.Views.{Sight, bare, Each}
-use Rattle.of_row.specs.Rule.{HasOwn, Meets, KeepsAll, done_before}
+use Rattle.of_row.specs.Views.{Sight, bare}
+use Rattle.of_row.specs.Rule.{KeepsOwn, Meets, KeepsAll, done_before}
 use Rattle.of_row.specs.Rows.{key_of, setup_at, start_at, RunsOn, IsMemberOf}
 use Rattle.of_row.specs.Passes.{HasEnrolled}
 
@@ -26,7 +26,7 @@ SeesWhole Lawful =
 abbrev pub SeesOwn : (List ℕ → Type 0) → Type 0
 SeesOwn Lawful =
     (S : Setup) (B : Start) (ws : List ℕ) (v : Sight) → Meets S Lawful B ws v
-    → v.spent ≡ false → Each (HasOwn S B v.seen) v.kept
+    → v.spent ≡ false → KeepsOwn S B v
 
 -- a member that enrolled stands for an idle machine of its number, with as many calls behind it
 abbrev pub NewMember : {X : Type 0} → (X → Meaning) → X → Type 0

@@ -1,4 +1,4 @@
-//! What follows from the rule of a row: functions that do nothing, whose contracts are the theorems.
+//! What follows from the rule of a row: functions that do nothing, whose contracts are theorems.
 
 ghost use Rattle.of_row.specs.Laws.{SeesWhole, SeesOwn, NewMember, BegunMember, NewRuns, StillRuns};
 
@@ -22,7 +22,8 @@ pub fn members<W: Work>(work: W)
     ensures begun { BegunMember W.meaning work }
 {}
 
-/// When a machine runs on a row: at first by its sizes and its work, and on from the begin of a call.
+/// When a machine runs on a row: at first by its sizes and its work, and on from the begin of a
+/// call.
 pub fn machines<W: Work>(work: W)
     ensures first { NewRuns work }
     ensures begun { StillRuns work }

@@ -11,7 +11,8 @@ pub struct Pass {
     pub(crate) seat: Seat<(), View>,
 }
 
-/// What a caller's thread holds. Contracts see what it knows: its number, its machine and its own calls among it.
+/// What a caller's thread holds. Contracts see what it knows: its number, its machine and its own
+/// calls among it.
 #[derive(Drop)]
 pub struct Member {
     pub(crate) seat: Seat<(), View>,

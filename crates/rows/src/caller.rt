@@ -45,6 +45,7 @@ pub fn free(alloc: Global) -> Result<Box<dyn Brake + Send>, AllocError> {
 }
 
 ghost use Rattle.rows.specs.Callers.{IsRowOf, IsAtZeros, IsCallerOf};
+ghost use Rattle.schedules.specs.Rows.{MayStartFrom};
 
 /// A row of zeros for scripts, with its first pass.
 pub fn row_of(
@@ -58,6 +59,23 @@ pub fn row_of(
     ensures pass { IfOk result (λ r. IsFirst r.0 r.1) }
 {
     let (row, pass) = Row::new(alloc, shape_for(&scripts.plot()), limit, scripts)?;
+    Ok((row, pass))
+}
+
+/// A row of scripts that starts from a durable row, with its first pass.
+pub fn row_from(
+    alloc: Global,
+    scripts: Scripts,
+    limit: u32,
+    durable: [u64; 246],
+) -> Result<(Row<Scripts>, Pass), AllocError>
+    requires limit { limit ≤ 4294967294 }
+    requires row { MayStartFrom scripts limit durable }
+    ensures row { IfOk result (λ r. IsRowOf r.0 scripts limit) }
+    ensures pass { IfOk result (λ r. IsFirst r.0 r.1) }
+{
+    let shape = shape_for(&scripts.plot());
+    let (row, pass) = Row::start(alloc, shape, limit, scripts, durable.as_slice())?;
     Ok((row, pass))
 }
 

@@ -4,8 +4,9 @@ ghost use Rattle.std.specs.Prelude.{◌≡◌, ◌≤◌, ◌<◌, true, IfSome,
 ghost use Rattle.of_mem.specs.Plots.{size};
 ghost use Rattle.of_row.specs.Rows.{IsOf};
 ghost use Rattle.rows.specs.Callers.{IsRowOf, IsCallerOf};
+ghost use Rattle.schedules.specs.Rows.{alone, MayStartFrom};
 
-use crate::caller::{Caller, enrolled, free, row_of, shape_for, turns};
+use crate::caller::{Caller, enrolled, free, row_from, row_of, shape_for, turns};
 use of_brake::Brake;
 use of_cell::Shape;
 use of_core::{Bank, Outcome, Turn};
@@ -90,6 +91,29 @@ pub fn row_after(
         None => pass,
     };
     Ok((row.close(pass).0, last))
+}
+
+/// What so many turns of one caller tell, on a row that starts behind the first of these calls.
+pub fn told_from(
+    alloc: Global,
+    limit: u32,
+    durable: [u64; 246],
+    calls: &[u64],
+    count: u32,
+) -> Result<Option<Outcome>, AllocError>
+    requires limit { limit ≤ 4294967294 }
+    requires row { MayStartFrom alone limit durable }
+{
+    let scripts = Scripts {
+        callers: 1,
+        blocks: 0,
+    };
+    let mut brake = free(alloc)?;
+    let (row, pass) = row_from(alloc, scripts, limit, durable)?;
+    let (mut caller, pass) = enrolled(alloc, &row, pass, 0, scripts, limit)?;
+    let last = turns(&row, &mut caller, calls, count, &mut brake);
+    let _ = row.join(pass, caller.member);
+    Ok(last)
 }
 
 /// Caller 1, where there are two.

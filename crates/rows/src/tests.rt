@@ -3,11 +3,12 @@
 ghost use Rattle.std.specs.Prelude.{◌≤◌};
 
 use crate::caller::shape_for;
-use crate::scene::{Event, bank_after, row_after};
+use crate::scene::{Event, bank_after, row_after, told_from};
 use crate::threads::run_two;
 use of_cell::{Shape, payload_of};
 use of_core::Outcome;
 use of_eval::Scripts;
+use schedules::{behind_a_batch, with_a_store};
 use std::alloc::{AllocError, Global};
 use std::test::Fail;
 
@@ -192,6 +193,37 @@ fn evictions_between(rt: HostRuntime) -> Result<(), Fail> {
         turns(1, 90),
     ];
     assert!(rt; compared(rt.alloc(), 2, 5, calls, first.as_slice())?.is_some());
+    Ok(())
+}
+
+#[test]
+fn a_row_that_starts_behind_a_batch(rt: HostRuntime) -> Result<(), Fail> {
+    let calls = [STORE_3_7, ADD_3_1];
+    let open = told_from(rt.alloc(), 5, behind_a_batch(5), calls.as_slice(), 48)?;
+    assert_eq!(rt; left_by(open), Left::Open);
+    let last = told_from(rt.alloc(), 5, behind_a_batch(5), calls.as_slice(), 49)?;
+    assert_eq!(rt; left_by(last), Left::Answered(2, NUMBER, 8, 49));
+    Ok(())
+}
+
+#[test]
+fn a_row_that_starts_with_a_store(rt: HostRuntime) -> Result<(), Fail> {
+    let calls = [STORE_3_7, ADD_3_1];
+    let open = told_from(rt.alloc(), 5, with_a_store(5), calls.as_slice(), 48)?;
+    assert_eq!(rt; left_by(open), Left::Open);
+    let last = told_from(rt.alloc(), 5, with_a_store(5), calls.as_slice(), 49)?;
+    assert_eq!(rt; left_by(last), Left::Answered(1, NUMBER, 8, 49));
+    Ok(())
+}
+
+#[test]
+fn a_row_that_starts_at_its_limit(rt: HostRuntime) -> Result<(), Fail> {
+    let calls = [STORE_3_7, ADD_3_1];
+    // the script, the announcement, the current word, its request, and one's own ticket
+    let open = told_from(rt.alloc(), 1, behind_a_batch(1), calls.as_slice(), 4)?;
+    assert_eq!(rt; left_by(open), Left::Open);
+    let last = told_from(rt.alloc(), 1, behind_a_batch(1), calls.as_slice(), 5)?;
+    assert_eq!(rt; left_by(last), Left::Spent(1));
     Ok(())
 }
 
