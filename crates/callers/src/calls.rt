@@ -3,7 +3,7 @@
 ghost use Rattle.std.specs.Prelude.{◌≡◌, ◌<◌, ◌≤◌, true, IfOk};
 ghost use Rattle.of_mem.specs.Plots.{size};
 ghost use Rattle.of_eval.specs.Scripts.{scripts_meaning};
-ghost use Rattle.of_row.specs.Rows.{IsOf};
+ghost use Rattle.of_row.specs.Rows.{key_of, IsOf};
 ghost use Rattle.of_row.specs.Passes.{IsFirst};
 ghost use Rattle.of_caller.specs.Callers.{IsCaller};
 ghost use Rattle.callers.specs.Rows.{IsRowOf};
@@ -107,6 +107,23 @@ pub fn caller_of(
         },
         Err(_) => Err(AllocError),
     }
+}
+
+/// A row of zeros with one caller, of number 0, and the pass that got it.
+pub fn alone(alloc: Global, limit: u32) -> Result<(Row<Scripts>, Caller<Scripts>, Pass), AllocError>
+    requires { limit ≤ 4294967294 }
+    ensures caller { IfOk result (λ r. IsCaller scripts_meaning r.0 r.1) }
+    ensures pass { IfOk result (λ r. IsOf r.0 r.2.seat) }
+    ensures first { IfOk result (λ r. r.2.seat.me.0.first ≡ true) }
+    ensures one { IfOk result (λ r. (key_of r.0).callers ≡ 1) }
+{
+    let scripts = Scripts {
+        callers: 1,
+        blocks: 0,
+    };
+    let (row, pass) = row_of(alloc, scripts, limit)?;
+    let (caller, pass) = caller_of(alloc, &row, pass, 0, scripts, limit)?;
+    Ok((row, caller, pass))
 }
 
 /// Makes a call of one instruction, where none is open.

@@ -1,8 +1,6 @@
 //! Callers under brakes of each kind.
 
-ghost use Rattle.std.specs.Prelude.{◌≤◌};
-
-use crate::calls::{End, call, caller_of, go_on, row_of};
+use crate::calls::{End, alone, call, go_on};
 use crate::threads::run_two;
 use of_brake::{Brake, Fuel, Pattern};
 use of_cell::payload_of;
@@ -24,12 +22,6 @@ const NONE: u32 = 65_536;
 
 const NUMBER: u32 = 65_537;
 
-/// One caller without blocks.
-const ALONE: Scripts = Scripts {
-    callers: 1,
-    blocks: 0,
-};
-
 /// A brake with so many steps, or without end.
 fn fuel(alloc: Global, stop: Option<u64>) -> Result<Box<dyn Brake + Send>, AllocError> {
     let mut fuel = Fuel::new();
@@ -46,8 +38,7 @@ fn pattern(alloc: Global, denied: Vec<u64>) -> Result<Box<dyn Brake + Send>, All
 
 /// The members word that a second enrolment of number 0 finds, where it is refused.
 fn enrolled_twice(alloc: Global) -> Result<Option<u64>, AllocError> {
-    let (row, pass) = row_of(alloc, ALONE, 10)?;
-    let (_caller, pass) = caller_of(alloc, &row, pass, 0, ALONE, 10)?;
+    let (row, _caller, pass) = alone(alloc, 10)?;
     match row.enrol(pass, 0) {
         Ok(_) => Ok(None),
         Err((_pass, Taken { members })) => Ok(Some(members)),
@@ -62,8 +53,7 @@ fn a_number_is_taken_once(rt: HostRuntime) -> Result<(), Fail> {
 
 /// A call of `store 3 7` under fuel of 3 steps, another one while it is open, and its going on under fuel of 45.
 fn fueled(alloc: Global) -> Result<[End; 3], AllocError> {
-    let (row, pass) = row_of(alloc, ALONE, 10)?;
-    let (mut caller, _pass) = caller_of(alloc, &row, pass, 0, ALONE, 10)?;
+    let (row, mut caller, _pass) = alone(alloc, 10)?;
     let mut brake = fuel(alloc, Some(3))?;
     let stopped = call(&row, &mut caller, STORE_3_7, &mut brake);
     let still_open = call(&row, &mut caller, STORE_3_7, &mut brake);
@@ -81,8 +71,7 @@ fn fuel_stops_and_lets_go_on(rt: HostRuntime) -> Result<(), Fail> {
 
 /// Calls of `store 3 7`, `add 3 1` and `load 3` at a limit of 1.
 fn limited(alloc: Global) -> Result<[End; 3], AllocError> {
-    let (row, pass) = row_of(alloc, ALONE, 1)?;
-    let (mut caller, _pass) = caller_of(alloc, &row, pass, 0, ALONE, 1)?;
+    let (row, mut caller, _pass) = alone(alloc, 1)?;
     let mut brake = fuel(alloc, None)?;
     let first = call(&row, &mut caller, STORE_3_7, &mut brake);
     let second = call(&row, &mut caller, ADD_3_1, &mut brake);
@@ -102,8 +91,7 @@ fn spent_at_the_limit(rt: HostRuntime) -> Result<(), Fail> {
 
 /// A call of `store 3 7` under a brake that denies its fourth ask, and its going on under another brake once that one is dropped.
 fn patterned(alloc: Global) -> Result<[End; 2], AllocError> {
-    let (row, pass) = row_of(alloc, ALONE, 10)?;
-    let (mut caller, _pass) = caller_of(alloc, &row, pass, 0, ALONE, 10)?;
+    let (row, mut caller, _pass) = alone(alloc, 10)?;
     let mut denying = pattern(alloc, vec![in alloc; 3]?)?;
     let stopped = call(&row, &mut caller, STORE_3_7, &mut denying);
     drop(denying);

@@ -25,7 +25,8 @@ Gave (Some left) (Some rest) n = GaveOf left rest n
 abbrev pub Uses : (before after : Option (Option ℕ)) → (a b : ℕ) → Type 0
 Uses before after a b = (n : ℕ) × (b ≡ a + n) × Gave before after n
 
--- the last of so many asks is denied just where one step fewer is left; where there is no end, none is
+-- the last of so many asks is denied just where one step fewer was left at first; where there is no
+-- end, none is
 abbrev pub StopsOf : (left : Option ℕ) → (asked : ℕ) → Type 0
 StopsOf None asked = ⊥
 StopsOf (Some left) asked = asked ≡ left + 1

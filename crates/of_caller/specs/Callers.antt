@@ -30,7 +30,8 @@ abbrev pub IsNewcomer : Setup → Member → Type 0
 IsNewcomer S m =
     (x : Kept) × (m.seat.me.0.kept ≡ x ∷ []) × (x.machine ≡ idle S m.number m.made)
 
--- member and machine are of the row, and the member stands for the machine; an open call has a step left
+-- member and machine are of the row, and the member stands for the machine; an open call has a step
+-- left
 pub record IsCaller {W : Type 0} (meaning : W → Meaning) (r : Row W) (c : Caller W) : Type 0 where
   pub row : IsOf r c.member.seat
   pub machine : RunsOn r c.machine

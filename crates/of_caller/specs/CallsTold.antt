@@ -23,17 +23,20 @@ use Rattle.of_caller.specs.declared.caller.CallErr.TheVariants.{Stopped, Spent}
 use Rattle.of_caller.specs.Callers.{call_of, sight_of}
 use Rattle.of_caller.specs.Vain.{LastStep}
 
--- In these definitions a call goes on from the machine m, with the view v that keeps x, and n steps later it has come to the machine
--- d, with the view w that keeps y.
+-- In these definitions a call goes on from the machine m, with the view v that keeps x, and n steps
+-- later it has come to the machine d, with the view w that keeps y.
 
 -- it has ended with this outcome
-pub record HasClosed (S : Setup) (Lawful : List ℕ → Type 0) (B : Start) (m : Data) (v : Sight) (x : Kept) (n : ℕ) (d : Data) (w : Sight) (y : Kept) (o : Outcome) : Type 0 where
+pub record HasClosed (S : Setup) (Lawful : List ℕ → Type 0) (B : Start)
+    (m : Data) (v : Sight) (x : Kept) (n : ℕ) (d : Data) (w : Sight) (y : Kept)
+    (o : Outcome) : Type 0 where
   -- the caller is idle, and its machine holds the outcome
   pub idle : IsIdle d
   pub answer : d.answer ≡ Some o
   -- the member keeps one call more, with this outcome
   pub kept : y.ended ≡ x.ended ++ record { op = m.op; outcome = o } ∷ []
-  -- a batch that was seen has it with its reply; or it only reads, and the reply is the meaning in the state at its sequence; or what was seen has come to the limit without it
+  -- a batch that was seen has it with its reply; or it only reads, and the reply is the meaning in
+  -- the state at its sequence; or what was seen has come to the limit without it
   pub stands : HasEnded S B (shown w.seen) (reach B w.seen) m.caller m.made m.op o
   -- a read's reply is the meaning behind the batches that were seen up to its sequence
   pub meant : Meant S B (shown w.seen) m.op o
@@ -45,26 +48,34 @@ pub record HasClosed (S : Setup) (Lawful : List ℕ → Type 0) (B : Start) (m :
   pub last : LastStep S Lawful d o
 
 -- it is open still, and has a step left
-pub record IsOpenStill (S : Setup) (m : Data) (x : Kept) (n : ℕ) (d : Data) (y : Kept) : Type 0 where
+pub record IsOpenStill (S : Setup) (m : Data) (x : Kept) (n : ℕ) (d : Data) (y : Kept)
+    : Type 0 where
   pub open_call : IsOpen d.place
   pub steps : d.steps ≡ m.steps + n
   pub within : d.steps < bound S
   pub kept : y.ended ≡ x.ended
 
--- what the result says: an answer; a stop, for which the brake was asked once more than steps were made; or that the call is spent
-abbrev pub ResultTold : Setup → (List ℕ → Type 0) → Start → Data → Sight → Kept → (steps : ℕ) → Data → Sight → Kept → Result Outcome CallErr → Type 0
+-- what the result says: an answer; a stop, for which the brake was asked once more than steps were
+-- made, and at most as often as the bound allows; or that the call is spent
+abbrev pub ResultTold : Setup → (List ℕ → Type 0) → Start
+    → Data → Sight → Kept → (steps : ℕ) → Data → Sight → Kept
+    → Result Outcome CallErr → Type 0
 ResultTold S L B m v x n d w y (Ok o) = IsAnswered o × HasClosed S L B m v x n d w y o
-ResultTold S L B m v x n d w y (Err (Stopped asked)) = IsOpenStill S m x n d y × (asked ≡ n + 1) × (m.steps + asked ≤ bound S)
+ResultTold S L B m v x n d w y (Err (Stopped asked)) =
+    IsOpenStill S m x n d y × (asked ≡ n + 1) × (m.steps + asked ≤ bound S)
 ResultTold S L B m v x n d w y (Err (Spent seq)) = HasClosed S L B m v x n d w y (Over seq)
 
--- what is told of steps that were made: the member keeps the machine; what was seen is a legal history; and it has of the caller's calls just those that the caller made, as they have ended
+-- what is told of steps that were made: the member keeps the machine; what was seen is a legal
+-- history; and it has of the caller's calls just those that the caller made, as they have ended
 pub record StepsTold (S : Setup) (B : Start) (d : Data) (w : Sight) (y : Kept) : Type 0 where
   pub machine : y.machine ≡ d
   pub legal : Legal S.meaning (map pay B.cells) (shown w.seen)
   pub own : HasOwn S B w.seen y
 
--- what a call tells that went on from m and v to d and w, where the count of steps went from a to b
-pub record HasTold (S : Setup) (Lawful : List ℕ → Type 0) (B : Start) (m : Data) (v : Sight) (a : ℕ) (d : Data) (w : Sight) (b : ℕ) (r : Result Outcome CallErr) : Type 0 where
+-- what a call tells with this result, where the count of steps went from a to b
+pub record HasTold (S : Setup) (Lawful : List ℕ → Type 0) (B : Start)
+    (m : Data) (v : Sight) (a : ℕ) (d : Data) (w : Sight) (b : ℕ)
+    (r : Result Outcome CallErr) : Type 0 where
   -- the steps are counted
   pub steps : ℕ
   pub rise : b ≡ a + steps
@@ -83,12 +94,13 @@ pub record HasTold (S : Setup) (Lawful : List ℕ → Type 0) (B : Start) (m : D
   pub some : 0 < steps → StepsTold S B d w kept
   pub result : ResultTold S Lawful B m v before steps d w kept r
 
--- what `go_on` tells, of the open call
-abbrev pub GoesOnTold : {W : Type 0} → (W → Meaning) → (W → List ℕ → Type 0) → Row W → (before now : Caller W) → (a b : ℕ) → Result Outcome CallErr → Type 0
-GoesOnTold meaning lawful r before now a b result =
-    HasTold (setup_at meaning r) (lawful (key_of r).work) (start_at meaning r) (call_of before) (sight_of before) a (call_of now) (sight_of now) b result
+-- what is told of the call m of a caller of the row
+abbrev pub CallTold : {W : Type 0} → (W → Meaning) → (W → List ℕ → Type 0) → Row W → (m : Data)
+    → (before now : Caller W) → (a b : ℕ) → Result Outcome CallErr → Type 0
+CallTold meaning lawful r m before now a b result =
+    HasTold (setup_at meaning r) (lawful (key_of r).work) (start_at meaning r)
+    m (sight_of before) a (call_of now) (sight_of now) b result
 
--- what `call` tells, of the call that it has begun
-abbrev pub CallTold : {W : Type 0} → (W → Meaning) → (W → List ℕ → Type 0) → Row W → (op : List ℕ) → (before now : Caller W) → (a b : ℕ) → Result Outcome CallErr → Type 0
-CallTold meaning lawful r op before now a b result =
-    HasTold (setup_at meaning r) (lawful (key_of r).work) (start_at meaning r) (opened (setup_at meaning r) (call_of before) op) (sight_of before) a (call_of now) (sight_of now) b result
+-- the call that a caller of the row begins with these words
+abbrev pub begun_by : {W : Type 0} → (W → Meaning) → Row W → Caller W → (op : List ℕ) → Data
+begun_by meaning r c op = opened (setup_at meaning r) (call_of c) op

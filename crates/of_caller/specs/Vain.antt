@@ -9,16 +9,20 @@ use Rattle.of_core.specs.Machine.{Data, IsOpen}
 use Rattle.of_core.specs.Steps.{took}
 use Rattle.of_core.specs.Meets.{Meets}
 
--- the machine, in a round that has loaded the current-transaction word at the limit, finds its caller's ticket cell, in that state, without the call's ticket
+-- the machine is in a round that has loaded the current-transaction word at the limit, and finds
+-- its caller's ticket cell, in that state, without the call's ticket
 abbrev pub LooksInVain : Setup → Data → (found : ℕ) → Type 0
-LooksInVain S m found = (m.place ≡ LoadOwnTicket) × (m.seq ≡ S.limit) × (seq found ≤ m.seq) × (pay found ≢ m.made)
+LooksInVain S m found =
+    (m.place ≡ LoadOwnTicket) × (m.seq ≡ S.limit) × (seq found ≤ m.seq) × (pay found ≢ m.made)
 
 abbrev pub IsSpent : Outcome → Type 0
 IsSpent (Answered s announced raw steps) = ⊥
 IsSpent (Spent s) = Unit {0}
 
--- the call's last step led to the machine d with this outcome, which is spent exactly where the step looks in vain
-pub record LastStep (S : Setup) (Lawful : List ℕ → Type 0) (d : Data) (o : Outcome) : Type 0 where
+-- the call's last step led to the machine d with this outcome, which is spent exactly where the
+-- step looked in vain
+pub record LastStep (S : Setup) (Lawful : List ℕ → Type 0) (d : Data) (o : Outcome)
+    : Type 0 where
   pub machine : Data
   pub found : ℕ
   -- the step found so on the table

@@ -19,7 +19,8 @@ use std::sync::ledger::Ledger;
 /// Why a call has no answer.
 #[derive(Clone, Copy)]
 pub enum CallErr {
-    /// The brake was asked so many times in this call, and denied the last of them. The call stays open.
+    /// The brake was asked so many times in this call, and denied the last of them. The call stays
+    /// open.
     Stopped { asked: u64 },
     /// The sequence has come to the row's limit `seq` without the call, which is over.
     Spent { seq: u32 },
@@ -43,10 +44,11 @@ fn tell(brake: &mut Box<dyn Brake + Send>)
 
 impl<W: Work> Caller<W> {
     ghost use Rattle.of_caller.specs.Callers.{IsCaller, IsNewcomer, call_of, made_of};
-    ghost use Rattle.of_caller.specs.CallsTold.{CallTold, GoesOnTold};
+    ghost use Rattle.of_caller.specs.CallsTold.{CallTold, begun_by};
     ghost use Rattle.of_caller.specs.Brakes.{IsStop, StopsAt, Uses, HearsOf};
 
-    /// The caller of a member that has made no call on the row. The error hands the member back: there is no memory.
+    /// The caller of a member that has made no call on the row. Without memory the error hands the
+    /// member back.
     pub fn new(
         alloc: Global,
         row: &Row<W>,
@@ -72,8 +74,8 @@ impl<W: Work> Caller<W> {
         }
     }
 
-    /// Makes a call of 1 to `MOST_INSTRS` words. The brake is asked before each of its steps, and told of its answer. A stopped call
-    /// stays open for `go_on`; a spent one is over.
+    /// Makes a call of 1 to `MOST_INSTRS` words. The brake is asked before each of its steps, and told
+    /// of its answer. A stopped call stays open for `go_on`; a spent one is over.
     pub fn call<L: Ledger>(
         &mut self,
         row: &Row<W>,
@@ -87,7 +89,8 @@ impl<W: Work> Caller<W> {
         requires few { length op.now ≤ MOST_INSTRS }
         requires made { made_of self.old + 1 < 4294967296 }
         ensures caller { IsCaller W.meaning row.now self.new }
-        ensures told { CallTold W.meaning W.lawful row.now op.now
+        ensures told { CallTold W.meaning W.lawful row.now
+            (begun_by W.meaning row.now self.old op.now)
             self.old self.new steps.old steps.new result }
         ensures denials { denials brake.old ≤ denials brake.new }
         ensures cause { IsStop result → Rose (denials brake.old) (denials brake.new) }
@@ -101,7 +104,8 @@ impl<W: Work> Caller<W> {
         self.go_on(row, brake, steps)
     }
 
-    /// Goes on with the open call, as `call` does. The steps of its answer are those of the whole call.
+    /// Goes on with the open call, as `call` does. The steps of its answer are those of the whole
+    /// call.
     pub fn go_on<L: Ledger>(
         &mut self,
         row: &Row<W>,
@@ -111,7 +115,7 @@ impl<W: Work> Caller<W> {
         requires caller { IsCaller W.meaning row.now self.old }
         requires open { IsOpen (call_of self.old).place }
         ensures caller { IsCaller W.meaning row.now self.new }
-        ensures told { GoesOnTold W.meaning W.lawful row.now
+        ensures told { CallTold W.meaning W.lawful row.now (call_of self.old)
             self.old self.new steps.old steps.new result }
         ensures denials { denials brake.old ≤ denials brake.new }
         ensures cause { IsStop result → Rose (denials brake.old) (denials brake.new) }
