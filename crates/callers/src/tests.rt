@@ -109,9 +109,11 @@ fn another_brake_lets_go_on(rt: HostRuntime) -> Result<(), Fail> {
 /// Whether both calls were answered, and register 3 holds what the later one of them left.
 fn answered(ends: [End; 2], scripts: &Scripts, words: &[u64]) -> bool {
     let cell = 1 + scripts.callers + scripts.plot().register(3);
-    let register = words.get(cell as usize).copied().map(payload_of);
-    ends.iter().all(|end| matches!(end, End::Answered(..)))
-        && (register == Some(7) || register == Some(8))
+    let Some(word) = words.get(cell as usize) else {
+        return false;
+    };
+    let register = payload_of(*word);
+    ends.iter().all(|end| matches!(end, End::Answered(..))) && (register == 7 || register == 8)
 }
 
 #[test]
