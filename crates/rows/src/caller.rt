@@ -6,7 +6,7 @@ ghost use Rattle.of_mem.specs.declared.work.TheConstants.{MOST_INSTRS};
 ghost use Rattle.of_row.specs.Rows.{key_of, IsOf};
 ghost use Rattle.of_row.specs.Passes.{IsFirst};
 
-use of_brake::{Brake, Fuel};
+use of_brake::Brake;
 use of_cell::Shape;
 use of_core::{Machine, Outcome};
 use of_eval::Scripts;
@@ -36,12 +36,6 @@ pub fn shape_for(plot: &Plot) -> Shape
         instrs: plot.instrs,
         cells: plot.cells(),
     }
-}
-
-/// A brake without end.
-pub fn free(alloc: Global) -> Result<Box<dyn Brake + Send>, AllocError> {
-    let fuel: Box<dyn Brake + Send> = Box::new(alloc, Fuel::new())?;
-    Ok(fuel)
 }
 
 ghost use Rattle.rows.specs.Callers.{IsRowOf, IsAtZeros, IsCallerOf};

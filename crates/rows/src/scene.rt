@@ -6,8 +6,8 @@ ghost use Rattle.of_row.specs.Rows.{IsOf};
 ghost use Rattle.rows.specs.Callers.{IsRowOf, IsCallerOf};
 ghost use Rattle.schedules.specs.Rows.{alone, MayStartFrom};
 
-use crate::caller::{Caller, enrolled, free, row_from, row_of, shape_for, turns};
-use of_brake::Brake;
+use crate::caller::{Caller, enrolled, row_from, row_of, shape_for, turns};
+use of_brake::{Brake, Fuel};
 use of_cell::Shape;
 use of_core::{Bank, Outcome, Turn};
 use of_eval::Scripts;
@@ -69,7 +69,7 @@ pub fn row_after(
 ) -> Result<(Vec<u64>, Option<Outcome>), AllocError>
     requires { limit ≤ 4294967294 }
 {
-    let mut brake = free(alloc)?;
+    let mut brake: Box<dyn Brake + Send> = Box::new(alloc, Fuel::new())?;
     let (row, pass) = row_of(alloc, scripts, limit)?;
     let (mut first, pass) = enrolled(alloc, &row, pass, 0, scripts, limit)?;
     let (mut second, mut pass) = another(alloc, &row, pass, scripts, limit)?;
@@ -108,7 +108,7 @@ pub fn told_from(
         callers: 1,
         blocks: 0,
     };
-    let mut brake = free(alloc)?;
+    let mut brake: Box<dyn Brake + Send> = Box::new(alloc, Fuel::new())?;
     let (row, pass) = row_from(alloc, scripts, limit, durable)?;
     let (mut caller, pass) = enrolled(alloc, &row, pass, 0, scripts, limit)?;
     let last = turns(&row, &mut caller, calls, count, &mut brake);

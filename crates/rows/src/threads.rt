@@ -6,7 +6,8 @@ ghost use Rattle.of_row.specs.Views.{Sight};
 ghost use Rattle.of_row.specs.Turned.{memo};
 ghost use Rattle.rows.specs.Callers.{IsCallerOf, IsOnlooker, MeetsRule};
 
-use crate::caller::{Caller, enrolled, free, row_of, turns};
+use crate::caller::{Caller, enrolled, row_of, turns};
+use of_brake::{Brake, Fuel};
 use of_eval::Scripts;
 use of_row::{Pass, Row};
 use std::alloc::{AllocError, Global};
@@ -20,9 +21,10 @@ fn driven(alloc: Global, row: &Row<Scripts>, mut caller: Caller, calls: &[u64]) 
     requires { IsCallerOf row.now caller }
     ensures { IsCallerOf row.now result }
 {
-    let Ok(mut brake) = free(alloc) else {
+    let Ok(fuel) = Box::new(alloc, Fuel::new()) else {
         return caller;
     };
+    let mut brake: Box<dyn Brake + Send> = fuel;
     let _ = turns(row, &mut caller, calls, MOST_STEPS, &mut brake);
     caller
 }
@@ -40,9 +42,10 @@ fn driven_evicting(
     ensures caller { IsCallerOf row.now result.0 }
     ensures pass { IsOnlooker row.now result.1 }
 {
-    let Ok(mut brake) = free(alloc) else {
+    let Ok(fuel) = Box::new(alloc, Fuel::new()) else {
         return (caller, pass);
     };
+    let mut brake: Box<dyn Brake + Send> = fuel;
     for cell in 0..row.shape().durable_cells() {
         row.evict(&mut pass, cell);
         let _ = turns(row, &mut caller, calls, 1, &mut brake);
