@@ -4,3 +4,4 @@ pub mod Answer
 pub mod Replay
 pub mod Play
 pub mod Playing
+pub mod HelpText

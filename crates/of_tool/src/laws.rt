@@ -1,10 +1,12 @@
-//! Laws of schedules, and the numbers of the commands.
+//! Laws of schedules, and the numbers and fixed texts of the commands.
 
-ghost use Rattle.std.specs.Prelude.{◌≡◌};
+ghost use Rattle.std.specs.Prelude.{◌≡◌, codes};
 ghost use Rattle.of_core.specs.Events.{IsSchedule};
 ghost use Rattle.of_caller.specs.Tables.{setup_for, opening_for};
 ghost use Rattle.of_tool.specs.Play.{play_events};
+ghost use Rattle.of_tool.specs.HelpText.{help_text};
 
+use crate::command::{HELP, VERSION};
 use crate::status::{
     BAD_PLAN, DONE, ILLEGAL, OUT_OF_MEMORY, READ_FAULT, TOO_LONG, USAGE, WRITE_FAULT,
 };
@@ -31,4 +33,10 @@ pub fn numbers()
     ensures illegal { ILLEGAL ≡ 8 }
     ensures input { MOST_INPUT ≡ 1048576 }
     ensures with_report { MOST_WITH_REPORT ≡ 4194304 }
+{}
+
+/// The texts of `--help` and `--version`; those of errors stand in the definition of what is written.
+pub fn help_and_version()
+    ensures version { VERSION.now ≡ codes "onefile 0.1.0\n" }
+    ensures help { HELP.now ≡ help_text }
 {}
