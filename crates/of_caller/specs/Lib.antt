@@ -12,3 +12,6 @@ pub mod Vain
 pub mod PlanRows
 pub mod Stops
 pub mod Teams
+pub mod Lanes
+pub mod Trees
+pub mod Seating
