@@ -45,7 +45,7 @@ module _ (o blocks : ℕ) (m : ℕ → ℕ) (s : Store) (h : Stands o blocks m s
   abbrev pub m4 : ℕ → ℕ
   m4 = changed m3 (keys_at o) (m3 (keys_at o) - 1)
 
-  abbrev chains1 : ℕ → List ℕ
+  abbrev pub chains1 : ℕ → List ℕ
   chains1 = changed (changed h.chains (1 + n) left) 37 (b ∷ [])
 
   abbrev chains : ℕ → List ℕ
@@ -149,7 +149,7 @@ module _ (o blocks : ℕ) (m : ℕ → ℕ) (s : Store) (h : Stands o blocks m s
   pub keys1 : m1 (keys_at o) ≡ m (keys_at o)
   keys1 = changed_other m at (m (link_at o b)) (keys_at o) (cell_in o (λ c. keys_at o ≢ c) (front_at o (1 + n)) f.before (λ (e : keys_at o ≡ front_at o (1 + n)). omega (arith, front_bucket o n small)) (all_links o (keys_at o) (λ y e. omega arith) f.before))
 
-  one_key : 1 ≤ m (keys_at o)
+  pub one_key : 1 ≤ m (keys_at o)
   one_key = omega (arith, h.holds.keys, h.holds.key_blocks, two_total h.chains 33 (1 + n) (omega arith) (omega (arith, small)), ap length f.split, length-append f.before (b ∷ f.behind))
 
   pub unlinked : (p : Pad) → IsPartOf p m → IsPartOf (wrote p cell (m (link_at o b))) m1 × IsFreeList o blocks m1 (chains1 0) × IsOut o m1 (chains1 0) b × (1 ≤ m1 (keys_at o))
@@ -191,3 +191,9 @@ module _ (o blocks : ℕ) (m : ℕ → ℕ) (s : Store) (h : Stands o blocks m s
 
   pub one_less : fin.len (fin.remove s.map key) ≡ fin.len s.map - 1
   one_less = fewer
+
+  pub list_after : IsFreeList o blocks m1 (chains1 0)
+  list_after = heap_free_list o blocks m1 chains1 (changed h.owner b 37) heap1
+
+  pub out_after : IsOut o m1 (chains1 0) b
+  out_after = heap_out o blocks m1 chains1 (changed h.owner b 37) b heap1 (changed_same (changed h.chains (1 + n) left) 37 (b ∷ []))
