@@ -5,7 +5,7 @@ use Rattle.std.specs.List.{AllByRecursion, flat_map, join_with_byte}
 use Rattle.std.proofs.lemmas.List.Elements.{All-from_recursion}
 use Rattle.std.proofs.lemmas.List.Splits.{slice_split_at}
 use Rattle.of_script.specs.declared.instr.Instr.{Instr}
-use Rattle.of_script.specs.declared.instr.Instr.TheVariants.{Load, Store, Add, Sub, Get, Put, Del, Need, Push, Pop, Len, Count}
+use Rattle.of_script.specs.declared.instr.Instr.TheVariants.{Load, Store, Add, Sub, Get, Put, Del, Need, Push, Pop, Len, Count, First, Next, DropBelow}
 use Rattle.of_script.specs.Language.{InRange, IsScript}
 use Rattle.of_script.specs.Text.{words, instr_words, instr_text, script_text, script_words}
 use Rattle.of_script.proofs.Again.{decimal_is_word, words-word, words-join}
@@ -35,6 +35,9 @@ plain_instr (Push q v) h = (plain_name (codes "push") (omega arith) refl refl, (
 plain_instr (Pop q) h = (plain_name (codes "pop") (omega arith) refl refl, (plain_number q (omega arith), tt))
 plain_instr (Len q) h = (plain_name (codes "len") (omega arith) refl refl, (plain_number q (omega arith), tt))
 plain_instr Count h = (plain_name (codes "count") (omega arith) refl refl, tt)
+plain_instr First h = (plain_name (codes "first") (omega arith) refl refl, tt)
+plain_instr (Next k) h = (plain_name (codes "next") (omega arith) refl refl, (plain_number k (omega arith), tt))
+plain_instr (DropBelow k) h = (plain_name (codes "drop-below") (omega arith) refl refl, (plain_number k (omega arith), tt))
 
 instr_clean : (i : Instr) → InRange i → NoNewline (instr_text i)
 instr_clean i h = join_clean (instr_words i) (plain_instr i h)
