@@ -4,6 +4,7 @@
 mod found;
 mod image;
 pub mod laws;
+mod load;
 mod make;
 mod printing;
 mod report;
