@@ -1,6 +1,6 @@
 //! Callers under brakes of each kind.
 
-use crate::calls::{End, alone, call, go_on};
+use crate::calls::{End, alone, call, go_on, renewed};
 use crate::threads::run_two;
 use of_brake::{Brake, Fuel, Pattern};
 use of_cell::payload_of;
@@ -103,6 +103,30 @@ fn patterned(alloc: Global) -> Result<[End; 2], AllocError> {
 fn another_brake_lets_go_on(rt: HostRuntime) -> Result<(), Fail> {
     let wanted = [End::Stopped(4), End::Answered(1, NONE, 0, 48)];
     assert_eq!(rt; patterned(rt.alloc())?, wanted);
+    Ok(())
+}
+
+/// Calls of `store 3 7`, `add 3 1` and `load 3`, each of another caller of one member, and how many calls were begun.
+fn left(alloc: Global) -> Result<([End; 3], u32), AllocError> {
+    let (row, mut caller, _pass) = alone(alloc, 10)?;
+    let mut brake = fuel(alloc, None)?;
+    let stores = call(&row, &mut caller, STORE_3_7, &mut brake);
+    let mut caller = renewed(alloc, &row, caller)?;
+    let adds = call(&row, &mut caller, ADD_3_1, &mut brake);
+    let mut caller = renewed(alloc, &row, caller)?;
+    let loads = call(&row, &mut caller, LOAD_3, &mut brake);
+    Ok(([stores, adds, loads], caller.made()))
+}
+
+// Each goes on with the member's next ticket, and reads what was written before it.
+#[test]
+fn a_new_caller_goes_on(rt: HostRuntime) -> Result<(), Fail> {
+    let wanted = [
+        End::Answered(1, NONE, 0, 48),
+        End::Answered(2, NUMBER, 8, 49),
+        End::Answered(2, NUMBER, 8, 3),
+    ];
+    assert_eq!(rt; left(rt.alloc())?, (wanted, 3));
     Ok(())
 }
 

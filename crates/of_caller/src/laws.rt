@@ -1,14 +1,12 @@
-//! Laws of plans' tables, of what a run leaves, and of new members: functions that change nothing, whose contracts are the theorems.
+//! Laws of plans' tables, and of what a run leaves: functions that change nothing, whose contracts are the theorems.
 
 ghost use Rattle.of_plan.specs.Plan.{IsPlan};
-ghost use Rattle.of_caller.specs.Callers.{EnrolledAreNew};
 ghost use Rattle.of_caller.specs.PlanLaws.{KeepsLaws};
 ghost use Rattle.of_caller.specs.Starts.{ZerosAreEmpty};
 ghost use Rattle.of_caller.specs.Runs.{SchedulesAreMoments, StartsAreRuns, RepliesAreHeld, RunsAreLawful, RunsAreReported, RunsKeepAllowances};
 
 use of_core::laws::{every_call, every_moment, machines, starts, step_kept};
 use of_eval::Scripts;
-use of_mem::Work;
 use of_plan::Plan;
 
 /// The laws of the protocol hold at the table of a plan. So from every start of the plan its schedules lead to moments of it, and what
@@ -41,9 +39,4 @@ pub fn runs_are_lawful()
     ensures lawful { RunsAreLawful }
     ensures reported { RunsAreReported }
     ensures allowances { RunsKeepAllowances }
-{}
-
-/// A member that has enrolled has made no call on its row.
-pub fn enrolled_are_new<W: Work>(work: W)
-    ensures { EnrolledAreNew W.meaning work }
 {}
