@@ -5,6 +5,7 @@ pub mod Left
 pub mod Moments
 pub mod Starts
 pub mod Runs
+pub mod Restarts
 pub mod Callers
 pub mod CallsTold
 pub mod Brakes

@@ -5,6 +5,7 @@ ghost use Rattle.of_caller.specs.Callers.{EnrolledAreNew};
 ghost use Rattle.of_caller.specs.PlanLaws.{KeepsLaws};
 ghost use Rattle.of_caller.specs.Starts.{ZerosAreEmpty};
 ghost use Rattle.of_caller.specs.Runs.{SchedulesAreMoments, StartsAreRuns, RepliesAreHeld, RunsAreLawful, RunsAreReported, RunsKeepAllowances};
+ghost use Rattle.of_caller.specs.Restarts.{RunsRestart};
 
 use of_core::laws::{every_call, every_moment, machines, starts, step_kept};
 use of_eval::Scripts;
@@ -41,6 +42,13 @@ pub fn runs_are_lawful()
     ensures lawful { RunsAreLawful }
     ensures reported { RunsAreReported }
     ensures allowances { RunsKeepAllowances }
+{}
+
+/// From what recovery makes of the durable words that a run leaves a table may start, and it starts
+/// where the run's report ends: at its sequence and its store, each caller behind its last announced
+/// entry.
+pub fn runs_restart()
+    ensures { RunsRestart }
 {}
 
 /// A member that has enrolled has made no call on its row.
