@@ -4,3 +4,6 @@ pub mod ReportText
 pub mod Examples
 pub mod Found
 pub mod Order
+pub mod ImageRow
+pub mod ImageLaw
+pub mod Image

@@ -191,13 +191,13 @@ not_bad one_cut words before after command line is valid (inl h) =
     let v = valid_plan words command before.left is h.0 valid in
     let same = same_bytes v.0 h.1.bytes before.left after.left v.2 h.1.read.taken h.1.read.ended in
     let Q : List ℕ → Type 0 = λ bytes. SpellsPlan bytes v.1 in
-    h.1.none v.1 (subst Q same v.4)
+    h.1.bad.none (v.1, subst Q same v.4)
 not_bad one_cut words before after command line is valid (inr h) =
     let v = valid_check words command before.left is h.0 valid in
     let same = same_bytes v.bytes h.1.bytes before.left after.left v.is h.1.read.taken h.1.read.ended in
     let here : AreParts h.1.bytes v.first v.report = subst (λ (bytes : List ℕ). AreParts bytes v.first v.report) same v.parts in
     let Q : List ℕ → Type 0 = λ bytes. SpellsPlan bytes v.plan in
-    h.1.none v.plan (subst Q (one_cut h.1.bytes v.first v.report h.1.first h.1.report here h.1.parts).0 v.spelled)
+    h.1.bad.none (v.plan, subst Q (one_cut h.1.bytes v.first v.report h.1.first h.1.report here h.1.parts).0 v.spelled)
 
 -- done, or the report is found illegal
 abbrev pub IsComplete : Command → ℕ → Type 0

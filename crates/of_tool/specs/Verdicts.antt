@@ -4,7 +4,8 @@ use Rattle.std.specs.Io.KnownBytes.{Appends, Consumes, IsAtEnd}
 use Rattle.of_io.specs.Faults.{Rose, AppendsFront, TakesMoreThan, TakesAtMost}
 use Rattle.of_plan.specs.Plan.{Plan}
 use Rattle.of_plan.specs.Ended.{Run}
-use Rattle.of_plan.specs.Grammar.{SpellsPlan, IsBadLine}
+use Rattle.of_plan.specs.Grammar.{SpellsPlan, IsPlanText}
+use Rattle.of_plan.specs.BadLine.{HasBadLine}
 use Rattle.of_plan.specs.Parts.{AreParts}
 use Rattle.of_plan.specs.Report.{Report, empty_start}
 use Rattle.of_plan.specs.Legal.{IsLegal}
@@ -102,8 +103,7 @@ pub record ReadsPlan (before after : SourceState) (plan : Plan) : Type 0 where
 pub record ReadsNoPlan (before after : SourceState) (line : ℕ) : Type 0 where
   pub bytes : List ℕ
   pub read : ReadsAll MOST_INPUT before after bytes
-  pub bad : IsBadLine bytes line
-  pub none : (plan : Plan) → SpellsPlan bytes plan → ⊥
+  pub bad : HasBadLine IsPlanText bytes line
 
 -- the first part of the whole input is the text of this plan, and the second this text
 pub record ReadsBoth (before after : SourceState) (plan : Plan) (report : List ℕ) : Type 0 where
@@ -120,8 +120,7 @@ pub record ReadsNoFirst (before after : SourceState) (line : ℕ) : Type 0 where
   pub report : List ℕ
   pub read : ReadsAll MOST_WITH_REPORT before after bytes
   pub parts : AreParts bytes first report
-  pub bad : IsBadLine first line
-  pub none : (plan : Plan) → SpellsPlan first plan → ⊥
+  pub bad : HasBadLine IsPlanText first line
 
 -- the first part is a plan's text, and the second that of a legal report of the plan
 pub record ReadsLegal (before after : SourceState) : Type 0 where
