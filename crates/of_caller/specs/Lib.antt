@@ -10,3 +10,6 @@ pub mod Callers
 pub mod CallsTold
 pub mod Brakes
 pub mod Vain
+pub mod PlanRows
+pub mod Stops
+pub mod Teams
