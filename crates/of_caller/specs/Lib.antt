@@ -5,7 +5,6 @@ pub mod Left
 pub mod Moments
 pub mod Starts
 pub mod Runs
-pub mod Restarts
 pub mod Callers
 pub mod CallsTold
 pub mod Brakes
@@ -13,3 +12,4 @@ pub mod Vain
 pub mod PlanRows
 pub mod Stops
 pub mod Teams
+pub mod Restarts

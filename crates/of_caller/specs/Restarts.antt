@@ -15,7 +15,9 @@ use Rattle.of_core.specs.World.{World, Start as TableStart}
 use Rattle.of_core.specs.Starts.{start_of, IsDurable, IsStartRow}
 use Rattle.of_caller.specs.Tables.{setup_for, lawful_for}
 use Rattle.of_caller.specs.Starts.{number_in}
+use Rattle.of_row.specs.Views.{Sight}
 use Rattle.of_caller.specs.Runs.{IsRunOf}
+use Rattle.of_caller.specs.Teams.{IsTeamOf}
 
 -- an announced entry, whose ticket and whose reply the caller's own cells hold
 pub record IsHeldIn (m : ℕ → ℕ) (caller : ℕ) (e : CallEntry) : Type 0 where
@@ -43,12 +45,23 @@ pub record StartsBehind (p : Plan) (s : Start) (r : Report) (B : TableStart) : T
   pub callers : (c : ℕ) → c < p.callers
       → HoldLast (number_in B) c (finished_of s c) (entries_of r c)
 
--- from what recovery makes of the durable words that a run leaves a table may start, and it starts
--- where the run's report ends
-abbrev pub RunsRestart : Type 0
-RunsRestart =
-    (p : Plan) (s : Start) (B : TableStart) (w : World) (e : Run) → IsRunOf p s B w e
-    → (r : Report) → IsLawful p s e r → (row : List ℕ) → IsDurable (setup_for p) e.words row
+-- from what recovery makes of the durable words that a run with this report leaves a table may
+-- start, and it starts where the report ends
+abbrev pub Restarts : Plan → Start → Run → Report → Type 0
+Restarts p s e r =
+    (row : List ℕ) → IsDurable (setup_for p) e.words row
     → let found : List ℕ = recovered p.callers (cells_in p) row in
     IsStartRow (setup_for p) (lawful_for p) found
     × StartsBehind p s r (start_of p.callers (cells_in p) found)
+
+-- so it is of each run
+abbrev pub RunsRestart : Type 0
+RunsRestart =
+    (p : Plan) (s : Start) (B : TableStart) (w : World) (e : Run) → IsRunOf p s B w e
+    → (r : Report) → IsLawful p s e r → Restarts p s e r
+
+-- and of each team of a plan
+abbrev pub TeamsRestart : Plan → Type 0
+TeamsRestart p =
+    (s : Start) (B : TableStart) (e : Run) (v : Sight) → IsTeamOf p s B e v
+    → (r : Report) → IsLawful p s e r → Restarts p s e r
