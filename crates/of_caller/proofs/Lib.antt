@@ -16,6 +16,8 @@ pub mod RecordsAllowance
 pub mod Records
 pub mod RecordsReports
 pub mod RecordsReplies
+pub mod LastTickets
+pub mod Restarting
 pub mod CallSteps
 pub mod CallerSteps
 pub mod BrakeCharges

@@ -15,3 +15,4 @@ pub mod Teams
 pub mod Lanes
 pub mod Trees
 pub mod Seating
+pub mod Restarts

@@ -5,6 +5,7 @@ ghost use Rattle.of_caller.specs.PlanLaws.{KeepsLaws};
 ghost use Rattle.of_caller.specs.Starts.{ZerosAreEmpty};
 ghost use Rattle.of_caller.specs.Teams.{TeamsAreLawful, TeamsKeepAllowances};
 ghost use Rattle.of_caller.specs.Runs.{SchedulesAreMoments, StartsAreRuns, RepliesAreHeld, RunsAreLawful, RunsAreReported, RunsKeepAllowances};
+ghost use Rattle.of_caller.specs.Restarts.{RunsRestart};
 
 use of_core::laws::{every_call, every_moment, machines, starts, step_kept};
 use of_eval::Scripts;
@@ -56,3 +57,10 @@ pub fn teams_are_lawful(plan: &Plan)
     plan_keeps_laws(plan);
     sees_whole(scripts);
 }
+
+/// From what recovery makes of the durable words that a run leaves a table may start, and it starts
+/// where the run's report ends: at its sequence and its store, each caller behind its last announced
+/// entry.
+pub fn runs_restart()
+    ensures { RunsRestart }
+{}

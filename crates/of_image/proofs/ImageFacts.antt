@@ -26,8 +26,8 @@ use Rattle.of_report.proofs.Recovery.{part_at, part_long, row_long}
 use Rattle.of_image.specs.ImageText.{SpellsImage}
 use Rattle.of_report.specs.ImageLaw.{IsLawfulRow}
 use Rattle.of_image.specs.RowFault.{IsRowFault}
-use Rattle.of_report.specs.Image.{Image, IsImage, image_of}
-use Rattle.of_image.specs.Parsed.{IsRestored, ReadsImage, IsRefused, IsUnlawful, IsFaulty}
+use Rattle.of_report.specs.Image.{Image, IsImage, image_of, IsRestored}
+use Rattle.of_image.specs.Parsed.{ReadsImage, IsRefused, IsUnlawful, IsFaulty}
 use Rattle.of_report.specs.ImageRow.{recovered_row}
 use Rattle.of_image.proofs.ImageTexts.{one_row}
 use Rattle.of_image.proofs.RowLaw.{fault_excludes, one_lawful}

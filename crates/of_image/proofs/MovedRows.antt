@@ -21,8 +21,8 @@ use Rattle.of_eval.specs.Shapes.{IsHeldBy}
 use Rattle.of_eval.specs.Stored.{plain}
 use Rattle.of_eval.specs.Lawful.{reply_number, reply_in, OwnStand, StandsFor}
 use Rattle.of_report.specs.ImageRow.{Row, IsRow, cells_of, numbers_in}
-use Rattle.of_report.specs.Image.{Image, IsImage}
-use Rattle.of_image.specs.Parsed.{IsRestored, ReadsImage, IsRefused}
+use Rattle.of_report.specs.Image.{Image, IsImage, IsRestored}
+use Rattle.of_image.specs.Parsed.{ReadsImage, IsRefused}
 use Rattle.of_report.specs.ImageRow.{recovered_row}
 use Rattle.std.specs.Prelude.{Result, IfOk, IfErr, MatchResult}
 use Rattle.std.specs.declared.vec.Vec.{Vec}

@@ -1,23 +1,14 @@
 -- Which image a text has, and why another text has none.
-use Rattle.std.specs.Prelude.{◌≡◌, ℕ, List, slice_index}
-use Rattle.of_recover.specs.Row.{current_seq, is_open}
+use Rattle.std.specs.Prelude.{ℕ, List}
 use Rattle.of_plan.specs.BadLine.{HasBadLine}
 use Rattle.of_report.specs.ImageRow.{Row, recovered_row}
-use Rattle.of_report.specs.ImageLaw.{IsLawfulRow}
-use Rattle.of_report.specs.Image.{Image}
+use Rattle.of_report.specs.Image.{Image, IsRestored}
 use Rattle.of_image.specs.declared.error.ImageErr.{ImageErr}
 use Rattle.of_image.specs.declared.error.ImageErr.TheVariants.{Memory, Bad, Unlawful}
 use Rattle.of_image.specs.declared.version.Version.{Version}
 use Rattle.of_image.specs.Version.{instrs_of}
 use Rattle.of_image.specs.ImageText.{SpellsImage, IsImageText}
 use Rattle.of_image.specs.RowFault.{IsRowFault}
-
--- what recovery finds in this row is the image
-pub record IsRestored (instrs : ℕ) (raw : Row) (i : Image) : Type 0 where
-  pub row : i.row ≡ recovered_row instrs raw
-  pub seq : i.seq ≡ current_seq (slice_index raw.words)
-  pub replayed : i.replayed ≡ is_open raw.callers (slice_index raw.words)
-  pub lawful : IsLawfulRow instrs i.row i.store
 
 -- the text is in the grammar, and what recovery finds in its row is the image
 pub record ReadsImage (v : Version) (text : List ℕ) (i : Image) : Type 0 where

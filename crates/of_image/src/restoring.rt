@@ -8,8 +8,8 @@ ghost use Rattle.of_mem.specs.Plots.{size};
 ghost use Rattle.of_report.specs.ImageRow.{IsRow, row_in};
 ghost use Rattle.of_report.specs.ImageLaw.{IsLawfulRow, NoneNewer};
 ghost use Rattle.of_image.specs.RowFault.{IsFirstNewer};
-ghost use Rattle.of_image.specs.Parsed.{IsFaulty, IsRestored};
-ghost use Rattle.of_report.specs.Image.{image_of};
+ghost use Rattle.of_image.specs.Parsed.{IsFaulty};
+ghost use Rattle.of_report.specs.Image.{image_of, IsRestored};
 ghost use Rattle.of_report.specs.ImageRow.{recovered_row};
 
 use crate::error::ImageErr;

@@ -3,4 +3,5 @@ pub mod Callers
 pub mod Tickets
 pub mod OneLife
 pub mod AllLives
+pub mod Restarting
 pub mod WorkedLives

@@ -1,3 +1,4 @@
 pub mod Lives
 pub mod OneHistory
+pub mod Restarts
 pub mod Worked

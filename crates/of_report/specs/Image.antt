@@ -5,7 +5,7 @@ use Rattle.of_cell.specs.Words.{pay}
 use Rattle.of_cell.specs.Cells.{data_cell}
 use Rattle.of_mem.specs.Places.{ticket_at}
 use Rattle.of_script.specs.declared.instr.TheConstants.{MOST_INSTRS}
-use Rattle.of_recover.specs.Row.{current_seq}
+use Rattle.of_recover.specs.Row.{current_seq, is_open}
 use Rattle.of_store.specs.State.{State}
 use Rattle.of_plan.specs.Report.{Start}
 use Rattle.of_report.specs.declared.image.Image.{Image as Held}
@@ -28,6 +28,13 @@ pub record IsImage (instrs : ℕ) (i : Image) : Type 0 where
   pub row : IsRow instrs i.row
   pub settled : recovered_row instrs i.row ≡ i.row
   pub seq : i.seq ≡ current_seq (slice_index i.row.words)
+  pub lawful : IsLawfulRow instrs i.row i.store
+
+-- what recovery finds in this row is the image
+pub record IsRestored (instrs : ℕ) (raw : Row) (i : Image) : Type 0 where
+  pub row : i.row ≡ recovered_row instrs raw
+  pub seq : i.seq ≡ current_seq (slice_index raw.words)
+  pub replayed : i.replayed ≡ is_open raw.callers (slice_index raw.words)
   pub lawful : IsLawfulRow instrs i.row i.store
 
 -- a caller's ticket: how many of its calls the store has seen
