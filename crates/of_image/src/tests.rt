@@ -109,7 +109,7 @@ fn prints_the_durable_words(rt: HostRuntime) -> Result<(), Fail> {
         instrs: MOST_INSTRS as u32,
         blocks: 0,
     };
-    let words = vec![in rt.alloc(); 1 << 32; 509]?;
+    let words = vec![in rt.alloc(); 1 << 32; 510]?;
     let text = image_print(rt.alloc(), &plot, &words)?;
     let image = image_parse(rt.alloc(), &text)?;
     assert_eq!(rt; image.durable.len(), 246);
