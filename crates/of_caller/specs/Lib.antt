@@ -12,4 +12,8 @@ pub mod Vain
 pub mod PlanRows
 pub mod Stops
 pub mod Teams
+pub mod Lanes
+pub mod Trees
+pub mod Seating
 pub mod Restarts
+pub mod Allowances

@@ -1,5 +1,5 @@
 -- What a team hands back: the record of a run, and a pass that has the run's calls.
-use Rattle.std.specs.Prelude.{◌≡◌, ℕ, ◌+◌, ◌-◌, ◌≤◌, ◌<◌, ◌⊎◌, List, [], ◌∷◌, ◌++◌, length, map, filter_map, take, drop, slice_index_or, true, false, Option, Some, None, IsTrue, All, Any}
+use Rattle.std.specs.Prelude.{◌≡◌, ℕ, ◌+◌, ◌-◌, ◌≤◌, ◌<◌, ◌⊎◌, List, [], ◌∷◌, ◌++◌, length, map, filter_map, take, drop, slice_index_or, false, Option, Some, None, IsTrue, All, Any}
 use Rattle.of_eval.specs.declared.scripts.Scripts.{Scripts}
 use Rattle.of_eval.specs.Record.{IsLawful}
 use Rattle.of_eval.specs.Reported.{ReportsRun}
@@ -12,7 +12,6 @@ use Rattle.of_plan.specs.Plan.{Plan, IsPlan, scripts_of, stop_of, bound_of}
 use Rattle.of_plan.specs.Report.{CallEntry, Report, Start, finished_of}
 use Rattle.of_plan.specs.Ended.{Run, answers_of, ending_of}
 use Rattle.of_plan.specs.Allowance.{KeepsAllowance}
-use Rattle.of_core.specs.declared.place.Outcome.{Outcome}
 use Rattle.of_core.specs.declared.place.Outcome.TheVariants.{Spent as RanOut}
 use Rattle.of_core.specs.Machine.{Call, Data, IsOpen}
 use Rattle.of_core.specs.World.{Start as TableStart}
