@@ -4,6 +4,8 @@
 #[cfg(test)]
 mod checks;
 #[cfg(test)]
+mod images;
+#[cfg(test)]
 mod plays;
 #[cfg(test)]
 mod tests;

@@ -1,19 +1,24 @@
 -- No two commands have the same words, so a command has its own answers alone.
-use Rattle.std.proofs.Common.{◌≡◌, ◌<◌, ◌≤◌, ◌⊎◌, inl, inr, List, ℕ, [], ◌∷◌, ◌++◌, length, Option, None, Some, refl, sym, ap, subst, ◌∙◌, arith, append-nil, length-append}
+use Rattle.std.proofs.Common.{◌≡◌, ◌<◌, ◌≤◌, ◌⊎◌, inl, inr, List, ℕ, [], ◌∷◌, ◌++◌, length, Bool, true, false, Option, None, Some, refl, sym, ap, subst, ◌∙◌, arith, append-nil, length-append}
 use Rattle.std.specs.Io.KnownBytes.{Consumes, IsAtEnd}
 use Rattle.of_io.specs.Faults.{Rose, TakesMoreThan}
 use Rattle.of_plan.specs.Grammar.{SpellsPlan}
 use Rattle.of_plan.specs.Parts.{AreParts, OneCut}
-use Rattle.of_tool.specs.declared.top.TheConstants.{MOST_INPUT, MOST_WITH_REPORT}
+use Rattle.of_tool.specs.declared.top.TheConstants.{MOST_INPUT, MOST_WITH_REPORT, MOST_IMAGE}
 use Rattle.std.specs.Prelude.{codes, if◌then◌else◌}
 use Rattle.std.specs.Str.{bytes_eq}
 use Rattle.of_plan.proofs.SerialLegal.{serial_legal}
+use Rattle.of_image.specs.declared.version.Version.{Version as Edition}
+use Rattle.of_image.specs.declared.version.Version.TheVariants.{One, Two}
+use Rattle.of_image.specs.Parsed.{ReadsImage, UnlawfulHaveNone}
 use Rattle.of_tool.specs.declared.command.Command.{Command}
-use Rattle.of_tool.specs.declared.command.Command.TheVariants.{Serial, Play, Check, Help, Version}
+use Rattle.of_tool.specs.declared.command.Command.TheVariants.{Serial, Play, Check, Image, Recover, Renumber, Migrate, Help, Version}
 use Rattle.of_tool.specs.declared.command.TheConstants.{HELP, VERSION}
 use Rattle.of_tool.specs.declared.status.TheConstants.{DONE, ILLEGAL}
 use Rattle.of_tool.specs.Commands.{words_of}
-use Rattle.of_tool.specs.Verdicts.{Verdict, ShowsHelp, ShowsVersion, Replayed, Played, FoundLegal, FoundIllegal, NoCommand, ReadFault, TooLong, BadPlan, HasCause, status_of, text_of, SourceState, SinkState, IsAnswer, IsWritten, IsReplayed, PlaysPlan, AskForPlan, limit_of, AsksUpTo, AskForInput, ReadsNoPlan, ReadsNoFirst, ChecksReport, IsPlanInput, IsCheckInput, IsValidInput}
+use Rattle.of_tool.specs.Verdicts.{Verdict, ShowsHelp, ShowsVersion, Replayed, Played, FoundLegal, FoundIllegal, Imaged, Recovered, Renumbered, Migrated, NoCommand, ReadFault, TooLong, BadPlan, BadImage, UnlawfulImage}
+use Rattle.of_tool.specs.Verdicts.{HasCause, status_of, text_of, SourceState, SinkState, IsAnswer, IsWritten, IsReplayed, PlaysPlan, AskForPlan, AskForImage, limit_of, AsksUpTo, AskForInput, ReadsNoPlan, ReadsNoFirst, ChecksReport, IsPlanInput, IsImageInput, IsValidInput}
+use Rattle.of_tool.specs.Images.{ImagesPlan, RecoversImage, RenumbersImage, MigratesImage}
 
 -- the command of a word
 abbrev named_by : List ℕ → Option Command
@@ -21,6 +26,10 @@ named_by w =
     if bytes_eq w (codes "serial") then Some Serial
     else if bytes_eq w (codes "play") then Some Play
     else if bytes_eq w (codes "check") then Some Check
+    else if bytes_eq w (codes "image") then Some Image
+    else if bytes_eq w (codes "recover") then Some Recover
+    else if bytes_eq w (codes "renumber") then Some Renumber
+    else if bytes_eq w (codes "migrate") then Some Migrate
     else if bytes_eq w (codes "--help") then Some Help
     else if bytes_eq w (codes "--version") then Some Version
     else None
@@ -35,6 +44,10 @@ command_again : (c : Command) → command_of (words_of c) ≡ Some c
 command_again Serial = refl
 command_again Play = refl
 command_again Check = refl
+command_again Image = refl
+command_again Recover = refl
+command_again Renumber = refl
+command_again Migrate = refl
 command_again Help = refl
 command_again Version = refl
 
@@ -53,83 +66,171 @@ reads_nothing words c none is asks = let e : ◌≡◌ {A = Option ℕ} None (So
 
 pub plan_asks : (words : List (List ℕ)) → AskForPlan words → AsksUpTo words MOST_INPUT
 plan_asks words (inl h) = (Serial, h, refl)
-plan_asks words (inr h) = (Play, h, refl)
+plan_asks words (inr (inl h)) = (Play, h, refl)
+plan_asks words (inr (inr h)) = (Image, h, refl)
+
+pub image_asks : (edition : Edition) (words : List (List ℕ)) → AskForImage edition words → AsksUpTo words MOST_IMAGE
+image_asks One words h = (Migrate, h, refl)
+image_asks Two words (inl h) = (Recover, h, refl)
+image_asks Two words (inr h) = (Renumber, h, refl)
 
 bad_asks : {before after : SourceState} (words : List (List ℕ)) (line : ℕ) → (AskForPlan words × ReadsNoPlan before after line) ⊎ ((words ≡ words_of Check) × ReadsNoFirst before after line) → AskForInput words
 bad_asks words line (inl h) = (MOST_INPUT, plan_asks words h.0)
 bad_asks words line (inr h) = (MOST_WITH_REPORT, (Check, h.0, refl))
 
+-- ---- whose a verdict is
+
+-- the command that a verdict is of, where it is of one alone
+abbrev owner_of : Verdict → Option Command
+owner_of ShowsHelp = Some Help
+owner_of ShowsVersion = Some Version
+owner_of (Replayed plan) = Some Serial
+owner_of (Played plan report) = Some Play
+owner_of FoundLegal = Some Check
+owner_of FoundIllegal = Some Check
+owner_of (Imaged plan text) = Some Image
+owner_of (Recovered image) = Some Recover
+owner_of (Renumbered image text) = Some Renumber
+owner_of (Migrated text) = Some Migrate
+owner_of v = None
+
+-- it refuses an input
+abbrev refuses : Verdict → Bool
+refuses ReadFault = true
+refuses TooLong = true
+refuses (BadPlan line) = true
+refuses (BadImage line) = true
+refuses (UnlawfulImage cell) = true
+refuses v = false
+
+-- a verdict is of the command that the words are, or refuses the input of a command that reads
+pub belongs : (words : List (List ℕ)) (before after : SourceState) (v : Verdict) (c : Command) → words ≡ words_of c → HasCause words before after v → (owner_of v ≡ Some c) ⊎ (AskForInput words × (refuses v ≡ true))
+belongs words before after ShowsHelp c is h = inl (ap Some (words_of_injective Help c (sym h ∙ is)))
+belongs words before after ShowsVersion c is h = inl (ap Some (words_of_injective Version c (sym h ∙ is)))
+belongs words before after (Replayed plan) c is h = inl (ap Some (words_of_injective Serial c (sym h.0 ∙ is)))
+belongs words before after (Played plan report) c is h = inl (ap Some (words_of_injective Play c (sym h.0 ∙ is)))
+belongs words before after FoundLegal c is h = inl (ap Some (words_of_injective Check c (sym h.0 ∙ is)))
+belongs words before after FoundIllegal c is h = inl (ap Some (words_of_injective Check c (sym h.0 ∙ is)))
+belongs words before after (Imaged plan text) c is h = inl (ap Some (words_of_injective Image c (sym h.0 ∙ is)))
+belongs words before after (Recovered image) c is h = inl (ap Some (words_of_injective Recover c (sym h.0 ∙ is)))
+belongs words before after (Renumbered image text) c is h = inl (ap Some (words_of_injective Renumber c (sym h.0 ∙ is)))
+belongs words before after (Migrated text) c is h = inl (ap Some (words_of_injective Migrate c (sym h.0 ∙ is)))
+belongs words before after NoCommand c is h = absurd (h c is)
+belongs words before after ReadFault c is h = inr ((h.0, h.1), refl)
+belongs words before after TooLong c is h = inr ((h.0, h.1), refl)
+belongs words before after (BadPlan line) c is h = inr (bad_asks words line h, refl)
+belongs words before after (BadImage line) c is h = inr ((MOST_IMAGE, image_asks h.0 words h.1), refl)
+belongs words before after (UnlawfulImage cell) c is h = inr ((MOST_IMAGE, image_asks h.0 words h.1), refl)
+
+-- a refusal is no verdict of work that is done, nor of a report that was judged
+refused_undone : (v : Verdict) → refuses v ≡ true → (status_of v ≡ DONE → ⊥) × (status_of v ≡ ILLEGAL → ⊥)
+refused_undone ReadFault r = ((λ e. omega arith), (λ e. omega arith))
+refused_undone TooLong r = ((λ e. omega arith), (λ e. omega arith))
+refused_undone (BadPlan line) r = ((λ e. omega arith), (λ e. omega arith))
+refused_undone (BadImage line) r = ((λ e. omega arith), (λ e. omega arith))
+refused_undone (UnlawfulImage cell) r = ((λ e. omega arith), (λ e. omega arith))
+refused_undone v r = absurd cc
+
+-- where the work is done the verdict is the command's
+done_by : (words : List (List ℕ)) (before after : SourceState) (v : Verdict) (c : Command) → words ≡ words_of c → status_of v ≡ DONE → HasCause words before after v → owner_of v ≡ Some c
+done_by words before after v c is done h = elim (belongs words before after v c is h) [ inl own ↦ own | inr r ↦ absurd ((refused_undone v r.1).0 done) ]
+
+-- and of a command that reads nothing it always is
+told_by : (words : List (List ℕ)) (before after : SourceState) (v : Verdict) (c : Command) → words ≡ words_of c → limit_of c ≡ None → HasCause words before after v → owner_of v ≡ Some c
+told_by words before after v c is none h = elim (belongs words before after v c is h) [ inl own ↦ own | inr r ↦ absurd (reads_nothing words c none is r.0) ]
+
 -- ---- the answers of each command
 
-helped : (words : List (List ℕ)) (before after : SourceState) (v : Verdict) → words ≡ words_of Help → HasCause words before after v → (status_of v ≡ DONE) × (text_of v ≡ HELP.now)
-helped words before after ShowsHelp is h = (refl, refl)
-helped words before after ShowsVersion is h = absurd (let e = words_of_injective Help Version (sym is ∙ h) in cc)
-helped words before after (Replayed plan) is h = absurd (let e = words_of_injective Help Serial (sym is ∙ h.0) in cc)
-helped words before after (Played plan report) is h = absurd (let e = words_of_injective Help Play (sym is ∙ h.0) in cc)
-helped words before after NoCommand is h = absurd (h Help is)
-helped words before after FoundLegal is h = absurd (let e = words_of_injective Help Check (sym is ∙ h.0) in cc)
-helped words before after FoundIllegal is h = absurd (let e = words_of_injective Help Check (sym is ∙ h.0) in cc)
-helped words before after ReadFault is h = absurd (reads_nothing words Help refl is (h.0, h.1))
-helped words before after TooLong is h = absurd (reads_nothing words Help refl is (h.0, h.1))
-helped words before after (BadPlan line) is h = absurd (reads_nothing words Help refl is (bad_asks words line h))
+helped : (v : Verdict) → owner_of v ≡ Some Help → (status_of v ≡ DONE) × (text_of v ≡ HELP.now)
+helped ShowsHelp e = (refl, refl)
+helped v e = absurd cc
 
-named : (words : List (List ℕ)) (before after : SourceState) (v : Verdict) → words ≡ words_of Version → HasCause words before after v → (status_of v ≡ DONE) × (text_of v ≡ VERSION.now)
-named words before after ShowsHelp is h = absurd (let e = words_of_injective Version Help (sym is ∙ h) in cc)
-named words before after ShowsVersion is h = (refl, refl)
-named words before after (Replayed plan) is h = absurd (let e = words_of_injective Version Serial (sym is ∙ h.0) in cc)
-named words before after (Played plan report) is h = absurd (let e = words_of_injective Version Play (sym is ∙ h.0) in cc)
-named words before after NoCommand is h = absurd (h Version is)
-named words before after FoundLegal is h = absurd (let e = words_of_injective Version Check (sym is ∙ h.0) in cc)
-named words before after FoundIllegal is h = absurd (let e = words_of_injective Version Check (sym is ∙ h.0) in cc)
-named words before after ReadFault is h = absurd (reads_nothing words Version refl is (h.0, h.1))
-named words before after TooLong is h = absurd (reads_nothing words Version refl is (h.0, h.1))
-named words before after (BadPlan line) is h = absurd (reads_nothing words Version refl is (bad_asks words line h))
+named : (v : Verdict) → owner_of v ≡ Some Version → (status_of v ≡ DONE) × (text_of v ≡ VERSION.now)
+named ShowsVersion e = (refl, refl)
+named v e = absurd cc
 
 -- the answer to `--help`
 pub help_answer : (words : List (List ℕ)) (before after : SourceState) (status : ℕ) (text : List ℕ) → words ≡ words_of Help → IsAnswer words before after status text → (status ≡ DONE) × (text ≡ HELP.now)
 help_answer words before after status text is a =
-    let v = helped words before after a.verdict is a.cause in (a.status_is ∙ v.0, a.text_is ∙ v.1)
+    let v = helped a.verdict (told_by words before after a.verdict Help is refl a.cause) in (a.status_is ∙ v.0, a.text_is ∙ v.1)
 
 -- the answer to `--version`
 pub version_answer : (words : List (List ℕ)) (before after : SourceState) (status : ℕ) (text : List ℕ) → words ≡ words_of Version → IsAnswer words before after status text → (status ≡ DONE) × (text ≡ VERSION.now)
 version_answer words before after status text is a =
-    let v = named words before after a.verdict is a.cause in (a.status_is ∙ v.0, a.text_is ∙ v.1)
+    let v = named a.verdict (told_by words before after a.verdict Version is refl a.cause) in (a.status_is ∙ v.0, a.text_is ∙ v.1)
 
-replayed : (words : List (List ℕ)) (before after : SourceState) (old new : SinkState) (v : Verdict) → words ≡ words_of Serial → status_of v ≡ DONE → HasCause words before after v → IsWritten old new (text_of v) → IsReplayed before after old new
-replayed words before after old new ShowsHelp is done h w = absurd (let e = words_of_injective Serial Help (sym is ∙ h) in cc)
-replayed words before after old new ShowsVersion is done h w = absurd (let e = words_of_injective Serial Version (sym is ∙ h) in cc)
-replayed words before after old new (Replayed plan) is done h w = record { plan = plan; read = h.1; legal = serial_legal plan; written = w }
-replayed words before after old new (Played plan report) is done h w = absurd (let e = words_of_injective Serial Play (sym is ∙ h.0) in cc)
-replayed words before after old new FoundLegal is done h w = absurd (let e = words_of_injective Serial Check (sym is ∙ h.0) in cc)
-replayed words before after old new FoundIllegal is done h w = absurd (omega arith)
-replayed words before after old new NoCommand is done h w = absurd (h Serial is)
-replayed words before after old new ReadFault is done h w = absurd (omega arith)
-replayed words before after old new TooLong is done h w = absurd (omega arith)
-replayed words before after old new (BadPlan line) is done h w = absurd (omega arith)
+-- what a command wrote where it is done: what its verdicts lead to
+wrote : (c : Command) (P : SourceState → SourceState → SinkState → SinkState → Type 0)
+    → ((words : List (List ℕ)) (before after : SourceState) (old new : SinkState) (v : Verdict) → owner_of v ≡ Some c → HasCause words before after v → status_of v ≡ DONE → IsWritten old new (text_of v) → P before after old new)
+    → (words : List (List ℕ)) (before after : SourceState) (old new : SinkState) (status : ℕ) (text : List ℕ) → words ≡ words_of c → status ≡ DONE → IsAnswer words before after status text → IsWritten old new text → P before after old new
+wrote c P each words before after old new status text is done a w =
+    let e : status_of a.verdict ≡ DONE = sym a.status_is ∙ done in
+    each words before after old new a.verdict (done_by words before after a.verdict c is e a.cause) a.cause e (let Q : List ℕ → Type 0 = IsWritten old new in subst Q a.text_is w)
 
--- what `serial` wrote where it is done
+replayed : (words : List (List ℕ)) (before after : SourceState) (old new : SinkState) (v : Verdict) → owner_of v ≡ Some Serial → HasCause words before after v → status_of v ≡ DONE → IsWritten old new (text_of v) → IsReplayed before after old new
+replayed words before after old new (Replayed plan) own h done w = record { plan = plan; read = h.1; legal = serial_legal plan; written = w }
+replayed words before after old new v own h done w = absurd cc
+
 pub serial_answer : (words : List (List ℕ)) (before after : SourceState) (old new : SinkState) (status : ℕ) (text : List ℕ) → words ≡ words_of Serial → status ≡ DONE → IsAnswer words before after status text → IsWritten old new text
     → IsReplayed before after old new
-serial_answer words before after old new status text is done a w =
-    replayed words before after old new a.verdict is (sym a.status_is ∙ done) a.cause (let P : List ℕ → Type 0 = IsWritten old new in subst P a.text_is w)
+serial_answer = wrote Serial IsReplayed replayed
 
-plays : (words : List (List ℕ)) (before after : SourceState) (old new : SinkState) (v : Verdict) → words ≡ words_of Play → status_of v ≡ DONE → HasCause words before after v → IsWritten old new (text_of v) → PlaysPlan before after old new
-plays words before after old new ShowsHelp is done h w = absurd (let e = words_of_injective Play Help (sym is ∙ h) in cc)
-plays words before after old new ShowsVersion is done h w = absurd (let e = words_of_injective Play Version (sym is ∙ h) in cc)
-plays words before after old new (Replayed plan) is done h w = absurd (let e = words_of_injective Play Serial (sym is ∙ h.0) in cc)
-plays words before after old new (Played plan report) is done h w = record { plan = plan; read = h.1; report = report; played = h.2; written = w }
-plays words before after old new FoundLegal is done h w = absurd (let e = words_of_injective Play Check (sym is ∙ h.0) in cc)
-plays words before after old new FoundIllegal is done h w = absurd (omega arith)
-plays words before after old new NoCommand is done h w = absurd (h Play is)
-plays words before after old new ReadFault is done h w = absurd (omega arith)
-plays words before after old new TooLong is done h w = absurd (omega arith)
-plays words before after old new (BadPlan line) is done h w = absurd (omega arith)
+plays : (words : List (List ℕ)) (before after : SourceState) (old new : SinkState) (v : Verdict) → owner_of v ≡ Some Play → HasCause words before after v → status_of v ≡ DONE → IsWritten old new (text_of v) → PlaysPlan before after old new
+plays words before after old new (Played plan report) own h done w = record { plan = plan; read = h.1; report = report; played = h.2; written = w }
+plays words before after old new v own h done w = absurd cc
 
--- what `play` wrote where it is done
 pub play_answer : (words : List (List ℕ)) (before after : SourceState) (old new : SinkState) (status : ℕ) (text : List ℕ) → words ≡ words_of Play → status ≡ DONE → IsAnswer words before after status text → IsWritten old new text
     → PlaysPlan before after old new
-play_answer words before after old new status text is done a w =
-    plays words before after old new a.verdict is (sym a.status_is ∙ done) a.cause (let P : List ℕ → Type 0 = IsWritten old new in subst P a.text_is w)
+play_answer = wrote Play PlaysPlan plays
+
+images : (words : List (List ℕ)) (before after : SourceState) (old new : SinkState) (v : Verdict) → owner_of v ≡ Some Image → HasCause words before after v → status_of v ≡ DONE → IsWritten old new (text_of v) → ImagesPlan before after old new
+images words before after old new (Imaged plan text) own h done w = record { plan = plan; read = h.1; text = text; played = h.2; written = w }
+images words before after old new v own h done w = absurd cc
+
+pub image_answer : (words : List (List ℕ)) (before after : SourceState) (old new : SinkState) (status : ℕ) (text : List ℕ) → words ≡ words_of Image → status ≡ DONE → IsAnswer words before after status text → IsWritten old new text
+    → ImagesPlan before after old new
+image_answer = wrote Image ImagesPlan images
+
+recovers : (words : List (List ℕ)) (before after : SourceState) (old new : SinkState) (v : Verdict) → owner_of v ≡ Some Recover → HasCause words before after v → status_of v ≡ DONE → IsWritten old new (text_of v) → RecoversImage before after old new
+recovers words before after old new (Recovered image) own h done w = record { image = image; read = h.1; written = w }
+recovers words before after old new v own h done w = absurd cc
+
+pub recover_answer : (words : List (List ℕ)) (before after : SourceState) (old new : SinkState) (status : ℕ) (text : List ℕ) → words ≡ words_of Recover → status ≡ DONE → IsAnswer words before after status text → IsWritten old new text
+    → RecoversImage before after old new
+recover_answer = wrote Recover RecoversImage recovers
+
+renumbers : (words : List (List ℕ)) (before after : SourceState) (old new : SinkState) (v : Verdict) → owner_of v ≡ Some Renumber → HasCause words before after v → status_of v ≡ DONE → IsWritten old new (text_of v) → RenumbersImage before after old new
+renumbers words before after old new (Renumbered image text) own h done w = record { image = image; read = h.1; text = text; renumbers = h.2; written = w }
+renumbers words before after old new v own h done w = absurd cc
+
+pub renumber_answer : (words : List (List ℕ)) (before after : SourceState) (old new : SinkState) (status : ℕ) (text : List ℕ) → words ≡ words_of Renumber → status ≡ DONE → IsAnswer words before after status text → IsWritten old new text
+    → RenumbersImage before after old new
+renumber_answer = wrote Renumber RenumbersImage renumbers
+
+migrates : (words : List (List ℕ)) (before after : SourceState) (old new : SinkState) (v : Verdict) → owner_of v ≡ Some Migrate → HasCause words before after v → status_of v ≡ DONE → IsWritten old new (text_of v) → MigratesImage before after old new
+migrates words before after old new (Migrated text) own h done w = record { text = text; read = h.1; written = w }
+migrates words before after old new v own h done w = absurd cc
+
+pub migrate_answer : (words : List (List ℕ)) (before after : SourceState) (old new : SinkState) (status : ℕ) (text : List ℕ) → words ≡ words_of Migrate → status ≡ DONE → IsAnswer words before after status text → IsWritten old new text
+    → MigratesImage before after old new
+migrate_answer = wrote Migrate MigratesImage migrates
+
+-- what `check` says
+judged : (words : List (List ℕ)) (before after : SourceState) (v : Verdict) → owner_of v ≡ Some Check → HasCause words before after v → ChecksReport before after (status_of v)
+judged words before after FoundLegal own h = record { legal = λ e. h.1; illegal = λ e. absurd (omega arith) }
+judged words before after FoundIllegal own h = record { legal = λ e. absurd (omega arith); illegal = λ e. h.1 }
+judged words before after v own h = absurd cc
+
+checks : (words : List (List ℕ)) (before after : SourceState) (v : Verdict) → words ≡ words_of Check → HasCause words before after v → ChecksReport before after (status_of v)
+checks words before after v is h = elim (belongs words before after v Check is h) [
+  | inl own ↦ judged words before after v own h
+  | inr r ↦ (let undone = refused_undone v r.1 in record { legal = λ e. absurd (undone.0 e); illegal = λ e. absurd (undone.1 e) })
+]
+
+pub check_answer : (words : List (List ℕ)) (before after : SourceState) (status : ℕ) (text : List ℕ) → words ≡ words_of Check → IsAnswer words before after status text → ChecksReport before after status
+check_answer words before after status text is a = let P : ℕ → Type 0 = ChecksReport before after in subst P (sym a.status_is) (checks words before after a.verdict is a.cause)
+
+-- ---- completeness
 
 all_taken : (bytes taken : List ℕ) (after : Option (List ℕ)) → Consumes (Some bytes) after taken → IsAtEnd after → bytes ≡ taken
 all_taken bytes taken None h end = absurd h
@@ -139,30 +240,18 @@ more_bytes : (n : ℕ) (bytes : List ℕ) (after : Option (List ℕ)) → TakesM
 more_bytes n bytes None t = absurd t.2
 more_bytes n bytes (Some rest) t = omega (arith, ap length t.2, length-append t.0 rest)
 
--- what `check` says
-checks : (words : List (List ℕ)) (before after : SourceState) (v : Verdict) → words ≡ words_of Check → HasCause words before after v → ChecksReport before after (status_of v)
-checks words before after ShowsHelp is h = absurd (let e = words_of_injective Check Help (sym is ∙ h) in cc)
-checks words before after ShowsVersion is h = absurd (let e = words_of_injective Check Version (sym is ∙ h) in cc)
-checks words before after (Replayed plan) is h = absurd (let e = words_of_injective Check Serial (sym is ∙ h.0) in cc)
-checks words before after (Played plan report) is h = absurd (let e = words_of_injective Check Play (sym is ∙ h.0) in cc)
-checks words before after FoundLegal is h = record { legal = λ e. h.1; illegal = λ e. absurd (omega arith) }
-checks words before after FoundIllegal is h = record { legal = λ e. absurd (omega arith); illegal = λ e. h.1 }
-checks words before after NoCommand is h = absurd (h Check is)
-checks words before after ReadFault is h = record { legal = λ e. absurd (omega arith); illegal = λ e. absurd (omega arith) }
-checks words before after TooLong is h = record { legal = λ e. absurd (omega arith); illegal = λ e. absurd (omega arith) }
-checks words before after (BadPlan line) is h = record { legal = λ e. absurd (omega arith); illegal = λ e. absurd (omega arith) }
-
-pub check_answer : (words : List (List ℕ)) (before after : SourceState) (status : ℕ) (text : List ℕ) → words ≡ words_of Check → IsAnswer words before after status text → ChecksReport before after status
-check_answer words before after status text is a = let P : ℕ → Type 0 = ChecksReport before after in subst P (sym a.status_is) (checks words before after a.verdict is a.cause)
-
--- ---- completeness
+valid_at : (words : List (List ℕ)) (c d : Command) (left : Option (List ℕ)) → words ≡ words_of c → words ≡ words_of d → IsValidInput c left → IsValidInput d left
+valid_at words c d left is asks valid = let P : Command → Type 0 = λ c. IsValidInput c left in subst P (words_of_injective c d (sym is ∙ asks)) valid
 
 valid_plan : (words : List (List ℕ)) (command : Command) (left : Option (List ℕ)) → words ≡ words_of command → AskForPlan words → IsValidInput command left → IsPlanInput left
-valid_plan words command left is (inl asks) valid = let P : Command → Type 0 = λ c. IsValidInput c left in subst P (words_of_injective command Serial (sym is ∙ asks)) valid
-valid_plan words command left is (inr asks) valid = let P : Command → Type 0 = λ c. IsValidInput c left in subst P (words_of_injective command Play (sym is ∙ asks)) valid
+valid_plan words command left is (inl asks) valid = valid_at words command Serial left is asks valid
+valid_plan words command left is (inr (inl asks)) valid = valid_at words command Play left is asks valid
+valid_plan words command left is (inr (inr asks)) valid = valid_at words command Image left is asks valid
 
-valid_check : (words : List (List ℕ)) (command : Command) (left : Option (List ℕ)) → words ≡ words_of command → words ≡ words_of Check → IsValidInput command left → IsCheckInput left
-valid_check words command left is asks valid = let P : Command → Type 0 = λ c. IsValidInput c left in subst P (words_of_injective command Check (sym is ∙ asks)) valid
+valid_image : (edition : Edition) (words : List (List ℕ)) (command : Command) (left : Option (List ℕ)) → words ≡ words_of command → AskForImage edition words → IsValidInput command left → IsImageInput edition left
+valid_image One words command left is asks valid = valid_at words command Migrate left is asks valid
+valid_image Two words command left is (inl asks) valid = valid_at words command Recover left is asks valid
+valid_image Two words command left is (inr asks) valid = valid_at words command Renumber left is asks valid
 
 some_same : (a b : ℕ) → ◌≡◌ {A = Option ℕ} (Some a) (Some b) → a ≡ b
 some_same a b e = cc
@@ -172,6 +261,10 @@ valid_within : (c : Command) (left : Option (List ℕ)) (most : ℕ) → limit_o
 valid_within Serial left most is v = (v.0, v.2, subst (λ (n : ℕ). length v.0 ≤ n) (some_same MOST_INPUT most is) v.3)
 valid_within Play left most is v = (v.0, v.2, subst (λ (n : ℕ). length v.0 ≤ n) (some_same MOST_INPUT most is) v.3)
 valid_within Check left most is v = (v.bytes, v.is, subst (λ (n : ℕ). length v.bytes ≤ n) (some_same MOST_WITH_REPORT most is) v.few)
+valid_within Image left most is v = (v.0, v.2, subst (λ (n : ℕ). length v.0 ≤ n) (some_same MOST_INPUT most is) v.3)
+valid_within Recover left most is v = (v.0, v.2, subst (λ (n : ℕ). length v.0 ≤ n) (some_same MOST_IMAGE most is) v.3)
+valid_within Renumber left most is v = (v.0, v.2, subst (λ (n : ℕ). length v.0 ≤ n) (some_same MOST_IMAGE most is) v.3)
+valid_within Migrate left most is v = (v.0, v.2, subst (λ (n : ℕ). length v.0 ≤ n) (some_same MOST_IMAGE most is) v.3)
 valid_within Help left most is v = absurd cc
 valid_within Version left most is v = absurd cc
 
@@ -193,29 +286,43 @@ not_bad one_cut words before after command line is valid (inl h) =
     let Q : List ℕ → Type 0 = λ bytes. SpellsPlan bytes v.1 in
     h.1.bad.none (v.1, subst Q same v.4)
 not_bad one_cut words before after command line is valid (inr h) =
-    let v = valid_check words command before.left is h.0 valid in
+    let v = valid_at words command Check before.left is h.0 valid in
     let same = same_bytes v.bytes h.1.bytes before.left after.left v.is h.1.read.taken h.1.read.ended in
     let here : AreParts h.1.bytes v.first v.report = subst (λ (bytes : List ℕ). AreParts bytes v.first v.report) same v.parts in
     let Q : List ℕ → Type 0 = λ bytes. SpellsPlan bytes v.plan in
     h.1.bad.none (v.plan, subst Q (one_cut h.1.bytes v.first v.report h.1.first h.1.report here h.1.parts).0 v.spelled)
 
+-- an image's input is not refused
+not_bad_image : (words : List (List ℕ)) (before after : SourceState) (command : Command) (line : ℕ) → words ≡ words_of command → IsValidInput command before.left → HasCause words before after (BadImage line) → ⊥
+not_bad_image words before after command line is valid h =
+    let v = valid_image h.0 words command before.left is h.1 valid in
+    let same = same_bytes v.0 h.2.bytes before.left after.left v.2 h.2.read.taken h.2.read.ended in
+    let Q : List ℕ → Type 0 = λ bytes. ReadsImage h.0 bytes v.1 in
+    let read = subst Q same v.4 in
+    h.2.bad.none (read.raw, read.spelled)
+
+not_unlawful : UnlawfulHaveNone → (words : List (List ℕ)) (before after : SourceState) (command : Command) (cell : ℕ) → words ≡ words_of command → IsValidInput command before.left → HasCause words before after (UnlawfulImage cell) → ⊥
+not_unlawful none words before after command cell is valid h =
+    let v = valid_image h.0 words command before.left is h.1 valid in
+    let same = same_bytes v.0 h.2.bytes before.left after.left v.2 h.2.read.taken h.2.read.ended in
+    let Q : List ℕ → Type 0 = λ bytes. ReadsImage h.0 bytes v.1 in
+    none h.0 h.2.bytes cell v.1 h.2.unlawful (subst Q same v.4)
+
 -- done, or the report is found illegal
 abbrev pub IsComplete : Command → ℕ → Type 0
 IsComplete command status = (status ≡ DONE) ⊎ ((command ≡ Check) × (status ≡ ILLEGAL))
 
-completed : OneCut → (words : List (List ℕ)) (before after : SourceState) (command : Command) (v : Verdict) → words ≡ words_of command → IsValidInput command before.left → ¬ (Rose before.faults after.faults) → HasCause words before after v → IsComplete command (status_of v)
-completed one_cut words before after command ShowsHelp is valid calm h = inl refl
-completed one_cut words before after command ShowsVersion is valid calm h = inl refl
-completed one_cut words before after command (Replayed plan) is valid calm h = inl refl
-completed one_cut words before after command (Played plan report) is valid calm h = inl refl
-completed one_cut words before after command FoundLegal is valid calm h = inl refl
-completed one_cut words before after command FoundIllegal is valid calm h = inr (words_of_injective command Check (sym is ∙ h.0), refl)
-completed one_cut words before after command NoCommand is valid calm h = absurd (h command is)
-completed one_cut words before after command ReadFault is valid calm h = absurd (calm h.2)
-completed one_cut words before after command TooLong is valid calm h = absurd (not_too_long words before after command h.0 is valid h.1 h.2)
-completed one_cut words before after command (BadPlan line) is valid calm h = absurd (not_bad one_cut words before after command line is valid h)
+completed : OneCut → UnlawfulHaveNone → (words : List (List ℕ)) (before after : SourceState) (command : Command) (v : Verdict) → words ≡ words_of command → IsValidInput command before.left → ¬ (Rose before.faults after.faults) → HasCause words before after v → IsComplete command (status_of v)
+completed one_cut none words before after command NoCommand is valid calm h = absurd (h command is)
+completed one_cut none words before after command FoundIllegal is valid calm h = inr (words_of_injective command Check (sym is ∙ h.0), refl)
+completed one_cut none words before after command ReadFault is valid calm h = absurd (calm h.2)
+completed one_cut none words before after command TooLong is valid calm h = absurd (not_too_long words before after command h.0 is valid h.1 h.2)
+completed one_cut none words before after command (BadPlan line) is valid calm h = absurd (not_bad one_cut words before after command line is valid h)
+completed one_cut none words before after command (BadImage line) is valid calm h = absurd (not_bad_image words before after command line is valid h)
+completed one_cut none words before after command (UnlawfulImage cell) is valid calm h = absurd (not_unlawful none words before after command cell is valid h)
+completed one_cut none words before after command v is valid calm h = inl refl
 
 -- a command with a valid input is done, or its report is found illegal
-pub done_where_valid : OneCut → (words : List (List ℕ)) (before after : SourceState) (command : Command) (status : ℕ) (text : List ℕ) → words ≡ words_of command → IsValidInput command before.left → ¬ (Rose before.faults after.faults)
+pub done_where_valid : OneCut → UnlawfulHaveNone → (words : List (List ℕ)) (before after : SourceState) (command : Command) (status : ℕ) (text : List ℕ) → words ≡ words_of command → IsValidInput command before.left → ¬ (Rose before.faults after.faults)
     → IsAnswer words before after status text → IsComplete command status
-done_where_valid one_cut words before after command status text is valid calm a = let P : ℕ → Type 0 = IsComplete command in subst P (sym a.status_is) (completed one_cut words before after command a.verdict is valid calm a.cause)
+done_where_valid one_cut none words before after command status text is valid calm a = let P : ℕ → Type 0 = IsComplete command in subst P (sym a.status_is) (completed one_cut none words before after command a.verdict is valid calm a.cause)

@@ -1,3 +1,4 @@
+pub mod ImageAnswers
 pub mod CommandLemmas
 pub mod Judged
 pub mod Courses
@@ -20,3 +21,4 @@ pub mod PlaysSpent
 pub mod PlaysRecords
 pub mod PlaysBusy
 pub mod PlayedReports
+pub mod PlayedImages

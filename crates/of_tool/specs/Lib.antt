@@ -1,5 +1,7 @@
 pub mod Commands
+pub mod Played
 pub mod Verdicts
+pub mod Images
 pub mod Answer
 pub mod Replay
 pub mod Play

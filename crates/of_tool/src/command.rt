@@ -11,6 +11,10 @@ Runs scripts of transactions on a store of registers, keys and queues.
 serial      reads a plan, runs its scripts one after another, prints the report
 play        reads a plan, runs its schedule step by step, prints the report
 check       reads a plan and a report, says whether the report is a legal one
+image       reads a plan, runs its schedule step by step, prints the image of what it leaves
+recover     reads an image, prints what recovery finds in it
+renumber    reads an image, prints it recovered and with its sequences begun anew
+migrate     reads an image of version 1, prints it recovered and in version 2
 --help      reads nothing, prints this text
 --version   reads nothing, prints the name and the version
 
@@ -30,6 +34,14 @@ pub enum Command {
     Play,
     /// Reads a plan and a report, and prints whether the report is a legal one of the plan.
     Check,
+    /// Reads a plan, runs its schedule step by step, and prints the image of what it leaves.
+    Image,
+    /// Reads an image, recovers it, and prints what recovery finds.
+    Recover,
+    /// Reads an image, recovers it, and prints it with its sequences begun anew.
+    Renumber,
+    /// Reads an image of version 1, recovers it, and prints it in version 2.
+    Migrate,
     /// Prints how the program is used.
     Help,
     /// Prints the name and the version.
@@ -46,6 +58,10 @@ impl Command {
                 "serial" => Some(Command::Serial),
                 "play" => Some(Command::Play),
                 "check" => Some(Command::Check),
+                "image" => Some(Command::Image),
+                "recover" => Some(Command::Recover),
+                "renumber" => Some(Command::Renumber),
+                "migrate" => Some(Command::Migrate),
                 "--help" => Some(Command::Help),
                 "--version" => Some(Command::Version),
                 _ => None,

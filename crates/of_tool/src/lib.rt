@@ -2,6 +2,7 @@
 #![tactic(auto)]
 
 mod command;
+mod images;
 pub mod laws;
 mod play;
 mod played;
@@ -12,4 +13,4 @@ mod top;
 pub use command::{Command, HELP, VERSION};
 pub use played::play_report;
 pub use replay::serial;
-pub use top::{MOST_INPUT, MOST_WITH_REPORT, tool};
+pub use top::{MOST_IMAGE, MOST_INPUT, MOST_WITH_REPORT, tool};

@@ -1,6 +1,6 @@
 use Rattle.std.proofs.Common.{refl, ◌∙◌}
-use Rattle.of_tool.specs.declared.command.Command.TheVariants.{Serial, Play, Check}
-use Rattle.of_tool.specs.declared.top.TheConstants.{MOST_INPUT, MOST_WITH_REPORT}
+use Rattle.of_tool.specs.declared.command.Command.TheVariants.{Serial, Play, Check, Image, Recover, Renumber, Migrate}
+use Rattle.of_tool.specs.declared.top.TheConstants.{MOST_INPUT, MOST_WITH_REPORT, MOST_IMAGE}
 use Rattle.of_tool.specs.Verdicts.{ShowsHelp, ShowsVersion, NoCommand}
 use Rattle.of_tool.proofs.top.decide.Goals as goal
 
@@ -36,3 +36,15 @@ returns-in-Some-Play-clause-unread g c = λ none. absurd (none (MOST_INPUT, (Pla
 
 pub returns-in-Some-Check-clause-unread : goal.returns-in-Some-Check-clause-unread
 returns-in-Some-Check-clause-unread g c = λ none. absurd (none (MOST_WITH_REPORT, (Check, rw c.in-Some-Check.field-0-is at c.in-Some-Check.ensures, refl)))
+
+pub returns-in-Some-Image-clause-unread : goal.returns-in-Some-Image-clause-unread
+returns-in-Some-Image-clause-unread g c = λ none. absurd (none (MOST_INPUT, (Image, rw c.in-Some-Image.field-0-is at c.in-Some-Image.ensures, refl)))
+
+pub returns-in-Some-Recover-clause-unread : goal.returns-in-Some-Recover-clause-unread
+returns-in-Some-Recover-clause-unread g c = λ none. absurd (none (MOST_IMAGE, (Recover, rw c.in-Some-Recover.field-0-is at c.in-Some-Recover.ensures, refl)))
+
+pub returns-in-Some-Renumber-clause-unread : goal.returns-in-Some-Renumber-clause-unread
+returns-in-Some-Renumber-clause-unread g c = λ none. absurd (none (MOST_IMAGE, (Renumber, rw c.in-Some-Renumber.field-0-is at c.in-Some-Renumber.ensures, refl)))
+
+pub returns-in-Some-Migrate-clause-unread : goal.returns-in-Some-Migrate-clause-unread
+returns-in-Some-Migrate-clause-unread g c = λ none. absurd (none (MOST_IMAGE, (Migrate, rw c.in-Some-Migrate.field-0-is at c.in-Some-Migrate.ensures, refl)))
