@@ -17,7 +17,6 @@ pub mod Records
 pub mod RecordsReports
 pub mod RecordsReplies
 pub mod LastTickets
-pub mod Restarting
 pub mod CallSteps
 pub mod CallerSteps
 pub mod BrakeCharges
@@ -35,3 +34,4 @@ pub mod Pairs
 pub mod Seated
 pub mod Evictions
 pub mod TeamEnds
+pub mod Restarting

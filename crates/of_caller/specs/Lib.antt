@@ -16,3 +16,4 @@ pub mod Lanes
 pub mod Trees
 pub mod Seating
 pub mod Restarts
+pub mod Allowances

@@ -5,7 +5,7 @@ ghost use Rattle.of_caller.specs.PlanLaws.{KeepsLaws};
 ghost use Rattle.of_caller.specs.Starts.{ZerosAreEmpty};
 ghost use Rattle.of_caller.specs.Teams.{TeamsAreLawful, TeamsKeepAllowances};
 ghost use Rattle.of_caller.specs.Runs.{SchedulesAreMoments, StartsAreRuns, RepliesAreHeld, RunsAreLawful, RunsAreReported, RunsKeepAllowances};
-ghost use Rattle.of_caller.specs.Restarts.{RunsRestart};
+ghost use Rattle.of_caller.specs.Restarts.{RunsRestart, TeamsRestart};
 
 use of_core::laws::{every_call, every_moment, machines, starts, step_kept};
 use of_eval::Scripts;
@@ -45,10 +45,12 @@ pub fn runs_are_lawful()
 {}
 
 /// What a team of a plan leaves is a lawful record from the start of its row: the laws of runs hold of it, its announced entries are the
-/// calls of the batches that its pass has seen, and a caller that keeps to its stop keeps it as its allowance.
+/// calls of the batches that its pass has seen, and a caller that keeps to its stop keeps it as its allowance. A table may start from
+/// its durable words, where that record's report ends.
 pub fn teams_are_lawful(plan: &Plan)
     ensures lawful { TeamsAreLawful plan.now }
     ensures allowances { TeamsKeepAllowances plan.now }
+    ensures restarts { TeamsRestart plan.now }
 {
     let scripts = Scripts {
         callers: plan.callers(),
