@@ -1,6 +1,6 @@
 //! A row of scripts with callers, and calls of one instruction whose ends the tests compare.
 
-ghost use Rattle.std.specs.Prelude.{◌≡◌, ◌<◌, ◌≤◌, true, IfOk};
+ghost use Rattle.std.specs.Prelude.{◌≡◌, ◌<◌, ◌≤◌, [], true, IfOk};
 ghost use Rattle.of_mem.specs.Plots.{size};
 ghost use Rattle.of_eval.specs.Scripts.{scripts_meaning};
 ghost use Rattle.of_row.specs.Rows.{key_of, IsOf};
@@ -90,10 +90,12 @@ pub fn caller_of(
 ) -> Result<(Caller<Scripts>, Pass), AllocError>
     requires pass { IsOf row.now pass.seat }
     requires first { pass.seat.me.0.first ≡ true }
+    requires nobody { pass.seat.me.0.kept ≡ [] }
     requires number { number < (key_of row.now).callers }
     ensures caller { IfOk result (λ r. IsCaller scripts_meaning row.now r.0) }
     ensures pass { IfOk result (λ r. IsOf row.now r.1.seat) }
     ensures first { IfOk result (λ r. r.1.seat.me.0.first ≡ true) }
+    ensures nobody { IfOk result (λ r. r.1.seat.me.0.kept ≡ []) }
 {
     members(row.work());
     match row.enrol(pass, number) {
@@ -111,6 +113,7 @@ pub fn alone(alloc: Global, limit: u32) -> Result<(Row<Scripts>, Caller<Scripts>
     ensures caller { IfOk result (λ r. IsCaller scripts_meaning r.0 r.1) }
     ensures pass { IfOk result (λ r. IsOf r.0 r.2.seat) }
     ensures first { IfOk result (λ r. r.2.seat.me.0.first ≡ true) }
+    ensures nobody { IfOk result (λ r. r.2.seat.me.0.kept ≡ []) }
     ensures one { IfOk result (λ r. (key_of r.0).callers ≡ 1) }
 {
     let scripts = Scripts {

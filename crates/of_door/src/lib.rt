@@ -7,4 +7,3 @@ mod plays;
 mod trace;
 
 pub use door::{Door, Hand};
-pub use trace::Trace;
