@@ -30,7 +30,7 @@ use Rattle.of_report.specs.Image.{Image, IsImage, image_of, IsRestored}
 use Rattle.of_image.specs.Parsed.{ReadsImage, IsRefused, IsUnlawful, IsFaulty}
 use Rattle.of_report.specs.ImageRow.{recovered_row}
 use Rattle.of_image.proofs.ImageTexts.{one_row}
-use Rattle.of_image.proofs.RowLaw.{fault_excludes, one_lawful}
+use Rattle.of_image.proofs.RowLaw.{fault_excludes, one_lawful, one_row_fault}
 
 -- ---- the words of a recovered row are words
 
@@ -116,6 +116,12 @@ unlawful_excludes v text cell image bad h =
     let same = one_row v text bad.raw h.raw bad.spelled h.spelled in
     fault_excludes (instrs_of v) (recovered_row (instrs_of v) h.raw) image.store cell (subst (λ (q : Row). IsLawfulRow (instrs_of v) q image.store) h.restored.row h.restored.lawful)
     (subst (λ (q : Row). IsRowFault (instrs_of v) (recovered_row (instrs_of v) q) cell) same bad.fault)
+
+-- and one cell at fault
+pub one_unlawful : (v : Version) (text : List ℕ) (c d : ℕ) → IsUnlawful v text c → IsUnlawful v text d → c ≡ d
+one_unlawful v text c d h k =
+    let same = one_row v text h.raw k.raw h.spelled k.spelled in
+    one_row_fault (instrs_of v) (recovered_row (instrs_of v) k.raw) c d (subst (λ (q : Row). IsRowFault (instrs_of v) (recovered_row (instrs_of v) q) c) same h.fault) k.fault
 
 -- a text with an image is answered by it
 pub only_image : (v : Version) (text : List ℕ) (r : Result Held ImageErr) → IfOk r (λ i. ReadsImage v text (image_of i)) → IfErr r (IsRefused v text) → (image : Image) → ReadsImage v text image → MatchResult r (λ i. image_of i ≡ image) (λ e. e ≡ Memory)

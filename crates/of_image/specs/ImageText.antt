@@ -1,12 +1,15 @@
 -- The grammar of images, and the one printed text of a row.
-use Rattle.std.specs.Prelude.{◌≡◌, ℕ, ◌+◌, List, [], ◌∷◌, ◌++◌, map, flat_map, codes, decimal, if◌then◌else◌, ◌==◌}
+use Rattle.std.specs.Prelude.{◌≡◌, ℕ, ◌+◌, List, [], ◌∷◌, ◌++◌, map, flat_map, codes, decimal, if◌then◌else◌, ◌==◌, slice_range}
 use Rattle.std.specs.List.{join_with_byte}
 use Rattle.of_cell.specs.Words.{seq, pay}
+use Rattle.of_cell.specs.Cells.{durable_cells}
+use Rattle.of_mem.specs.declared.plot.Plot.{Plot}
+use Rattle.of_mem.specs.Plots.{size}
 use Rattle.of_plan.specs.Lines.{lines, kept}
 use Rattle.of_image.specs.declared.version.Version.{Version}
 use Rattle.of_image.specs.declared.line.Line.{Line}
 use Rattle.of_image.specs.declared.line.Line.TheVariants.{Title, Callers, Blocks, Cell, End}
-use Rattle.of_report.specs.ImageRow.{Row, IsRow}
+use Rattle.of_report.specs.ImageRow.{Row, IsRow, row_in}
 use Rattle.of_image.specs.Version.{number_of, instrs_of}
 
 abbrev pub line_words : Line → List (List ℕ)
@@ -48,3 +51,7 @@ image_text v r = flat_map line_text (image_lines v r)
 -- what is printed of a cell and its word
 abbrev pub cell_text : ℕ × ℕ → List ℕ
 cell_text (c, w) = flat_map line_text (cell_line c w)
+
+-- the row of the durable words of a table
+abbrev pub table_row : Plot → List ℕ → Row
+table_row p ws = let cells = durable_cells p.callers (size p) in row_in p (slice_range ws cells (cells + cells))

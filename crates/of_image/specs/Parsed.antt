@@ -43,3 +43,7 @@ IsFaulty instrs r (Unlawful cell) = IsRowFault instrs r cell
 -- an unlawful text has no image
 abbrev pub UnlawfulHaveNone : Type 0
 UnlawfulHaveNone = (v : Version) (text : List ℕ) (cell : ℕ) (image : Image) → IsUnlawful v text cell → ReadsImage v text image → ⊥
+
+-- and one cell at fault
+abbrev pub OneFault : Type 0
+OneFault = (v : Version) (text : List ℕ) (c d : ℕ) → IsUnlawful v text c → IsUnlawful v text d → c ≡ d

@@ -49,10 +49,12 @@ pub fn image_parse(alloc: Global, text: &[u8]) -> Result<Image, ImageErr>
     // What is answered is what recovery finds in the row that the text spells, and it is lawful.
     ensures ok { IfOk result (λ image. ReadsImage Two text.now (image_of image)) }
     ensures image { IfOk result (λ image. IsImage MOST_INSTRS (image_of image)) }
-    // A line that is named is the bad one of a text that is not in the grammar; a cell that is named is the first at fault.
+    // A line that is named is the bad one of a text that is not in the grammar; a cell that is named is
+    // the first at fault.
     ensures err { IfErr result (IsRefused Two text.now) }
     // A text that has an image is answered by it, unless memory runs out.
-    ensures only { (image : PlainImage) → ReadsImage Two text.now image → MatchResult result (λ i. image_of i ≡ image) (λ e. e ≡ Memory) }
+    ensures only { (image : PlainImage) → ReadsImage Two text.now image →
+        MatchResult result (λ i. image_of i ≡ image) (λ e. e ≡ Memory) }
 {
     read_image(alloc, Version::Two, text)
 }

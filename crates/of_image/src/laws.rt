@@ -1,6 +1,6 @@
 //! Laws of images.
 
-ghost use Rattle.of_image.specs.Parsed.{UnlawfulHaveNone};
+ghost use Rattle.of_image.specs.Parsed.{OneFault, UnlawfulHaveNone};
 ghost use Rattle.of_image.specs.RunImage.{RecordsHaveImages};
 
 /// The text of the durable words that a run leaves has an image, with the sequence and the store of
@@ -9,7 +9,8 @@ pub fn records_have_images()
     ensures { RecordsHaveImages }
 {}
 
-/// A text that names a cell at fault has no image.
+/// A text with a first cell at fault has no image, and no other such cell.
 pub fn unlawful_have_none()
-    ensures { UnlawfulHaveNone }
+    ensures none { UnlawfulHaveNone }
+    ensures one { OneFault }
 {}

@@ -99,14 +99,18 @@ fn migrated(alloc: Global, text: &[u8]) -> Result<Vec<u8>, ImageErr>
     Ok(moved_text(alloc, &image)?)
 }
 
-/// The version 2 text of a version 1 text: the recovered row in the layout of longer scripts, with the same sequence, store and tickets.
+/// The version 2 text of a version 1 text: the recovered row in the layout of longer scripts, with the
+/// same sequence, store and tickets.
 pub fn migrate(alloc: Global, text: &[u8]) -> Result<Vec<u8>, ImageErr>
     // What is answered is the text of the moved row, which has the same sequence and the same store.
     ensures ok { IfOk result (λ moved. Migrates text.now moved.items) }
     // A line or a cell that is named is that of the version 1 text.
     ensures err { IfErr result (IsRefused One text.now) }
     // A text that has an image is answered by its moved row, unless memory runs out.
-    ensures only { (image : PlainImage) → ReadsImage One text.now image → MatchResult result (λ moved. moved.items ≡ image_text Two (moved_row 8 MOST_INSTRS image.row)) (λ e. e ≡ Memory) }
+    ensures only { (image : PlainImage) → ReadsImage One text.now image →
+        MatchResult result
+        (λ moved. moved.items ≡ image_text Two (moved_row 8 MOST_INSTRS image.row))
+        (λ e. e ≡ Memory) }
 {
     migrated(alloc, text)
 }

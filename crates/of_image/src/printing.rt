@@ -2,12 +2,12 @@
 
 ghost use Rattle.std.specs.Prelude.{◌≡◌, ◌++◌, ◌+◌, ◌<◌, ◌^◌, length, IfOk, OnOk, flat_map, slice_range, string_bytes};
 ghost use Rattle.std.specs.List.{enumerate_from, range_with_len};
-ghost use Rattle.of_cell.specs.Cells.{durable_cells, table_words};
+ghost use Rattle.of_cell.specs.Cells.{table_words};
 ghost use Rattle.of_mem.specs.Plots.{size};
 ghost use Rattle.of_mem.specs.declared.work.TheConstants.{MOST_INSTRS};
 ghost use Rattle.of_image.specs.declared.version.Version.TheVariants.{Two};
-ghost use Rattle.of_report.specs.ImageRow.{IsRow, row_in};
-ghost use Rattle.of_image.specs.ImageText.{cell_text, line_text, image_text, SpellsImage};
+ghost use Rattle.of_report.specs.ImageRow.{row_in};
+ghost use Rattle.of_image.specs.ImageText.{cell_text, line_text, image_text, table_row, SpellsImage};
 ghost use Rattle.of_report.specs.Image.{IsImage, image_of};
 ghost use Rattle.of_report.specs.Image.{ticket_in};
 ghost use Rattle.of_image.specs.RecoveredText.{ticket_line, ticket_lines, recovered_text};
@@ -86,13 +86,15 @@ pub(crate) fn print_row(
     Ok(out.into_bytes())
 }
 
-/// The text of the durable words of a table.
+/// The text of the durable words of a table. The error is want of memory.
 pub fn image_print(alloc: Global, plot: &Plot, words: &[u64]) -> Result<Vec<u8>, AllocError>
     requires instrs { plot.now.instrs ≡ MOST_INSTRS }
     requires size { length words.now ≡ table_words plot.now.callers MOST_INSTRS (size plot.now) }
-    ensures text { let cells = durable_cells plot.now.callers (size plot.now) in IfOk result (λ text. text.items ≡ image_text Two (row_in plot.now (slice_range words.now cells (cells + cells)))) }
+    ensures text { IfOk result (λ text.
+        text.items ≡ image_text Two (table_row plot.now words.now)) }
     // It is read again as that row.
-    ensures again { let cells = durable_cells plot.now.callers (size plot.now) in IfOk result (λ text. SpellsImage Two text.items (row_in plot.now (slice_range words.now cells (cells + cells)))) }
+    ensures again { IfOk result (λ text.
+        SpellsImage Two text.items (table_row plot.now words.now)) }
 {
     let shape = Shape {
         callers: plot.callers,
@@ -124,7 +126,8 @@ fn put_tickets(out: &mut String, image: &Image) -> Result<(), AllocError>
     Ok(())
 }
 
-/// The text of what recovery found: the sequence, the tickets that are not 0, and the store.
+/// The text of what recovery found: the sequence, the tickets that are not 0, and the store. The error
+/// is want of memory.
 pub fn recovered_print(alloc: Global, image: &Image) -> Result<Vec<u8>, AllocError>
     requires { IsImage MOST_INSTRS (image_of image.now) }
     ensures { IfOk result (λ text. text.items ≡ recovered_text (image_of image.now)) }

@@ -58,4 +58,4 @@ pub returns-in-Ok-write_all-clause-check : goal.returns-in-Ok-write_all-clause-c
 returns-in-Ok-write_all-clause-check g c = λ is. check_answer _ _ _ _ _ is c.in-Ok.ensures.answered
 
 pub returns-in-Ok-write_all-clause-complete : goal.returns-in-Ok-write_all-clause-complete
-returns-in-Ok-write_all-clause-complete g c = λ command is valid calm written. elim (done_where_valid c.one_cut.ensures c.unlawful_have_none.ensures _ _ _ command _ _ is valid calm c.in-Ok.ensures.answered) [ inl done ↦ inl done | inr found ↦ inr (inr found) ]
+returns-in-Ok-write_all-clause-complete g c = λ command is valid calm written. elim (done_where_valid c.one_cut.ensures c.unlawful_have_none.ensures.none _ _ _ command _ _ is valid calm c.in-Ok.ensures.answered) [ inl done ↦ inl done | inr found ↦ inr (inr found) ]
