@@ -1,24 +1,20 @@
 -- The start that recovery finds in a run's durable words is the one behind its life.
-use Rattle.std.proofs.Common.{◌≡◌, ℕ, ◌+◌, ◌<◌, ◌≤◌, inl, inr, List, [], get_or, length, map, refl, sym, ap, ◌∙◌, arith}
-use Rattle.std.specs.Prelude.{IsTrue, max}
-use Rattle.std.specs.List.{range_with_len, AllByRecursion as Each}
+use Rattle.std.proofs.Common.{◌≡◌, ℕ, ◌+◌, ◌<◌, ◌≤◌, inl, inr, List, length, sym, ◌∙◌, arith}
+use Rattle.std.specs.Prelude.{IsTrue}
 use Rattle.std.proofs.Math.Nat.{le-max_left, le-max_right}
 use Rattle.std.proofs.lemmas.List.Elements.{recursion_from_All}
 use Rattle.std.proofs.lemmas.List.FromFn.{length-map-range_with_len}
 use Rattle.of_recover.specs.Recovered.{recovered}
-use Rattle.of_eval.specs.Record.{cells_in, IsLawful}
+use Rattle.of_eval.specs.Record.{cells_in}
 use Rattle.of_plan.specs.Plan.{Plan}
 use Rattle.of_plan.specs.Report.{CallEntry, Start, Report, entries_of, finished_of}
-use Rattle.of_plan.specs.Ended.{Run}
 use Rattle.of_plan.specs.Legal.{IsLegal}
 use Rattle.of_plan.proofs.HistoriesLists.{each_weaker}
-use Rattle.of_core.specs.World.{World, Start as TableStart}
-use Rattle.of_core.specs.Starts.{IsDurable, IsStartRow}
+use Rattle.of_core.specs.Starts.{IsStartRow}
 use Rattle.of_caller.specs.Tables.{setup_for, lawful_for}
 use Rattle.of_mem.specs.Places.{ticket_at}
 use Rattle.of_script.specs.declared.instr.TheConstants.{MOST_INSTRS}
 use Rattle.of_caller.specs.Starts.{number_in, StartsAt}
-use Rattle.of_caller.specs.Runs.{IsRunOf}
 use Rattle.of_caller.specs.Restarts.{HoldLast, StartsBehind, RunsRestart}
 use Rattle.of_lives.specs.Lives.{Life, done_behind, callers_with, start_behind}
 use Rattle.of_lives.specs.Restarts.{start_in, Leaves, LivesRestart}
