@@ -1,6 +1,6 @@
 //! A row of scripts with callers, and calls of one instruction whose ends the tests compare.
 
-ghost use Rattle.std.specs.Prelude.{◌≡◌, ◌<◌, ◌≤◌, true, IfOk};
+ghost use Rattle.std.specs.Prelude.{◌≡◌, ◌<◌, ◌≤◌, [], true, IfOk};
 ghost use Rattle.of_mem.specs.Plots.{size};
 ghost use Rattle.of_eval.specs.Scripts.{scripts_meaning};
 ghost use Rattle.of_row.specs.Rows.{key_of, IsOf};
@@ -9,12 +9,12 @@ ghost use Rattle.of_caller.specs.Callers.{IsCaller};
 ghost use Rattle.callers.specs.Rows.{IsRowOf};
 
 use of_brake::{Brake, Steps};
-use of_caller::laws::enrolled_are_new;
 use of_caller::{CallErr, Caller};
 use of_cell::Shape;
 use of_core::Outcome;
 use of_eval::Scripts;
 use of_mem::Plot;
+use of_row::laws::members;
 use of_row::{Pass, Row};
 use std::alloc::{AllocError, Global};
 use std::marker::Brand;
@@ -87,19 +87,17 @@ pub fn caller_of(
     row: &Row<Scripts>,
     pass: Pass,
     number: u32,
-    scripts: Scripts,
-    limit: u32,
 ) -> Result<(Caller<Scripts>, Pass), AllocError>
-    requires row { IsRowOf row.now scripts limit }
-    requires limit { limit ≤ 4294967294 }
     requires pass { IsOf row.now pass.seat }
     requires first { pass.seat.me.0.first ≡ true }
-    requires number { number < scripts.callers }
+    requires nobody { pass.seat.me.0.kept ≡ [] }
+    requires number { number < (key_of row.now).callers }
     ensures caller { IfOk result (λ r. IsCaller scripts_meaning row.now r.0) }
     ensures pass { IfOk result (λ r. IsOf row.now r.1.seat) }
     ensures first { IfOk result (λ r. r.1.seat.me.0.first ≡ true) }
+    ensures nobody { IfOk result (λ r. r.1.seat.me.0.kept ≡ []) }
 {
-    enrolled_are_new(scripts);
+    members(row.work());
     match row.enrol(pass, number) {
         Ok((member, pass)) => match Caller::new(alloc, row, member) {
             Ok(caller) => Ok((caller, pass)),
@@ -115,6 +113,7 @@ pub fn alone(alloc: Global, limit: u32) -> Result<(Row<Scripts>, Caller<Scripts>
     ensures caller { IfOk result (λ r. IsCaller scripts_meaning r.0 r.1) }
     ensures pass { IfOk result (λ r. IsOf r.0 r.2.seat) }
     ensures first { IfOk result (λ r. r.2.seat.me.0.first ≡ true) }
+    ensures nobody { IfOk result (λ r. r.2.seat.me.0.kept ≡ []) }
     ensures one { IfOk result (λ r. (key_of r.0).callers ≡ 1) }
 {
     let scripts = Scripts {
@@ -122,8 +121,26 @@ pub fn alone(alloc: Global, limit: u32) -> Result<(Row<Scripts>, Caller<Scripts>
         blocks: 0,
     };
     let (row, pass) = row_of(alloc, scripts, limit)?;
-    let (caller, pass) = caller_of(alloc, &row, pass, 0, scripts, limit)?;
+    let (caller, pass) = caller_of(alloc, &row, pass, 0)?;
     Ok((row, caller, pass))
+}
+
+/// A new caller of the member that a caller leaves, where it has no call open.
+pub fn renewed(
+    alloc: Global,
+    row: &Row<Scripts>,
+    caller: Caller<Scripts>,
+) -> Result<Caller<Scripts>, AllocError>
+    requires { IsCaller scripts_meaning row.now caller }
+    ensures { IfOk result (IsCaller scripts_meaning row.now) }
+{
+    if !caller.is_idle() {
+        return Err(AllocError);
+    }
+    match Caller::new(alloc, row, caller.leave()) {
+        Ok(caller) => Ok(caller),
+        Err((_, error)) => Err(error),
+    }
 }
 
 /// Makes a call of one instruction, where none is open.

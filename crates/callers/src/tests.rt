@@ -1,6 +1,7 @@
-//! Callers under brakes of each kind.
+//! Callers under brakes of each kind, and newcomers.
 
-use crate::calls::{End, alone, call, go_on};
+use crate::calls::{End, alone, call, go_on, renewed};
+use crate::doors::{relieved, relieved_beside};
 use crate::threads::run_two;
 use of_brake::{Brake, Fuel, Pattern};
 use of_cell::payload_of;
@@ -103,6 +104,62 @@ fn patterned(alloc: Global) -> Result<[End; 2], AllocError> {
 fn another_brake_lets_go_on(rt: HostRuntime) -> Result<(), Fail> {
     let wanted = [End::Stopped(4), End::Answered(1, NONE, 0, 48)];
     assert_eq!(rt; patterned(rt.alloc())?, wanted);
+    Ok(())
+}
+
+/// Calls of `store 3 7`, `add 3 1` and `load 3`, each of another caller of one member, and how many calls were begun.
+fn left(alloc: Global) -> Result<([End; 3], u32), AllocError> {
+    let (row, mut caller, _pass) = alone(alloc, 10)?;
+    let mut brake = fuel(alloc, None)?;
+    let stores = call(&row, &mut caller, STORE_3_7, &mut brake);
+    let mut caller = renewed(alloc, &row, caller)?;
+    let adds = call(&row, &mut caller, ADD_3_1, &mut brake);
+    let mut caller = renewed(alloc, &row, caller)?;
+    let loads = call(&row, &mut caller, LOAD_3, &mut brake);
+    Ok(([stores, adds, loads], caller.made()))
+}
+
+// Each goes on with the member's next ticket, and reads what was written before it.
+#[test]
+fn a_new_caller_goes_on(rt: HostRuntime) -> Result<(), Fail> {
+    let wanted = [
+        End::Answered(1, NONE, 0, 48),
+        End::Answered(2, NUMBER, 8, 49),
+        End::Answered(2, NUMBER, 8, 3),
+    ];
+    assert_eq!(rt; left(rt.alloc())?, (wanted, 3));
+    Ok(())
+}
+
+// Nobody stands in the door at first. The newcomer goes on behind the call of who left.
+#[test]
+fn a_newcomer_goes_on(rt: HostRuntime) -> Result<(), Fail> {
+    let stores = End::Answered(1, NONE, 0, 48);
+    let adds = End::Answered(2, NUMBER, 8, 49);
+    assert_eq!(rt;
+        relieved(rt.alloc(), [STORE_3_7, ADD_3_1])?,
+        (0, stores, 1, adds)
+    );
+    Ok(())
+}
+
+/// The number in a reply.
+fn told(end: End) -> u32 {
+    match end {
+        End::Answered(_, NUMBER, value, _) => value,
+        _ => 0,
+    }
+}
+
+// The two add in either order, in one batch or in two.
+#[test]
+fn a_newcomer_calls_beside_another(rt: HostRuntime) -> Result<(), Fail> {
+    let [one, other] = relieved_beside(&rt, rt.alloc(), [STORE_3_7, ADD_3_1])?;
+    let replies = [told(one), told(other)];
+    assert!(rt;
+        replies == [8, 9] || replies == [9, 8],
+        "they ended as {one:?} and {other:?}"
+    );
     Ok(())
 }
 

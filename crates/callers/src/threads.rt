@@ -126,8 +126,8 @@ pub fn run_two<R: Threads + Sync>(
     requires { 2 ≤ scripts.callers }
 {
     let (row, pass) = row_of(alloc, scripts, LIMIT)?;
-    let (first, pass) = caller_of(alloc, &row, pass, 0, scripts, LIMIT)?;
-    let (second, pass) = caller_of(alloc, &row, pass, 1, scripts, LIMIT)?;
+    let (first, pass) = caller_of(alloc, &row, pass, 0)?;
+    let (second, pass) = caller_of(alloc, &row, pass, 1)?;
     let pair = hold_pair(alloc, HELD, TURNS)?;
     let [its, theirs] = calls;
     let (first, second) = one_held(

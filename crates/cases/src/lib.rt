@@ -6,6 +6,8 @@ mod checks;
 #[cfg(test)]
 mod faults;
 #[cfg(test)]
+mod images;
+#[cfg(test)]
 mod plays;
 #[cfg(test)]
 mod runs;

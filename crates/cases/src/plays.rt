@@ -5,7 +5,7 @@ use of_tool::status;
 use std::test::Fail;
 
 // What each plan of `play` gives: the name of its case, the plan, the status and what is printed.
-const PLAYS: [(&str, &str, u8, &str); 20] = [
+const PLAYS: [(&str, &str, u8, &str); 21] = [
     (
         "evict_past_the_cells",
         "\
@@ -352,6 +352,25 @@ entry 1 0 1 read 7
 caller 0 done 2 2 48
 seq 1
 register 3 7
+end
+",
+    ),
+    (
+        "first_of_nothing_read",
+        "\
+onefile plan 1
+callers 1
+blocks 0
+script 0 first
+turns 0 34
+end
+",
+        status::DONE,
+        "\
+onefile report 1
+entry 0 0 0 read none
+caller 0 done 1 1 34
+seq 0
 end
 ",
     ),

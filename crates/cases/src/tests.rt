@@ -18,7 +18,7 @@ end
 ";
 
 // What each plan of `serial` gives: the name of its case, the plan, the status and what is printed.
-const PLANS: [(&str, &str, u8, &str); 15] = [
+const PLANS: [(&str, &str, u8, &str); 17] = [
     (
         "first_run",
         FIRST_RUN,
@@ -146,6 +146,44 @@ entry 1 0 0 run none
 entry 2 0 1 run none
 caller 0 done 2 2 0
 seq 2
+end
+",
+    ),
+    (
+        "ordered_keys",
+        "\
+onefile plan 1
+callers 1
+blocks 4
+script 0 put 40 1; put 7 2; put 9 3; first; next 7; drop-below 9; count
+end
+",
+        status::DONE,
+        "\
+onefile report 1
+entry 1 0 0 run none none none 7 9 1 2
+caller 0 done 1 1 0
+seq 1
+key 9 3
+key 40 1
+end
+",
+    ),
+    (
+        "ordered_keys_of_nothing",
+        "\
+onefile plan 1
+callers 1
+blocks 0
+script 0 first; next 5; drop-below 2147483647
+end
+",
+        status::DONE,
+        "\
+onefile report 1
+entry 1 0 0 run none none 0
+caller 0 done 1 1 0
+seq 1
 end
 ",
     ),

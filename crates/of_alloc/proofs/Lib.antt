@@ -3,3 +3,4 @@ pub mod Givings
 pub mod Heaped
 pub mod Stored
 pub mod Staying
+pub mod Leaving

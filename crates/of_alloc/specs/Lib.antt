@@ -1,3 +1,4 @@
 pub mod Blocks
 pub mod BlockPrograms
 pub mod Took
+pub mod Found

@@ -2,21 +2,17 @@
 use Rattle.std.proofs.Common.{◌≡◌, ℕ, ◌+◌, ◌<◌, List, sym, ap, subst}
 use Rattle.of_mem.specs.Meaning.{Meaning}
 use Rattle.of_core.specs.Table.{Setup}
-use Rattle.of_core.specs.Machine.{Data, IsOpen, idle}
+use Rattle.of_core.specs.Machine.{Data, IsOpen}
 use Rattle.of_core.specs.Steps.{took}
 use Rattle.of_core.specs.World.{Start}
 use Rattle.of_core.specs.Bound.{bound}
 use Rattle.of_core.specs.Seen.{Seen, setup}
 use Rattle.of_core.specs.Laws.{IdleOrOpen}
-use Rattle.of_row.specs.Views.{Sight, reach}
-use Rattle.of_row.specs.Turned.{newcomer}
-use Rattle.of_row.specs.Passes.{HasEnrolled}
-use Rattle.of_row.specs.declared.member.Pass.{Pass}
-use Rattle.of_row.specs.declared.member.Member.{Member}
+use Rattle.of_row.specs.Views.{Sight}
 use Rattle.of_row.specs.declared.row.Row.{Row}
 use Rattle.of_row.specs.Rows.{Steps, key_of, setup_at, start_at}
 use Rattle.of_caller.specs.declared.caller.Caller.{Caller}
-use Rattle.of_caller.specs.Callers.{IsCaller, IsNewcomer, call_of, sight_of}
+use Rattle.of_caller.specs.Callers.{IsCaller, call_of, sight_of}
 use Rattle.of_caller.proofs.CallSteps.{Progress, goes_by, left_of, falls_by}
 
 module _ {W : Type 0} (meaning : W → Meaning) (lawful : W → List ℕ → Type 0) (r : Row W) where
@@ -46,10 +42,3 @@ module _ {W : Type 0} (meaning : W → Meaning) (lawful : W → List ℕ → Typ
         subst (λ (x : Seen W). Progress (setup meaning x) (lawful x.work) B d0 v0 (n + 1) (call_of b) (sight_of b)) q.machine
         (subst (λ (e : Data). Progress (setup meaning m) (lawful m.work) B d0 v0 (n + 1) e (sight_of b)) (sym call_is)
         (goes_by (setup meaning m) (lawful m.work) B d0 v0 n m.call (sight_of c) s.0 (sight_of b) on o s.1))
-
--- the member of a number that was free
-pub newcomer_is : {W : Type 0} (meaning : W → Meaning) (r : Row W) (n : ℕ) (before now : Pass) (m : Member) → HasEnrolled meaning r n before m now → IsNewcomer (setup_at meaning r) m
-newcomer_is meaning r n before now m h =
-    let S : Setup = setup_at meaning r in
-    let B : Start = start_at meaning r in
-    (newcomer S B n (reach B before.seat.me.0.seen), ap (λ (v : Sight). v.kept) h.member_is, λ i. idle S (sym h.number i) (sym h.made i))

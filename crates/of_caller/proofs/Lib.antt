@@ -16,6 +16,7 @@ pub mod RecordsAllowance
 pub mod Records
 pub mod RecordsReports
 pub mod RecordsReplies
+pub mod LastTickets
 pub mod CallSteps
 pub mod CallerSteps
 pub mod BrakeCharges
@@ -33,3 +34,4 @@ pub mod Pairs
 pub mod Seated
 pub mod Evictions
 pub mod TeamEnds
+pub mod Restarting

@@ -99,7 +99,7 @@ same_entry e f seqs callers indices kinds replies =
     ∙ ap (λ (b : Bool). entry_from f.seq f.caller f.index b e.reply) kinds ∙ ap (λ (r : Response). entry_from f.seq f.caller f.index f.announced r) replies
 
 -- what holds of the entry of each answer
-each_answer : (P : CallEntry → Type 0) (c x : ℕ) (answers : List Answer) → ((y : ℕ) (none : Answer) → y < length answers → P (answer_entry c (x + y) (get_or answers y none))) → Each P (answer_entries c x answers)
+pub each_answer : (P : CallEntry → Type 0) (c x : ℕ) (answers : List Answer) → ((y : ℕ) (none : Answer) → y < length answers → P (answer_entry c (x + y) (get_or answers y none))) → Each P (answer_entries c x answers)
 each_answer P c x [] h = tt
 each_answer P c x (a ∷ others) h = (
   subst (λ (n : ℕ). P (answer_entry c n a)) (omega arith) (h 0 a (omega arith)),

@@ -12,8 +12,9 @@ use Rattle.of_row.specs.Views.{Kept, Sight, Each, reach}
 use Rattle.of_row.specs.Rule.{IsAsked}
 use Rattle.of_row.specs.Turned.{StandsFor, noted, newcomer, joined}
 use Rattle.of_eval.specs.Scripts.{scripts_meaning}
-use Rattle.of_core.specs.Machine.{Data}
-use Rattle.of_core.specs.Seen.{setup}
+use Rattle.of_core.specs.Table.{Setup}
+use Rattle.of_core.specs.Machine.{Data, TakesPlace, idle}
+use Rattle.of_core.specs.Seen.{Seen, setup}
 use Rattle.of_core.specs.Turn.{IsIdle}
 use Rattle.of_row.specs.Rows.{setup_at, start_at}
 use Rattle.of_row.specs.Passes.{HasEnrolled}
@@ -39,12 +40,13 @@ take_none (x ∷ xs) = refl
 
 pub new_caller : (p : Plan) (r : Row Scripts) (n : ℕ) (before : Pass) (m : Member) (now : Pass) → HasEnrolled scripts_meaning r n before m now → (c : Caller Scripts) → IsCaller scripts_meaning r c → c.member ≡ m → IsIdle (call_of c) → made_of c ≡ m.made
     → CallerAt p (done_at r n) n r c [] 0
-new_caller p r n before m now h c is same idle made =
+new_caller p r n before m now h c is same rests made =
     let x : Kept = newcomer (setup_at scripts_meaning r) (start_at scripts_meaning r) n (reach (start_at scripts_meaning r) before.seat.me.0.seen) in
     let kept : (sight_of c).kept ≡ x ∷ [] = ap (λ (k : Member). k.seat.me.0.kept) same ∙ ap (λ (v : Sight). v.kept) h.member_is in
     let y : Kept = is.member.0 in
     let one : y ≡ x = same_kept y x (sym is.member.1 ∙ kept) in
-    let shown : x.machine ≡ call_of c = shows y is.member.2 (ap (λ (k : Member). k.made) (sym same) ∙ is.member.4) x one in
+    let fresh : x.machine ≡ idle (setup scripts_meaning c.machine) x.machine.caller x.machine.made = ap (λ (S : Setup). idle S x.machine.caller x.machine.made) (sym (ap (λ (k : Seen Scripts). setup scripts_meaning k) is.machine)) in
+    let shown : x.machine ≡ call_of c = shows y is.member.2 (ap (λ (k : Member). k.made) (sym same) ∙ is.member.4) x fresh one in
     record {
       is_caller = is;
       number = ap (λ (d : Data). d.caller) (sym shown);
@@ -53,16 +55,21 @@ new_caller p r n before m now h c is same idle made =
       kept_is = kept;
       shown = shown;
       going = record {
-        idle = ap (λ (d : Data). d.place) shown ∙ idle;
+        idle = ap (λ (d : Data). d.place) shown ∙ rests;
         answered = record { few = omega arith; scripts = ap (map operation_of) (sym (take_none (drop (done_at r n) (scripts_of p n)))); none_spent = tt; told = tt };
         count = refl;
       };
     }
   where
     -- a begun call would have one ticket more than the member
-    shows : (y : Kept) → StandsFor (setup scripts_meaning c.machine) y (call_of c) → m.made ≡ y.machine.made → (x : Kept) → y ≡ x → x.machine ≡ call_of c
-    shows y (inl e) counts x one = ap (λ (k : Kept). k.machine) (sym one) ∙ sym e
-    shows y (inr opens) counts x one = absurd (omega (arith, made, counts, ap (λ (d : Data). d.made) opens.is))
+    shows : (y : Kept) → StandsFor (setup scripts_meaning c.machine) y (call_of c) → m.made ≡ y.machine.made → (x : Kept) → x.machine ≡ idle (setup scripts_meaning c.machine) x.machine.caller x.machine.made → y ≡ x → x.machine ≡ call_of c
+    shows y (inl (inl e)) counts x fresh one = ap (λ (k : Kept). k.machine) (sym one) ∙ sym e
+    shows y (inl (inr e)) counts x fresh one = fresh ∙ ap (λ (k : Kept). idle (setup scripts_meaning c.machine) k.machine.caller k.machine.made) (sym one) ∙ sym e.1
+    shows y (inr opens) counts x fresh one = absurd (omega (arith, made, counts, ap (λ (d : Data). d.made) opens.is, takes_made opens.begins opens.takes))
+      where
+        takes_made : (d : Data) → TakesPlace (setup scripts_meaning c.machine) y.machine d → d.made ≡ y.machine.made
+        takes_made d (inl e) = ap (λ (k : Data). k.made) e
+        takes_made d (inr e) = ap (λ (k : Data). k.made) e.1
 
 -- ---- numbers that were asked for
 

@@ -69,18 +69,18 @@ map_range f g a (suc n) h =
     ∙ ap (λ (l : List ℕ). g a ∷ l) (map_range f g (a + 1) n (λ j low high. h j (omega (arith, low)) (omega (arith, high))))
 
 -- the cell is one of caller c's own
-abbrev IsOwnCell : ℕ → ℕ → Type 0
+abbrev pub IsOwnCell : ℕ → ℕ → Type 0
 IsOwnCell c a = (ticket_at MOST_INSTRS c ≤ a) × (a < ticket_at MOST_INSTRS c + (MOST_INSTRS + 2))
 
 module _ (f g : ℕ → ℕ) (c : ℕ) (same : (a : ℕ) → IsOwnCell c a → f a ≡ g a) where
-  same_reply : reply_in MOST_INSTRS g c ≡ reply_in MOST_INSTRS f c
+  pub same_reply : reply_in MOST_INSTRS g c ≡ reply_in MOST_INSTRS f c
   same_reply =
       let shape = same (shape_at MOST_INSTRS c) (omega arith, omega arith) in
       let values = map_range (reply_number MOST_INSTRS f c) (reply_number MOST_INSTRS g c) 0 MOST_INSTRS (λ j low high.
       ap (λ (v : ℕ). if nat_lt j MOST_INSTRS then v else 0) (same (reply_at MOST_INSTRS c j) (omega (arith, high), omega (arith, high)))) in
       λ i. record { shape = sym shape i; values = sym values i }
 
-  stand_same : OwnStand MOST_INSTRS g c → OwnStand MOST_INSTRS f c
+  pub stand_same : OwnStand MOST_INSTRS g c → OwnStand MOST_INSTRS f c
   stand_same own =
       let ticket = same (ticket_at MOST_INSTRS c) (omega arith, omega arith) in
       let shape = same (shape_at MOST_INSTRS c) (omega arith, omega arith) in

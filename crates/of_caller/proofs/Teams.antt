@@ -117,6 +117,9 @@ module _ (p : Plan) (laws : KeepsLaws p) (sees : SeesWhole (lawful_for p)) (s : 
     room = t.meets.rule.room;
   }
 
+  pub team_run : (x : World) × IsRunOf p s B x e
+  team_run = (w, team_is_run)
+
   -- the batches that were seen are those of its history
   seen_are : (k : ℕ) → seen_calls B v.seen k ≡ batch_calls B w k
   unfolding batch

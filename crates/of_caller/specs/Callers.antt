@@ -1,16 +1,14 @@
 -- A caller of a row: what its member and its machine are.
-use Rattle.std.specs.Prelude.{◌≡◌, ℕ, ◌<◌, [], ◌∷◌}
+use Rattle.std.specs.Prelude.{◌≡◌, ◌<◌, ℕ}
 use Rattle.of_mem.specs.Meaning.{Meaning}
-use Rattle.of_core.specs.Table.{Setup}
-use Rattle.of_core.specs.Machine.{Data, IsOpen, idle}
+use Rattle.of_core.specs.Machine.{Data, IsOpen}
 use Rattle.of_core.specs.Bound.{bound}
 use Rattle.of_core.specs.Seen.{setup}
-use Rattle.of_row.specs.Views.{Kept, Sight}
+use Rattle.of_core.specs.Turn.{IsIdle}
+use Rattle.of_row.specs.Views.{Sight}
 use Rattle.of_row.specs.declared.member.Member.{Member}
-use Rattle.of_row.specs.declared.member.Pass.{Pass}
 use Rattle.of_row.specs.declared.row.Row.{Row}
-use Rattle.of_row.specs.Rows.{IsOf, RunsOn, IsMemberOf, setup_at}
-use Rattle.of_row.specs.Passes.{HasEnrolled}
+use Rattle.of_row.specs.Rows.{IsOf, RunsOn, IsMemberOf, HasNoCall}
 use Rattle.of_caller.specs.declared.caller.Caller.{Caller}
 
 -- what the caller's member knows
@@ -25,11 +23,6 @@ call_of c = c.machine.call
 abbrev pub made_of : {W : Type 0} → Caller W → ℕ
 made_of c = (call_of c).made
 
--- the member has made no call on the row: it keeps the fresh machine of its number
-abbrev pub IsNewcomer : Setup → Member → Type 0
-IsNewcomer S m =
-    (x : Kept) × (m.seat.me.0.kept ≡ x ∷ []) × (x.machine ≡ idle S m.number m.made)
-
 -- member and machine are of the row, and the member stands for the machine; an open call has a step
 -- left
 pub record IsCaller {W : Type 0} (meaning : W → Meaning) (r : Row W) (c : Caller W) : Type 0 where
@@ -38,8 +31,7 @@ pub record IsCaller {W : Type 0} (meaning : W → Meaning) (r : Row W) (c : Call
   pub member : IsMemberOf meaning c.member c.machine
   pub within : IsOpen (call_of c).place → (call_of c).steps < bound (setup meaning c.machine)
 
--- a member that enrolled has made no call
-abbrev pub EnrolledAreNew : {W : Type 0} → (W → Meaning) → W → Type 0
-EnrolledAreNew {W} meaning work =
-    (r : Row W) (n : ℕ) (before now : Pass) (m : Member) → HasEnrolled meaning r n before m now
-    → IsNewcomer (setup_at meaning r) m
+-- a caller of some row that has no open call leaves a member that has none, with as many calls behind it
+abbrev pub LeavesIdle : {W : Type 0} → (W → Meaning) → Caller W → Member → Type 0
+LeavesIdle {W} meaning c m =
+    (r : Row W) → IsCaller meaning r c → IsIdle (call_of c) → HasNoCall m × (m.made ≡ made_of c)

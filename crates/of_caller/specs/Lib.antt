@@ -15,3 +15,5 @@ pub mod Teams
 pub mod Lanes
 pub mod Trees
 pub mod Seating
+pub mod Restarts
+pub mod Allowances

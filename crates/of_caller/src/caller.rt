@@ -5,13 +5,12 @@ ghost use Rattle.of_mem.specs.declared.work.TheConstants.{MOST_INSTRS};
 ghost use Rattle.of_core.specs.Machine.{IsOpen};
 ghost use Rattle.of_core.specs.Turn.{IsIdle};
 ghost use Rattle.of_brake.specs.Stops.{Rose, Heard};
-ghost use Rattle.of_row.specs.Keys.{FitsWork};
-ghost use Rattle.of_row.specs.Rows.{key_of, IsOf, setup_at};
+ghost use Rattle.of_row.specs.Rows.{IsOf, HasNoCall};
 
 use of_brake::{Brake, Steps};
 use of_core::{Machine, Outcome};
 use of_mem::Work;
-use of_row::laws::{machines, members};
+use of_row::laws::{idle_members, machines, members};
 use of_row::{Member, Row};
 use std::alloc::{AllocError, Global};
 use std::sync::ledger::Ledger;
@@ -43,28 +42,26 @@ fn tell(brake: &mut Box<dyn Brake + Send>)
 }
 
 impl<W: Work> Caller<W> {
-    ghost use Rattle.of_caller.specs.Callers.{IsCaller, IsNewcomer, call_of, made_of};
+    ghost use Rattle.of_caller.specs.Callers.{IsCaller, LeavesIdle, call_of, made_of};
     ghost use Rattle.of_caller.specs.CallsTold.{CallTold, begun_by};
     ghost use Rattle.of_caller.specs.Brakes.{IsStop, StopsAt, Uses, HearsOf};
 
-    /// The caller of a member that has made no call on the row. Without memory the error hands the
-    /// member back.
+    /// The caller of a member that has no open call, whether it has made calls or none: it goes on
+    /// with the next ticket. Without memory the error hands the member back.
     pub fn new(
         alloc: Global,
         row: &Row<W>,
         member: Member,
     ) -> Result<Caller<W>, (Member, AllocError)>
         requires row { IsOf row.now member.seat }
-        requires sizes { FitsWork W.many W.size (key_of row.now) }
-        requires limit { (key_of row.now).limit ≤ 4294967294 }
-        requires number { member.number < (key_of row.now).callers }
-        requires newcomer { IsNewcomer (setup_at W.meaning row.now) member }
+        requires idle { HasNoCall member }
         ensures caller { IfOk result (IsCaller W.meaning row.now) }
         ensures member { IfOk result (λ c. c.member ≡ member) }
         ensures idle { IfOk result (λ c. IsIdle (call_of c)) }
         ensures made { IfOk result (λ c. made_of c ≡ member.made) }
         ensures memory { IfErr result (λ e. e.0 ≡ member) }
     {
+        members(row.work());
         machines(row.work());
         let number = member.number();
         let made = member.made();
@@ -158,8 +155,10 @@ impl<W: Work> Caller<W> {
 
     /// The member again, with all that it knows. An open call stays open in it.
     pub fn leave(self) -> Member
-        ensures { result ≡ self.member }
+        ensures is { result ≡ self.member }
+        ensures idle { LeavesIdle W.meaning self result }
     {
+        idle_members::<W>();
         let Caller { member, machine: _ } = self;
         member
     }

@@ -1,15 +1,14 @@
-//! Laws of plans' tables, of what a run leaves, and of new members: functions that change nothing, whose contracts are the theorems.
+//! Laws of plans' tables, and of what a run leaves: functions that change nothing, whose contracts are the theorems.
 
 ghost use Rattle.of_plan.specs.Plan.{IsPlan};
-ghost use Rattle.of_caller.specs.Callers.{EnrolledAreNew};
 ghost use Rattle.of_caller.specs.PlanLaws.{KeepsLaws};
 ghost use Rattle.of_caller.specs.Starts.{ZerosAreEmpty};
 ghost use Rattle.of_caller.specs.Teams.{TeamsAreLawful, TeamsKeepAllowances};
 ghost use Rattle.of_caller.specs.Runs.{SchedulesAreMoments, StartsAreRuns, RepliesAreHeld, RunsAreLawful, RunsAreReported, RunsKeepAllowances};
+ghost use Rattle.of_caller.specs.Restarts.{RunsRestart, TeamsRestart};
 
 use of_core::laws::{every_call, every_moment, machines, starts, step_kept};
 use of_eval::Scripts;
-use of_mem::Work;
 use of_plan::Plan;
 use of_row::laws::sees_whole;
 
@@ -46,10 +45,12 @@ pub fn runs_are_lawful()
 {}
 
 /// What a team of a plan leaves is a lawful record from the start of its row: the laws of runs hold of it, its announced entries are the
-/// calls of the batches that its pass has seen, and a caller that keeps to its stop keeps it as its allowance.
+/// calls of the batches that its pass has seen, and a caller that keeps to its stop keeps it as its allowance. A table may start from
+/// its durable words, where that record's report ends.
 pub fn teams_are_lawful(plan: &Plan)
     ensures lawful { TeamsAreLawful plan.now }
     ensures allowances { TeamsKeepAllowances plan.now }
+    ensures restarts { TeamsRestart plan.now }
 {
     let scripts = Scripts {
         callers: plan.callers(),
@@ -59,7 +60,9 @@ pub fn teams_are_lawful(plan: &Plan)
     sees_whole(scripts);
 }
 
-/// A member that has enrolled has made no call on its row.
-pub fn enrolled_are_new<W: Work>(work: W)
-    ensures { EnrolledAreNew W.meaning work }
+/// From what recovery makes of the durable words that a run leaves a table may start, and it starts
+/// where the run's report ends: at its sequence and its store, each caller behind its last announced
+/// entry.
+pub fn runs_restart()
+    ensures { RunsRestart }
 {}

@@ -11,10 +11,10 @@ ghost use Rattle.of_caller.specs.Seating.{HasSeated, IsSeat, Seated};
 
 use crate::caller::Caller;
 use crate::lane::{Lane, put};
-use crate::laws::enrolled_are_new;
 use of_brake::Brake;
 use of_eval::Scripts;
 use of_plan::{Ending, Plan};
+use of_row::laws::members;
 use of_row::{Pass, Row};
 use std::alloc::{AllocError, Global};
 
@@ -48,7 +48,7 @@ fn seat_one(
     ensures room { (vec_capacity lanes.old ≤ vec_capacity lanes.new)
         × (vec_len lanes.new ≤ vec_len lanes.old + 1) }
 {
-    enrolled_are_new(row.work());
+    members(row.work());
     let first = row.done(number);
     let answers = Vec::with_capacity(alloc, plan.scripts(number).len() - first as usize)?;
     arm(&mut brake, plan.stop(number));

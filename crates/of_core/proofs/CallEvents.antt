@@ -9,7 +9,7 @@ use Rattle.of_mem.specs.Meaning.{Sound}
 use Rattle.of_core.specs.declared.place.Place.TheVariants.{Idle}
 use Rattle.of_core.specs.declared.place.Outcome.{Outcome}
 use Rattle.of_core.specs.Table.{Setup, base, table_size, durable_at, durable_word, risen}
-use Rattle.of_core.specs.Machine.{Data, IsOpen, no_machine, opened}
+use Rattle.of_core.specs.Machine.{Data, IsOpen, no_machine, opened, TakesPlace}
 use Rattle.of_core.specs.Steps.{want, took, finds, FoundBy}
 use Rattle.of_core.specs.World.{World, Start, Batch, Read, stepped}
 use Rattle.of_core.specs.History.{batch}
@@ -56,22 +56,26 @@ module _ (S : Setup) (Lawful : List ℕ → Type 0) (B : Start) (w : World) (g :
       let same : get_or (set w.words c v) (durable_at S 0) 0 ≡ get_or w.words (durable_at S 0) 0 = get_or-set_other w.words c (durable_at S 0) v 0 (omega (arith, far)) in
       quiet (record w { words = set w.words c v }) (beside_kept S Lawful B w g c v far) (omega (arith, ap seq same)) refl refl i refl
 
-  -- the machine m of caller i begins a call
-  module _ (i : ℕ) (m : Data) (h : i < S.callers) (at : get_or w.machines i m ≡ m) (rest : m.place ≡ Idle) (op : List ℕ) (some : 1 ≤ length op) (small : length op ≤ S.instrs) (ticket : m.made + 1 < PAYLOADS) where
+  -- the machine m of caller i begins a call, or a fresh one in its place
+  module _ (i : ℕ) (m : Data) (h : i < S.callers) (at : get_or w.machines i m ≡ m) (rest : m.place ≡ Idle) (d : Data) (takes : TakesPlace S m d) (op : List ℕ) (some : 1 ≤ length op) (small : length op ≤ S.instrs) (ticket : d.made + 1 < PAYLOADS) where
     abbrev v : World
-    v = begun S i m op w
+    v = begun S i d op w
 
     good : Good S Lawful B v
-    good = begin_kept S Lawful B w g i m h at rest op some small ticket
+    good = begin_kept S Lawful B w g i m h at rest d takes op some small ticket
+
+    as_many : TakesPlace S m d → d.made ≡ m.made
+    as_many (inl e) = ap (λ (n : Data). n.made) e
+    as_many (inr q) = ap (λ (n : Data). n.made) q.1
 
     pub own_begin : CallsGrow S B i (op ∷ []) [] w v
     own_begin before ops outs c =
         let here : machine w i ≡ m = get_or_default w.machines i no_machine m (omega (arith, g.core.members)) ∙ at in
         subst (λ (os : List Outcome). Calls S B before v i (ops ++ op ∷ []) os) (sym (append-nil outs))
-        (begins S B before w i ops outs c v (grows_same v good (omega arith) refl refl) refl refl m op here rest (get_or-set_same w.machines i (opened S m op) no_machine (omega (arith, g.core.members))))
+        (begins S B before w i ops outs c v (grows_same v good (omega arith) refl refl) refl refl m op here rest d (as_many takes) (get_or-set_same w.machines i (opened S d op) no_machine (omega (arith, g.core.members))))
 
     pub other_begin : OthersStay S B i w v
-    other_begin j member away = quiet v good (omega arith) refl refl j (get_or-set_other w.machines i j (opened S m op) no_machine (λ e. away (sym e)))
+    other_begin j member away = quiet v good (omega arith) refl refl j (get_or-set_other w.machines i j (opened S d op) no_machine (λ e. away (sym e)))
 
 module _ (S : Setup) (Lawful : List ℕ → Type 0) (sound : Sound S.meaning Lawful (base S) S.cells) where
   -- what a step of the machine x of caller i leaves of all calls
@@ -89,7 +93,7 @@ module _ (S : Setup) (Lawful : List ℕ → Type 0) (sound : Sound S.meaning Law
       both f = (λ before ops outs c. rw (append-nil ops) (own_step S Lawful sound B w g i h n f before ops outs c), λ j member away before ops outs c. other_step S Lawful sound B w g i h n f j member away before ops outs c)
 
   pub begin_calls : BeginCalls S Lawful
-  begin_calls B w g i m h at rest op some small ticket = (own_begin S Lawful B w g i m h at rest op some small ticket, other_begin S Lawful B w g i m h at rest op some small ticket)
+  begin_calls B w g i m h at rest d takes op some small ticket = (own_begin S Lawful B w g i m h at rest d takes op some small ticket, other_begin S Lawful B w g i m h at rest d takes op some small ticket)
 
   module _ (B : Start) (w : World) (g : Good S Lawful B w) where
     abbrev found : (j : ℕ) → FoundBy (want S (machine w j)) w.words (finds S w.words (machine w j))
@@ -99,12 +103,12 @@ module _ (S : Setup) (Lawful : List ℕ → Type 0) (sound : Sound S.meaning Law
       -- the same with a test of whose event it is
       begin_event : (j : ℕ) (op : List ℕ) → MayHappen S w (Begins j op) → (j ≡ i) ⊎ (j ≡ i → ⊥) → Calls S B before (happens S w (Begins j op)) i (ops ++ only (i == j) (op ∷ [])) (outs ++ [])
       begin_event j op may (inl e) =
-          let p : CallsGrow S B j (op ∷ []) [] w (happens S w (Begins j op)) = own_begin S Lawful B w g j (machine w j) may.0 (own S Lawful B w g j may.0) may.1 op may.2 may.3 may.4 in
+          let p : CallsGrow S B j (op ∷ []) [] w (happens S w (Begins j op)) = own_begin S Lawful B w g j (machine w j) may.0 (own S Lawful B w g j may.0) may.1 (machine w j) (inl refl) op may.2 may.3 may.4 in
           subst (λ (b : Bool). Calls S B before (happens S w (Begins j op)) i (ops ++ only b (op ∷ [])) (outs ++ [])) (sym (ap (λ (x : ℕ). i == x) e ∙ same_number i))
           ((subst (λ (x : ℕ). CallsGrow S B x (op ∷ []) [] w (happens S w (Begins j op))) e p) before ops outs c)
       begin_event j op may (inr away) =
           subst (λ (b : Bool). Calls S B before (happens S w (Begins j op)) i (ops ++ only b (op ∷ [])) (outs ++ [])) (sym (other_number i j away))
-          (add_none S B before (happens S w (Begins j op)) i ops outs (other_begin S Lawful B w g j (machine w j) may.0 (own S Lawful B w g j may.0) may.1 op may.2 may.3 may.4 i member away before ops outs c))
+          (add_none S B before (happens S w (Begins j op)) i ops outs (other_begin S Lawful B w g j (machine w j) may.0 (own S Lawful B w g j may.0) may.1 (machine w j) (inl refl) op may.2 may.3 may.4 i member away before ops outs c))
 
       abbrev After : ℕ → List Outcome → Type 0
       After j os = Calls S B before (happens S w (Turns j)) i (ops ++ []) (outs ++ os)

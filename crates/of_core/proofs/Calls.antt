@@ -124,10 +124,10 @@ module _ (S : Setup) (B : Start) where
       reads_from = λ y l. subst (ReadsFrom (seq_of (get_or outs y no_outcome))) (sym x) (from (seq_of (get_or outs y no_outcome)) (outcome_low f.reach y l) (c.reads_from y l));
     }
 
-    -- the caller begins a call
-    pub begins : (v : World) → Grows w v → v.reads ≡ w.reads → v.batches ≡ w.batches → (m : Data) (op : List ℕ) → machine w i ≡ m → m.place ≡ Idle → machine v i ≡ opened S m op → Calls S B before v i (ops ++ op ∷ []) outs
-    begins v f e t m op own rest x = record {
-      made = ap (λ (n : Data). n.made) x ∙ omega (arith, sym (ap (λ (n : Data). n.made) own) ∙ c.made, length-append ops (op ∷ []));
+    -- the caller begins a call, by the machine d with as many calls behind it
+    pub begins : (v : World) → Grows w v → v.reads ≡ w.reads → v.batches ≡ w.batches → (m : Data) (op : List ℕ) → machine w i ≡ m → m.place ≡ Idle → (d : Data) → d.made ≡ m.made → machine v i ≡ opened S d op → Calls S B before v i (ops ++ op ∷ []) outs
+    begins v f e t m op own rest d as_many x = record {
+      made = ap (λ (n : Data). n.made) x ∙ omega (arith, as_many, sym (ap (λ (n : Data). n.made) own) ∙ c.made, length-append ops (op ∷ []));
       idle = λ q. absurd (closed (S.meaning.reads_only op) (ap (λ (n : Data). n.place) (sym x) ∙ q));
       open_call = λ q. (omega (arith, length-append ops (op ∷ []), all_ended), ap (λ (n : Data). n.op) x ∙ sym (get_or_push ops op [] (length outs) (sym all_ended)));
       unanswered = λ q. ap (λ (n : Data). n.answer) x;
@@ -136,7 +136,7 @@ module _ (S : Setup) (B : Start) where
       reads = reads_stay v f (ops ++ op ∷ []) outs (extends_push ops op) (extends_self outs) [] (e ∙ sym (append-nil w.reads)) (λ k d l. absurd (omega arith));
       calls = calls_stay v f (ops ++ op ∷ []) outs (extends_push ops op) (extends_self outs) (λ k l u. absurd (omega (arith, ap length t)));
       rising = c.rising;
-      reads_from = λ y l. subst (ReadsFrom (seq_of (get_or outs y no_outcome))) (sym x) (opened_reads S m op (seq_of (get_or outs y no_outcome)));
+      reads_from = λ y l. subst (ReadsFrom (seq_of (get_or outs y no_outcome))) (sym x) (opened_reads S d op (seq_of (get_or outs y no_outcome)));
     }
       where
         all_ended : length outs ≡ length ops

@@ -4,15 +4,15 @@ use Rattle.std.proofs.lemmas.Bool.{cases_eq}
 use Rattle.std.proofs.lemmas.List.{append-nil, get_or-set_same, get_or-set_other, get_or_default}
 use Rattle.of_cell.specs.declared.word.TheConstants.{PAYLOADS}
 use Rattle.of_cell.specs.Words.{seq}
-use Rattle.of_cell.proofs.Order.{seq_mono}
+use Rattle.of_cell.proofs.Order.{seq_mono, seq_zero}
 use Rattle.of_mem.specs.Meaning.{Sound}
 use Rattle.of_core.specs.declared.place.Place.{Place}
 use Rattle.of_core.specs.declared.place.Place.TheVariants.{Idle, TryCurrent, StoreScript}
 use Rattle.of_core.specs.Table.{durable_word, Setup, base, size, log_word}
-use Rattle.of_core.specs.Machine.{is_idle, Data, no_machine, first_place, opened}
+use Rattle.of_core.specs.Machine.{is_idle, Data, no_machine, first_place, opened, TakesPlace}
 use Rattle.of_core.specs.World.{Read, World, Start}
 use Rattle.of_core.specs.Shared.{IsRequest, IsLogWord}
-use Rattle.of_core.specs.Rounds.{Fresh}
+use Rattle.of_core.specs.Rounds.{Fresh, Keeps}
 use Rattle.of_core.specs.Invariant.{Good, Core, At, Rests, IsLoaded}
 use Rattle.of_core.specs.Bound.{Within}
 use Rattle.of_core.specs.Least.{Late}
@@ -32,58 +32,71 @@ use Rattle.of_core.proofs.Touches.{held_now}
 use Rattle.std.proofs.lemmas.List.Elements.{All-append}
 
 module _ (S : Setup) (Lawful : List ℕ → Type 0) (B : Start) (w : World) (g : Good S Lawful B w) where
-  -- a call begins
-  module _ (i : ℕ) (m : Data) (h : i < S.callers) (own : get_or w.machines i m ≡ m) (rest : m.place ≡ Idle) (op : List ℕ) (some : 1 ≤ length op) (few : length op ≤ S.instrs) (ticket : m.made + 1 < PAYLOADS) where
+  -- a call begins, by the idle machine m or by a fresh one in its place
+  module _ (i : ℕ) (m : Data) (h : i < S.callers) (own : get_or w.machines i m ≡ m) (rest : m.place ≡ Idle) (d : Data) (takes : TakesPlace S m d) (op : List ℕ) (some : 1 ≤ length op) (few : length op ≤ S.instrs) (ticket : d.made + 1 < PAYLOADS) where
     at_rest : Rests S B w.words w.batches i m
     at_rest = subst (λ (p : Place). At S B w.words w.batches i m p) rest (g.core.each i m h own)
 
-    fresh : (p : Place) → Fresh S B w.words w.batches i (record (opened S m op) { place = p })
-    fresh p = let r = at_rest in record { caller = r.caller; ticket = ticket; words = few; some = some; kept = r.kept; above = omega (arith, r.upto); quieted = r.quieted; newer = omega (arith, r.older); rounds = refl }
+    -- what the one that begins it has of m: caller and count, and a word that its request has held
+    record Alike (n : Data) : Type 0 where
+      pub caller : n.caller ≡ i
+      pub made : n.made ≡ m.made
+      pub kept : Keeps B w.words w.batches i n.kept
 
-    at_first : (b : Bool) → S.meaning.reads_only op ≡ b → At S B w.words w.batches i (record (opened S m op) { place = first_place b }) (first_place b)
+    alike : TakesPlace S m d → Alike d
+    alike (inl e) = subst Alike (sym e) record { caller = at_rest.caller; made = refl; kept = at_rest.kept }
+    alike (inr q) = subst Alike (sym q.1) record { caller = at_rest.caller; made = refl; kept = (omega arith, λ l. absurd (omega (arith, l, seq_zero))) }
+
+    fresh : (p : Place) → Fresh S B w.words w.batches i (record (opened S d op) { place = p })
+    fresh p =
+        let r = at_rest in
+        let a = alike takes in
+        record { caller = a.caller; ticket = ticket; words = few; some = some; kept = a.kept; above = omega (arith, r.upto, a.made); quieted = r.quieted; newer = omega (arith, r.older, a.made); rounds = refl }
+
+    at_first : (b : Bool) → S.meaning.reads_only op ≡ b → At S B w.words w.batches i (record (opened S d op) { place = first_place b }) (first_place b)
     at_first true e = (fresh TryCurrent, at_rest.calm, e, omega arith)
     at_first false e = (fresh (StoreScript 0), at_rest.calm, omega arith, refl)
 
-    begun_core : Core S Lawful B (begun S i m op w)
-    begun_core = (assemble S Lawful B w g.core i h w.words w.batches (opened S m op) (moves_not S Lawful B i w.words w.batches g.core.shared) g.core.shared (at_first (S.meaning.reads_only op) refl)).core
+    begun_core : Core S Lawful B (begun S i d op w)
+    begun_core = (assemble S Lawful B w g.core i h w.words w.batches (opened S d op) (moves_not S Lawful B i w.words w.batches g.core.shared) g.core.shared (at_first (S.meaning.reads_only op) refl)).core
 
-    begun_orderly : Orderly S B i w.words m (opened S m op) w.words w.batches []
+    begun_orderly : Orderly S B i w.words m (opened S d op) w.words w.batches []
     begun_orderly = record { older = λ r q. older (S.meaning.reads_only op) r (older_upto m r (is_idle m.place) q); trying = λ t. absurd (not_trying (S.meaning.reads_only op) t); answers = inl refl }
       where
-        older : (b : Bool) (r : Read) → r.ticket ≤ m.made → IsOlder (record (opened S m op) { place = first_place b }) (first_place b) r
-        older true r q = omega arith
-        older false r q = omega arith
+        older : (b : Bool) (r : Read) → r.ticket ≤ m.made → IsOlder (record (opened S d op) { place = first_place b }) (first_place b) r
+        older true r q = omega (arith, (alike takes).made)
+        older false r q = omega (arith, (alike takes).made)
 
-        not_trying : (b : Bool) → IsTrying (record (opened S m op) { place = first_place b }) (first_place b) → ⊥
+        not_trying : (b : Bool) → IsTrying (record (opened S d op) { place = first_place b }) (first_place b) → ⊥
         not_trying true t = t
         not_trying false t = t
 
-    begun_order : Order S B (begun S i m op w)
-    begun_order = subst (λ (rs : List Read). Order S B (record { words = w.words; machines = set w.machines i (opened S m op); batches = w.batches; reads = rs; loaded = w.loaded })) (append-nil w.reads)
-        (order_after S Lawful B w g.core g.order i m (opened S m op) h own w.words w.batches [] (moves_not S Lawful B i w.words w.batches g.core.shared) g.core.shared begun_orderly)
+    begun_order : Order S B (begun S i d op w)
+    begun_order = subst (λ (rs : List Read). Order S B (record { words = w.words; machines = set w.machines i (opened S d op); batches = w.batches; reads = rs; loaded = w.loaded })) (append-nil w.reads)
+        (order_after S Lawful B w g.core g.order i m (opened S d op) h own w.words w.batches [] (moves_not S Lawful B i w.words w.batches g.core.shared) g.core.shared begun_orderly)
 
-    pub begin_kept : Good S Lawful B (begun S i m op w)
+    pub begin_kept : Good S Lawful B (begun S i d op w)
     begin_kept = record { core = begun_core; order = begun_order; within = λ j n l q. go j n l q (cases_eq j i); late = λ j n l q. late_go j n l q (cases_eq j i) }
       where
-        go : (j : ℕ) (n : Data) → j < S.callers → get_or (set w.machines i (opened S m op)) j n ≡ n → (j ≡ i) ⊎ (j ≡ i → ⊥) → Within S n n.place
+        go : (j : ℕ) (n : Data) → j < S.callers → get_or (set w.machines i (opened S d op)) j n ≡ n → (j ≡ i) ⊎ (j ≡ i → ⊥) → Within S n n.place
         go j n l q (inl r) =
             let i_in : i < length w.machines = omega (arith, g.core.members) in
-            let same : opened S m op ≡ n = sym (get_or-set_same w.machines i (opened S m op) n i_in) ∙ (rw r at q) in
-            subst (λ (x : Data). Within S x x.place) same (opened_within S m op)
-        go j n l q (inr r) = g.within j n l (sym (get_or-set_other w.machines i j (opened S m op) n r) ∙ q)
+            let same : opened S d op ≡ n = sym (get_or-set_same w.machines i (opened S d op) n i_in) ∙ (rw r at q) in
+            subst (λ (x : Data). Within S x x.place) same (opened_within S d op)
+        go j n l q (inr r) = g.within j n l (sym (get_or-set_other w.machines i j (opened S d op) n r) ∙ q)
 
-        late_go : (j : ℕ) (n : Data) → j < S.callers → get_or (set w.machines i (opened S m op)) j n ≡ n → (j ≡ i) ⊎ (j ≡ i → ⊥) → Late S n n.place
+        late_go : (j : ℕ) (n : Data) → j < S.callers → get_or (set w.machines i (opened S d op)) j n ≡ n → (j ≡ i) ⊎ (j ≡ i → ⊥) → Late S n n.place
         late_go j n l q (inl r) =
             let i_in : i < length w.machines = omega (arith, g.core.members) in
-            let same : opened S m op ≡ n = sym (get_or-set_same w.machines i (opened S m op) n i_in) ∙ (rw r at q) in
-            subst (λ (x : Data). Late S x x.place) same (opened_late S m op)
-        late_go j n l q (inr r) = g.late j n l (sym (get_or-set_other w.machines i j (opened S m op) n r) ∙ q)
+            let same : opened S d op ≡ n = sym (get_or-set_same w.machines i (opened S d op) n i_in) ∙ (rw r at q) in
+            subst (λ (x : Data). Late S x x.place) same (opened_late S d op)
+        late_go j n l q (inr r) = g.late j n l (sym (get_or-set_other w.machines i j (opened S d op) n r) ∙ q)
 
-    pub rests_not : rests (opened S m op) ≡ 0
+    pub rests_not : rests (opened S d op) ≡ 0
     unfolding rests
     rests_not = go (S.meaning.reads_only op)
       where
-        go : (b : Bool) → rests_at (record (opened S m op) { place = first_place b }) (first_place b) ≡ 0
+        go : (b : Bool) → rests_at (record (opened S d op) { place = first_place b }) (first_place b) ≡ 0
         go true = refl
         go false = refl
 
@@ -134,4 +147,4 @@ module _ (S : Setup) (Lawful : List ℕ → Type 0) (B : Start) (w : World) (g :
   event_good sound (Loads c) h = load_good c h
   event_good sound (Evicts k) h = evict_kept (get_or w.loaded k (0, 0)) (g.core.loaded k (0, 0) h)
   event_good sound (Raises c) h = evict_kept (c, get_or w.words c 0) (load_kept c h)
-  event_good sound (Begins i op) h = begin_kept i (machine w i) h.0 (get_or_default w.machines i (machine w i) no_machine (omega (arith, g.core.members, h.0))) h.1 op h.2 h.3 h.4
+  event_good sound (Begins i op) h = begin_kept i (machine w i) h.0 (get_or_default w.machines i (machine w i) no_machine (omega (arith, g.core.members, h.0))) h.1 (machine w i) (inl refl) op h.2 h.3 h.4

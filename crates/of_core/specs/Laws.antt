@@ -10,7 +10,7 @@ use Rattle.of_core.specs.declared.place.Place.{Place}
 use Rattle.of_core.specs.declared.place.Place.TheVariants.{Idle, LoadCurrent}
 use Rattle.of_core.specs.declared.place.Outcome.{Outcome}
 use Rattle.of_core.specs.Table.{Setup, setup_of, size, table_size, cell, durable_word}
-use Rattle.of_core.specs.Machine.{Call, Data, IsOpen, is_idle, idle, opened}
+use Rattle.of_core.specs.Machine.{Call, Data, IsOpen, is_idle, idle, opened, TakesPlace}
 use Rattle.of_core.specs.Steps.{want, took, finds, FoundBy}
 use Rattle.of_core.specs.World.{World, Start, Batch, added, answered, stepped}
 use Rattle.of_core.specs.History.{state, batch, no_batch, Legal}
@@ -41,12 +41,12 @@ abbrev pub EachStep : Setup → (List ℕ → Type 0) → (Start → World → �
 EachStep S Lawful Law =
     EachMachine S Lawful (λ B w i m. (n : ℕ) → FoundBy (want S m) w.words n → Law B w i m n)
 
--- at each begin of a call with these words, by each idle machine
+-- at each begin of a call with these words, by each idle machine, or by a fresh one in its place
 abbrev pub EachBegin : Setup → (List ℕ → Type 0)
     → (Start → World → ℕ → Data → List ℕ → Type 0) → Type 0
 EachBegin S Lawful Law = EachMachine S Lawful (λ B w i m. m.place ≡ Idle
-    → (op : List ℕ) → 1 ≤ length op → length op ≤ S.instrs
-    → m.made + 1 < PAYLOADS → Law B w i m op)
+    → (d : Data) → TakesPlace S m d → (op : List ℕ) → 1 ≤ length op → length op ≤ S.instrs
+    → d.made + 1 < PAYLOADS → Law B w i d op)
 
 -- at each word that was loaded for an eviction
 abbrev pub EachLoaded : Setup → (List ℕ → Type 0) → (Start → World → ℕ × ℕ → Type 0) → Type 0
@@ -105,8 +105,8 @@ NewCalls S Lawful = EachStep S Lawful (λ B w i m n.
 
 -- to begin a call keeps the invariant; the call rests on nothing yet, and no try of it has read
 abbrev pub BeginKept : Setup → (List ℕ → Type 0) → Type 0
-BeginKept S Lawful = EachBegin S Lawful (λ B w i m op. Good S Lawful B (begun S i m op w)
-    × (rests (opened S m op) ≡ 0) × ((low : ℕ) → ReadsFrom low (opened S m op)))
+BeginKept S Lawful = EachBegin S Lawful (λ B w i d op. Good S Lawful B (begun S i d op w)
+    × (rests (opened S d op) ≡ 0) × ((low : ℕ) → ReadsFrom low (opened S d op)))
 
 -- a word that was loaded from its cell may be raised at any later time: it is such a word
 -- when it is loaded
@@ -182,8 +182,8 @@ StepCalls S Lawful = EachStep S Lawful (λ B w i m n.
 
 -- to begin a call gives its caller one call more, and changes the calls of nobody else
 abbrev pub BeginCalls : Setup → (List ℕ → Type 0) → Type 0
-BeginCalls S Lawful = EachBegin S Lawful (λ B w i m op.
-    CallsGrow S B i (op ∷ []) [] w (begun S i m op w) × OthersStay S B i w (begun S i m op w))
+BeginCalls S Lawful = EachBegin S Lawful (λ B w i d op.
+    CallsGrow S B i (op ∷ []) [] w (begun S i d op w) × OthersStay S B i w (begun S i d op w))
 
 -- to raise a word that was loaded changes nobody's calls
 abbrev pub RaiseCalls : Setup → (List ℕ → Type 0) → Type 0

@@ -1,5 +1,5 @@
 -- One call as a machine: what it holds.
-use Rattle.std.specs.Prelude.{◌≡◌, ℕ, ◌+◌, nat_lt, List, [], ◌∷◌, ◌++◌, length, Option, Some, None, Bool, true, false, if◌then◌else◌}
+use Rattle.std.specs.Prelude.{◌≡◌, ◌⊎◌, ℕ, ◌+◌, nat_lt, List, [], ◌∷◌, ◌++◌, length, Option, Some, None, Bool, true, false, if◌then◌else◌}
 use Rattle.std.proofs.Common.{get_or, set, take, drop, replicate}
 use Rattle.of_cell.specs.Words.{pay}
 use Rattle.of_mem.specs.declared.work.RawReply.{RawReply}
@@ -99,6 +99,10 @@ unknown S = replicate S.cells None
 -- the machine of caller i that was just made, where so many calls were begun before
 abbrev pub idle : Setup → ℕ → (made : ℕ) → Data
 idle S i made = record no_machine { caller = i; made = made; known = unknown S; raw = record { shape = 0; values = replicate S.instrs 0 } }
+
+-- the machine d is m, or a fresh one of its caller, which may take the place of an idle one
+abbrev pub TakesPlace : Setup → (m d : Data) → Type 0
+TakesPlace S m d = (d ≡ m) ⊎ ((m.place ≡ Idle) × (d ≡ idle S m.caller m.made))
 
 -- a call is begun: a read is tried first, any other is announced
 abbrev pub first_place : (reads : Bool) → Place

@@ -21,6 +21,8 @@ use std::alloc::{AllocError, Global};
 use std::marker::Model;
 use std::snapshot::Snapshot;
 
+mod showing;
+
 /// What a turn says of its caller's call.
 #[derive(Clone, Copy)]
 pub enum Turn {

@@ -17,7 +17,9 @@ ghost use Rattle.of_core.specs.Laws.{BeginningBatches, BeginningStates, Beginnin
 use of_mem::Work;
 
 /// From whatever meets the invariant each step, each begin of a call and each eviction leads to
-/// what meets it. A table at a start meets it, and whatever meets it has what every moment claims.
+/// what meets it. A fresh machine may begin an idle one's next call in its place, with as many calls
+/// behind it: all else that the protocol needs stands on the table. A table at a start meets the
+/// invariant, and whatever meets it has what every moment claims.
 pub fn step_kept<W: Work>(limit: u32, work: W)
     ensures kept { StepKept (setup_for W.many W.size W.meaning limit work) (W.lawful work) }
     ensures moves { StepMoves (setup_for W.many W.size W.meaning limit work) (W.lawful work) }
@@ -35,7 +37,7 @@ pub fn step_kept<W: Work>(limit: u32, work: W)
 {}
 
 /// The calls of one caller, from a start on: a step ends its caller's open call or none, a begin
-/// adds one, and nothing else changes anybody's calls.
+/// adds one, also where a fresh machine makes it, and nothing else changes anybody's calls.
 pub fn calls_kept<W: Work>(limit: u32, work: W)
     ensures start { StartCalls (setup_for W.many W.size W.meaning limit work) (W.lawful work) }
     ensures steps { StepCalls (setup_for W.many W.size W.meaning limit work) (W.lawful work) }

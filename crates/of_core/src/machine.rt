@@ -17,6 +17,7 @@ mod committing;
 mod fill;
 mod helping;
 mod scanning;
+mod showing;
 mod trying;
 
 use crate::place::{Op, Outcome, Place};

@@ -13,7 +13,7 @@ use Rattle.of_mem.specs.Stores.{IsBucket, first_at, second_at, value_in, total}
 use Rattle.of_mem.proofs.Changes.{changed_same, changed_other, changed_cases, total_changed, total_changed_past}
 use Rattle.of_mem.proofs.Frames.{none_value, value_without}
 use Rattle.of_mem.proofs.Heaps.{each_append}
-use Rattle.of_map.proofs.News.{keys_tie}
+use Rattle.of_alloc.proofs.Leaving.{keys_tie}
 use Rattle.of_script.specs.Language.{greatest}
 use Rattle.of_store.specs.State.{State, kept, queue, with_key, with_queue}
 use Rattle.of_store.proofs.Kept.{kept_put}

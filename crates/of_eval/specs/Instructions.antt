@@ -17,16 +17,19 @@ use Rattle.of_map.proofs.Gets.{get_means}
 use Rattle.of_map.proofs.Changes.{put_means}
 use Rattle.of_map.proofs.Wholes.{put_inside}
 use Rattle.of_map.proofs.Dels.{del_means}
+use Rattle.of_order.specs.OrderPrograms.{least_program, drop_program}
+use Rattle.of_order.proofs.Buckets.{least_means}
+use Rattle.of_order.proofs.Drops.{drop_means}
 use Rattle.of_queue.specs.QueuePrograms.{push_program, pop_program}
 use Rattle.of_queue.specs.Means.{push_store, pop_store, front_of}
 use Rattle.of_queue.proofs.Wholes.{push_means, pop_means}
 use Rattle.of_script.specs.declared.instr.Cause.TheVariants.{Overflow, Short, NoRoom, Differs}
 use Rattle.of_script.specs.declared.instr.Instr.{Instr}
-use Rattle.of_script.specs.declared.instr.Instr.TheVariants.{Load, Store as Put_in, Add, Sub, Get, Put, Del, Need, Push, Pop, Len, Count}
+use Rattle.of_script.specs.declared.instr.Instr.TheVariants.{Load, Store as Put_in, Add, Sub, Get, Put, Del, Need, Push, Pop, Len, Count, First, Next, DropBelow}
 use Rattle.of_script.specs.Language.{InRange, greatest}
-use Rattle.of_store.specs.State.{State, IsState, Effect, effect, popped, queue, kept, register, with_register, with_queue, is_there}
+use Rattle.of_store.specs.State.{State, IsState, Effect, effect, popped, least_from, queue, kept, register, with_register, with_queue, is_there}
 use Rattle.of_eval.specs.Stored.{plain, IsStored}
-use Rattle.of_eval.specs.ScriptPrograms.{Answer, answers, put_answers, answers_if, need_answers, add_to, add_unless, sub_from, sub_unless, instr_program}
+use Rattle.of_eval.specs.ScriptPrograms.{Answer, answers, answers_number, put_answers, answers_if, need_answers, add_to, add_unless, sub_from, sub_unless, instr_program}
 use Rattle.of_eval.specs.Registers.{register_stands}
 
 -- the answer and the cells are those of this effect; an abort's cells are not asked
@@ -170,6 +173,16 @@ module _ (o blocks : ℕ) (few : blocks ≤ MOST_BLOCKS) (m : ℕ → ℕ) (s : 
   count : Does (instr_program o blocks Count) (effect s Count)
   count = ((omega arith, omega arith, tt), (ap (λ (v : ℕ). Ok (Some v)) h.stands.holds.keys, h.stands))
 
+  least : (low : ℕ) → Does (then_do (least_program o blocks low) answers) (Ok (s, least_from s.keys low))
+  least low =
+      let g = least_means o blocks low m (plain s) h.stands in
+      after_first o blocks m (least_program o blocks low) answers (Ok (s, least_from s.keys low)) g.2 (tt, (ap Ok g.0, subst (λ (n : ℕ → ℕ). Stands o blocks n (plain s)) (sym g.1) h.stands))
+
+  drop : (k : ℕ) → Does (instr_program o blocks (DropBelow k)) (effect s (DropBelow k))
+  drop k =
+      let d = drop_means o blocks k few (plain s) m h.stands in
+      after_first o blocks m (drop_program o blocks k) answers_number (effect s (DropBelow k)) d.0 (tt, (ap (λ (v : ℕ). Ok (Some v)) d.1, d.2))
+
   -- every instruction does to the cells what it does to the store
   pub instr_acts : (i : Instr) → InRange i → Acts o blocks m (instr_program o blocks i) (effect s i)
   instr_acts (Load r) k = load r k
@@ -184,3 +197,6 @@ module _ (o blocks : ℕ) (few : blocks ≤ MOST_BLOCKS) (m : ℕ → ℕ) (s : 
   instr_acts (Pop q) k = pop q k
   instr_acts (Len q) k = len q k
   instr_acts Count k = count
+  instr_acts First k = least 0
+  instr_acts (Next k) l = least (k + 1)
+  instr_acts (DropBelow k) l = drop k

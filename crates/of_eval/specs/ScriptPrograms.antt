@@ -6,9 +6,10 @@ use Rattle.of_mem.specs.Programs.{Program, Done, Read, Write, then_do}
 use Rattle.of_map.specs.declared.answers.Put.{Put as PutAnswer}
 use Rattle.of_map.specs.declared.answers.Put.TheVariants.{Full, New, Over}
 use Rattle.of_map.specs.MapPrograms.{get_program, put_program, del_program, count_program}
+use Rattle.of_order.specs.OrderPrograms.{least_program, drop_program}
 use Rattle.of_queue.specs.QueuePrograms.{push_program, pop_program, len_program}
 use Rattle.of_script.specs.declared.instr.Instr.{Instr}
-use Rattle.of_script.specs.declared.instr.Instr.TheVariants.{Load, Store, Add, Sub, Get, Put, Del, Need, Push, Pop, Len, Count}
+use Rattle.of_script.specs.declared.instr.Instr.TheVariants.{Load, Store, Add, Sub, Get, Put, Del, Need, Push, Pop, Len, Count, First, Next, DropBelow}
 use Rattle.of_script.specs.declared.instr.Cause.{Cause}
 use Rattle.of_script.specs.declared.instr.Cause.TheVariants.{Overflow, Short, NoRoom, Differs, BadOp}
 use Rattle.of_script.specs.declared.instr.TheConstants.{MOST_INSTRS}
@@ -77,6 +78,9 @@ instr_program o blocks (Push q v) = then_do (push_program o blocks q v) (answers
 instr_program o blocks (Pop q) = then_do (pop_program o q) answers
 instr_program o blocks (Len q) = then_do (len_program o q) answers_number
 instr_program o blocks Count = then_do (count_program o) answers_number
+instr_program o blocks First = then_do (least_program o blocks 0) answers
+instr_program o blocks (Next k) = then_do (least_program o blocks (k + 1)) answers
+instr_program o blocks (DropBelow k) = then_do (drop_program o blocks k) answers_number
 
 abbrev pub program_of : ℕ → ℕ → Option Instr → Program Answer
 program_of o blocks None = aborts BadOp

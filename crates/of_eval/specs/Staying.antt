@@ -1,18 +1,22 @@
 -- Scripts read and write nothing before the first cell of the store; those that only read write nothing.
-use Rattle.std.proofs.Common.{◌≡◌, ℕ, ◌+◌, ◌-◌, Bool, true, false, Option, Some, None, Ok, Err, List, [], ◌∷◌, ◌++◌, arith}
+use Rattle.std.proofs.Common.{◌≡◌, ℕ, ◌+◌, ◌-◌, Bool, true, false, Option, Some, None, Ok, Err, List, [], ◌∷◌, ◌++◌, ap, arith}
 use Rattle.std.proofs.lemmas.Bool.{false≢true}
 use Rattle.of_mem.specs.declared.work.RawReply.{RawReply}
-use Rattle.of_mem.specs.Programs.{Program, StaysFrom, OnlyReads}
+use Rattle.of_mem.specs.Programs.{Program, Read, then_do, StaysFrom, OnlyReads}
+use Rattle.of_mem.specs.Places.{bucket_at}
 use Rattle.of_mem.proofs.Runs.{stays_then, reads_then}
 use Rattle.of_map.specs.declared.answers.Put.{Put as PutAnswer}
 use Rattle.of_map.specs.declared.answers.Put.TheVariants.{Full, New, Over}
 use Rattle.of_map.specs.MapPrograms.{get_program, put_program, del_program}
 use Rattle.of_map.proofs.Staying.{get_stays, get_reads, put_stays, del_stays}
+use Rattle.of_order.specs.OrderPrograms.{least_program, drop_program}
+use Rattle.of_order.proofs.Buckets.{least_stays, least_reads, least_begins}
+use Rattle.of_order.proofs.Drops.{drop_stays}
 use Rattle.of_queue.specs.QueuePrograms.{push_program, pop_program}
 use Rattle.of_queue.proofs.Staying.{push_stays, pop_stays}
 use Rattle.of_script.specs.declared.instr.Cause.TheVariants.{NoRoom, Differs}
 use Rattle.of_script.specs.declared.instr.Instr.{Instr}
-use Rattle.of_script.specs.declared.instr.Instr.TheVariants.{Load, Store, Add, Sub, Get, Put, Del, Need, Push, Pop, Len, Count}
+use Rattle.of_script.specs.declared.instr.Instr.TheVariants.{Load, Store, Add, Sub, Get, Put, Del, Need, Push, Pop, Len, Count, First, Next, DropBelow}
 use Rattle.of_script.specs.Language.{reads_only}
 use Rattle.of_script.specs.Reading.{instr_at}
 use Rattle.of_script.proofs.Numbers.{both}
@@ -20,7 +24,7 @@ use Rattle.of_store.specs.State.{is_there}
 use Rattle.std.specs.Prelude.{nat_lt}
 use Rattle.of_script.specs.Language.{greatest}
 use Rattle.of_eval.specs.Scripts.{instr_reads, words_read}
-use Rattle.of_eval.specs.ScriptPrograms.{Answer, answers, put_answers, answers_if, need_answers, add_unless, sub_unless, instr_program, program_of, word_program, go_on, words_program}
+use Rattle.of_eval.specs.ScriptPrograms.{Answer, answers, answers_number, put_answers, answers_if, need_answers, add_unless, sub_unless, instr_program, program_of, word_program, go_on, words_program}
 
 module _ (o blocks : ℕ) where
   put_after : (r : PutAnswer) → StaysFrom o (put_answers r)
@@ -57,6 +61,19 @@ module _ (o blocks : ℕ) where
   instr_stays (Pop q) = stays_then o (pop_program o q) answers (pop_stays o q) (λ r. tt)
   instr_stays (Len q) = (omega arith, λ v. tt)
   instr_stays Count = (omega arith, λ v. tt)
+  instr_stays First = stays_then o (least_program o blocks 0) answers (least_stays o 0 blocks) (λ r. tt)
+  instr_stays (Next k) = stays_then o (least_program o blocks (k + 1)) answers (least_stays o (k + 1) blocks) (λ r. tt)
+  instr_stays (DropBelow k) = stays_then o (drop_program o blocks k) answers_number (drop_stays o k blocks) (λ r. tt)
+
+  -- the walks over all buckets begin with a read
+  begins : (low : ℕ) → (k : ℕ → Program Answer) × (then_do (least_program o blocks low) answers ≡ Read (bucket_at o 0) k)
+  begins low = let b = least_begins o blocks low in ((λ v. then_do (b.0 v) answers), ap (λ (f : Program (Option ℕ)). then_do f answers) b.1)
+
+  pub first_begins : (k : ℕ → Program Answer) × (instr_program o blocks First ≡ Read (bucket_at o 0) k)
+  first_begins = begins 0
+
+  pub next_begins : (key : ℕ) → (k : ℕ → Program Answer) × (instr_program o blocks (Next key) ≡ Read (bucket_at o 0) k)
+  next_begins key = begins (key + 1)
 
   word_stays : (i : Option Instr) → StaysFrom o (program_of o blocks i)
   word_stays None = tt
@@ -83,6 +100,9 @@ module _ (o blocks : ℕ) where
   instr_only (Pop q) e = absurd (false≢true e)
   instr_only (Len q) e = λ v. tt
   instr_only Count e = λ v. tt
+  instr_only First e = reads_then (least_program o blocks 0) answers (least_reads o 0 blocks) (λ r. tt)
+  instr_only (Next k) e = reads_then (least_program o blocks (k + 1)) answers (least_reads o (k + 1) blocks) (λ r. tt)
+  instr_only (DropBelow k) e = absurd (false≢true e)
 
   word_only : (i : Option Instr) → instr_reads i ≡ true → OnlyReads (program_of o blocks i)
   word_only None e = absurd (false≢true e)

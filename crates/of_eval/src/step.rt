@@ -5,7 +5,7 @@ ghost use Rattle.of_mem.specs.Calls.{RunsOn, HasStore};
 ghost use Rattle.of_mem.specs.Programs.{Done};
 ghost use Rattle.of_script.specs.Language.{InRange};
 ghost use Rattle.of_script.specs.Reading.{instr_at};
-ghost use Rattle.of_script.specs.declared.instr.Instr.TheVariants.{Load, Store, Add, Sub, Get, Put as PutAt, Del, Need as Needs, Push, Pop, Len, Count};
+ghost use Rattle.of_script.specs.declared.instr.Instr.TheVariants.{Load, Store, Add, Sub, Get, Put as PutAt, Del, Need as Needs, Push, Pop, Len, Count, First, Next, DropBelow};
 ghost use Rattle.of_eval.specs.ScriptPrograms.{need_answers};
 ghost use Rattle.of_eval.specs.Calls.{step, run_word};
 
@@ -56,6 +56,9 @@ fn step(plot: &Plot, part: &mut Part, instr: Instr) -> Result<Answer, Need>
         Instr::Pop { queue } => pop(plot, part, queue),
         Instr::Len { queue } => len(plot, part, queue),
         Instr::Count => count(plot, part),
+        Instr::First => first(plot, part),
+        Instr::Next { key } => next(plot, part, key),
+        Instr::DropBelow { key } => drop_below(plot, part, key),
     }
 }
 
@@ -210,4 +213,34 @@ fn count(plot: &Plot, part: &Part) -> Result<Answer, Need>
 {
     let keys = of_map::count(plot, part)?;
     Ok(Ok(Some(keys)))
+}
+
+/// Answers the least key.
+#[tactic(auto, using(of_mem::proofs::Runs::run_then_gives, of_mem::proofs::Runs::run_then_needs))]
+fn first(plot: &Plot, part: &Part) -> Result<Answer, Need>
+    requires { HasStore plot.now part.now }
+    ensures { RunsOn (step plot.now First) part.now part.now result }
+{
+    let key = of_order::first(plot, part)?;
+    Ok(Ok(key))
+}
+
+/// Answers the least key above one.
+#[tactic(auto, using(of_mem::proofs::Runs::run_then_gives, of_mem::proofs::Runs::run_then_needs))]
+fn next(plot: &Plot, part: &Part, key: u32) -> Result<Answer, Need>
+    requires { HasStore plot.now part.now }
+    ensures { RunsOn (step plot.now (Next key)) part.now part.now result }
+{
+    let next = of_order::next(plot, part, key)?;
+    Ok(Ok(next))
+}
+
+/// Drops the keys below one.
+#[tactic(auto, using(of_mem::proofs::Runs::run_then_gives, of_mem::proofs::Runs::run_then_needs))]
+fn drop_below(plot: &Plot, part: &mut Part, key: u32) -> Result<Answer, Need>
+    requires { HasStore plot.now part.old }
+    ensures { RunsOn (step plot.now (DropBelow key)) part.old part.new result }
+{
+    let dropped = of_order::drop_below(plot, part, key)?;
+    Ok(Ok(Some(dropped)))
 }

@@ -34,7 +34,7 @@ record Joined (s : Start) (ls : List Life) : Type 0 where
   tickets : (c : ℕ) → finished_of (start_behind_all s ls) c ≡ done_behind (finished_of s c) (own_in ls c)
 
 -- the element at a place is one of the list
-at_in : {X : Type 0} (xs : List X) (k : ℕ) (x : X) → k < length xs → get_or xs k x ≡ x → IsIn x xs
+pub at_in : {X : Type 0} (xs : List X) (k : ℕ) (x : X) → k < length xs → get_or xs k x ≡ x → IsIn x xs
 at_in [] k x lt is = absurd (omega (arith, lt))
 at_in (y ∷ ys) zero x lt is = inl is
 at_in (y ∷ ys) (suc k) x lt is = inr (at_in ys k x (omega (arith, lt)) is)

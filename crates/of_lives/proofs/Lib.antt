@@ -3,4 +3,8 @@ pub mod Callers
 pub mod Tickets
 pub mod OneLife
 pub mod AllLives
+pub mod Restarting
+pub mod ImageStarts
+pub mod LeftImages
+pub mod Continuing
 pub mod WorkedLives

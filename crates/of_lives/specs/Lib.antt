@@ -1,3 +1,6 @@
 pub mod Lives
 pub mod OneHistory
+pub mod Restarts
+pub mod Images
+pub mod Continuing
 pub mod Worked

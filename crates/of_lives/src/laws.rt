@@ -2,8 +2,10 @@
 
 ghost use Rattle.std.specs.Prelude.{◌≡◌, Some, None, [], ◌∷◌};
 ghost use Rattle.of_lives.specs.OneHistory.{LivesAreOneHistory};
+ghost use Rattle.of_lives.specs.Restarts.{LivesRestart};
 ghost use Rattle.of_lives.specs.Worked.{FollowsFirst, second_life, runs_again, begins_anew, forgets_store, skips_read, asked_by, replies_to, answers, done_in_both};
 
+use of_caller::laws::runs_restart;
 use of_plan::laws::worked_reports;
 
 /// The entries of any number of lives are one history together, where each life has a report that
@@ -13,6 +15,15 @@ use of_plan::laws::worked_reports;
 pub fn any_lives()
     ensures { LivesAreOneHistory }
 {}
+
+/// A life leaves where the next one begins: from what recovery makes of the durable words of its run
+/// a table may start, and it starts behind the life, at its sequence and its store and with each
+/// caller behind its last announced call.
+pub fn lives_restart()
+    ensures { LivesRestart }
+{
+    runs_restart();
+}
 
 /// A worked second life asks again for a read of the first, finds what was added in between, and
 /// runs no announced call again. Four that are a number or an entry away from it are refused.

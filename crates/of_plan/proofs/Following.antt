@@ -15,14 +15,23 @@ use Rattle.of_plan.specs.declared.line.Line.TheVariants.{Title, Callers, Blocks,
 use Rattle.of_plan.specs.declared.reading.Stage.{Stage}
 use Rattle.of_plan.specs.declared.reading.Stage.TheVariants.{Start, Named, Counted, Sized, Body as InBody, Ended}
 use Rattle.of_cell.specs.Cells.{durable_cells}
-use Rattle.of_plan.specs.Lines.{lines, kept, line_words}
+use Rattle.of_plan.specs.Lines.{lines, line_words}
 use Rattle.of_plan.specs.Plan.{Plan, turns_of, data_cells}
 use Rattle.of_plan.specs.Grammar.{Heading, limit_lines, plan_lines, IsHeading, InRange, AreEntries, SpellsPlan, item_of, scripts_in, stop_in}
-use Rattle.of_plan.specs.LineReading.{LineInRange}
-use Rattle.of_plan.specs.Progress.{Progress, plan_at, start, entered, next, follow}
+use Rattle.of_plan.specs.LineReading.{LineInRange, plan_language}
+use Rattle.of_plan.specs.Progress.{Progress, plan_at, start, entered, next, plan_reader}
+use Rattle.of_plan.specs.Reader.{follow as follow_by}
 use Rattle.of_plan.proofs.Lists.{all-both, map_const}
+use Rattle.of_plan.proofs.Readings.{Reads}
 use Rattle.of_plan.proofs.Entries.{after, added, adds, fewer}
 use Rattle.of_plan.proofs.Entering.{taken, enters}
+
+abbrev pub follow : Progress → List Line → Option Progress
+follow p ls = follow_by plan_language plan_reader p ls
+
+-- the end was read
+abbrev pub IsEnded : Progress → Type 0
+IsEnded p = p.stage ≡ Ended
 
 -- ---- what is read is a heading, entries and the end
 
@@ -236,17 +245,11 @@ lines_range h es k a = (tt, (k.few_callers, (k.few_blocks, all-both LineInRange 
 
 -- ---- a text that is read is spelled so, and one that is spelled is read so
 
-pub record Reads (text : List ℕ) (plan : Plan) : Type 0 where
-  pub said : List Line
-  pub range : AllByRecursion LineInRange said
-  pub each : kept (lines text) ≡ map line_words said
-  pub last : Progress
-  pub leads : follow start said ≡ Some last
-  pub ended : last.stage ≡ Ended
-  pub is : plan ≡ plan_at last
+abbrev pub ReadsPlan : List ℕ → Type 0
+ReadsPlan text = Reads plan_language plan_reader start IsEnded text
 
-pub spelled : (text : List ℕ) (plan : Plan) → Reads text plan → SpellsPlan text plan
-spelled text plan r =
+pub spelled : (text : List ℕ) (r : ReadsPlan text) → SpellsPlan text (plan_at r.last)
+spelled text r =
     let s = said_of r.said r.last r.range r.leads r.ended in
     record {
       heading = s.heading;
@@ -254,19 +257,20 @@ spelled text plan r =
       heading_fits = s.heading_fits;
       entries_fit = s.entries_fit;
       each = r.each ∙ ap (map line_words) s.are;
-      is = r.is ∙ ap plan_at (sym s.is);
+      is = ap plan_at (sym s.is);
     }
 
-pub read : (text : List ℕ) (plan : Plan) → SpellsPlan text plan → Reads text plan
+pub read : (text : List ℕ) (plan : Plan) → SpellsPlan text plan → (r : ReadsPlan text) × (plan ≡ plan_at r.last)
 read text plan s =
     let h = s.heading in
-    let es = s.entries in
-    record {
-      said = plan_lines h es;
-      range = lines_range h es s.heading_fits s.entries_fit;
-      each = s.each;
-      last = after Ended h es;
-      leads = follows h es s.heading_fits s.entries_fit;
-      ended = refl;
-      is = s.is;
-    }
+    let es = s.entries in (
+      record {
+        said = plan_lines h es;
+        range = lines_range h es s.heading_fits s.entries_fit;
+        each = s.each;
+        last = after Ended h es;
+        leads = follows h es s.heading_fits s.entries_fit;
+        ended = refl;
+      },
+      s.is,
+    )

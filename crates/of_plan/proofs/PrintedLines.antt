@@ -1,20 +1,15 @@
 -- The printed text of lines in range has these lines, each with its words.
-use Rattle.std.proofs.Common.{◌≡◌, inl, inr, ℕ, ◌^◌, ◌<◌, ◌≤◌, Bool, true, false, not, ◌&&◌, eqb, List, [], ◌∷◌, ◌++◌, length, map, refl, sym, ap, subst, ◌∙◌, append_assoc, arith}
+use Rattle.std.proofs.Common.{◌≡◌, ℕ, ◌≤◌, false, eqb, List, [], ◌∷◌, ◌++◌, map, refl, sym, ap, subst, ◌∙◌, append_assoc, arith}
 use Rattle.std.specs.Prelude.{codes, decimal}
 use Rattle.std.specs.List.{AllByRecursion, flat_map, join_with_byte}
-use Rattle.std.specs.Str.Parse.{AllDigits}
-use Rattle.std.proofs.lemmas.Bool.Decides.{eqb_tells}
 use Rattle.std.proofs.lemmas.List.Elements.{All-from_recursion}
 use Rattle.std.proofs.lemmas.List.Splits.{slice_split_at}
-use Rattle.std.proofs.lemmas.Str.Parse.{digit_from_value}
-use Rattle.std.proofs.lemmas.Fmt.{digits_decimal}
 use Rattle.of_script.specs.declared.instr.Instr.{Instr}
-use Rattle.of_script.specs.declared.instr.Instr.TheVariants.{Load, Store, Add, Sub, Get, Put, Del, Need, Push, Pop, Len, Count}
+use Rattle.of_script.specs.declared.instr.Instr.TheVariants.{Load, Store, Add, Sub, Get, Put, Del, Need, Push, Pop, Len, Count, First, Next, DropBelow}
 use Rattle.of_script.specs.Language.{InRange, IsScript}
-use Rattle.of_script.specs.Text.{words, is_gap, instr_words, instr_text, script_text, script_words}
-use Rattle.of_script.proofs.Again.{NoGaps, IsWord, decimal_is_word, words-word, words-join}
+use Rattle.of_script.specs.Text.{words, instr_words, instr_text, script_text, script_words}
+use Rattle.of_script.proofs.Again.{decimal_is_word, words-word, words-join}
 use Rattle.of_script.proofs.Marks.{printed_again}
-use Rattle.of_script.proofs.Numbers.{digit_texts}
 use Rattle.of_plan.specs.declared.line.Entry.TheVariants.{Script, Stop, Turns, Evict}
 use Rattle.of_plan.specs.declared.line.Line.{Line}
 use Rattle.of_plan.specs.declared.line.Line.TheVariants.{Title, Callers, Blocks, Limit, Body, End}
@@ -23,61 +18,7 @@ use Rattle.of_plan.specs.LineReading.{LineInRange}
 use Rattle.of_plan.specs.PlanText.{line_body, line_text}
 use Rattle.of_plan.proofs.Lists.{all-both}
 use Rattle.of_plan.proofs.TextLines.{NoNewline, kept-cons}
-
--- ---- names and numbers
-
-both : (a b : Bool) → (a && b) ≡ true → (a ≡ true) × (b ≡ true)
-both true b e = (refl, e)
-both false b e = absurd cc
-
-no_is : (b : Bool) → not b ≡ true → b ≡ false
-no_is true e = absurd cc
-no_is false e = refl
-
-abbrev clean : List ℕ → Bool
-clean [] = true
-clean (b ∷ bs) = not (eqb b 10) && clean bs
-
-clean_is : (bs : List ℕ) → clean bs ≡ true → NoNewline bs
-clean_is [] e = tt
-clean_is (b ∷ bs) e = let h = both (not (eqb b 10)) (clean bs) e in (no_is (eqb b 10) h.0, clean_is bs h.1)
-
-abbrev gapless : List ℕ → Bool
-gapless [] = true
-gapless (b ∷ bs) = not (is_gap b) && gapless bs
-
-gapless_is : (bs : List ℕ) → gapless bs ≡ true → NoGaps bs
-gapless_is [] e = tt
-gapless_is (b ∷ bs) e = let h = both (not (is_gap b)) (gapless bs) e in (no_is (is_gap b) h.0, gapless_is bs h.1)
-
--- a word of one line
-record Plain (w : List ℕ) : Type 0 where
-  pub word : IsWord w
-  pub clean : NoNewline w
-
-plain_name : (w : List ℕ) → 0 < length w → gapless w ≡ true → clean w ≡ true → Plain w
-plain_name w some one two = record { word = record { some = some; no_gaps = gapless_is w one }; clean = clean_is w two }
-
-digits_clean : (ds : List ℕ) → AllDigits 10 ds → NoNewline ds
-digits_clean [] h = tt
-digits_clean (c ∷ cs) h =
-    let r = digit_from_value c h.0 in
-    (elim (eqb_tells c 10) [ inl p ↦ absurd (let e = p.1 in omega (arith, r.0)) | inr p ↦ p.0 ], digits_clean cs h.1)
-
-plain_number : (n : ℕ) → n < 2 ^ 64 → Plain (decimal n)
-plain_number n fits = record { word = decimal_is_word n fits; clean = digits_clean (decimal n) (digit_texts.to _ (digits_decimal digit_texts n fits)) }
-
-abbrev Plains : List (List ℕ) → Type 0
-Plains ws = AllByRecursion Plain ws
-
-plain_words : (ws : List (List ℕ)) → Plains ws → AllByRecursion IsWord ws
-plain_words [] h = tt
-plain_words (w ∷ ws) h = (h.0.word, plain_words ws h.1)
-
-join_clean : (ws : List (List ℕ)) → Plains ws → NoNewline (join_with_byte 32 ws)
-join_clean [] h = tt
-join_clean (w ∷ []) h = h.0.clean
-join_clean (w ∷ v ∷ ws) h = all-both (λ b. eqb b 10 ≡ false) w (32 ∷ join_with_byte 32 (v ∷ ws)) h.0.clean (refl, join_clean (v ∷ ws) h.1)
+use Rattle.of_plan.proofs.PlainWords.{Plains, clean_is, plain_name, plain_number, plain_words, join_clean}
 
 -- ---- instructions have no newline
 
@@ -94,6 +35,9 @@ plain_instr (Push q v) h = (plain_name (codes "push") (omega arith) refl refl, (
 plain_instr (Pop q) h = (plain_name (codes "pop") (omega arith) refl refl, (plain_number q (omega arith), tt))
 plain_instr (Len q) h = (plain_name (codes "len") (omega arith) refl refl, (plain_number q (omega arith), tt))
 plain_instr Count h = (plain_name (codes "count") (omega arith) refl refl, tt)
+plain_instr First h = (plain_name (codes "first") (omega arith) refl refl, tt)
+plain_instr (Next k) h = (plain_name (codes "next") (omega arith) refl refl, (plain_number k (omega arith), tt))
+plain_instr (DropBelow k) h = (plain_name (codes "drop-below") (omega arith) refl refl, (plain_number k (omega arith), tt))
 
 instr_clean : (i : Instr) → InRange i → NoNewline (instr_text i)
 instr_clean i h = join_clean (instr_words i) (plain_instr i h)

@@ -2,7 +2,7 @@
 use Rattle.of_cell.specs.declared.shape.TheConstants.{MOST_CALLERS}
 use Rattle.of_store.specs.declared.store.TheConstants.{MOST_BLOCKS}
 use Rattle.of_plan.specs.declared.plan.TheConstants.{GREATEST_LIMIT, LATEST_STOP, MOST_SCRIPTS, MOST_TURNS}
-use Rattle.std.specs.Prelude.{◌≡◌, ℕ, ◌≤◌, ◌<◌, ◌⊎◌, List, [], ◌∷◌, ◌++◌, length, take, map, sum_by, filter_map, if◌then◌else◌, ◌==◌, Option, Some, None, IfSome}
+use Rattle.std.specs.Prelude.{◌≡◌, ℕ, ◌≤◌, ◌<◌, List, [], ◌∷◌, ◌++◌, length, map, sum_by, filter_map, if◌then◌else◌, ◌==◌, Option, Some, None, IfSome}
 use Rattle.std.specs.Option.{unwrap_or}
 use Rattle.std.specs.List.{AllByRecursion, range_with_len}
 use Rattle.of_cell.specs.Cells.{durable_cells}
@@ -111,16 +111,6 @@ pub record SpellsPlan (text : List ℕ) (plan : Plan) : Type 0 where
   pub each : kept (lines text) ≡ map line_words (plan_lines heading entries)
   pub is : plan ≡ plan_of heading entries
 
--- the first j lines are those of some text of the grammar
-pub record BeginsWell (text : List ℕ) (j : ℕ) : Type 0 where
-  pub other : List ℕ
-  pub plan : Plan
-  pub spells : SpellsPlan other plan
-  pub same : take j (lines text) ≡ take j (lines other)
-
--- the first line with which no text of the grammar begins, or the last where the text only stops too early
-pub record IsBadLine (text : List ℕ) (j : ℕ) : Type 0 where
-  pub first : 1 ≤ j
-  pub last : j ≤ length (lines text)
-  pub before : (k : ℕ) → k < j → BeginsWell text k
-  pub there : (BeginsWell text j → ⊥) ⊎ (j ≡ length (lines text))
+-- the text is in the grammar
+abbrev pub IsPlanText : List ℕ → Type 0
+IsPlanText text = (plan : Plan) × SpellsPlan text plan

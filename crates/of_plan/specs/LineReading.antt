@@ -3,7 +3,7 @@ use Rattle.of_cell.specs.declared.shape.TheConstants.{MOST_CALLERS}
 use Rattle.of_store.specs.declared.store.TheConstants.{MOST_BLOCKS}
 use Rattle.of_plan.specs.declared.plan.TheConstants.{GREATEST_LIMIT, LATEST_STOP, MOST_TURNS}
 use Rattle.of_plan.specs.declared.line.TheConstants.{GREATEST_CELL}
-use Rattle.std.specs.Prelude.{◌≡◌, ℕ, ◌-◌, ◌≤◌, false, ◌&&◌, List, [], ◌∷◌, if◌then◌else◌, codes, decimal, Option, None}
+use Rattle.std.specs.Prelude.{◌≡◌, ℕ, ◌-◌, ◌≤◌, ◌&&◌, List, [], ◌∷◌, if◌then◌else◌, codes, decimal, Option, None}
 use Rattle.std.specs.Str.{bytes_eq}
 use Rattle.of_script.specs.declared.instr.Instr.{Instr}
 use Rattle.of_script.specs.Language.{IsScript}
@@ -12,7 +12,8 @@ use Rattle.of_script.specs.Reading.{ended}
 use Rattle.of_plan.specs.declared.line.Entry.TheVariants.{Script, Stop, Turns, Evict}
 use Rattle.of_plan.specs.declared.line.Line.{Line}
 use Rattle.of_plan.specs.declared.line.Line.TheVariants.{Title, Callers, Blocks, Limit, Body, End}
-use Rattle.of_plan.specs.Lines.{is_skipped, line_words}
+use Rattle.of_plan.specs.Lines.{line_words}
+use Rattle.of_plan.specs.Reader.{Language}
 
 -- the ranges of a line's numbers, whatever lines stand before it
 abbrev pub LineInRange : Line → Type 0
@@ -26,16 +27,9 @@ LineInRange (Body (Turns c x)) = (c ≤ MOST_CALLERS - 1) × (x ≤ MOST_TURNS)
 LineInRange (Body (Evict a)) = a ≤ GREATEST_CELL
 LineInRange End = Unit {0}
 
--- the words are those of this line
-pub record Spells (ws : List (List ℕ)) (l : Line) : Type 0 where
-  pub kept : is_skipped ws ≡ false
-  pub words : ws ≡ line_words l
-  pub range : LineInRange l
-
--- the words are no line's
-pub record SpellsNone (ws : List (List ℕ)) : Type 0 where
-  pub kept : is_skipped ws ≡ false
-  pub none : (l : Line) → LineInRange l → ws ≡ line_words l → ⊥
+-- plans, as they are read
+abbrev pub plan_language : Language
+plan_language = record { Line = Line; words_of = line_words; InRange = LineInRange }
 
 -- how the title is read
 abbrev pub title_of : List (List ℕ) → Option Line

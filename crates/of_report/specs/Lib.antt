@@ -5,3 +5,6 @@ pub mod LoadText
 pub mod Examples
 pub mod Found
 pub mod Order
+pub mod ImageRow
+pub mod ImageLaw
+pub mod Image

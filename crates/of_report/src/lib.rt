@@ -1,7 +1,8 @@
-//! Reports of runs and their texts.
+//! Reports of runs and their texts, and images.
 #![tactic(auto)]
 
 mod found;
+mod image;
 pub mod laws;
 mod load;
 mod make;
@@ -11,4 +12,5 @@ pub mod store;
 #[cfg(test)]
 mod tests;
 
+pub use image::Image;
 pub use report::{EndState, Entry, Line, Report};

@@ -11,8 +11,8 @@ use Rattle.of_row.specs.declared.member.Member.{Member}
 use Rattle.of_row.specs.declared.member.Pass.{Pass}
 use Rattle.of_row.specs.declared.row.Row.{Row}
 use Rattle.of_row.specs.Views.{Sight, bare}
-use Rattle.of_row.specs.Rule.{KeepsOwn, Meets, KeepsAll, done_before}
-use Rattle.of_row.specs.Rows.{key_of, setup_at, start_at, RunsOn, IsMemberOf}
+use Rattle.of_row.specs.Rule.{KeepsOwn, Meets, KeepsAll}
+use Rattle.of_row.specs.Rows.{key_of, IsOf, RunsOn, IsMemberOf, HasNoCall}
 use Rattle.of_row.specs.Passes.{HasEnrolled}
 
 -- a view that keeps every number that is taken has seen the whole history
@@ -28,13 +28,29 @@ SeesOwn Lawful =
     (S : Setup) (B : Start) (ws : List ℕ) (v : Sight) → Meets S Lawful B ws v
     → v.spent ≡ false → KeepsOwn S B v
 
--- a member that enrolled stands for an idle machine of its number, with as many calls behind it
+-- a member that has no open call stands for a fresh machine of its number, with as many calls behind
+-- it
+abbrev pub FreshMember : {X : Type 0} → (X → Meaning) → Type 0
+FreshMember {X} meaning =
+    (member : Member) (m : Seen X) → HasNoCall member
+    → m.call ≡ idle (setup meaning m) member.number member.made → IsMemberOf meaning member m
+
+-- and one that stands for an idle machine has none open, and has begun as many
+abbrev pub IdleMember : {X : Type 0} → (X → Meaning) → Type 0
+IdleMember {X} meaning =
+    (member : Member) (m : Seen X) → IsMemberOf meaning member m → m.call.place ≡ Idle
+    → HasNoCall member × (member.made ≡ m.call.made)
+
+-- its number is that of one of the row's callers
+abbrev pub MemberInRange : {X : Type 0} → X → Type 0
+MemberInRange {X} work =
+    (row : Row X) (member : Member) → IsOf row member.seat → member.number < (key_of row).callers
+
+-- one that has just enrolled has none
 abbrev pub NewMember : {X : Type 0} → (X → Meaning) → X → Type 0
 NewMember {X} meaning work =
-    (row : Row X) (n : ℕ) (before pass : Pass) (member : Member) (m : Seen X)
-    → HasEnrolled meaning row n before member pass → RunsOn row m
-    → m.call ≡ idle (setup_at meaning row) n (done_before (setup_at meaning row) (start_at meaning row) n)
-    → IsMemberOf meaning member m
+    (row : Row X) (n : ℕ) (before pass : Pass) (member : Member)
+    → HasEnrolled meaning row n before member pass → HasNoCall member
 
 -- a member goes on standing for a machine that has begun a call
 abbrev pub BegunMember : {X : Type 0} → (X → Meaning) → X → Type 0

@@ -1,6 +1,7 @@
 //! What follows from the rule of a row: functions that do nothing, whose contracts are theorems.
 
-ghost use Rattle.of_row.specs.Laws.{SeesWhole, SeesOwn, NewMember, BegunMember, NewRuns, StillRuns};
+ghost use Rattle.of_row.specs.Laws.{SeesWhole, SeesOwn, NewRuns, StillRuns};
+ghost use Rattle.of_row.specs.Laws.{FreshMember, IdleMember, MemberInRange, NewMember, BegunMember};
 
 use of_mem::Work;
 
@@ -15,11 +16,18 @@ pub fn sees_own<W: Work>(work: W)
     ensures { SeesOwn (W.lawful work) }
 {}
 
-/// When a member stands for a machine: at first for an idle one of its number, and on from the
-/// begin of a call.
+/// When a member stands for a machine: while it has no open call, as at first, for a fresh one of its
+/// number, and on from the begin of a call.
 pub fn members<W: Work>(work: W)
+    ensures fresh { FreshMember W.meaning }
+    ensures range { MemberInRange work }
     ensures first { NewMember W.meaning work }
     ensures begun { BegunMember W.meaning work }
+{}
+
+/// A member that stands for an idle machine has no open call, and has begun as many as the machine.
+pub fn idle_members<W: Work>()
+    ensures { IdleMember W.meaning }
 {}
 
 /// When a machine runs on a row: at first by its sizes and its work, and on from the begin of a

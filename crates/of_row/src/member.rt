@@ -1,6 +1,7 @@
 //! What those hold who step on a row: passes and members, and how they are refused.
 
 ghost use Rattle.std.specs.Prelude.{◌≡◌};
+ghost use Rattle.of_row.specs.Views.{IsSole};
 
 use crate::view::View;
 use atomic_table::Seat;
@@ -18,6 +19,7 @@ pub struct Member {
     pub(crate) seat: Seat<(), View>,
     pub(crate) number: u32,
     pub(crate) made: u32,
+    ghost keeps: { IsSole seat.me.0.kept number made },
 }
 
 impl Member {

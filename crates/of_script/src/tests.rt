@@ -19,6 +19,10 @@ fn reads_prints_and_reads_again(rt: HostRuntime) -> Result<(), Fail> {
         (" get 0 ; put 1001 5", "get 0; put 1001 5"),
         ("del 1;need 2 3;push 3 9", "del 1; need 2 3; push 3 9"),
         ("pop 0; len 1;count ", "pop 0; len 1; count"),
+        (
+            "first;next 0 ; drop-below 2147483647",
+            "first; next 0; drop-below 2147483647",
+        ),
     ] {
         let script = parse(text.as_bytes())?;
         let out = print(rt.alloc(), &script)?;
@@ -46,6 +50,10 @@ fn names_the_first_bad_piece(rt: HostRuntime) -> Result<(), Fail> {
         ("add 0 01", 0),
         ("add 0", 0),
         ("count 1", 0),
+        ("first 0", 0),
+        ("next", 0),
+        ("drop-below 2147483648", 0),
+        ("drop_below 1", 0),
         ("Count", 0),
         ("count\n", 0),
         (
@@ -76,6 +84,9 @@ fn writes_and_reads_words(rt: HostRuntime) -> Result<(), Fail> {
         ("pop 0", 274877906944),
         ("put 2147483647 2147483647", 9223372036854775807),
         ("need 1001 5", 9223374186485907461),
+        ("first", 377957122048),
+        ("next 7", 412316860423),
+        ("drop-below 2147483647", 448824082431),
     ] {
         let script = parse(text.as_bytes())?;
         let mut words = [1; MOST_INSTRS];
@@ -85,7 +96,14 @@ fn writes_and_reads_words(rt: HostRuntime) -> Result<(), Fail> {
         assert_eq!(rt; words, expected);
         assert_eq!(rt; from_words(&[word]), Some(script), "{text}");
     }
-    for word in [0, 343597383681, 34359738369, 13835058055282163712] {
+    for word in [
+        0,
+        343597383681,
+        34359738369,
+        377957122049,
+        481036337152,
+        13835058055282163712,
+    ] {
         assert_eq!(rt; from_words(&[word]), None, "{word}");
     }
     let script = Script::new(&[Instr::Store { reg: 3, value: 7 }, Instr::Count]);
@@ -99,6 +117,8 @@ fn writes_and_reads_words(rt: HostRuntime) -> Result<(), Fail> {
 fn tells_scripts_that_only_read(rt: HostRuntime) -> Result<(), Fail> {
     for (text, only) in [
         ("load 1; get 2; need 3 4; len 0; count", true),
+        ("first; next 7", true),
+        ("first; drop-below 7", false),
         ("load 1; pop 0", false),
         ("del 7", false),
     ] {

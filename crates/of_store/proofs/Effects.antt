@@ -1,5 +1,5 @@
 -- What the code does with a map is the effect of the instruction.
-use Rattle.std.proofs.Common.{◌≡◌, ℕ, ◌<◌, ◌≤◌, true, false, leb, inl, inr, Option, Some, None, is_some, IfSome, Ok, Err, refl, sym, ap, ◌∙◌, arith}
+use Rattle.std.proofs.Common.{◌≡◌, ℕ, ◌-◌, ◌<◌, ◌≤◌, true, false, leb, inl, inr, Option, Some, None, is_some, IfSome, Ok, Err, refl, sym, ap, ◌∙◌, arith}
 use Rattle.std.specs.Prelude.{option_copied}
 use denote.Ref.{Bor}
 use Rattle.std.specs.FinMap as fm
@@ -7,9 +7,9 @@ use Rattle.std.specs.Ordering.{nat_cmp}
 use Rattle.std.proofs.lemmas.Bool.{le-leb}
 use Rattle.std.proofs.lemmas.Bool.Decides.{leb_tells}
 use Rattle.of_script.specs.Language.{greatest}
-use Rattle.of_script.specs.declared.instr.Instr.TheVariants.{Put, Del}
+use Rattle.of_script.specs.declared.instr.Instr.TheVariants.{Put, Del, DropBelow}
 use Rattle.of_script.specs.declared.instr.Cause.TheVariants.{NoRoom}
-use Rattle.of_store.specs.State.{State, Effect, effect, kept}
+use Rattle.of_store.specs.State.{State, Effect, effect, kept, keys_from}
 
 pub put_full : (s : State) (k v : ℕ) → fm.get s.keys k ≡ None → s.room ≤ kept s → effect s (Put k v) ≡ Err NoRoom
 put_full s k v e full = rw (e, le-leb _ _ full) refl
@@ -25,6 +25,11 @@ put_old s m k v (Some w) e there is = rw e (ap (λ (n : fm.FinMap nat_cmp ℕ). 
 
 pub del_effect : (s : State) (m : fm.FinMap nat_cmp ℕ) (k : ℕ) (before : Option ℕ) → before ≡ fm.get s.keys k → m ≡ fm.remove s.keys k → effect s (Del k) ≡ Ok (record s { keys = m }, before)
 del_effect s m k before e is = let f : fm.FinMap nat_cmp ℕ → Option ℕ → Effect = λ n o. Ok (record s { keys = n }, o) in ap (λ (n : fm.FinMap nat_cmp ℕ). f n (fm.get s.keys k)) (sym is) ∙ ap (f m) (sym e)
+
+pub drop_effect : (s : State) (m : fm.FinMap nat_cmp ℕ) (k n : ℕ) → m ≡ keys_from s.keys k → n ≡ fm.len s.keys - fm.len m → effect s (DropBelow k) ≡ Ok (record s { keys = m }, Some n)
+drop_effect s m k n is e =
+    let f : fm.FinMap nat_cmp ℕ → ℕ → Effect = λ x y. Ok (record s { keys = x }, Some y) in
+    ap (λ (x : fm.FinMap nat_cmp ℕ). f x (fm.len s.keys - fm.len x)) (sym is) ∙ ap (f m) (sym e)
 
 -- ---- what a look-up answers
 

@@ -3,7 +3,7 @@ use Rattle.std.proofs.Common.{◌≡◌, ℕ, Bool, true, false, cond, List, [],
 use Rattle.std.specs.List.{AllByRecursion}
 use Rattle.std.proofs.lemmas.List.Elements.{recursion_from_All}
 use Rattle.of_script.specs.declared.instr.Instr.{Instr}
-use Rattle.of_script.specs.declared.instr.Instr.TheVariants.{Load, Store, Add, Sub, Get, Put, Del, Need, Push, Pop, Len, Count}
+use Rattle.of_script.specs.declared.instr.Instr.TheVariants.{Load, Store, Add, Sub, Get, Put, Del, Need, Push, Pop, Len, Count, First, Next, DropBelow}
 use Rattle.of_script.specs.declared.instr.Cause.{Cause}
 use Rattle.of_script.specs.Language.{reads_only}
 use Rattle.of_store.specs.State.{State, Response, Effect, Outcome, effect, outcome, then_on, in_front, settled, run, replies, last_store}
@@ -43,6 +43,9 @@ effect_stays s (Push q v) e = absurd cc
 effect_stays s (Pop q) e = absurd cc
 effect_stays s (Len q) e = refl
 effect_stays s Count e = refl
+effect_stays s First e = refl
+effect_stays s (Next k) e = refl
+effect_stays s (DropBelow k) e = absurd cc
 
 -- what the outcome leaves is the store from before
 abbrev StaysAll : State → Outcome → Type 0

@@ -50,6 +50,9 @@ impl Store {
             Instr::Pop { queue } => Ok(Ok(self.pop(queue))),
             Instr::Len { queue } => Ok(Ok(Some(self.queue_len(queue)))),
             Instr::Count => Ok(Ok(Some(self.keys()))),
+            Instr::First => Ok(Ok(self.least_from(0))),
+            Instr::Next { key } => Ok(Ok(self.least_from(key + 1))),
+            Instr::DropBelow { key } => Ok(Ok(Some(self.drop_below(key)?))),
         }
     }
 

@@ -1,3 +1,4 @@
+pub mod ImageAnswers
 pub mod CommandLemmas
 pub mod Judged
 pub mod Courses
@@ -24,3 +25,4 @@ pub mod RanReports
 pub mod LoadStores
 pub mod LoadReports
 pub mod Carried
+pub mod PlayedImages

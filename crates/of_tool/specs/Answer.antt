@@ -1,5 +1,5 @@
 -- How an answer that is made before it is written stands for a verdict, and what the record of a run is beside it.
-use Rattle.std.specs.Prelude.{◌≡◌, ℕ, List, Option, None, MatchOption, codes}
+use Rattle.std.specs.Prelude.{◌≡◌, ℕ, List, Option, None, MatchOption, ◌++◌, codes, decimal}
 use Rattle.of_plan.specs.Plan.{Plan}
 use Rattle.of_plan.specs.Report.{Report}
 use Rattle.of_plan.specs.Ended.{Run as Record, run_of}
@@ -9,14 +9,17 @@ use Rattle.of_report.specs.ReportText.{report_text}
 use Rattle.of_report.specs.LoadText.{load_text}
 use Rattle.of_row.specs.Views.{Sight}
 use Rattle.of_row.specs.declared.member.Pass.{Pass}
+use Rattle.of_image.specs.declared.error.ImageErr.{ImageErr}
+use Rattle.of_image.specs.declared.error.ImageErr.TheVariants.{Memory, Bad, Unlawful}
+use Rattle.of_image.specs.declared.version.Version.{Version}
 use Rattle.of_check.specs.declared.verdict.Verdict.{Verdict}
 use Rattle.of_check.specs.declared.verdict.Verdict.TheVariants.{Legal, Illegal}
-use Rattle.of_tool.specs.declared.status.TheConstants.{DONE, ILLEGAL}
+use Rattle.of_tool.specs.declared.status.TheConstants.{DONE, BAD_IMAGE, ILLEGAL}
 use Rattle.of_tool.specs.declared.top.Answer.{Answer}
 use Rattle.of_tool.specs.declared.command.Command.TheVariants.{Run, Load}
 use Rattle.of_tool.specs.Commands.{words_of, Are, RunTeam}
 use Rattle.of_tool.specs.Ran.{IsRunReport}
-use Rattle.of_tool.specs.Verdicts.{SourceState, IsAnswer, ReadsPlan, AskForPlan, AsksUpTo}
+use Rattle.of_tool.specs.Verdicts.{SourceState, IsAnswer, ReadsPlan, AskForPlan, AskForImage, AsksUpTo}
 use Rattle.of_tool.specs.Headline.{IsWhole}
 
 abbrev pub Answered : List (List ℕ) → SourceState → SourceState → Answer → Type 0
@@ -25,6 +28,16 @@ Answered words before after answer = IsAnswer words before after answer.status a
 -- it is one of each command that reads a plan, and not done
 abbrev pub Refuses : SourceState → SourceState → Answer → Type 0
 Refuses before after answer = ((words : List (List ℕ)) → AskForPlan words → IsAnswer words before after answer.status answer.text.items) × (answer.status ≡ DONE → ⊥)
+
+-- it is one of each command that reads an image of this version
+abbrev pub RefusesImage : Version → SourceState → SourceState → Answer → Type 0
+RefusesImage v before after answer = (words : List (List ℕ)) → AskForImage v words → IsAnswer words before after answer.status answer.text.items
+
+-- it tells why a text has no image
+abbrev pub TellsRefusal : ImageErr → Answer → Type 0
+TellsRefusal Memory answer = ⊥
+TellsRefusal (Bad line) answer = (answer.status ≡ BAD_IMAGE) × (answer.text.items ≡ codes "error: bad image, line " ++ decimal line ++ codes "\n")
+TellsRefusal (Unlawful cell) answer = (answer.status ≡ BAD_IMAGE) × (answer.text.items ≡ codes "error: unlawful image, cell " ++ decimal cell ++ codes "\n")
 
 -- it is one of each command that reads so many bytes at most, and not done
 abbrev pub RefusesUpTo : ℕ → SourceState → SourceState → Answer → Type 0

@@ -4,7 +4,8 @@ use Rattle.std.specs.Global.{Global}
 use Rattle.of_cell.specs.declared.shape.TheConstants.{MOST_CALLERS}
 use Rattle.of_plan.specs.declared.plan.TheConstants.{MOST_SCRIPTS}
 use Rattle.of_tool.specs.declared.command.Command.{Command}
-use Rattle.of_tool.specs.declared.command.Command.TheVariants.{Serial, Play, Run, Load, Check, Help, Version}
+use Rattle.of_tool.specs.declared.command.TheConstants.{MOST_FIRST, MOST_EVENTS}
+use Rattle.of_tool.specs.declared.command.Command.TheVariants.{Serial, Play, Trace, Run, Load, Check, Image, Recover, Renumber, Migrate, Help, Version}
 
 -- the bytes of each word
 abbrev pub texts : List (String Global) → List (List ℕ)
@@ -18,11 +19,22 @@ SpellsUpTo most word n = (n ≤ most) × (word ≡ decimal n)
 abbrev pub words_of : Command → List (List ℕ)
 words_of Serial = codes "serial" ∷ []
 words_of Play = codes "play" ∷ []
+words_of (Trace first count) = codes "trace" ∷ decimal first ∷ decimal count ∷ []
 words_of Run = codes "run" ∷ []
 words_of (Load callers scripts) = codes "load" ∷ decimal callers ∷ decimal scripts ∷ []
 words_of Check = codes "check" ∷ []
+words_of Image = codes "image" ∷ []
+words_of Recover = codes "recover" ∷ []
+words_of Renumber = codes "renumber" ∷ []
+words_of Migrate = codes "migrate" ∷ []
 words_of Help = codes "--help" ∷ []
 words_of Version = codes "--version" ∷ []
+
+-- so many events from this one on
+pub record IsTrace (first count : ℕ) : Type 0 where
+  pub begins : first ≤ MOST_FIRST
+  pub some : 1 ≤ count
+  pub few : count ≤ MOST_EVENTS
 
 -- so many callers with so many scripts each
 pub record IsLoad (callers scripts : ℕ) : Type 0 where
@@ -35,9 +47,14 @@ pub record IsLoad (callers scripts : ℕ) : Type 0 where
 abbrev pub IsInRange : Command → Type 0
 IsInRange Serial = Unit {0}
 IsInRange Play = Unit {0}
+IsInRange (Trace first count) = IsTrace first count
 IsInRange Run = Unit {0}
 IsInRange (Load callers scripts) = IsLoad callers scripts
 IsInRange Check = Unit {0}
+IsInRange Image = Unit {0}
+IsInRange Recover = Unit {0}
+IsInRange Renumber = Unit {0}
+IsInRange Migrate = Unit {0}
 IsInRange Help = Unit {0}
 IsInRange Version = Unit {0}
 
@@ -47,7 +64,12 @@ IsPlain Run = ⊥
 IsPlain (Load callers scripts) = ⊥
 IsPlain Serial = Unit {0}
 IsPlain Play = Unit {0}
+IsPlain (Trace first count) = Unit {0}
 IsPlain Check = Unit {0}
+IsPlain Image = Unit {0}
+IsPlain Recover = Unit {0}
+IsPlain Renumber = Unit {0}
+IsPlain Migrate = Unit {0}
 IsPlain Help = Unit {0}
 IsPlain Version = Unit {0}
 

@@ -1,7 +1,9 @@
 pub mod Commands
 pub mod Ran
+pub mod Played
 pub mod Verdicts
 pub mod Headline
+pub mod Images
 pub mod Answer
 pub mod Replay
 pub mod Play

@@ -1,35 +1,35 @@
 -- What the top call answers: a verdict has a status, a text and a cause. Of a source that tells its bytes the causes exclude each other, but that one whose count of faults rose may be answered as a read fault in place of another verdict on its input.
-use Rattle.std.specs.Prelude.{◌≡◌, ℕ, ◌≤◌, ◌<◌, ◌⊎◌, Bool, IsTrue, List, ◌++◌, length, codes, decimal, Option, Some, None}
+use Rattle.std.specs.Prelude.{◌≡◌, ℕ, ◌≤◌, ◌⊎◌, Bool, IsTrue, List, ◌++◌, length, codes, decimal, Option, Some, None}
 use Rattle.std.specs.Io.KnownBytes.{Appends, Consumes, IsAtEnd}
 use Rattle.of_io.specs.Faults.{Rose, AppendsFront, TakesMoreThan, TakesAtMost}
 use Rattle.of_plan.specs.Plan.{Plan}
-use Rattle.of_plan.specs.Ended.{Run as Record}
-use Rattle.of_plan.specs.Grammar.{SpellsPlan, IsBadLine}
+use Rattle.of_plan.specs.Grammar.{SpellsPlan, IsPlanText}
+use Rattle.of_plan.specs.BadLine.{HasBadLine}
 use Rattle.of_plan.specs.Parts.{AreParts}
 use Rattle.of_plan.specs.Report.{Report, empty_start}
 use Rattle.of_plan.specs.Legal.{IsLegal}
 use Rattle.of_plan.specs.Serial.{serial_report}
-use Rattle.of_plan.specs.Allowance.{KeepsAllowance, turns_for}
-use Rattle.of_eval.specs.Reported.{ReportsRun}
 use Rattle.of_plan.specs.Generated.{generated}
 use Rattle.of_report.specs.ReportText.{report_text}
 use Rattle.of_report.specs.LoadText.{load_text}
 use Rattle.of_check.specs.Verdict.{IsLegalText}
+use Rattle.of_report.specs.Image.{Image as AnImage}
+use Rattle.of_image.specs.declared.version.Version.{Version as Edition}
+use Rattle.of_image.specs.declared.version.Version.TheVariants.{One, Two}
+use Rattle.of_image.specs.ImageText.{IsImageText}
+use Rattle.of_image.specs.Parsed.{ReadsImage, IsUnlawful}
+use Rattle.of_image.specs.RecoveredText.{recovered_text}
+use Rattle.of_image.specs.RenumberedImage.{Renumbers}
+use Rattle.of_image.specs.MovedRow.{Migrates}
 use Rattle.of_tool.specs.declared.command.Command.{Command}
-use Rattle.of_tool.specs.declared.command.Command.TheVariants.{Serial, Play, Run, Load, Check, Help, Version}
+use Rattle.of_tool.specs.declared.command.Command.TheVariants.{Serial, Play, Trace, Run, Load, Check, Image, Recover, Renumber, Migrate, Help, Version}
 use Rattle.of_tool.specs.declared.command.TheConstants.{HELP, VERSION}
-use Rattle.of_tool.specs.declared.status.TheConstants.{DONE, OUT_OF_MEMORY, USAGE, READ_FAULT, WRITE_FAULT, BAD_PLAN, TOO_LONG, ILLEGAL}
-use Rattle.of_tool.specs.declared.top.TheConstants.{MOST_INPUT, MOST_WITH_REPORT}
+use Rattle.of_tool.specs.declared.status.TheConstants.{DONE, OUT_OF_MEMORY, USAGE, READ_FAULT, WRITE_FAULT, BAD_PLAN, TOO_LONG, BAD_IMAGE, ILLEGAL}
+use Rattle.of_tool.specs.declared.top.TheConstants.{MOST_INPUT, MOST_WITH_REPORT, MOST_IMAGE}
 use Rattle.of_tool.specs.Commands.{words_of, Are, IsNoCommand}
-use Rattle.of_tool.specs.Play.{IsPlayed}
+use Rattle.of_tool.specs.Played.{IsPlayedReport, IsPlayedImage}
+use Rattle.of_tool.specs.Trace.{trace_text}
 use Rattle.of_tool.specs.Ran.{IsSomeRuns}
-
--- the report of what a plan's schedule leaves: it says of that run what holds of every run, and each caller keeps to its turns
-pub record IsPlayedReport (p : Plan) (r : Report) : Type 0 where
-  pub run : Record
-  pub played : IsPlayed p run
-  pub reports : ReportsRun p (empty_start p) run r
-  pub allowance : (c : ℕ) → c < p.callers → KeepsAllowance p r c (Some (turns_for p c))
 
 -- what the words and the input lead to
 pub data Verdict : Type 0 where
@@ -37,14 +37,21 @@ pub data Verdict : Type 0 where
   ShowsVersion : Verdict
   Replayed : Plan → Verdict
   Played : Plan → Report → Verdict
+  Traced : Plan → (first count : ℕ) → Verdict
   Ran : Plan → Report → Verdict
   Loaded : (callers scripts : ℕ) → Report → Verdict
   FoundLegal : Verdict
   FoundIllegal : Verdict
+  Imaged : Plan → List ℕ → Verdict
+  Recovered : AnImage → Verdict
+  Renumbered : AnImage → List ℕ → Verdict
+  Migrated : List ℕ → Verdict
   NoCommand : Verdict
   ReadFault : Verdict
   TooLong : Verdict
   BadPlan : ℕ → Verdict
+  BadImage : ℕ → Verdict
+  UnlawfulImage : ℕ → Verdict
 
 -- its status
 abbrev pub status_of : Verdict → ℕ
@@ -52,14 +59,21 @@ status_of ShowsHelp = DONE
 status_of ShowsVersion = DONE
 status_of (Replayed plan) = DONE
 status_of (Played plan report) = DONE
+status_of (Traced plan first count) = DONE
 status_of (Ran plan report) = DONE
 status_of (Loaded callers scripts report) = DONE
 status_of FoundLegal = DONE
 status_of FoundIllegal = ILLEGAL
+status_of (Imaged plan text) = DONE
+status_of (Recovered image) = DONE
+status_of (Renumbered image text) = DONE
+status_of (Migrated text) = DONE
 status_of NoCommand = USAGE
 status_of ReadFault = READ_FAULT
 status_of TooLong = TOO_LONG
 status_of (BadPlan line) = BAD_PLAN
+status_of (BadImage line) = BAD_IMAGE
+status_of (UnlawfulImage cell) = BAD_IMAGE
 
 -- what is to be written
 abbrev pub text_of : Verdict → List ℕ
@@ -67,14 +81,21 @@ text_of ShowsHelp = HELP.now
 text_of ShowsVersion = VERSION.now
 text_of (Replayed plan) = report_text (serial_report plan)
 text_of (Played plan report) = report_text report
+text_of (Traced plan first count) = trace_text plan first count
 text_of (Ran plan report) = report_text report
 text_of (Loaded callers scripts report) = load_text report
 text_of FoundLegal = codes "legal report\n"
 text_of FoundIllegal = codes "error: not a legal report\n"
+text_of (Imaged plan text) = text
+text_of (Recovered image) = recovered_text image
+text_of (Renumbered image text) = text
+text_of (Migrated text) = text
 text_of NoCommand = codes "error: usage\n"
 text_of ReadFault = codes "error: read fault\n"
 text_of TooLong = codes "error: input too long\n"
 text_of (BadPlan line) = codes "error: bad plan, line " ++ decimal line ++ codes "\n"
+text_of (BadImage line) = codes "error: bad image, line " ++ decimal line ++ codes "\n"
+text_of (UnlawfulImage cell) = codes "error: unlawful image, cell " ++ decimal cell ++ codes "\n"
 
 -- a source: what is left, where it tells that, and how often it has failed
 pub record SourceState : Type 0 where
@@ -111,8 +132,7 @@ pub record ReadsPlan (before after : SourceState) (plan : Plan) : Type 0 where
 pub record ReadsNoPlan (before after : SourceState) (line : ℕ) : Type 0 where
   pub bytes : List ℕ
   pub read : ReadsAll MOST_INPUT before after bytes
-  pub bad : IsBadLine bytes line
-  pub none : (plan : Plan) → SpellsPlan bytes plan → ⊥
+  pub bad : HasBadLine IsPlanText bytes line
 
 -- the first part of the whole input is the text of this plan, and the second this text
 pub record ReadsBoth (before after : SourceState) (plan : Plan) (report : List ℕ) : Type 0 where
@@ -129,8 +149,7 @@ pub record ReadsNoFirst (before after : SourceState) (line : ℕ) : Type 0 where
   pub report : List ℕ
   pub read : ReadsAll MOST_WITH_REPORT before after bytes
   pub parts : AreParts bytes first report
-  pub bad : IsBadLine first line
-  pub none : (plan : Plan) → SpellsPlan first plan → ⊥
+  pub bad : HasBadLine IsPlanText first line
 
 -- the first part is a plan's text, and the second that of a legal report of the plan
 pub record ReadsLegal (before after : SourceState) : Type 0 where
@@ -146,17 +165,52 @@ pub record ReadsIllegal (before after : SourceState) : Type 0 where
   pub read : ReadsBoth before after plan report
   pub illegal : IsLegalText plan report → ⊥
 
+-- the whole input is the text of an image of this version, and this is the image
+pub record ReadsItsImage (edition : Edition) (before after : SourceState) (image : AnImage) : Type 0 where
+  pub bytes : List ℕ
+  pub read : ReadsAll MOST_IMAGE before after bytes
+  pub image_of : ReadsImage edition bytes image
+
+-- the whole input is the text of a version 1 image, and this is what it is in version 2
+pub record ReadsEarlier (before after : SourceState) (text : List ℕ) : Type 0 where
+  pub bytes : List ℕ
+  pub read : ReadsAll MOST_IMAGE before after bytes
+  pub migrates : Migrates bytes text
+
+-- the whole input is no text of an image of this version, and this is its bad line
+pub record ReadsNoImage (edition : Edition) (before after : SourceState) (line : ℕ) : Type 0 where
+  pub bytes : List ℕ
+  pub read : ReadsAll MOST_IMAGE before after bytes
+  pub bad : HasBadLine (IsImageText edition) bytes line
+
+-- the whole input is the text of an unlawful image of this version, and this is its first cell at fault
+pub record ReadsUnlawful (edition : Edition) (before after : SourceState) (cell : ℕ) : Type 0 where
+  pub bytes : List ℕ
+  pub read : ReadsAll MOST_IMAGE before after bytes
+  pub unlawful : IsUnlawful edition bytes cell
+
 -- the words are those of a command that reads a plan
 abbrev pub AskForPlan : List (List ℕ) → Type 0
-AskForPlan words = (words ≡ words_of Serial) ⊎ ((words ≡ words_of Play) ⊎ (words ≡ words_of Run))
+AskForPlan words =
+    (words ≡ words_of Serial) ⊎ ((words ≡ words_of Play) ⊎ ((words ≡ words_of Run) ⊎ ((words ≡ words_of Image) ⊎ ((first count : ℕ) × Are words (Trace first count)))))
+
+-- the words are those of a command that reads an image of this version
+abbrev pub AskForImage : Edition → List (List ℕ) → Type 0
+AskForImage One words = words ≡ words_of Migrate
+AskForImage Two words = (words ≡ words_of Recover) ⊎ (words ≡ words_of Renumber)
 
 -- how many bytes a command reads at most, where it reads
 abbrev pub limit_of : Command → Option ℕ
 limit_of Serial = Some MOST_INPUT
 limit_of Play = Some MOST_INPUT
+limit_of (Trace first count) = Some MOST_INPUT
 limit_of Run = Some MOST_INPUT
 limit_of (Load callers scripts) = None
 limit_of Check = Some MOST_WITH_REPORT
+limit_of Image = Some MOST_INPUT
+limit_of Recover = Some MOST_IMAGE
+limit_of Renumber = Some MOST_IMAGE
+limit_of Migrate = Some MOST_IMAGE
 limit_of Help = None
 limit_of Version = None
 
@@ -174,16 +228,23 @@ HasCause words before after ShowsHelp = words ≡ words_of Help
 HasCause words before after ShowsVersion = words ≡ words_of Version
 HasCause words before after (Replayed plan) = (words ≡ words_of Serial) × ReadsPlan before after plan
 HasCause words before after (Played plan report) = (words ≡ words_of Play) × ReadsPlan before after plan × IsPlayedReport plan report
+HasCause words before after (Traced plan first count) = Are words (Trace first count) × ReadsPlan before after plan
 HasCause words before after (Ran plan report) = (words ≡ words_of Run) × ReadsPlan before after plan × IsSomeRuns plan report
 HasCause words before after (Loaded callers scripts report) = Are words (Load callers scripts) × IsSomeRuns (generated callers scripts) report
 HasCause words before after NoCommand = IsNoCommand words
 HasCause words before after FoundLegal = (words ≡ words_of Check) × ReadsLegal before after
 HasCause words before after FoundIllegal = (words ≡ words_of Check) × ReadsIllegal before after
+HasCause words before after (Imaged plan text) = (words ≡ words_of Image) × ReadsPlan before after plan × IsPlayedImage plan text
+HasCause words before after (Recovered image) = (words ≡ words_of Recover) × ReadsItsImage Two before after image
+HasCause words before after (Renumbered image text) = (words ≡ words_of Renumber) × ReadsItsImage Two before after image × Renumbers image text
+HasCause words before after (Migrated text) = (words ≡ words_of Migrate) × ReadsEarlier before after text
 HasCause words before after ReadFault =
     (most : ℕ) × AsksUpTo words most × Rose before.faults after.faults × TakesAtMost most before.left after.left
 HasCause words before after TooLong = (most : ℕ) × AsksUpTo words most × TakesMoreThan most before.left after.left
 HasCause words before after (BadPlan line) =
     (AskForPlan words × ReadsNoPlan before after line) ⊎ ((words ≡ words_of Check) × ReadsNoFirst before after line)
+HasCause words before after (BadImage line) = (edition : Edition) × AskForImage edition words × ReadsNoImage edition before after line
+HasCause words before after (UnlawfulImage cell) = (edition : Edition) × AskForImage edition words × ReadsUnlawful edition before after cell
 
 -- the status and the text are those of a verdict with its cause
 pub record IsAnswer (words : List (List ℕ)) (before after : SourceState) (status : ℕ) (text : List ℕ) : Type 0 where
@@ -237,6 +298,12 @@ pub record PlaysPlan (before after : SourceState) (old new : SinkState) : Type 0
   pub played : IsPlayedReport plan report
   pub written : IsWritten old new (report_text report)
 
+-- the whole input is a plan's text, and the lines of so many events of its schedule were written, from this one on
+pub record TracesPlan (first count : ℕ) (before after : SourceState) (old new : SinkState) : Type 0 where
+  pub plan : Plan
+  pub read : ReadsPlan before after plan
+  pub written : IsWritten old new (trace_text plan first count)
+
 -- with status 0 the report that was read is legal, and with status 8 it isn't
 pub record ChecksReport (before after : SourceState) (status : ℕ) : Type 0 where
   pub legal : status ≡ DONE → ReadsLegal before after
@@ -263,12 +330,21 @@ pub record IsCheckInput (left : Option (List ℕ)) : Type 0 where
   pub parts : AreParts bytes first report
   pub spelled : SpellsPlan first plan
 
+-- the bytes that are left are the text of a lawful image of this version within the limit
+abbrev pub IsImageInput : Edition → Option (List ℕ) → Type 0
+IsImageInput edition left = (bytes : List ℕ) × (image : AnImage) × (left ≡ Some bytes) × (length bytes ≤ MOST_IMAGE) × ReadsImage edition bytes image
+
 -- the input of a command is what the command reads
 abbrev pub IsValidInput : Command → Option (List ℕ) → Type 0
 IsValidInput Serial left = IsPlanInput left
 IsValidInput Play left = IsPlanInput left
+IsValidInput (Trace first count) left = IsPlanInput left
 IsValidInput Run left = IsPlanInput left
 IsValidInput (Load callers scripts) left = Unit {0}
 IsValidInput Check left = IsCheckInput left
+IsValidInput Image left = IsPlanInput left
+IsValidInput Recover left = IsImageInput Two left
+IsValidInput Renumber left = IsImageInput Two left
+IsValidInput Migrate left = IsImageInput One left
 IsValidInput Help left = Unit {0}
 IsValidInput Version left = Unit {0}

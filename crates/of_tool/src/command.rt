@@ -13,9 +13,14 @@ Runs scripts of transactions on a store of registers, keys and queues.
 
 serial      reads a plan, runs its scripts one after another, prints the report
 play        reads a plan, runs its schedule step by step, prints the report
+trace F C   reads a plan, prints what C events of its schedule do, from event F
 run         reads a plan, runs its callers at once, prints the report
 load N S    reads nothing, runs N callers with S scripts each, prints a summary
 check       reads a plan and a report, says whether the report is a legal one
+image       reads a plan, runs its schedule step by step, prints the image of what it leaves
+recover     reads an image, prints what recovery finds in it
+renumber    reads an image, prints it recovered and with its sequences begun anew
+migrate     reads an image of version 1, prints it recovered and in version 2
 --help      reads nothing, prints this text
 --version   reads nothing, prints the name and the version
 
@@ -26,6 +31,12 @@ Input is read from standard input. An example:
 /// What `--version` prints.
 pub const VERSION: &str = "onefile 0.1.0\n";
 
+/// The greatest number of an event that a trace can begin with.
+pub const MOST_FIRST: u32 = 10_000_000;
+
+/// The most events of a trace.
+pub const MOST_EVENTS: u32 = 10_000;
+
 /// What the program can be told to do.
 #[derive(Clone, Copy, Debug, PartialEq, Eq)]
 pub enum Command {
@@ -33,12 +44,22 @@ pub enum Command {
     Serial,
     /// Reads a plan, runs its schedule step by step, and prints the report of what it leaves.
     Play,
+    /// Reads a plan, and prints what so many events of its schedule do, from one event on.
+    Trace { first: u32, count: u32 },
     /// Reads a plan, runs its callers at once, and prints the report of what they leave.
     Run,
     /// Runs a load of so many callers with so many scripts each, and prints a summary of the report.
     Load { callers: u32, scripts: u32 },
     /// Reads a plan and a report, and prints whether the report is a legal one of the plan.
     Check,
+    /// Reads a plan, runs its schedule step by step, and prints the image of what it leaves.
+    Image,
+    /// Reads an image, recovers it, and prints what recovery finds.
+    Recover,
+    /// Reads an image, recovers it, and prints it with its sequences begun anew.
+    Renumber,
+    /// Reads an image of version 1, recovers it, and prints it in version 2.
+    Migrate,
     /// Prints how the program is used.
     Help,
     /// Prints the name and the version.
@@ -62,6 +83,10 @@ impl Command {
             "play" => Some(Command::Play),
             "run" => Some(Command::Run),
             "check" => Some(Command::Check),
+            "image" => Some(Command::Image),
+            "recover" => Some(Command::Recover),
+            "renumber" => Some(Command::Renumber),
+            "migrate" => Some(Command::Migrate),
             "--help" => Some(Command::Help),
             "--version" => Some(Command::Version),
             _ => None,
@@ -82,6 +107,20 @@ impl Command {
         Some(Command::Load { callers, scripts })
     }
 
+    // The trace of these numbers, where they are in range.
+    fn trace(first: &str, count: &str) -> Option<Command>
+        ensures { MatchOption result
+            (IsNoCommand (codes "trace" ∷ first.now ∷ count.now ∷ []))
+            (Are (codes "trace" ∷ first.now ∷ count.now ∷ [])) }
+    {
+        let first = number(first, MOST_FIRST)?;
+        let count = number(count, MOST_EVENTS)?;
+        if count == 0 {
+            return None;
+        }
+        Some(Command::Trace { first, count })
+    }
+
     /// The command that the words are, where they are one. Numbers are spelled by digits alone, with no 0 in front of others.
     pub fn from_words(words: &[String]) -> Option<Command>
         ensures { MatchOption result (IsNoCommand (texts words.now)) (Are (texts words.now)) }
@@ -90,6 +129,7 @@ impl Command {
             [word] => Command::plain(word.as_str()),
             [word, first, second] => match word.as_str() {
                 "load" => Command::load(first.as_str(), second.as_str()),
+                "trace" => Command::trace(first.as_str(), second.as_str()),
                 _ => None,
             },
             _ => None,

@@ -8,9 +8,9 @@ ghost use Rattle.of_tool.specs.HelpText.{help_text};
 
 use crate::command::{HELP, VERSION};
 use crate::status::{
-    BAD_PLAN, DONE, ILLEGAL, OUT_OF_MEMORY, READ_FAULT, TOO_LONG, USAGE, WRITE_FAULT,
+    BAD_IMAGE, BAD_PLAN, DONE, ILLEGAL, OUT_OF_MEMORY, READ_FAULT, TOO_LONG, USAGE, WRITE_FAULT,
 };
-use crate::top::{MOST_INPUT, MOST_WITH_REPORT};
+use crate::top::{MOST_IMAGE, MOST_INPUT, MOST_WITH_REPORT};
 use of_caller::laws::plan_keeps_laws;
 use of_plan::Plan;
 
@@ -30,9 +30,11 @@ pub fn numbers()
     ensures write_fault { WRITE_FAULT ≡ 4 }
     ensures bad_plan { BAD_PLAN ≡ 5 }
     ensures too_long { TOO_LONG ≡ 6 }
+    ensures bad_image { BAD_IMAGE ≡ 7 }
     ensures illegal { ILLEGAL ≡ 8 }
     ensures input { MOST_INPUT ≡ 1048576 }
     ensures with_report { MOST_WITH_REPORT ≡ 4194304 }
+    ensures image { MOST_IMAGE ≡ 4194304 }
 {}
 
 /// The texts of `--help` and `--version`; those of errors stand in the definition of what is written.

@@ -2,6 +2,7 @@
 #![tactic(auto)]
 
 mod command;
+mod images;
 pub mod laws;
 mod play;
 mod played;
@@ -14,4 +15,4 @@ pub use command::{Command, HELP, VERSION};
 pub use played::play_report;
 pub use replay::serial;
 pub use run::run_report;
-pub use top::{MOST_INPUT, MOST_WITH_REPORT, Ran, tool};
+pub use top::{MOST_IMAGE, MOST_INPUT, MOST_WITH_REPORT, Ran, tool};

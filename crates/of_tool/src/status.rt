@@ -21,5 +21,8 @@ pub const BAD_PLAN: u8 = 5;
 /// The input is longer than a command reads.
 pub const TOO_LONG: u8 = 6;
 
+/// The input is no image, or an unlawful one.
+pub const BAD_IMAGE: u8 = 7;
+
 /// The report is not a legal one of its plan.
 pub const ILLEGAL: u8 = 8;

@@ -4,20 +4,31 @@ ghost use Rattle.std.specs.Prelude.{◌≡◌, ◌≤◌, ◌⊎◌, ℕ, IfOk, 
 ghost use Rattle.of_io.specs.Faults.{Rose};
 ghost use Rattle.of_plan.specs.Ended.{run_of};
 ghost use Rattle.of_tool.specs.declared.command.Command.{Command};
+<<<<<<< HEAD
 ghost use Rattle.of_tool.specs.declared.command.Command.TheVariants.{Serial, Play, Run, Load, Check, Help, Version};
 ghost use Rattle.of_tool.specs.declared.status.TheConstants.{DONE, OUT_OF_MEMORY, ILLEGAL};
 ghost use Rattle.of_tool.specs.Commands.{texts, words_of, IsLoad, IsPlain, Are, RunTeam};
 ghost use Rattle.of_tool.specs.Verdicts.{source_state, sink_state, limit_of, Answers, AskForInput, ReadsAll, ReadsPlan, IsReplayed, PlaysPlan, ChecksReport, Prints, IsValidInput};
 ghost use Rattle.of_tool.specs.Headline.{RunsPlan, LoadsPlan};
 ghost use Rattle.of_tool.specs.Answer.{Answered, Refuses, RefusesUpTo, Judges, CarriesRun, CarriesLoad, Carries};
+=======
+ghost use Rattle.of_tool.specs.declared.command.Command.TheVariants.{Serial, Play, Check, Image, Recover, Renumber, Migrate, Help, Version};
+ghost use Rattle.of_tool.specs.declared.status.TheConstants.{DONE, OUT_OF_MEMORY, ILLEGAL};
+ghost use Rattle.of_tool.specs.Commands.{texts, words_of};
+ghost use Rattle.of_tool.specs.Verdicts.{source_state, sink_state, Answers, AskForInput, ReadsAll, ReadsPlan, IsReplayed, PlaysPlan, ChecksReport, Prints, IsValidInput};
+ghost use Rattle.of_tool.specs.Images.{ImagesPlan, RecoversImage, RenumbersImage, MigratesImage};
+ghost use Rattle.of_tool.specs.Answer.{Answered, Refuses, RefusesUpTo, Judges};
+>>>>>>> 27d22d300497c41202221e2461e88023939645ad
 
 use crate::command::{Command, HELP, VERSION};
+use crate::images::{image_answer, migrate_answer, recover_answer, renumber_answer};
 use crate::played::play_report;
 use crate::replay::serial;
 use crate::run::run_report;
 use crate::status;
 use of_brake::Brake;
 use of_check::{Verdict, check};
+use of_image::laws::unlawful_have_none;
 use of_io::{ReadErr, Sink, Source, read_all, write_all};
 use of_plan::texts::one_cut;
 use of_plan::{Ended, Plan, PlanErr, generate, parse, parts};
@@ -31,14 +42,22 @@ pub const MOST_INPUT: usize = 1 << 20;
 /// The most bytes that `check` reads: a plan and a report.
 pub const MOST_WITH_REPORT: usize = 1 << 22;
 
+<<<<<<< HEAD
 /// What callers that ran at once have left, where they did: the record of the run, and the pass that has seen it.
 pub type Ran = Option<(Ended, Pass)>;
 
 // A status, and the text that is to be written with it.
+=======
+/// The most bytes that a command reads which reads an image. The greatest that `image` prints has
+/// 62,304 lines of cells of at most 33 bytes each, and 42 bytes beside them.
+pub const MOST_IMAGE: usize = 1 << 22;
+
+/// A status, and the text that is to be written with it.
+>>>>>>> 27d22d300497c41202221e2461e88023939645ad
 #[derive(Drop)]
-struct Answer {
-    status: u8,
-    text: Vec<u8>,
+pub(crate) struct Answer {
+    pub(crate) status: u8,
+    pub(crate) text: Vec<u8>,
 }
 
 // The text that names a bad line of a plan.
@@ -49,8 +68,8 @@ fn bad_plan(alloc: Global, line: u64) -> Result<Vec<u8>, AllocError>
     Ok(text.into_bytes())
 }
 
-// The whole input of at most so many bytes, or the answer that says why there is none.
-fn read_input<S: Source>(
+/// The whole input of at most so many bytes, or the answer that says why there is none.
+pub(crate) fn read_input<S: Source>(
     alloc: Global,
     source: &mut S,
     most: usize,
@@ -78,8 +97,11 @@ fn read_input<S: Source>(
     }
 }
 
-// The plan that the whole input spells, or the answer that says why there is none.
-fn read_plan<S: Source>(alloc: Global, source: &mut S) -> Result<Result<Plan, Answer>, AllocError>
+/// The plan that the whole input spells, or the answer that says why there is none.
+pub(crate) fn read_plan<S: Source>(
+    alloc: Global,
+    source: &mut S,
+) -> Result<Result<Plan, Answer>, AllocError>
     ensures { IfOk result (λ read. MatchResult read
         (ReadsPlan
         (source_state (S.remaining source.old) (S.faults source.old))
@@ -264,6 +286,7 @@ fn decide<R: Threads + Sync, S: Source>(
     ensures unread { ¬ (AskForInput (texts words.now)) → source.new ≡ source.old }
 {
     match Command::from_words(words) {
+<<<<<<< HEAD
         Some(Command::Run) => run_answer(rt, alloc, source, brakes),
         Some(Command::Load { callers, scripts }) => load_answer(
             rt, alloc, callers, scripts, brakes,
@@ -276,6 +299,27 @@ fn decide<R: Threads + Sync, S: Source>(
             },
             None,
         )),
+=======
+        Some(Command::Serial) => serial_answer(alloc, source),
+        Some(Command::Play) => play_answer(alloc, source),
+        Some(Command::Check) => check_answer(alloc, source),
+        Some(Command::Image) => image_answer(alloc, source),
+        Some(Command::Recover) => recover_answer(alloc, source),
+        Some(Command::Renumber) => renumber_answer(alloc, source),
+        Some(Command::Migrate) => migrate_answer(alloc, source),
+        Some(Command::Help) => Ok(Answer {
+            status: status::DONE,
+            text: Vec::from_slice(alloc, HELP.as_bytes())?,
+        }),
+        Some(Command::Version) => Ok(Answer {
+            status: status::DONE,
+            text: Vec::from_slice(alloc, VERSION.as_bytes())?,
+        }),
+        None => Ok(Answer {
+            status: status::USAGE,
+            text: Vec::from_slice(alloc, b"error: usage\n")?,
+        }),
+>>>>>>> 27d22d300497c41202221e2461e88023939645ad
     }
 }
 
@@ -340,6 +384,34 @@ pub fn tool<R: Threads + Sync, S: Source, K: Sink>(
         (source_state (S.remaining source.old) (S.faults source.old))
         (source_state (S.remaining source.new) (S.faults source.new)) result }
 
+    // With status 0 of `image` the image of what the schedule of the plan that the whole input spells leaves was written.
+    ensures image { texts words.now ≡ words_of Image → result ≡ DONE → ImagesPlan
+        (source_state (S.remaining source.old) (S.faults source.old))
+        (source_state (S.remaining source.new) (S.faults source.new))
+        (sink_state (K.written sink.old) (K.finished sink.old) (K.faults sink.old))
+        (sink_state (K.written sink.new) (K.finished sink.new) (K.faults sink.new)) }
+
+    // With status 0 of `recover` what recovery finds in the image that the whole input has was written.
+    ensures recover { texts words.now ≡ words_of Recover → result ≡ DONE → RecoversImage
+        (source_state (S.remaining source.old) (S.faults source.old))
+        (source_state (S.remaining source.new) (S.faults source.new))
+        (sink_state (K.written sink.old) (K.finished sink.old) (K.faults sink.old))
+        (sink_state (K.written sink.new) (K.finished sink.new) (K.faults sink.new)) }
+
+    // With status 0 of `renumber` that image was written with its sequences begun anew.
+    ensures renumber { texts words.now ≡ words_of Renumber → result ≡ DONE → RenumbersImage
+        (source_state (S.remaining source.old) (S.faults source.old))
+        (source_state (S.remaining source.new) (S.faults source.new))
+        (sink_state (K.written sink.old) (K.finished sink.old) (K.faults sink.old))
+        (sink_state (K.written sink.new) (K.finished sink.new) (K.faults sink.new)) }
+
+    // With status 0 of `migrate` the version 2 text of the version 1 image that the whole input has was written.
+    ensures migrate { texts words.now ≡ words_of Migrate → result ≡ DONE → MigratesImage
+        (source_state (S.remaining source.old) (S.faults source.old))
+        (source_state (S.remaining source.new) (S.faults source.new))
+        (sink_state (K.written sink.old) (K.finished sink.old) (K.faults sink.old))
+        (sink_state (K.written sink.new) (K.finished sink.new) (K.faults sink.new)) }
+
     // `--help` and `--version` print their texts.
     ensures help { texts words.now ≡ words_of Help → Prints HELP.now
         (sink_state (K.written sink.old) (K.finished sink.old) (K.faults sink.old))
@@ -348,7 +420,7 @@ pub fn tool<R: Threads + Sync, S: Source, K: Sink>(
         (sink_state (K.written sink.old) (K.finished sink.old) (K.faults sink.old))
         (sink_state (K.written sink.new) (K.finished sink.new) (K.faults sink.new)) result }
 
-    // Only a command that reads a plan or a report reads.
+    // Only a command that reads a plan, a report or an image reads.
     ensures unread { ¬ (AskForInput (texts words.now)) → source.new ≡ source.old }
 
     // A command with a valid input is done, or memory runs out, unless a read or a write fails.
@@ -359,7 +431,12 @@ pub fn tool<R: Threads + Sync, S: Source, K: Sink>(
         → (result ≡ DONE) ⊎ ((result ≡ OUT_OF_MEMORY) ⊎ ((command ≡ Check) × (result ≡ ILLEGAL))) }
 {
     one_cut();
+<<<<<<< HEAD
     match decide(rt, alloc, words, source, brakes) {
+=======
+    unlawful_have_none();
+    match decide(alloc, words, source) {
+>>>>>>> 27d22d300497c41202221e2461e88023939645ad
         Err(_) => status::OUT_OF_MEMORY,
         Ok((answer, found)) => match write_all(sink, &answer.text) {
             Ok(()) => {

@@ -94,9 +94,12 @@ pub fn enrolled(
     members(scripts);
     machines(scripts);
     let shape = shape_for(&scripts.plot());
-    let machine = Machine::new(alloc, shape, limit, number, row.done(number), scripts)?;
     match row.enrol(pass, number) {
-        Ok((member, pass)) => Ok((Caller { member, machine }, pass)),
+        Ok((member, pass)) => {
+            let made = member.made();
+            let machine = Machine::new(alloc, shape, limit, number, made, scripts)?;
+            Ok((Caller { member, machine }, pass))
+        }
         Err(_) => Err(AllocError),
     }
 }

@@ -82,6 +82,9 @@ fn answer(plot: &Plot, part: &mut Part, instr: Instr) -> Result<Result<Option<u3
         }
         Instr::Del { key } => Ok(Ok(of_map::del(plot, part, key)?)),
         Instr::Count => Ok(Ok(Some(of_map::count(plot, part)?))),
+        Instr::First => Ok(Ok(of_order::first(plot, part)?)),
+        Instr::Next { key } => Ok(Ok(of_order::next(plot, part, key)?)),
+        Instr::DropBelow { key } => Ok(Ok(Some(of_order::drop_below(plot, part, key)?))),
         Instr::Push { queue, value } => {
             let pushed = of_queue::push(plot, part, u32::from(queue), value)?;
             Ok(if pushed { Ok(None) } else { Err(Cause::NoRoom) })
@@ -129,15 +132,18 @@ fn run(plot: &Plot, part: &mut Part, instr: Instr) -> Result<Reply, Need>
 
 /// An instruction on one of six keys, which lie in two buckets, or on one of two queues.
 fn text(alloc: Global, pick: u32) -> Result<String, AllocError> {
-    let (key, value, queue) = (pick / 9 % 6 * 16 + 1, pick / 54, pick / 9 % 2);
-    match pick % 9 {
+    let (key, value, queue) = (pick / 12 % 6 * 16 + 1, pick / 72, pick / 12 % 2);
+    match pick % 12 {
         0 | 1 => format!(in alloc; "put {key} {value}"),
         2 => format!(in alloc; "get {key}"),
         3 => format!(in alloc; "del {key}"),
         4 | 5 => format!(in alloc; "push {queue} {value}"),
         6 => format!(in alloc; "pop {queue}"),
         7 => format!(in alloc; "len {queue}"),
-        _ => format!(in alloc; "count"),
+        8 => format!(in alloc; "count"),
+        9 => format!(in alloc; "first"),
+        10 => format!(in alloc; "next {key}"),
+        _ => format!(in alloc; "drop-below {key}"),
     }
 }
 

@@ -9,8 +9,8 @@ use Rattle.of_eval.specs.Record.{IsLawful}
 use Rattle.of_report.proofs.Worked.{two_calls, table_of, durable_rows, first_done, behind_ended, behind_told, two_spelled, behind_lawful}
 use Rattle.of_report.proofs.tests.makes_the_report_behind_a_start.Goals as goal
 
-pub make_from-requires : goal.make_from-requires
-make_from-requires g c =
+pub made-requires : goal.made-requires
+made-requires g c =
     let plan : c.in_ok-plan.plan ≡ two_calls = c.in_ok-plan.ensures.only two_calls (subst (λ (t : List ℕ). SpellsPlan t two_calls) (sym c.as_bytes.ensures.value) two_spelled) in
     let pushed : c.push.new.self.items ≡ c.new-answers.result.items ++ c.new.result ∷ [] = c.in_ok-push.ensures.items in
     let answers : map (λ (v : Vec Answer Global). v.items) c.push.new.self.items ≡ [] ∷ [] =

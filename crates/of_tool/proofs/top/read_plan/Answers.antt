@@ -1,5 +1,6 @@
 use Rattle.std.proofs.Common.{List, ℕ, inl, subst, refl, arith}
-use Rattle.of_plan.specs.Parsed.{IsNoPlan}
+use Rattle.of_plan.specs.BadLine.{HasBadLine}
+use Rattle.of_plan.specs.Grammar.{IsPlanText}
 use Rattle.of_tool.specs.Verdicts.{BadPlan}
 use Rattle.of_tool.proofs.CommandLemmas.{plan_asks}
 use Rattle.of_tool.proofs.top.read_plan.Goals as goal
@@ -7,10 +8,10 @@ use Rattle.of_tool.proofs.top.read_plan.Goals as goal
 pub returns : goal.returns
 returns g c = (
   λ words asks.
-      let gone = subst (λ (b : List ℕ). IsNoPlan b c.in-Err-Bad.line) c.deref.ensures.value (rw c.in-Err-Bad.field-0-is at c.in-Err-Bad.ensures.bad) in
+      let gone = subst (λ (b : List ℕ). HasBadLine IsPlanText b c.in-Err-Bad.line) c.deref.ensures.value (rw c.in-Err-Bad.field-0-is at c.in-Err-Bad.ensures.bad) in
       record {
         verdict = BadPlan c.in-Err-Bad.line;
-        cause = inl (asks, record { bytes = c.in-Ok.bytes.items; read = rw c.in-Ok.is at c.in_ok-bytes.ensures; bad = gone.bad; none = gone.none });
+        cause = inl (asks, record { bytes = c.in-Ok.bytes.items; read = rw c.in-Ok.is at c.in_ok-bytes.ensures; bad = gone });
         status_is = refl;
         text_is = c.in_ok-bad_plan-in-Err-Bad.ensures;
       },

@@ -1,7 +1,7 @@
 use Rattle.std.proofs.Common.{inl, inr, subst, ◌∙◌, refl}
 use Rattle.std.specs.Io.KnownBytes.{Appends}
 use Rattle.of_io.specs.Faults.{AppendsFront}
-use Rattle.of_tool.proofs.CommandLemmas.{help_answer, version_answer, serial_answer, play_answer, check_answer, done_where_valid}
+use Rattle.of_tool.proofs.CommandLemmas.{help_answer, version_answer, serial_answer, play_answer, image_answer, recover_answer, renumber_answer, migrate_answer, check_answer, done_where_valid}
 use Rattle.of_tool.proofs.Carried.{run_told, load_told}
 use Rattle.of_tool.proofs.top.tool.Goals as goal
 
@@ -23,6 +23,26 @@ returns-in-Ok-write_all-clause-run g c = λ is done.
 pub returns-in-Ok-write_all-clause-load : goal.returns-in-Ok-write_all-clause-load
 returns-in-Ok-write_all-clause-load g c = λ callers scripts is done.
     load_told _ _ _ _ c.in-Ok.answer callers scripts _ (c.in-Ok.ensures.carries.load callers scripts is)
+    (record { bytes = subst (Appends _ _) c.deref.ensures.value c.in-Ok-write_all.ensures.ok; finished = c.in-Ok-write_all.ensures.finished })
+
+pub returns-in-Ok-write_all-clause-image : goal.returns-in-Ok-write_all-clause-image
+returns-in-Ok-write_all-clause-image g c = λ is done.
+    image_answer _ _ _ _ _ _ _ is done c.in-Ok.ensures.answered
+    (record { bytes = subst (Appends _ _) c.deref.ensures.value c.in-Ok-write_all.ensures.ok; finished = c.in-Ok-write_all.ensures.finished })
+
+pub returns-in-Ok-write_all-clause-recover : goal.returns-in-Ok-write_all-clause-recover
+returns-in-Ok-write_all-clause-recover g c = λ is done.
+    recover_answer _ _ _ _ _ _ _ is done c.in-Ok.ensures.answered
+    (record { bytes = subst (Appends _ _) c.deref.ensures.value c.in-Ok-write_all.ensures.ok; finished = c.in-Ok-write_all.ensures.finished })
+
+pub returns-in-Ok-write_all-clause-renumber : goal.returns-in-Ok-write_all-clause-renumber
+returns-in-Ok-write_all-clause-renumber g c = λ is done.
+    renumber_answer _ _ _ _ _ _ _ is done c.in-Ok.ensures.answered
+    (record { bytes = subst (Appends _ _) c.deref.ensures.value c.in-Ok-write_all.ensures.ok; finished = c.in-Ok-write_all.ensures.finished })
+
+pub returns-in-Ok-write_all-clause-migrate : goal.returns-in-Ok-write_all-clause-migrate
+returns-in-Ok-write_all-clause-migrate g c = λ is done.
+    migrate_answer _ _ _ _ _ _ _ is done c.in-Ok.ensures.answered
     (record { bytes = subst (Appends _ _) c.deref.ensures.value c.in-Ok-write_all.ensures.ok; finished = c.in-Ok-write_all.ensures.finished })
 
 pub returns-in-Ok-write_all-clause-help : goal.returns-in-Ok-write_all-clause-help
@@ -49,4 +69,4 @@ pub returns-in-Ok-write_all-clause-check : goal.returns-in-Ok-write_all-clause-c
 returns-in-Ok-write_all-clause-check g c = λ is. check_answer _ _ _ _ _ is c.in-Ok.ensures.answered
 
 pub returns-in-Ok-write_all-clause-complete : goal.returns-in-Ok-write_all-clause-complete
-returns-in-Ok-write_all-clause-complete g c = λ command is valid calm written. elim (done_where_valid c.one_cut.ensures _ _ _ command _ _ is valid calm c.in-Ok.ensures.answered) [ inl done ↦ inl done | inr found ↦ inr (inr found) ]
+returns-in-Ok-write_all-clause-complete g c = λ command is valid calm written. elim (done_where_valid c.one_cut.ensures c.unlawful_have_none.ensures.none _ _ _ command _ _ is valid calm c.in-Ok.ensures.answered) [ inl done ↦ inl done | inr found ↦ inr (inr found) ]

@@ -4,6 +4,8 @@ use Rattle.of_mem.specs.Meaning.{Once}
 use Rattle.of_mem.proofs.Writes.{once_none}
 use Rattle.of_map.specs.MapPrograms.{put, del}
 use Rattle.of_map.specs.Means.{answer_of_put, after_put, after_del}
+use Rattle.of_order.specs.OrderPrograms.{drop_below}
+use Rattle.of_order.specs.Means.{dropped, after_drop}
 use Rattle.of_queue.specs.QueuePrograms.{push, pop}
 use Rattle.of_queue.specs.Means.{has_room, after_push, front_item, after_pop}
 use Rattle.structures.proofs.Stores.{acted}
@@ -51,3 +53,9 @@ returns-in_ok-pop-in-Pop-clause-stands c = acted c.args.plot.now (pop c.args.plo
 
 pub returns-in_ok-pop-in-Pop-clause-once : goal.returns-in_ok-pop-in-Pop-clause-once
 returns-in_ok-pop-in-Pop-clause-once c = once_run (pop c.args.plot.now c.from-in-Pop.result) c.args.part.now c.pop.new.part c.in_ok-pop-in-Pop.field-0 (subst Once (sym c.requires.empty) once_none) c.in_ok-pop-in-Pop.ensures.runs.walk
+
+pub returns-in_ok-drop_below-in-DropBelow-clause-stands : goal.returns-in_ok-drop_below-in-DropBelow-clause-stands
+returns-in_ok-drop_below-in-DropBelow-clause-stands c = acted c.args.plot.now (drop_below c.args.plot.now c.in-DropBelow.key) c.args.part.now c.drop_below.new.part c.in_ok-drop_below-in-DropBelow.field-0 (dropped c.in-DropBelow.key) (after_drop c.in-DropBelow.key) c.requires.stands c.in_ok-drop_below-in-DropBelow.ensures.runs c.in_ok-drop_below-in-DropBelow.ensures.acts
+
+pub returns-in_ok-drop_below-in-DropBelow-clause-once : goal.returns-in_ok-drop_below-in-DropBelow-clause-once
+returns-in_ok-drop_below-in-DropBelow-clause-once c = once_run (drop_below c.args.plot.now c.in-DropBelow.key) c.args.part.now c.drop_below.new.part c.in_ok-drop_below-in-DropBelow.field-0 (subst Once (sym c.requires.empty) once_none) c.in_ok-drop_below-in-DropBelow.ensures.runs.walk

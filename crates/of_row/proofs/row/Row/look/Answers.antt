@@ -1,19 +1,30 @@
 use Rattle.std.proofs.Common.{arith, subst, sym}
+use Rattle.of_core.specs.Laws.{GoodIsSound}
 use Rattle.of_core.specs.Table.{Setup}
 use Rattle.of_core.specs.World.{Start}
 use Rattle.of_row.specs.Keys.{FitsWork}
-use Rattle.of_row.specs.Rule.{KeepsOwn}
-use Rattle.of_row.specs.Views.{Sight}
+use Rattle.of_row.specs.Rule.{KeepsOwn, KeepsOnce}
+use Rattle.of_row.specs.Views.{Sight, KnowsMet}
 use Rattle.of_row.proofs.Moves.{looks_for}
+use Rattle.of_row.proofs.RowLaws.{at_row}
 use Rattle.of_row.proofs.row.Row.look.Goals as goal
 
 pub load-requires : goal.load-requires
-load-requires g c = (
-  c.requires.row.0,
-  omega (arith, c.args.self.now.words_is),
-  looks_for (FitsWork g.W.Work.many g.W.Work.size c.args.self.now.table.shared.key) _ _ _ _ _ _ _ _ _ c.requires.setup c.requires.start c.requires.row.2,
-)
+load-requires g c =
+    let key = c.args.self.now.table.shared.key in (
+      c.requires.row.0,
+      omega (arith, c.args.self.now.words_is),
+      looks_for (FitsWork g.W.Work.many g.W.Work.size key) _ _ _ _ _
+          (λ z. at_row g.W.Work.meaning g.W.Work.lawful g.W.Work.many g.W.Work.size key.callers key.cells key.limit c.limit-limit.result key.work c.work-work.result z (sym c.limit-limit.ensures.is) (sym c.work-work.ensures) GoodIsSound c.step_kept.ensures.sound) _ _ _ _ c.requires.setup c.requires.start c.requires.row.2,
+    )
 
 pub returns-clause-own : goal.returns-clause-own
 returns-clause-own g c =
     subst (λ (z : Setup × Start × Sight). KeepsOwn z.0 z.1 z.2) (λ i. (c.requires.setup i, c.requires.start i, (sym c.load.ensures.2.0 i).0)) c.load.ensures.2.1
+
+pub returns-clause-once : goal.returns-clause-once
+returns-clause-once g c =
+    subst (λ (z : Setup × Start × Sight). KeepsOnce z.0 z.1 z.2) (λ i. (c.requires.setup i, c.requires.start i, (sym c.load.ensures.2.0 i).0)) c.load.ensures.2.2
+
+pub returns-clause-met : goal.returns-clause-met
+returns-clause-met g c = subst KnowsMet (λ i. (sym c.load.ensures.2.0 i).0) c.load.ensures.2.3

@@ -1,6 +1,25 @@
-use Rattle.of_row.specs.Rows.{start_at}
-use Rattle.of_row.proofs.Members.{stepped_member}
+use Rattle.std.proofs.Common.{◌∙◌}
+use Rattle.of_row.specs.Rows.{key_of, start_at}
+use Rattle.of_row.proofs.Members.{stepped_member, sole_of}
+use Rattle.of_row.proofs.Numbers.{turned_in}
 use Rattle.of_row.proofs.row.Row.step.Goals as goal
+
+pub invariant_of-member : goal.invariant_of-member
+invariant_of-member g c =
+    let h = c.requires.member in
+    let t = c.turn-found in
+    let m = stepped_member g.W.Work.meaning g.W.Work.lawful (start_at g.W.Work.meaning c.args.self.now) c.args.machine.now c.take.new.self c.args.member.now.seat.me.0 t.new.seat.me.0 t.result c.args.member.now.number c.made-member.result h.0 h.1 h.2 h.3 t.ensures.step c.take.ensures c.made-member.ensures in
+    record { keeps = sole_of t.new.seat.me.0.kept c.args.member.now.number c.made-member.result m.0 m.1 m.3 m.4 }
+
+pub returns-clause-row : goal.returns-clause-row
+returns-clause-row g c =
+    let h = c.requires.member in
+    let t = c.turn-found in (
+      t.ensures.at.0 ∙ c.requires.row.0,
+      t.ensures.at.1,
+      t.ensures.step.spent ∙ c.requires.row.2,
+      turned_in (key_of c.args.self.now).callers _ _ _ _ _ _ _ (h.0, h.1, h.2) t.ensures.step c.requires.row.3,
+    )
 
 pub returns-clause-member : goal.returns-clause-member
 returns-clause-member g c =

@@ -1,0 +1,16 @@
+-- What the brakes that tell their steps left say of the report of a run: callers keep to their
+-- allowances.
+use Rattle.std.specs.Prelude.{ℕ, ◌+◌, ◌<◌, List, [], ◌∷◌, Option, Some, None}
+use Rattle.of_plan.specs.Plan.{Plan, stop_of}
+use Rattle.of_plan.specs.Report.{Report}
+use Rattle.of_plan.specs.Allowance.{KeepsAllowance}
+
+-- a caller keeps the plan's stop as its allowance, where its brake tells its steps left
+abbrev pub AllowedBy : (left : Option (Option ℕ)) → Plan → Report → (caller : ℕ) → Type 0
+AllowedBy None p r c = Unit {0}
+AllowedBy (Some steps) p r c = KeepsAllowance p r c (stop_of p c)
+
+-- so does each caller from c on, by the brake at its place
+abbrev pub KeepAllowances : {A : Type 0} → (A → Option (Option ℕ)) → Plan → Report → (c : ℕ) → List A → Type 0
+KeepAllowances left p r c [] = Unit {0}
+KeepAllowances left p r c (b ∷ bs) = (c < p.callers → AllowedBy (left b) p r c) × KeepAllowances left p r (c + 1) bs

@@ -1,0 +1,49 @@
+//! What a bank shows: its words, and the step that a caller makes next.
+
+ghost use Rattle.std.specs.Prelude.{◌≡◌, ◌≢◌, ◌<◌};
+ghost use Rattle.std.proofs.Common.{get_or};
+ghost use Rattle.of_core.specs.declared.place.Place.TheVariants.{Idle};
+ghost use Rattle.of_core.specs.Table.{table_size};
+ghost use Rattle.of_core.specs.Seen.{ended};
+ghost use Rattle.of_core.specs.Steps.{want, word_of};
+ghost use Rattle.of_core.specs.Moment.{machine_of, table, table_words};
+
+use crate::bank::Bank;
+use crate::place::{Op, Outcome, Place};
+use of_mem::Work;
+
+impl<W: Work> Bank<W> {
+    /// Where a caller's call stands: the place has the name of the step that comes next.
+    pub fn place(&self, caller: u32) -> Place
+        requires { caller < self.now.callers }
+        ensures { result ≡ (machine_of self.now caller).place }
+    {
+        self.machines[caller as usize].place()
+    }
+
+    /// The next step of a caller's open call.
+    pub fn want(&self, caller: u32) -> Op
+        requires caller { caller < self.now.callers }
+        requires open { (machine_of self.now caller).place ≢ Idle }
+        ensures value { result ≡ want (table W.meaning self.now) (machine_of self.now caller) }
+        ensures range { word_of result < table_size (table W.meaning self.now) }
+    {
+        self.machines[caller as usize].want()
+    }
+
+    /// How a caller's last call ended. None where a call is open, and where none has ended.
+    pub fn answer(&self, caller: u32) -> Option<Outcome>
+        requires { caller < self.now.callers }
+        ensures { result ≡ ended (machine_of self.now caller) }
+    {
+        self.machines[caller as usize].answer()
+    }
+
+    /// A word of the table, by its place.
+    pub fn word(&self, place: u32) -> u64
+        requires { place < table_words (table W.meaning self.now) }
+        ensures { result ≡ get_or self.now.words place 0 }
+    {
+        self.words[place as usize]
+    }
+}

@@ -1,0 +1,151 @@
+//! The door: a member is left in its slot, and comes out of it.
+
+ghost use Rattle.std.specs.Prelude.{◌≡◌, ◌<◌, [], false, Some, IfOk, IfErr};
+ghost use mathlib.Core.List.{IsPrefix};
+ghost use Rattle.of_row.specs.Rows.{IsOf, HasNoCall, HasOwnCalls, HasCallsOnce};
+ghost use Rattle.of_row.specs.Turned.{onlooker};
+ghost use Rattle.of_door.specs.Rule.{Rests, Taken};
+
+use crate::plays::{Admits, Doubles, Law, Puts, Takes};
+use crate::trace::{Key, Trace};
+use atomic_table::{Seat, Table};
+use of_mem::Work;
+use of_row::{Member, Pass, Row};
+use std::alloc::{AllocError, Global};
+use std::marker::Brand;
+use std::snapshot::Snapshot;
+
+/// The word of a door where nobody stands in it, where a member does, and while a hand holds the slot.
+const NOBODY: u64 = 0;
+
+const MEMBER: u64 = 1;
+
+const HELD: u64 = 2;
+
+/// A place in which a member of one number waits for another thread.
+#[derive(Drop)]
+pub struct Door<W: Work> {
+    table: Table<Option<Member>, Trace, Key<W>, Law<W>, Global>,
+    ghost counts: { (table.shared.table_id.words ≡ 1) × (table.shared.table_id.slots ≡ 1) },
+}
+
+/// What a thread has that leaves or comes. Contracts see the words that its exchanges found, and those
+/// that it stored. Between calls it doesn't hold the slot.
+#[derive(Drop)]
+pub struct Hand {
+    seat: Seat<Option<Member>, Trace>,
+    ghost free: { (seat.me.1 ≡ []) × (seat.me.0.holds ≡ false) },
+}
+
+impl<W: Work> Door<W> {
+    ghost use Rattle.of_door.specs.Doors.{row_at, number_at, IsHandOf, found_by, stored_by};
+    ghost use Rattle.of_door.specs.Doors.{Went, Missed, TicketsUpTo};
+
+    /// A door of a row, for the member of a number, with its first hand. The error is that there is no
+    /// memory.
+    pub fn new(alloc: Global, row: &Row<W>, number: u32) -> Result<(Door<W>, Hand), AllocError>
+        ensures row { IfOk result (λ d. row_at d.0 ≡ row.now) }
+        ensures number { IfOk result (λ d. number_at d.0 ≡ number) }
+        ensures hand { IfOk result (λ d. IsHandOf d.0 d.1) }
+        ensures lists { IfOk result (λ d. (found_by d.1 ≡ []) × (stored_by d.1 ≡ [])) }
+    {
+        let key = Key {
+            number,
+            row: Snapshot::of(row),
+        };
+        let (table, seat) = Table::vacant(alloc, &[NOBODY], 1, &key)?;
+        Ok((Door { table }, Hand { seat }))
+    }
+
+    /// A second hand, with the same lists, for another thread.
+    pub fn split(&self, hand: &mut Hand) -> Hand
+        requires { IsHandOf self.now hand.old }
+        ensures hands { IsHandOf self.now hand.new × IsHandOf self.now result }
+        ensures found { (found_by hand.new ≡ found_by hand.old) × (found_by result ≡ found_by hand.old) }
+        ensures stored { (stored_by hand.new ≡ stored_by hand.old)
+            × (stored_by result ≡ stored_by hand.old) }
+    {
+        let seat = self.table.shared.split_seat::<Doubles>(&mut hand.seat);
+        Hand { seat }
+    }
+
+    // Exchanges the word, once, and takes the slot where it was `old`. Gives the word found.
+    fn take<O: Admits<W>>(&self, seat: &mut Seat<Option<Member>, Trace>, old: u64) -> u64
+        requires row { O.at_row ≡ Some (row_at self.now) }
+        requires number { O.number ≡ number_at self.now }
+        requires hand { seat.old.table_id ≡ self.now.table.shared.table_id }
+        requires free { seat.old.me.0.holds ≡ false }
+        requires old { old < 2 }
+        ensures hand { seat.new.table_id ≡ seat.old.table_id }
+        ensures taken { Taken (Rests (row_at self.now) (number_at self.now)) old seat.old.me result
+            seat.new.me }
+    {
+        self.table
+            .shared
+            .compare_exchange::<Takes<W, O>>(seat, 0, old, HELD)
+    }
+
+    /// Leaves a member in the door, where nobody stands in it, and gives a pass that knows all that it
+    /// had seen. Else the error hands the member back, with the word found. The exchange is tried once.
+    pub fn leave(
+        &self,
+        row: &Row<W>,
+        hand: &mut Hand,
+        member: Member,
+    ) -> Result<Pass, (Member, u64)>
+        requires row { row_at self.now ≡ row.now }
+        requires hand { IsHandOf self.now hand.old }
+        requires member { IsOf row.now member.seat }
+        requires number { member.number ≡ number_at self.now }
+        requires idle { HasNoCall member }
+        ensures hand { IsHandOf self.now hand.new }
+        ensures pass { IfOk result (λ p. IsOf row.now p.seat) }
+        ensures seen { IfOk result (λ p. p.seat.me.0 ≡ onlooker member.seat.me.0) }
+        ensures left { IfOk result (λ p. Went 0 1 hand.old hand.new) }
+        ensures member { IfErr result (λ e. e.0 ≡ member) }
+        ensures refused { IfErr result (λ e. Missed 0 e.1 hand.old hand.new) }
+    {
+        let found = self.take::<Brand>(&mut hand.seat, NOBODY);
+        if found != NOBODY {
+            return Err((member, found));
+        }
+        let (member, pass) = row.part(member);
+        let shared = &self.table.shared;
+        shared.exchange(&mut hand.seat, 0, Some(member));
+        shared.store::<Puts>(&mut hand.seat, 0, MEMBER);
+        Ok(pass)
+    }
+
+    /// Takes the member out of the door, where one stands in it, and has it take the pass in: it then
+    /// knows all that the pass had seen, and goes on behind all its calls. Else the error hands the pass
+    /// back, with the word found. The exchange is tried once.
+    pub fn come(&self, row: &Row<W>, hand: &mut Hand, pass: Pass) -> Result<Member, (Pass, u64)>
+        requires row { row_at self.now ≡ row.now }
+        requires hand { IsHandOf self.now hand.old }
+        requires pass { IsOf row.now pass.seat }
+        requires nobody { pass.seat.me.0.kept ≡ [] }
+        ensures hand { IsHandOf self.now hand.new }
+        ensures row { IfOk result (λ m. IsOf row.now m.seat) }
+        ensures number { IfOk result (λ m. m.number ≡ number_at self.now) }
+        ensures idle { IfOk result HasNoCall }
+        ensures seen { IfOk result (λ m. IsPrefix pass.seat.me.0.seen m.seat.me.0.seen) }
+        ensures own { IfOk result (λ m. HasOwnCalls W.meaning row.now m.seat) }
+        ensures once { IfOk result (λ m. HasCallsOnce W.meaning row.now m.seat) }
+        ensures made { IfOk result (TicketsUpTo W.meaning row.now) }
+        ensures came { IfOk result (λ m. Went 1 0 hand.old hand.new) }
+        ensures pass { IfErr result (λ e. e.0 ≡ pass) }
+        ensures refused { IfErr result (λ e. Missed 1 e.1 hand.old hand.new) }
+    {
+        let found = self.take::<Brand>(&mut hand.seat, MEMBER);
+        if found != MEMBER {
+            return Err((pass, found));
+        }
+        let shared = &self.table.shared;
+        let stood = shared.exchange(&mut hand.seat, 0, None);
+        shared.store::<Puts>(&mut hand.seat, 0, NOBODY);
+        match stood {
+            Some(member) => Ok(row.meet(member, pass)),
+            None => unreachable!(),
+        }
+    }
+}

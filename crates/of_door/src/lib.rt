@@ -1,0 +1,9 @@
+//! A door: one member goes from a thread to another through a slot, while other callers run.
+
+#![tactic(auto)]
+
+mod door;
+mod plays;
+mod trace;
+
+pub use door::{Door, Hand};

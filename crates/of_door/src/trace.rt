@@ -1,0 +1,26 @@
+//! What is fixed for a door, and what a hand on it knows.
+
+use of_mem::Work;
+use of_row::Row;
+use std::marker::{Model, PhantomData};
+use std::snapshot::Snapshot;
+
+/// What is fixed for a door: the row, and the number of the member that goes through.
+#[derive(Drop)]
+pub struct Key<W: Work> {
+    pub number: u32,
+    pub row: Snapshot<Row<W>>,
+}
+
+/// What a hand knows. No value of it is made.
+pub struct Trace {
+    of: PhantomData<()>,
+}
+
+impl Model for Trace {
+    ghost use Rattle.of_door.specs.Hands.{Known, nothing};
+
+    ghost Value = { Known };
+
+    ghost view = { λ _. nothing };
+}

@@ -1,0 +1,11 @@
+pub mod ImageLines
+pub mod ImageProgress
+pub mod ImageTexts
+pub mod FaultCells
+pub mod RowLaw
+pub mod PrintedImages
+pub mod ImageFacts
+pub mod RenumberedImages
+pub mod Shifted
+pub mod MovedRows
+pub mod RunImages

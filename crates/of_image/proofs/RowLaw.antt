@@ -1,0 +1,82 @@
+-- A recovered row is lawful, or has one first cell at fault, and not both. Only the numbers of the data cells are looked at.
+use Rattle.std.proofs.Common.{◌≡◌, ℕ, zero, suc, ◌+◌, ◌<◌, inl, inr, List, [], ◌∷◌, length, get_or, map, refl, sym, ap, subst, ◌∙◌, arith}
+use Rattle.std.specs.Prelude.{slice_range}
+use Rattle.std.specs.List.{range_with_len}
+use Rattle.std.proofs.lemmas.List.{length-map}
+use Rattle.std.proofs.lemmas.List.FromFn.{fill_by_all}
+use Rattle.std.proofs.lemmas.Bool.{cases_lt}
+use Rattle.of_cell.specs.Words.{pay}
+use Rattle.of_cell.specs.Cells.{data_cell, durable_cells}
+use Rattle.of_mem.specs.declared.plot.Plot.{Plot}
+use Rattle.of_mem.specs.Plots.{size}
+use Rattle.of_mem.specs.ProgramWork.{memory}
+use Rattle.of_recover.specs.Row.{IsDurableRow}
+use Rattle.of_store.specs.State.{State}
+use Rattle.of_eval.specs.Lawful.{StandsFor}
+use Rattle.of_eval.specs.Faults.{IsFirstFault}
+use Rattle.of_eval.proofs.FaultLaws.{first_excludes}
+use Rattle.of_eval.proofs.OneFault.{one_fault}
+use Rattle.of_eval.proofs.OneStore.{one_store}
+use Rattle.of_report.proofs.Recovery.{part_at, part_long}
+use Rattle.of_report.specs.ImageRow.{Row, row_in, numbers_in}
+use Rattle.of_report.specs.ImageLaw.{NoneNewer, IsLawfulRow}
+use Rattle.of_image.specs.RowFault.{IsRowFault}
+use Rattle.of_image.specs.RowFault.IsRowFault.{Unowned, Newer, NoStore}
+
+get_or_map_at : (f : ℕ → ℕ) (xs : List ℕ) (i : ℕ) → i < length xs → get_or (map f xs) i 0 ≡ f (get_or xs i 0)
+get_or_map_at f [] i l = absurd (omega arith)
+get_or_map_at f (x ∷ xs) zero l = refl
+get_or_map_at f (x ∷ xs) (suc i) l = get_or_map_at f xs i (omega arith)
+
+-- the numbers of the data cells, as they are read
+pub numbers_are : (callers cells : ℕ) (words : List ℕ) → IsDurableRow callers cells words → map pay (slice_range words (data_cell callers 0) (data_cell callers 0 + cells)) ≡ map (λ a. pay (get_or words (data_cell callers a) 0)) (range_with_len 0 cells)
+numbers_are callers cells words size =
+    fill_by_all (λ a. pay (get_or words (data_cell callers a) 0)) (map pay (slice_range words (data_cell callers 0) (data_cell callers 0 + cells))) cells 0
+    (length-map _ pay ∙ part_long words (data_cell callers 0) cells (omega (arith, size)))
+    (λ k l. get_or_map_at pay (slice_range words (data_cell callers 0) (data_cell callers 0 + cells)) k (omega (arith, l, part_long words (data_cell callers 0) cells (omega (arith, size))))
+    ∙ ap pay (part_at words (data_cell callers 0) cells k l) ∙ ap (λ (n : ℕ). pay (get_or words n 0)) (let here : data_cell callers 0 + k ≡ data_cell callers k = omega arith in here))
+
+-- a row with a first cell at fault is not lawful
+pub fault_excludes : (instrs : ℕ) (r : Row) (s : State) (cell : ℕ) → IsLawfulRow instrs r s → IsRowFault instrs r cell → ⊥
+fault_excludes instrs r s cell h (Unowned bad e) = omega (arith, bad, h.owned)
+fault_excludes instrs r s cell h (Newer owned a l n e) = omega (arith, n.newer, h.none_newer a l)
+fault_excludes instrs r s cell h (NoStore owned none a f e) = first_excludes _ _ _ _ s a h.stands f
+
+-- a row is lawful with one store
+pub one_lawful : (instrs : ℕ) (r : Row) (s t : State) → IsLawfulRow instrs r s → IsLawfulRow instrs r t → s ≡ t
+one_lawful instrs r s t h k = one_store _ _ _ s t h.stands.stored k.stands.stored
+
+-- and has one first cell at fault
+pub one_row_fault : (instrs : ℕ) (r : Row) (x y : ℕ) → IsRowFault instrs r x → IsRowFault instrs r y → x ≡ y
+one_row_fault instrs r x y (Unowned bad e) (Unowned bad' e') = e ∙ sym e'
+one_row_fault instrs r x y (Unowned bad e) (Newer owned a l n e') = absurd (omega (arith, bad, owned))
+one_row_fault instrs r x y (Unowned bad e) (NoStore owned none a f e') = absurd (omega (arith, bad, owned))
+one_row_fault instrs r x y (Newer owned a l n e) (Unowned bad e') = absurd (omega (arith, bad, owned))
+one_row_fault instrs r x y (Newer owned a l n e) (Newer owned' b k n' e') = elim (cases_lt a b) [
+  | inl i ↦ absurd (omega (arith, n.newer, n'.before a i))
+  | inr i ↦ elim (cases_lt b a) [
+    | inl j ↦ absurd (omega (arith, n'.newer, n.before b j))
+    | inr j ↦ (let s : a ≡ b = omega arith in e ∙ ap (data_cell r.callers) s ∙ sym e')
+  ]
+]
+one_row_fault instrs r x y (Newer owned a l n e) (NoStore owned' none b f e') = absurd (omega (arith, n.newer, none a l))
+one_row_fault instrs r x y (NoStore owned none a f e) (Unowned bad e') = absurd (omega (arith, bad, owned))
+one_row_fault instrs r x y (NoStore owned none a f e) (Newer owned' b k n e') = absurd (omega (arith, n.newer, none b k))
+one_row_fault instrs r x y (NoStore owned none a f e) (NoStore owned' none' b g e') = e ∙ ap (data_cell r.callers) (one_fault _ _ _ _ a b f g) ∙ sym e'
+
+-- the same where callers and data cells are a plot's
+pub law_numbers : (callers cells : ℕ) (p : Plot) (words numbers : List ℕ) → callers ≡ p.callers → cells ≡ size p → IsDurableRow p.callers (size p) words → numbers ≡ map pay (slice_range words (data_cell callers 0) (data_cell callers 0 + cells)) → numbers ≡ numbers_in p.instrs (row_in p words)
+law_numbers callers cells p words numbers one two row is =
+    is ∙ numbers_are callers cells words (row ∙ (λ i. durable_cells (sym one i) (sym two i))) ∙ (λ i. map (λ a. pay (get_or words (data_cell (one i) a) 0)) (range_with_len 0 (two i)))
+
+-- what is read of the numbers is read of the row
+module _ (p : Plot) (words numbers : List ℕ) (is : numbers ≡ numbers_in p.instrs (row_in p words)) where
+  pub law_stands : (s : State) → StandsFor p.callers p.instrs p.blocks (memory numbers) s → StandsFor p.callers p.instrs p.blocks (memory (numbers_in p.instrs (row_in p words))) s
+  law_stands s h = subst (λ (l : List ℕ). StandsFor p.callers p.instrs p.blocks (memory l) s) is h
+
+  pub law_fault : (cell : ℕ) → IsFirstFault p.callers p.instrs p.blocks (memory numbers) cell → IsFirstFault p.callers p.instrs p.blocks (memory (numbers_in p.instrs (row_in p words))) cell
+  law_fault cell h = subst (λ (l : List ℕ). IsFirstFault p.callers p.instrs p.blocks (memory l) cell) is h
+
+-- no cell of the row is newer
+pub law_newer : (callers cells : ℕ) (p : Plot) (words : List ℕ) → callers ≡ p.callers → cells ≡ size p → NoneNewer callers words cells → NoneNewer p.callers words (size p)
+law_newer callers cells p words one two h = subst (λ (n : ℕ). NoneNewer n words (size p)) one (subst (NoneNewer callers words) two h)

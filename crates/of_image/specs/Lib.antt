@@ -1,0 +1,10 @@
+pub mod Messages
+pub mod Version
+pub mod ImageText
+pub mod RowFault
+pub mod Parsed
+pub mod ImageReading
+pub mod RecoveredText
+pub mod RenumberedImage
+pub mod MovedRow
+pub mod RunImage

@@ -1,0 +1,49 @@
+-- Which image a text has, and why another text has none.
+use Rattle.std.specs.Prelude.{ℕ, List}
+use Rattle.of_plan.specs.BadLine.{HasBadLine}
+use Rattle.of_report.specs.ImageRow.{Row, recovered_row}
+use Rattle.of_report.specs.Image.{Image, IsRestored}
+use Rattle.of_image.specs.declared.error.ImageErr.{ImageErr}
+use Rattle.of_image.specs.declared.error.ImageErr.TheVariants.{Memory, Bad, Unlawful}
+use Rattle.of_image.specs.declared.version.Version.{Version}
+use Rattle.of_image.specs.Version.{instrs_of}
+use Rattle.of_image.specs.ImageText.{SpellsImage, IsImageText}
+use Rattle.of_image.specs.RowFault.{IsRowFault}
+
+-- the text is in the grammar, and what recovery finds in its row is the image
+pub record ReadsImage (v : Version) (text : List ℕ) (i : Image) : Type 0 where
+  pub raw : Row
+  pub spelled : SpellsImage v text raw
+  pub restored : IsRestored (instrs_of v) raw i
+
+-- the text is in the grammar, and this is the first cell at fault of what recovery finds in its row
+pub record IsUnlawful (v : Version) (text : List ℕ) (cell : ℕ) : Type 0 where
+  pub raw : Row
+  pub spelled : SpellsImage v text raw
+  pub fault : IsRowFault (instrs_of v) (recovered_row (instrs_of v) raw) cell
+
+-- why a text is refused; want of memory says nothing
+abbrev pub IsRefused : Version → List ℕ → ImageErr → Type 0
+IsRefused v text Memory = Unit {0}
+IsRefused v text (Bad line) = HasBadLine (IsImageText v) text line
+IsRefused v text (Unlawful cell) = IsUnlawful v text cell
+
+-- why a text has no row
+abbrev pub IsNoImage : Version → List ℕ → ImageErr → Type 0
+IsNoImage v text Memory = Unit {0}
+IsNoImage v text (Bad line) = HasBadLine (IsImageText v) text line
+IsNoImage v text (Unlawful cell) = ⊥
+
+-- why no store is found in a row
+abbrev pub IsFaulty : (instrs : ℕ) → Row → ImageErr → Type 0
+IsFaulty instrs r Memory = Unit {0}
+IsFaulty instrs r (Bad line) = ⊥
+IsFaulty instrs r (Unlawful cell) = IsRowFault instrs r cell
+
+-- an unlawful text has no image
+abbrev pub UnlawfulHaveNone : Type 0
+UnlawfulHaveNone = (v : Version) (text : List ℕ) (cell : ℕ) (image : Image) → IsUnlawful v text cell → ReadsImage v text image → ⊥
+
+-- and one cell at fault
+abbrev pub OneFault : Type 0
+OneFault = (v : Version) (text : List ℕ) (c d : ℕ) → IsUnlawful v text c → IsUnlawful v text d → c ≡ d

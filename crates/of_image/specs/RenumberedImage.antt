@@ -1,0 +1,23 @@
+-- An image whose sequences begin anew.
+use Rattle.std.specs.Prelude.{◌≡◌, ℕ, List, false}
+use Rattle.of_script.specs.declared.instr.TheConstants.{MOST_INSTRS}
+use Rattle.of_recover.specs.Renumbered.{renumbered}
+use Rattle.of_report.specs.ImageRow.{Row, cells_in, numbers_in}
+use Rattle.of_report.specs.Image.{Image}
+use Rattle.of_image.specs.declared.version.Version.TheVariants.{Two}
+use Rattle.of_image.specs.ImageText.{image_text}
+use Rattle.of_image.specs.Parsed.{ReadsImage}
+
+-- each data cell keeps its number, at sequence 0, and every other cell is 0
+abbrev pub renumbered_row : (instrs : ℕ) → Row → Row
+renumbered_row instrs r = record r { words = renumbered r.callers (cells_in instrs r) r.words }
+
+-- the sequence is 0, no transaction is open, and the store is the same
+abbrev pub renumbered_image : Image → Image
+renumbered_image i = record { row = renumbered_row MOST_INSTRS i.row; seq = 0; replayed = false; store = i.store }
+
+-- the text is that of the image with its sequences begun anew: it is read again with sequence 0 and the same store, and the numbers of its data cells, tickets, shapes and replies among them, are the same
+pub record Renumbers (i : Image) (text : List ℕ) : Type 0 where
+  pub text_is : text ≡ image_text Two (renumbered_image i).row
+  pub again : ReadsImage Two text (renumbered_image i)
+  pub numbers : numbers_in MOST_INSTRS (renumbered_image i).row ≡ numbers_in MOST_INSTRS i.row

@@ -1,0 +1,45 @@
+-- The image of what a run of a plan leaves.
+use Rattle.std.specs.Prelude.{◌≡◌, ℕ, ◌+◌, List, slice_range}
+use Rattle.of_cell.specs.Cells.{durable_cells}
+use Rattle.of_script.specs.declared.instr.TheConstants.{MOST_INSTRS}
+use Rattle.of_plan.specs.Plan.{Plan, IsPlan}
+use Rattle.of_plan.specs.Ended.{Run}
+use Rattle.of_plan.specs.Report.{Report, Start}
+use Rattle.of_eval.specs.Record.{cells_in, IsLawful}
+use Rattle.of_report.specs.ImageRow.{Row, recovered_row}
+use Rattle.of_report.specs.ImageLaw.{IsOwned, NoneNewer}
+use Rattle.of_report.specs.Image.{Image}
+use Rattle.of_image.specs.declared.version.Version.TheVariants.{Two}
+use Rattle.of_image.specs.ImageText.{image_text, SpellsImage}
+use Rattle.of_image.specs.Parsed.{ReadsImage}
+
+-- the durable words that a run leaves
+abbrev pub durable_row : Plan → Run → Row
+durable_row p e =
+    let cells = durable_cells p.callers (cells_in p) in
+    record { callers = p.callers; blocks = p.blocks; words = slice_range e.words cells (cells + cells) }
+
+-- the same, recovered
+abbrev pub row_after : Plan → Run → Row
+row_after p e = recovered_row MOST_INSTRS (durable_row p e)
+
+-- in it a caller owns the current transaction, and no data cell is newer
+pub record MayRestart (p : Plan) (e : Run) : Type 0 where
+  pub owned : IsOwned (row_after p e)
+  pub none_newer : NoneNewer p.callers (row_after p e).words (cells_in p)
+
+-- the text is that of the durable words that a run leaves, and its image has what the run's report says: the sequence and the store
+pub record IsImageOf (p : Plan) (e : Run) (r : Report) (text : List ℕ) : Type 0 where
+  pub text_is : text ≡ image_text Two (durable_row p e)
+  pub image : Image
+  pub reads : ReadsImage Two text image
+  pub row : image.row ≡ row_after p e
+  pub seq : image.seq ≡ r.seq
+  pub store : image.store ≡ r.store
+
+-- from whatever start: the text of the durable words of a lawful record has an image, where recovery leaves an owner and no newer cell
+abbrev pub RecordsHaveImages : Type 0
+RecordsHaveImages =
+    (p : Plan) (s : Start) (e : Run) (r : Report) → IsPlan p → IsLawful p s e r → MayRestart p e
+    → (text : List ℕ) → text ≡ image_text Two (durable_row p e) → SpellsImage Two text (durable_row p e)
+    → IsImageOf p e r text

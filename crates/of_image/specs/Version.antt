@@ -1,0 +1,15 @@
+-- The versions of the text of images.
+use Rattle.std.specs.Prelude.{ℕ}
+use Rattle.of_script.specs.declared.instr.TheConstants.{MOST_INSTRS}
+use Rattle.of_image.specs.declared.version.Version.{Version}
+use Rattle.of_image.specs.declared.version.Version.TheVariants.{One, Two}
+
+-- the number in the title
+abbrev pub number_of : Version → ℕ
+number_of One = 1
+number_of Two = 2
+
+-- the most instructions of a script: a caller's own cells have room for so many numbers of a reply
+abbrev pub instrs_of : Version → ℕ
+instrs_of One = 8
+instrs_of Two = MOST_INSTRS

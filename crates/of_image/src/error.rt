@@ -1,0 +1,45 @@
+//! Why a text is no image.
+
+use std::alloc::AllocError;
+use std::fmt;
+
+/// Why a text is answered with no image.
+#[derive(Clone, Copy, Debug, PartialEq, Eq)]
+pub enum ImageErr {
+    /// Memory ran out.
+    Memory,
+    /// The text isn't in the grammar, and this is its first line with which no image's text begins,
+    /// or its last where it only stops too early. Lines count from 1.
+    Bad { line: u64 },
+    /// The text is in the grammar, and this is the first cell, by its number, that is at fault in
+    /// what recovery finds in its row.
+    Unlawful { cell: u32 },
+}
+
+impl From<AllocError> for ImageErr {
+    ghost use Rattle.std.specs.Prelude.{◌≡◌};
+    ghost use Rattle.of_image.specs.declared.error.ImageErr.TheVariants.{Memory};
+
+    ghost from_gives = { λ _ e. e ≡ Memory };
+
+    fn from(_e: AllocError) -> ImageErr {
+        ImageErr::Memory
+    }
+}
+
+impl fmt::Display for ImageErr {
+    ghost use Rattle.std.specs.Prelude.{Some};
+    ghost use Rattle.of_image.specs.Messages.{message};
+
+    ghost output = { λ e. Some (message e) };
+
+    fn fmt<W: fmt::Write>(&self, f: &mut fmt::Formatter<W>) -> fmt::Result {
+        match self {
+            ImageErr::Memory => f.write_str("out of memory"),
+            ImageErr::Bad { line } => write!(f, "bad image, line {line}"),
+            ImageErr::Unlawful { cell } => write!(f, "unlawful image, cell {cell}"),
+        }
+    }
+}
+
+impl std::error::Error for ImageErr {}

@@ -1,0 +1,23 @@
+//! Images and their texts: what is left of a table when all but its durable words is lost.
+#![tactic(auto)]
+
+mod error;
+mod from_text;
+pub mod laws;
+mod line;
+mod migrating;
+mod parsing;
+mod printing;
+mod reading;
+mod renumbering;
+mod restoring;
+#[cfg(test)]
+mod tests;
+mod version;
+
+pub use error::ImageErr;
+pub use from_text::image_parse;
+pub use migrating::migrate;
+pub use printing::{image_print, recovered_print};
+pub use renumbering::renumbered_print;
+pub use version::Version;

@@ -1,0 +1,155 @@
+//! Rows from the texts of images.
+
+ghost use Rattle.std.specs.Prelude.{◌≡◌, ◌≤◌, ◌<◌, length, IfOk, IfErr, Some, None};
+ghost use Rattle.std.specs.Bool.{MatchBool};
+ghost use Rattle.of_script.specs.Text.{words};
+ghost use Rattle.of_cell.specs.Cells.{durable_cells};
+ghost use Rattle.of_report.specs.ImageRow.{cells_of};
+ghost use Rattle.of_image.specs.Version.{instrs_of};
+ghost use Rattle.of_image.specs.ImageText.{SpellsImage};
+ghost use Rattle.of_plan.specs.Reader.{Fed, Stuck};
+ghost use Rattle.of_image.specs.ImageReading.{LineInRange, progress_of, start, celled, image_language, image_reader, row_at, at_stage};
+ghost use Rattle.of_image.specs.Parsed.{IsNoImage};
+
+use crate::error::ImageErr;
+use crate::line::{Line, read_line};
+use crate::reading::{Reading, Stage};
+use crate::version::Version;
+use of_cell::{MOST_CALLERS, pack};
+use of_script::text::cut;
+use of_store::MOST_BLOCKS;
+use std::alloc::{AllocError, Global};
+
+// A reading of nothing yet.
+fn begun(alloc: Global) -> Reading
+    ensures { progress_of result ≡ start }
+{
+    Reading {
+        stage: Stage::Start,
+        callers: 0,
+        blocks: 0,
+        words: Vec::new(alloc),
+        from: 0,
+    }
+}
+
+// The number of durable cells.
+fn cells(version: Version, callers: u32, blocks: u32) -> u32
+    requires callers { callers ≤ MOST_CALLERS }
+    requires blocks { blocks ≤ MOST_BLOCKS }
+    ensures { result ≡ durable_cells callers (cells_of (instrs_of version) callers blocks) }
+{
+    let data = callers * (version.instrs() + 2) + 63 + 3 * blocks;
+    1 + callers + data + callers * (2 * data + 1)
+}
+
+impl Reading {
+    // Takes the word of a cell, where it may come next.
+    fn take_cell(&mut self, cell: u32, seq: u32, payload: u32) -> bool
+        ensures { MatchBool result (celled (progress_of self.old) cell seq payload ≡ Some (progress_of self.new)) (celled (progress_of self.old) cell seq payload ≡ None) }
+    {
+        let place = cell as usize;
+        let word = pack(seq, payload);
+        if place < self.from {
+            return false;
+        }
+        if place >= self.words.len() {
+            return false;
+        }
+        if word == 0 {
+            return false;
+        }
+        self.words[place] = word;
+        self.from = place + 1;
+        true
+    }
+
+    // Takes a line, where it may come next.
+    fn take(&mut self, alloc: Global, version: Version, line: Line) -> Result<bool, AllocError>
+        requires range { LineInRange line }
+        ensures { IfOk result (λ b. let p = progress_of self.old in MatchBool b (at_stage version p.stage p line ≡ Some (progress_of self.new)) (at_stage version p.stage p line ≡ None)) }
+    {
+        match self.stage {
+            Stage::Start => match line {
+                Line::Title { version: number } => {
+                    if number != version.number() {
+                        return Ok(false);
+                    }
+                    self.stage = Stage::Named;
+                    Ok(true)
+                }
+                _ => Ok(false),
+            },
+            Stage::Named => match line {
+                Line::Callers { count } => {
+                    if count == 0 {
+                        return Ok(false);
+                    }
+                    self.stage = Stage::Counted;
+                    self.callers = count;
+                    Ok(true)
+                }
+                _ => Ok(false),
+            },
+            Stage::Counted => match line {
+                Line::Blocks { count } => {
+                    let size = cells(version, self.callers, count) as usize;
+                    let words = vec![in alloc; 0; size]?;
+                    self.stage = Stage::Body;
+                    self.blocks = count;
+                    self.words = words;
+                    Ok(true)
+                }
+                _ => Ok(false),
+            },
+            Stage::Body => match line {
+                Line::Cell { cell, seq, payload } => Ok(self.take_cell(cell, seq, payload)),
+                Line::End => {
+                    self.stage = Stage::Ended;
+                    Ok(true)
+                }
+                _ => Ok(false),
+            },
+            Stage::Ended => Ok(false),
+        }
+    }
+
+    // Reads a line, and takes it where it may come next.
+    fn feed(&mut self, alloc: Global, version: Version, bytes: &[u8]) -> Result<bool, AllocError>
+        ensures { IfOk result (λ b. MatchBool b (Fed image_language (image_reader version) (words bytes.now) (progress_of self.old) (progress_of self.new)) (Stuck image_language (image_reader version) (words bytes.now) (progress_of self.old))) }
+    {
+        match read_line(bytes) {
+            None => Ok(false),
+            Some(read) => match read {
+                None => Ok(true),
+                Some(line) => self.take(alloc, version, line),
+            },
+        }
+    }
+}
+
+/// The row that a text spells.
+pub(crate) fn read_row(alloc: Global, version: Version, text: &[u8]) -> Result<Reading, ImageErr>
+    ensures ok { IfOk result (λ reading. SpellsImage version text.now (row_at (progress_of reading))) }
+    ensures err { IfErr result (IsNoImage version text.now) }
+{
+    let mut reading = begun(alloc);
+    let mut number: u64 = 0;
+    let mut rest = text;
+    loop {
+        let (first, after) = cut(rest, b'\n');
+        number += 1;
+        if !reading.feed(alloc, version, first)? {
+            return Err(ImageErr::Bad { line: number });
+        }
+        match after {
+            Some(more) => rest = more,
+            None => {
+                return match reading.stage {
+                    Stage::Ended => Ok(reading),
+                    _ => Err(ImageErr::Bad { line: number }),
+                };
+            }
+        }
+    }
+}

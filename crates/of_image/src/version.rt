@@ -1,0 +1,45 @@
+//! Versions of the text of images.
+
+ghost use Rattle.std.specs.Prelude.{◌≡◌, ◌≤◌};
+ghost use Rattle.of_image.specs.Version.{number_of, instrs_of};
+
+use of_script::MOST_INSTRS;
+
+/// The most instructions of a script in a version 1 image.
+const EARLIER_INSTRS: u32 = 8;
+
+/// A version of the text of images: it says for how long scripts the callers' own cells have room.
+#[derive(Clone, Copy, Debug, PartialEq, Eq)]
+pub enum Version {
+    /// Scripts of eight instructions.
+    One,
+    /// Scripts of `MOST_INSTRS` instructions.
+    Two,
+}
+
+impl Version {
+    ghost use Rattle.std.specs.Prelude.{◌≡◌, ◌≤◌};
+    ghost use Rattle.of_image.specs.Version.{number_of, instrs_of};
+
+    /// The number in the title.
+    pub fn number(self) -> u32
+        ensures { result ≡ number_of self }
+    {
+        match self {
+            Version::One => 1,
+            Version::Two => 2,
+        }
+    }
+
+    /// The most instructions of a script.
+    pub fn instrs(self) -> u32
+        ensures value { result ≡ instrs_of self }
+        ensures some { 1 ≤ result }
+        ensures few { result ≤ 16 }
+    {
+        match self {
+            Version::One => EARLIER_INSTRS,
+            Version::Two => MOST_INSTRS as u32,
+        }
+    }
+}

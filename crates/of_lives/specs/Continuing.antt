@@ -1,0 +1,37 @@
+-- What a life that goes on from an image leaves.
+use Rattle.std.specs.Prelude.{◌≡◌, ℕ, ◌+◌, ◌<◌, slice_range}
+use Rattle.of_script.specs.declared.instr.TheConstants.{MOST_INSTRS}
+use Rattle.of_plan.specs.Plan.{Plan, durable_cells_of}
+use Rattle.of_plan.specs.Report.{Start, Report, entries_of, finished_of}
+use Rattle.of_plan.specs.Ended.{Run}
+use Rattle.of_report.specs.ImageRow.{Row}
+use Rattle.of_report.specs.Image.{Image, IsRestored, start_of}
+use Rattle.of_row.specs.Views.{Sight}
+use Rattle.of_caller.specs.Restarts.{HoldLast}
+use Rattle.of_caller.specs.Teams.{IsHandedBack}
+use Rattle.of_lives.specs.Lives.{start_behind}
+use Rattle.of_lives.specs.Restarts.{start_in}
+use Rattle.of_lives.specs.Images.{number_of}
+
+-- a team has run the plan over the table that starts from the image's row, and has handed back this
+-- run and a pass with this view; the report is that of its lawful record
+pub record IsLifeOf (i : Image) (p : Plan) (e : Run) (w : Sight) (r : Report) : Type 0 where
+  pub handed : IsHandedBack p (start_of i) (start_in p i.row.words) e w
+  pub report : handed.report ≡ r
+
+-- the durable words that a run leaves
+abbrev pub durable_row : Plan → Run → Row
+durable_row p e = record {
+  callers = p.callers;
+  blocks = p.blocks;
+  words = slice_range e.words (durable_cells_of p) (durable_cells_of p + durable_cells_of p);
+}
+
+-- recovery finds this image in the durable words that a life with this report, from this start, has
+-- left: it is where the life ends, so the next one goes on from there
+pub record LeavesImage (p : Plan) (s : Start) (e : Run) (r : Report) (next : Image) : Type 0 where
+  pub restored : IsRestored MOST_INSTRS (durable_row p e) next
+  pub start : start_of next ≡ start_behind s (record { plan = p; report = r })
+  -- each caller's own cells hold its last announced call, with the reply that the report tells
+  pub last_calls : (c : ℕ) → c < p.callers
+      → HoldLast (number_of next) c (finished_of s c) (entries_of r c)

@@ -1,0 +1,83 @@
+//! A life that goes on from an image.
+
+ghost use Rattle.std.specs.Prelude.{◌≡◌, ◌≤◌, IfOk, All, vec_len};
+ghost use Rattle.of_mem.specs.declared.work.TheConstants.{MOST_INSTRS};
+ghost use Rattle.of_plan.specs.Ended.{run_of};
+ghost use Rattle.of_eval.specs.Reported.{ReportsRun};
+ghost use Rattle.of_report.specs.Report.{report_of, HasWholeReplies};
+ghost use Rattle.of_report.specs.Image.{Image as PlainImage, IsImage, image_of, start_of};
+ghost use Rattle.of_caller.specs.Stops.{KeepStops};
+ghost use Rattle.of_caller.specs.Allowances.{KeepAllowances};
+ghost use Rattle.of_lives.specs.OneHistory.{IsBehind};
+ghost use Rattle.of_lives.specs.Images.{Fits};
+ghost use Rattle.of_lives.specs.Continuing.{IsLifeOf, LeavesImage};
+
+use of_brake::Brake;
+use of_caller::laws::teams_are_lawful;
+use of_caller::team;
+use of_eval::Scripts;
+use of_plan::{Ended, Plan};
+use of_report::{Image, Report};
+use of_row::{Pass, Row};
+use std::alloc::{AllocError, Global};
+use std::thread::Threads;
+
+/// What a life leaves.
+#[derive(Drop)]
+pub struct Life {
+    /// Its history, from where the image left.
+    pub report: Report,
+    /// What its callers were answered and how each ended, and the words of their table.
+    pub ended: Ended,
+    /// The row's pass, which has seen all of it.
+    pub pass: Pass,
+}
+
+/// Goes on from an image: runs all callers of the plan at once, each with its scripts from behind its
+/// ticket on, over a table that starts from the image's row. No script that was announced before is
+/// run again. The brake of a caller is the one at its place; it is armed with the plan's stop.
+///
+/// Recovery finds in the durable words that the life leaves an image from which the next one can go
+/// on. The error is that there is no memory.
+pub fn continue_from<R: Threads + Sync>(
+    rt: &R,
+    alloc: Global,
+    image: &Image,
+    plan: &Plan,
+    brakes: Vec<Box<dyn Brake + Send>>,
+) -> Result<Life, AllocError>
+    requires image { IsImage MOST_INSTRS (image_of image.now) }
+    requires fits { Fits (image_of image.now) plan.now }
+    requires brakes { plan.now.callers ≤ vec_len brakes }
+    // The report is that of what a team has left, and is legal from the image's start.
+    ensures team { IfOk result (λ l. IsLifeOf (image_of image.now) plan.now
+        (run_of l.ended) l.pass.seat.me.0 (report_of l.report)) }
+    ensures report { IfOk result (λ l. ReportsRun plan.now (start_of (image_of image.now))
+        (run_of l.ended) (report_of l.report)) }
+    ensures whole { IfOk result (λ l. HasWholeReplies l.report) }
+    // No call that the image holds is run again.
+    ensures not_again { IfOk result (λ l.
+        All (IsBehind (start_of (image_of image.now))) (report_of l.report).entries) }
+    ensures stops { IfOk result (λ l.
+        KeepStops (λ b. left b) plan.now (run_of l.ended) 0 brakes.items) }
+    // Each caller whose brake tells its steps left keeps its allowance.
+    ensures allowances { IfOk result (λ l.
+        KeepAllowances (λ b. left b) plan.now (report_of l.report) 0 brakes.items) }
+    // The next life can be given the image of the durable words, which is where this report ends.
+    ensures leaves { IfOk result (λ l. (next : PlainImage) × LeavesImage plan.now
+        (start_of (image_of image.now)) (run_of l.ended) (report_of l.report) next) }
+{
+    teams_are_lawful(plan);
+    let work = Scripts {
+        callers: plan.callers(),
+        blocks: plan.blocks(),
+    };
+    let (row, pass) = Row::start(alloc, plan.shape(), plan.limit(), work, &image.durable)?;
+    let (ended, pass) = team(rt, alloc, row, pass, plan, brakes)?;
+    let report = Report::make_from(alloc, plan, image, &ended)?;
+    Ok(Life {
+        report,
+        ended,
+        pass,
+    })
+}

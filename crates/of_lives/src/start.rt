@@ -1,0 +1,108 @@
+//! The start that an image is: which plans can go on from it, and what the last calls of its callers
+//! were answered.
+
+ghost use Rattle.std.specs.Prelude.{◌≡◌, ◌<◌, ◌≤◌, ◌↔◌, ℕ, length, IsTrue, IsNone, IfSome};
+ghost use Rattle.of_mem.specs.declared.work.TheConstants.{MOST_INSTRS};
+ghost use Rattle.of_script.specs.declared.instr.Reply.{Reply as TheReply};
+ghost use Rattle.of_eval.specs.Lawful.{reply_in};
+ghost use Rattle.of_report.specs.ImageRow.{cells_in};
+ghost use Rattle.of_report.specs.Image.{IsImage, image_of, ticket_in, start_of};
+ghost use Rattle.of_caller.specs.PlanRows.{HasScripts};
+ghost use Rattle.of_lives.specs.Images.{number_of, Fits, HoldsReply};
+
+use of_cell::payload_of;
+use of_eval::reply_of;
+use of_mem::{MOST_INSTRS, Plot, RawReply};
+use of_plan::Plan;
+use of_report::Image;
+use of_script::Reply;
+
+// Where the data cells of an image stand.
+fn plot(image: &Image) -> Plot
+    requires { IsImage MOST_INSTRS (image_of image.now) }
+    ensures callers { result.callers ≡ image.now.callers }
+    ensures instrs { result.instrs ≡ MOST_INSTRS }
+    ensures blocks { result.blocks ≡ image.now.blocks }
+{
+    Plot {
+        callers: image.callers,
+        instrs: MOST_INSTRS as u32,
+        blocks: image.blocks,
+    }
+}
+
+// The number in a data cell of an image.
+fn number(image: &Image, cell: u32) -> u32
+    requires image { IsImage MOST_INSTRS (image_of image.now) }
+    requires cell { cell < cells_in MOST_INSTRS (image_of image.now).row }
+    ensures { result ≡ number_of (image_of image.now) cell }
+{
+    payload_of(image.durable[(image.callers + 1 + cell) as usize])
+}
+
+// Whether each caller has the scripts that are done.
+#[tactic(auto, using(crate::proofs::ImageStarts::done_is_ticket))]
+fn has_scripts(image: &Image, plan: &Plan) -> bool
+    requires image { IsImage MOST_INSTRS (image_of image.now) }
+    requires callers { plan.now.callers ≡ image.now.callers }
+    ensures { IsTrue result ↔ HasScripts plan.now (start_of (image_of image.now)) }
+{
+    for caller in 0..plan.callers() {
+        if image.ticket(caller) as usize > plan.scripts(caller).len() {
+            return false;
+        }
+    }
+    true
+}
+
+/// Whether a plan can go on from an image: it has as many callers and blocks, its limit is no lower
+/// than the image's sequence, and each caller has at least as many scripts as its ticket says.
+pub fn fits(image: &Image, plan: &Plan) -> bool
+    requires { IsImage MOST_INSTRS (image_of image.now) }
+    ensures { IsTrue result ↔ Fits (image_of image.now) plan.now }
+{
+    plan.callers() == image.callers
+        && plan.blocks() == image.blocks
+        && image.recovered.seq <= plan.limit()
+        && has_scripts(image, plan)
+}
+
+// The reply in a caller's own cells.
+fn reply(image: &Image, caller: u32) -> RawReply
+    requires image { IsImage MOST_INSTRS (image_of image.now) }
+    requires caller { caller < image.now.callers }
+    ensures { result ≡ reply_in MOST_INSTRS (number_of (image_of image.now)) caller }
+{
+    let plot = plot(image);
+    let mut values = [0; MOST_INSTRS];
+    for place in 0..MOST_INSTRS {
+        values[place] = number(image, plot.reply(caller, place as u32));
+    }
+    RawReply {
+        shape: number(image, plot.shape(caller)),
+        values,
+    }
+}
+
+/// The ticket of a caller's last announced call and the reply to it, also where the caller was
+/// stopped before it was answered: no later life runs it again. None where no call of the caller was
+/// announced.
+pub fn last_reply(image: &Image, caller: u32) -> Option<(u32, Reply)>
+    requires image { IsImage MOST_INSTRS (image_of image.now) }
+    requires caller { caller < image.now.callers }
+    ensures none { IsNone result ↔ (ticket_in (image_of image.now) caller ≡ 0) }
+    ensures ticket { IfSome result (λ r. r.0 ≡ ticket_in (image_of image.now) caller) }
+    ensures reply { IfSome result (λ r. HoldsReply (image_of image.now) caller r.1) }
+    // No other reply is held.
+    ensures only { (r : TheReply) → HoldsReply (image_of image.now) caller r
+        → IfSome result (λ given. given.1 ≡ r) }
+{
+    let ticket = image.ticket(caller);
+    if ticket == 0 {
+        return None;
+    }
+    let Some(reply) = reply_of(&reply(image, caller)) else {
+        unreachable!();
+    };
+    Some((ticket, reply))
+}

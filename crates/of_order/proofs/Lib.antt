@@ -1,0 +1,6 @@
+pub mod Best
+pub mod Buckets
+pub mod Walking
+pub mod Dropping
+pub mod Drops
+pub mod DropWalks

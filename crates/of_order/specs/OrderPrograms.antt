@@ -1,0 +1,111 @@
+-- What the calls on keys in their order read and write, and in which order.
+use Rattle.std.specs.Prelude.{ℕ, zero, suc, ◌+◌, ◌-◌, Bool, true, false, nat_lt, Option, None}
+use Rattle.of_mem.specs.declared.plot.Plot.{Plot}
+use Rattle.of_mem.specs.declared.plot.TheConstants.{BUCKETS}
+use Rattle.of_mem.specs.Plots.{base}
+use Rattle.of_mem.specs.Places.{bucket_at, keys_at}
+use Rattle.of_mem.specs.Stores.{first_at, link_at}
+use Rattle.of_mem.specs.Programs.{Program, Done, Read, Write, then_do}
+use Rattle.of_alloc.specs.BlockPrograms.{give_program}
+use Rattle.of_order.specs.Means.{better}
+
+-- The least key from one on: the front of each bucket, and of each block its key and its link.
+
+abbrev pub with_link : ℕ → (ℕ → Option ℕ → Program (Option ℕ)) → Option ℕ → ℕ → ℕ → Program (Option ℕ)
+with_link low further best k link = further link (better low k best)
+
+abbrev pub with_key : ℕ → ℕ → (ℕ → Option ℕ → Program (Option ℕ)) → ℕ → Option ℕ → ℕ → Program (Option ℕ)
+with_key o low further b best k = Read (link_at o b) (with_link low further best k)
+
+-- by the pointer in hand
+abbrev pub at_pointer : ℕ → ℕ → (ℕ → Option ℕ → Program (Option ℕ)) → Option ℕ → ℕ → Program (Option ℕ)
+at_pointer o low further best zero = Done best
+at_pointer o low further best (suc b) = Read (first_at o b) (with_key o low further b best)
+
+-- from this pointer on, past at most so many blocks
+abbrev pub least_walk : ℕ → ℕ → ℕ → ℕ → Option ℕ → Program (Option ℕ)
+least_walk o low zero pointer best = Done best
+least_walk o low (suc n) pointer best = at_pointer o low (least_walk o low n) best pointer
+
+abbrev pub from_front : ℕ → ℕ → ℕ → Option ℕ → ℕ → Program (Option ℕ)
+from_front o blocks low best front = least_walk o low blocks front best
+
+abbrev pub least_in_program : ℕ → ℕ → ℕ → ℕ → Option ℕ → Program (Option ℕ)
+least_in_program o blocks i low best = Read (bucket_at o i) (from_front o blocks low best)
+
+-- so many buckets, from this one on
+unfoldable pub least_buckets : ℕ → ℕ → ℕ → ℕ → ℕ → Option ℕ → Program (Option ℕ)
+least_buckets o blocks low zero i best = Done best
+least_buckets o blocks low (suc j) i best = then_do (least_in_program o blocks i low best) (least_buckets o blocks low j (i + 1))
+
+abbrev pub least_program : ℕ → ℕ → ℕ → Program (Option ℕ)
+least_program o blocks low = least_buckets o blocks low BUCKETS 0 None
+
+-- Dropping the keys below one.
+
+abbrev pub gave : ℕ → (ℕ → ℕ → ℕ → Program ℕ) → ℕ → ℕ → ℕ → Unit {0} → Program ℕ
+gave o further cell link gone u = further cell link (gone + 1)
+
+-- by whether the block's key is below: the pointer cell takes the link and the block is given, or the link is the next pointer cell
+abbrev pub drop_or : ℕ → (ℕ → ℕ → ℕ → Program ℕ) → ℕ → ℕ → ℕ → ℕ → Bool → Program ℕ
+drop_or o further cell b gone link true = Write cell link (then_do (give_program o b) (gave o further cell link gone))
+drop_or o further cell b gone link false = further (link_at o b) link gone
+
+abbrev pub drop_link : ℕ → ℕ → (ℕ → ℕ → ℕ → Program ℕ) → ℕ → ℕ → ℕ → ℕ → ℕ → Program ℕ
+drop_link o low further cell b gone k link = drop_or o further cell b gone link (nat_lt k low)
+
+abbrev pub drop_key : ℕ → ℕ → (ℕ → ℕ → ℕ → Program ℕ) → ℕ → ℕ → ℕ → ℕ → Program ℕ
+drop_key o low further cell b gone k = Read (link_at o b) (drop_link o low further cell b gone k)
+
+abbrev pub drop_pointer : ℕ → ℕ → (ℕ → ℕ → ℕ → Program ℕ) → ℕ → ℕ → ℕ → Program ℕ
+drop_pointer o low further cell gone zero = Done gone
+drop_pointer o low further cell gone (suc b) = Read (first_at o b) (drop_key o low further cell b gone)
+
+-- from this pointer cell on, which holds this pointer
+abbrev pub drop_walk : ℕ → ℕ → ℕ → ℕ → ℕ → ℕ → Program ℕ
+drop_walk o low zero cell pointer gone = Done gone
+drop_walk o low (suc n) cell pointer gone = drop_pointer o low (drop_walk o low n) cell gone pointer
+
+abbrev pub drop_front : ℕ → ℕ → ℕ → ℕ → ℕ → ℕ → Program ℕ
+drop_front o blocks i low gone front = drop_walk o low blocks (bucket_at o i) front gone
+
+abbrev pub drop_in_program : ℕ → ℕ → ℕ → ℕ → ℕ → Program ℕ
+drop_in_program o blocks i low gone = Read (bucket_at o i) (drop_front o blocks i low gone)
+
+-- the keys are counted at the end, where one has left
+abbrev pub less_keys : ℕ → ℕ → ℕ → Program ℕ
+less_keys o gone n = Write (keys_at o) (n - gone) (Done gone)
+
+abbrev pub count_program : ℕ → ℕ → Program ℕ
+count_program o zero = Done zero
+count_program o (suc g) = Read (keys_at o) (less_keys o (suc g))
+
+unfoldable pub drop_buckets : ℕ → ℕ → ℕ → ℕ → ℕ → ℕ → Program ℕ
+drop_buckets o blocks low zero i gone = count_program o gone
+drop_buckets o blocks low (suc j) i gone = then_do (drop_in_program o blocks i low gone) (drop_buckets o blocks low j (i + 1))
+
+abbrev pub drop_program : ℕ → ℕ → ℕ → Program ℕ
+drop_program o blocks low = drop_buckets o blocks low BUCKETS 0 0
+
+-- The programs of the calls on a plot.
+
+abbrev pub least : Plot → ℕ → Program (Option ℕ)
+least plot low = least_program (base plot) plot.blocks low
+
+abbrev pub first : Plot → Program (Option ℕ)
+first plot = least plot 0
+
+abbrev pub next : Plot → ℕ → Program (Option ℕ)
+next plot key = least plot (key + 1)
+
+abbrev pub least_in : Plot → ℕ → ℕ → Option ℕ → Program (Option ℕ)
+least_in plot i low best = least_in_program (base plot) plot.blocks i low best
+
+abbrev pub drop_below : Plot → ℕ → Program ℕ
+drop_below plot low = drop_program (base plot) plot.blocks low
+
+abbrev pub drop_in : Plot → ℕ → ℕ → ℕ → Program ℕ
+drop_in plot i low gone = drop_in_program (base plot) plot.blocks i low gone
+
+abbrev pub count_down : Plot → ℕ → Program ℕ
+count_down plot gone = count_program (base plot) gone

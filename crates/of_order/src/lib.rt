@@ -1,0 +1,136 @@
+//! The keys of the map in their order, over cells: the least key, the next one, and dropping the
+//! keys below one.
+#![tactic(auto)]
+
+ghost use Rattle.std.specs.Prelude.{◌≡◌, ◌+◌, ◌<◌, length};
+ghost use Rattle.of_mem.specs.declared.plot.TheConstants.{BUCKETS};
+ghost use Rattle.of_mem.specs.Calls.{RunsOn, HasStore, Answers, Acts};
+ghost use Rattle.of_order.specs.OrderPrograms as program;
+ghost use Rattle.of_order.specs.Means.{least_from, better, dropped, after_drop};
+ghost use Rattle.of_order.specs.Dropping.{IsDropping, IsDropped};
+
+use of_mem::{BUCKETS, Need, Part, Plot};
+
+/// The least key, None where there is none. The error names a cell that is read and isn't known.
+pub fn first(plot: &Plot, part: &Part) -> Result<Option<u32>, Need>
+    requires { HasStore plot.now part.now }
+    ensures runs { RunsOn (program.first plot.now) part.now part.now result }
+    ensures answers { Answers plot.now part.now result (λ s. least_from s.map 0) }
+{
+    least(plot, part, 0)
+}
+
+/// The least key above this one, None where there is none. The error names a cell that is read and
+/// isn't known.
+pub fn next(plot: &Plot, part: &Part, key: u32) -> Result<Option<u32>, Need>
+    requires { HasStore plot.now part.now }
+    ensures runs { RunsOn (program.next plot.now key) part.now part.now result }
+    ensures answers { Answers plot.now part.now result (λ s. least_from s.map (key + 1)) }
+{
+    least(plot, part, u64::from(key) + 1)
+}
+
+/// The least key from this one on, None where there is none.
+fn least(plot: &Plot, part: &Part, low: u64) -> Result<Option<u32>, Need>
+    requires { HasStore plot.now part.now }
+    ensures { RunsOn (program.least plot.now low) part.now part.now result }
+{
+    let mut best = None;
+    for bucket in 0..BUCKETS {
+        best = least_in(plot, part, bucket, low, best)?;
+    }
+    Ok(best)
+}
+
+/// The least of the best key so far and of a bucket's keys from this one on.
+fn least_in(
+    plot: &Plot,
+    part: &Part,
+    bucket: u32,
+    low: u64,
+    best: Option<u32>,
+) -> Result<Option<u32>, Need>
+    requires stands { HasStore plot.now part.now }
+    requires bucket { bucket < BUCKETS }
+    ensures { RunsOn (program.least_in plot.now bucket low best) part.now part.now result }
+{
+    let mut best = best;
+    let mut pointer = part.read(plot.bucket(bucket))?;
+    for step in 0..plot.blocks {
+        if pointer == 0 {
+            return Ok(best);
+        }
+        let block = pointer - 1;
+        let key = part.read(plot.block(block, 0))?;
+        pointer = part.read(plot.block(block, 2))?;
+        best = better(low, key, best);
+    }
+    Ok(best)
+}
+
+/// The less of a key and the best so far, where the key is not below the lowest that is sought.
+fn better(low: u64, key: u32, best: Option<u32>) -> Option<u32>
+    ensures { result ≡ better low key best }
+{
+    if u64::from(key) < low {
+        return best;
+    }
+    match best {
+        None => Some(key),
+        Some(least) => Some(if least < key { least } else { key }),
+    }
+}
+
+/// Drops every key below this one, and answers how many they were. The error names a cell that is
+/// read and isn't known.
+pub fn drop_below(plot: &Plot, part: &mut Part, key: u32) -> Result<u32, Need>
+    requires { HasStore plot.now part.old }
+    ensures runs { RunsOn (program.drop_below plot.now key) part.old part.new result }
+    ensures acts { Acts plot.now part.old part.new result (dropped key) (after_drop key) }
+{
+    let mut gone = 0;
+    for bucket in 0..BUCKETS {
+        gone = drop_in(plot, part, bucket, key, gone)?;
+    }
+    count_down(plot, part, gone)
+}
+
+/// Drops the keys of a bucket that are below this one, and answers how many are gone then.
+fn drop_in(plot: &Plot, part: &mut Part, bucket: u32, key: u32, gone: u32) -> Result<u32, Need>
+    requires stands { IsDropping plot.now part.old key bucket gone }
+    requires bucket { bucket < BUCKETS }
+    ensures { RunsOn (program.drop_in plot.now bucket key gone) part.old part.new result }
+{
+    let mut gone = gone;
+    let mut cell = plot.bucket(bucket);
+    let mut pointer = part.read(cell)?;
+    for step in 0..plot.blocks {
+        if pointer == 0 {
+            return Ok(gone);
+        }
+        let block = pointer - 1;
+        let found = part.read(plot.block(block, 0))?;
+        let link = part.read(plot.block(block, 2))?;
+        if found < key {
+            part.write(cell, link);
+            of_alloc::give(plot, part, block)?;
+            gone += 1;
+        } else {
+            cell = plot.block(block, 2);
+        }
+        pointer = link;
+    }
+    Ok(gone)
+}
+
+/// Counts so many keys less, and answers how many they are.
+fn count_down(plot: &Plot, part: &mut Part, gone: u32) -> Result<u32, Need>
+    requires { IsDropped plot.now part.old gone }
+    ensures { RunsOn (program.count_down plot.now gone) part.old part.new result }
+{
+    if gone != 0 {
+        let keys = part.read(plot.keys())?;
+        part.write(plot.keys(), keys - gone);
+    }
+    Ok(gone)
+}

@@ -1,0 +1,64 @@
+ghost use Rattle.std.specs.Prelude.{◌≡◌, false, slice_index};
+ghost use Rattle.of_recover.specs.Row.{IsDurableRow, is_open};
+ghost use Rattle.of_recover.specs.Recovered.{is_data};
+ghost use Rattle.of_recover.specs.Renumbered.{renumbered, renumbered_word};
+
+use of_cell::{Shape, pack, payload_of};
+
+/// Whether a cell is a data cell.
+fn is_data(shape: &Shape, cell: usize) -> bool
+    ensures { result ≡ is_data shape.now.callers shape.now.cells cell }
+{
+    let callers = shape.callers as usize;
+    callers < cell && cell < callers + 1 + shape.cells as usize
+}
+
+/// The word of a cell when the sequences have begun anew.
+fn renumbered_word(shape: &Shape, cell: usize, word: u64) -> u64
+    ensures { result ≡ renumbered_word shape.now.callers shape.now.cells (λ c. word) cell }
+{
+    if is_data(shape, cell) {
+        pack(0, payload_of(word))
+    } else {
+        0
+    }
+}
+
+/// Begins the sequences of a recovered row anew: each data cell keeps its number, at sequence 0, and the
+/// current transaction, the requests and the logs are those of a table on which nothing has happened.
+pub fn renumber(shape: &Shape, durable: &mut [u64])
+    requires row { IsDurableRow shape.now.callers shape.now.cells durable.old }
+    requires closed { is_open shape.now.callers (slice_index durable.old) ≡ false }
+    ensures { durable.new ≡ renumbered shape.now.callers shape.now.cells durable.old }
+{
+    for cell in 0..durable.len() {
+        durable[cell] = renumbered_word(shape, cell, durable[cell]);
+    }
+}
+
+#[cfg(test)]
+mod tests {
+    use super::*;
+
+    // One caller and two data cells: the current transaction, its closed request, the two data cells, and
+    // a log of a count and two entries.
+    #[test]
+    fn renumbers(rt: HostRuntime) {
+        let shape = Shape::new(1, 8, 2).expect(&rt, "in range");
+        assert_eq!(rt; shape.callers, 1);
+        assert_eq!(rt; shape.cells, 2);
+        let mut durable = [
+            pack(2, 0),
+            pack(2, 1),
+            pack(1, 5),
+            pack(2, 7),
+            pack(2, 1),
+            pack(2, 1),
+            pack(2, 7),
+            pack(1, 1),
+            pack(1, 6),
+        ];
+        renumber(&shape, &mut durable);
+        assert_eq!(rt; durable, [0, 0, 5, 7, 0, 0, 0, 0, 0]);
+    }
+}

@@ -1,0 +1,46 @@
+-- What an image holds: a recovered row, what recovery found, and the store for which the row stands.
+use Rattle.std.specs.Prelude.{◌≡◌, ℕ, Bool, map, slice_index}
+use Rattle.std.specs.List.{range_with_len}
+use Rattle.of_cell.specs.Words.{pay}
+use Rattle.of_cell.specs.Cells.{data_cell}
+use Rattle.of_mem.specs.Places.{ticket_at}
+use Rattle.of_script.specs.declared.instr.TheConstants.{MOST_INSTRS}
+use Rattle.of_recover.specs.Row.{current_seq, is_open}
+use Rattle.of_store.specs.State.{State}
+use Rattle.of_plan.specs.Report.{Start}
+use Rattle.of_report.specs.declared.image.Image.{Image as Held}
+use Rattle.of_report.specs.ImageRow.{Row, IsRow, recovered_row}
+use Rattle.of_report.specs.ImageLaw.{IsLawfulRow}
+
+-- the recovered row, its sequence, whether a transaction was brought to its end, and the store
+pub record Image : Type 0 where
+  pub row : Row
+  pub seq : ℕ
+  pub replayed : Bool
+  pub store : State
+
+-- what contracts see of an image that is held
+abbrev pub image_of : Held → Image
+image_of i = record { row = record { callers = i.callers; blocks = i.blocks; words = i.durable.items }; seq = i.recovered.seq; replayed = i.recovered.replayed; store = i.store }
+
+-- an image as reading answers it: its words are in range and recovered, its sequence is theirs, and they are lawful with its store
+pub record IsImage (instrs : ℕ) (i : Image) : Type 0 where
+  pub row : IsRow instrs i.row
+  pub settled : recovered_row instrs i.row ≡ i.row
+  pub seq : i.seq ≡ current_seq (slice_index i.row.words)
+  pub lawful : IsLawfulRow instrs i.row i.store
+
+-- what recovery finds in this row is the image
+pub record IsRestored (instrs : ℕ) (raw : Row) (i : Image) : Type 0 where
+  pub row : i.row ≡ recovered_row instrs raw
+  pub seq : i.seq ≡ current_seq (slice_index raw.words)
+  pub replayed : i.replayed ≡ is_open raw.callers (slice_index raw.words)
+  pub lawful : IsLawfulRow instrs i.row i.store
+
+-- a caller's ticket: how many of its calls the store has seen
+abbrev pub ticket_in : Image → (caller : ℕ) → ℕ
+ticket_in i c = pay (slice_index i.row.words (data_cell i.row.callers (ticket_at MOST_INSTRS c)))
+
+-- where a run from the image starts: so many scripts of a caller are done as its ticket says
+abbrev pub start_of : Image → Start
+start_of i = record { store = i.store; seq = i.seq; finished = map (ticket_in i) (range_with_len 0 i.row.callers) }

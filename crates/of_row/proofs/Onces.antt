@@ -1,0 +1,65 @@
+-- A caller's announced calls stand once in what was seen: tickets rise from batch to batch.
+use Rattle.std.proofs.Common.{◌≡◌, ℕ, ◌+◌, ◌<◌, ◌≤◌, ◌⊎◌, inl, inr, true, false, List, [], ◌++◌, length, ap, get_or, sym, ◌∙◌, subst, arith}
+use Rattle.std.specs.List.{All}
+use Rattle.std.proofs.lemmas.Bool.{cases_lt}
+use Rattle.std.proofs.lemmas.List.{length-map, append-nil}
+use mathlib.Core.List.{IsPrefix}
+use Rattle.of_core.specs.declared.place.Outcome.{Outcome}
+use Rattle.of_core.specs.declared.place.Outcome.TheVariants.{Answered, Spent}
+use Rattle.of_core.specs.Table.{Setup}
+use Rattle.of_core.specs.Machine.{Call, no_call}
+use Rattle.of_core.specs.World.{Batch, Start}
+use Rattle.of_core.specs.History.{batch, HasCall}
+use Rattle.of_core.specs.Claim.{IsNewer}
+use Rattle.of_row.specs.Views.{Committed, Kept, Sight, IsFront, KnowsMet, dressed, shown, reach}
+use Rattle.of_row.specs.Turned.{joined}
+use Rattle.of_row.specs.Rule.{HasEnded, HasOwn, IsOnce, IsOwn, OwnOnce, StandsOnce, done_before, op_at, outcome_at, ticket_at}
+use Rattle.of_row.proofs.Fronts.{seen_calls}
+
+-- of two calls of one caller in batches up to a sequence, the one in the later batch is the newer
+abbrev TicketsRise : Start → List Batch → (upto : ℕ) → Type 0
+TicketsRise B bs upto = (j k : ℕ) → B.seq < j → j < k → k ≤ upto → All (λ (c : Call). All (IsNewer c) (batch B bs k).calls) (batch B bs j).calls
+
+module _ (S : Setup) (B : Start) (cs : List Committed) (bs : List Batch) (x : Kept) (front : IsFront cs bs) (rise : TicketsRise B bs (B.seq + length bs)) (own : HasOwn S B cs x) where
+  abbrev seen : List Batch
+  seen = shown cs
+
+  long : length seen ≡ length cs
+  long = length-map cs dressed
+
+  rises : TicketsRise B seen (reach B cs)
+  rises j k l m u = subst (λ (z : List Call × List Call). All (λ (c : Call). All (IsNewer c) z.1) z.0) (λ i. (sym (seen_calls B cs bs j front l (omega arith)) i, sym (seen_calls B cs bs k front (omega arith) u) i)) (rise j k l m (omega (arith, front.few)))
+
+  stands : (i ticket : ℕ) (op : List ℕ) (o : Outcome) → HasEnded S B seen (reach B cs) i ticket op o → IsOnce S B seen i ticket op o
+  stands i ticket op (Answered n true raw steps) h = record { from = h.0; upto = omega (arith, long, h.1); has = h.3; only = only }
+    where
+      here : Call
+      here = get_or (batch B seen n).calls h.3.place no_call
+
+      only : (k : ℕ) → B.seq < k → k ≤ B.seq + length seen → All (λ (c : Call). c.caller ≡ i → c.ticket ≡ ticket → k ≡ n) (batch B seen k).calls
+      only k l u p d q e t = go (cases_lt k n) (cases_lt n k)
+        where
+          go : (k < n) ⊎ (n ≤ k) → (n < k) ⊎ (k ≤ n) → k ≡ n
+          go (inl a) b = let newer = rises k n l a h.1 p d q h.3.place no_call h.3.among (h.3.caller ∙ sym e) in absurd (omega (arith, newer, t, h.3.ticket))
+          go (inr a) (inl b) = let newer = rises n k h.0 b (omega (arith, long, u)) h.3.place no_call h.3.among p d q (e ∙ sym h.3.caller) in absurd (omega (arith, newer, t, h.3.ticket))
+          go (inr a) (inr b) = omega (arith, a, b)
+  stands i ticket op (Answered n false raw steps) h = tt
+  stands i ticket op (Spent n) h = tt
+
+  pub own_once : OwnOnce S B cs x
+  own_once = record {
+    once = λ y l. stands x.machine.caller (ticket_at S B x y) (op_at x.ended y) (outcome_at x.ended y) (own.each y l);
+    begun = λ k l u p d q e. low (get_or (batch B seen k).calls p d) (own.own_calls k l u p d q e);
+  }
+    where
+      low : (c : Call) → IsOwn S B x c → c.ticket ≤ x.machine.made
+      low c (inl z) = omega (arith, z.1, z.2, own.made)
+      low c (inr z) = omega (arith, z.1)
+
+-- after a join each of the two is how what is known begins
+pub joined_both : (v w u : Sight) → u ≡ joined v w → KnowsMet u → IsPrefix v.seen u.seen × IsPrefix w.seen u.seen
+joined_both v w u e m = let k : KnowsMet (joined v w) = subst KnowsMet e m in subst (λ (z : Sight). IsPrefix v.seen z.seen × IsPrefix w.seen z.seen) (sym e) (k.0, k.1.0)
+
+-- with nobody taken in the callers stay
+pub same_callers : (v w u : Sight) → u ≡ joined v w → w.kept ≡ [] → u.kept ≡ v.kept
+same_callers v w u e none = ap (λ (z : Sight). z.kept) e ∙ ap (λ (xs : List Kept). v.kept ++ xs) none ∙ append-nil v.kept

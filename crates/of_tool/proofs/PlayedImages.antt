@@ -1,0 +1,66 @@
+-- The image of what a plan's schedule leaves is that of the run of which `play` prints the report.
+use Rattle.std.proofs.Common.{◌≡◌, ℕ, ◌+◌, ◌<◌, ◌≤◌, List, get_or, refl, sym, ap, subst, ◌∙◌, arith}
+use Rattle.of_cell.specs.Words.{seq}
+use Rattle.of_cell.specs.Cells.{data_cell, durable_place}
+use Rattle.of_recover.specs.Recovered.{recovered}
+use Rattle.of_plan.specs.Plan.{Plan}
+use Rattle.of_plan.specs.Ended.{Run}
+use Rattle.of_plan.specs.Report.{Report, empty_start}
+use Rattle.of_eval.specs.Record.{cells_in, IsLawful}
+use Rattle.of_core.specs.Laws.{Restarts}
+use Rattle.of_core.specs.Starts.{IsDurable, IsStartRow}
+use Rattle.of_core.specs.Events.{zeros}
+use Rattle.of_caller.specs.Tables.{setup_for, lawful_for}
+use Rattle.of_caller.specs.Left.{moment_after}
+use Rattle.of_report.proofs.Recovery.{part_at, row_long, row_at}
+use Rattle.of_image.specs.declared.version.Version.TheVariants.{Two}
+use Rattle.of_image.specs.ImageText.{image_text, SpellsImage}
+use Rattle.of_image.specs.RunImage.{durable_row, MayRestart, RecordsHaveImages}
+use Rattle.of_tool.specs.Play.{IsPlayed, play_events}
+use Rattle.of_tool.specs.Played.{IsPlayedReport, IsPlayedImage}
+use Rattle.of_tool.proofs.PlaysMoments.{IsPlayable, good_moment}
+use Rattle.of_tool.proofs.PlaysSchedule.{play_is_schedule}
+
+module _ (p : Plan) (play : IsPlayable p) (restarts : Restarts (setup_for p) (lawful_for p)) where
+  -- what recovery leaves of the durable words is a row from which a table may start
+  module _ (f : Run) (played : IsPlayed p f) (r : Report) (lawful : IsLawful p (empty_start p) f r) where
+    abbrev N : ℕ
+    N = p.callers
+
+    abbrev M : ℕ
+    M = cells_in p
+
+    abbrev ws : List ℕ
+    ws = (durable_row p f).words
+
+    durable : IsDurable (setup_for p) (moment_after p (play_events p)).words (durable_row p f).words
+    durable = record {
+      long = row_long N M f.words ws lawful.words refl;
+      each = λ c l. row_at N M f.words ws refl c l ∙ ap (λ (l : List ℕ). get_or l (durable_place N M c) 0) played.words;
+    }
+
+    starts : IsStartRow (setup_for p) (lawful_for p) (recovered N M ws)
+    starts = (restarts (zeros (setup_for p)) (moment_after p (play_events p)) (good_moment p play (play_events p) (play_is_schedule p play)) ws durable).0
+
+    none_newer : (a : ℕ) → a < M → seq (get_or (recovered N M ws) (data_cell N a) 0) ≤ seq (get_or (recovered N M ws) 0 0)
+    none_newer a l =
+        let here : data_cell N 0 + a ≡ data_cell N a = omega arith in
+        let same = part_at (recovered N M ws) (data_cell N 0) M a l ∙ ap (λ (n : ℕ). get_or (recovered N M ws) n 0) here in
+        subst (λ (w : ℕ). seq w ≤ seq (get_or (recovered N M ws) 0 0)) same (starts.may_start.start.old a)
+
+    pub may_restart : MayRestart p f
+    may_restart = record { owned = starts.may_start.start.owner_in; none_newer = none_newer }
+
+  -- all runs of the schedule leave the same words
+  same_rows : (e f : Run) → IsPlayed p e → IsPlayed p f → durable_row p e ≡ durable_row p f
+  same_rows e f h k = ap (λ (l : List ℕ). durable_row p (record e { words = l })) (h.words ∙ sym k.words)
+
+  pub played_image : RecordsHaveImages → (e : Run) → IsPlayed p e → (r : Report) → IsPlayedReport p r → (text : List ℕ) → text ≡ image_text Two (durable_row p e) → SpellsImage Two text (durable_row p e) → IsPlayedImage p text
+  played_image images e played r report text is spelled = record {
+    report = r;
+    played = report;
+    image = λ q other.
+        let rows = same_rows e other.run played other.played in
+        let lawful = other.reports.lawful in
+        images p (empty_start p) other.run q play.plan lawful (may_restart other.run other.played q lawful) text (is ∙ ap (image_text Two) rows) (subst (SpellsImage Two text) rows spelled);
+  }

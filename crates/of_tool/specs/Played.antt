@@ -1,0 +1,22 @@
+-- What a plan's schedule leaves, as a report and as an image.
+use Rattle.std.specs.Prelude.{ℕ, ◌<◌, List, Some}
+use Rattle.of_plan.specs.Plan.{Plan}
+use Rattle.of_plan.specs.Ended.{Run}
+use Rattle.of_plan.specs.Report.{Report, empty_start}
+use Rattle.of_plan.specs.Allowance.{KeepsAllowance, turns_for}
+use Rattle.of_eval.specs.Reported.{ReportsRun}
+use Rattle.of_image.specs.RunImage.{IsImageOf}
+use Rattle.of_tool.specs.Play.{IsPlayed}
+
+-- the report of what a plan's schedule leaves: it says of that run what holds of every run, and each caller keeps to its turns
+pub record IsPlayedReport (p : Plan) (r : Report) : Type 0 where
+  pub run : Run
+  pub played : IsPlayed p run
+  pub reports : ReportsRun p (empty_start p) run r
+  pub allowance : (c : ℕ) → c < p.callers → KeepsAllowance p r c (Some (turns_for p c))
+
+-- the text is the image of the durable words of the moment that a plan's schedule leaves: of the run of which `play` prints the report, with that report's sequence and store
+pub record IsPlayedImage (p : Plan) (text : List ℕ) : Type 0 where
+  pub report : Report
+  pub played : IsPlayedReport p report
+  pub image : (r : Report) (other : IsPlayedReport p r) → IsImageOf p other.run r text

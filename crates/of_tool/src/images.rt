@@ -1,0 +1,142 @@
+//! What the commands on images answer.
+
+ghost use Rattle.std.specs.Prelude.{IfOk, MatchResult};
+ghost use Rattle.of_mem.specs.declared.work.TheConstants.{MOST_INSTRS};
+ghost use Rattle.of_report.specs.Image.{IsImage, image_of};
+ghost use Rattle.of_image.specs.declared.version.Version.TheVariants.{Two};
+ghost use Rattle.of_tool.specs.declared.command.Command.TheVariants.{Image as TheImage, Recover, Renumber, Migrate};
+ghost use Rattle.of_tool.specs.Commands.{words_of};
+ghost use Rattle.of_tool.specs.Played.{IsPlayedImage};
+ghost use Rattle.of_tool.specs.Verdicts.{source_state, ReadsItsImage};
+ghost use Rattle.of_tool.specs.Answer.{Answered, RefusesImage, TellsRefusal};
+
+use crate::play::play;
+use crate::status;
+use crate::top::{Answer, MOST_IMAGE, read_input, read_plan};
+use of_caller::laws::{plan_keeps_laws, runs_are_lawful};
+use of_core::laws::starts;
+use of_eval::Scripts;
+use of_image::laws::records_have_images;
+use of_image::{ImageErr, image_parse, image_print, migrate, recovered_print, renumbered_print};
+use of_io::Source;
+use of_plan::Plan;
+use of_report::Image;
+use std::alloc::{AllocError, Global};
+
+/// The image of what a plan's schedule leaves: the durable words of the table then.
+fn play_image(alloc: Global, plan: &Plan) -> Result<Vec<u8>, AllocError>
+    ensures { IfOk result (λ text. IsPlayedImage plan.now text.items) }
+{
+    let scripts = Scripts {
+        callers: plan.callers(),
+        blocks: plan.blocks(),
+    };
+    plan_keeps_laws(plan);
+    runs_are_lawful();
+    starts(plan.limit(), scripts);
+    records_have_images();
+    let ended = play(alloc, plan)?;
+    image_print(alloc, &plan.plot(), &ended.words)
+}
+
+// The answer to a text that has no image.
+fn refused(alloc: Global, err: ImageErr) -> Result<Answer, AllocError>
+    ensures { IfOk result (TellsRefusal err) }
+{
+    if err == ImageErr::Memory {
+        return Err(AllocError);
+    }
+    let text = format!(in alloc; "error: {err}\n")?;
+    Ok(Answer {
+        status: status::BAD_IMAGE,
+        text: text.into_bytes(),
+    })
+}
+
+// The image that the whole input has, or the answer that says why there is none.
+fn read_image<S: Source>(alloc: Global, source: &mut S) -> Result<Result<Image, Answer>, AllocError>
+    ensures read { IfOk result (λ read. MatchResult read
+        (λ image. ReadsItsImage Two
+        (source_state (S.remaining source.old) (S.faults source.old))
+        (source_state (S.remaining source.new) (S.faults source.new)) (image_of image))
+        (RefusesImage Two
+        (source_state (S.remaining source.old) (S.faults source.old))
+        (source_state (S.remaining source.new) (S.faults source.new)))) }
+    ensures image { IfOk result (λ read. IfOk read (λ image. IsImage MOST_INSTRS (image_of image))) }
+{
+    let bytes = match read_input(alloc, source, MOST_IMAGE)? {
+        Ok(bytes) => bytes,
+        Err(answer) => return Ok(Err(answer)),
+    };
+    match image_parse(alloc, &bytes) {
+        Ok(image) => Ok(Ok(image)),
+        Err(err) => Ok(Err(refused(alloc, err)?)),
+    }
+}
+
+/// What `image` answers.
+pub(crate) fn image_answer<S: Source>(alloc: Global, source: &mut S) -> Result<Answer, AllocError>
+    ensures { IfOk result (Answered (words_of TheImage)
+        (source_state (S.remaining source.old) (S.faults source.old))
+        (source_state (S.remaining source.new) (S.faults source.new))) }
+{
+    match read_plan(alloc, source)? {
+        Ok(plan) => Ok(Answer {
+            status: status::DONE,
+            text: play_image(alloc, &plan)?,
+        }),
+        Err(answer) => Ok(answer),
+    }
+}
+
+/// What `recover` answers.
+pub(crate) fn recover_answer<S: Source>(alloc: Global, source: &mut S) -> Result<Answer, AllocError>
+    ensures { IfOk result (Answered (words_of Recover)
+        (source_state (S.remaining source.old) (S.faults source.old))
+        (source_state (S.remaining source.new) (S.faults source.new))) }
+{
+    match read_image(alloc, source)? {
+        Ok(image) => Ok(Answer {
+            status: status::DONE,
+            text: recovered_print(alloc, &image)?,
+        }),
+        Err(answer) => Ok(answer),
+    }
+}
+
+/// What `renumber` answers.
+pub(crate) fn renumber_answer<S: Source>(
+    alloc: Global,
+    source: &mut S,
+) -> Result<Answer, AllocError>
+    ensures { IfOk result (Answered (words_of Renumber)
+        (source_state (S.remaining source.old) (S.faults source.old))
+        (source_state (S.remaining source.new) (S.faults source.new))) }
+{
+    match read_image(alloc, source)? {
+        Ok(image) => Ok(Answer {
+            status: status::DONE,
+            text: renumbered_print(alloc, &image)?,
+        }),
+        Err(answer) => Ok(answer),
+    }
+}
+
+/// What `migrate` answers.
+pub(crate) fn migrate_answer<S: Source>(alloc: Global, source: &mut S) -> Result<Answer, AllocError>
+    ensures { IfOk result (Answered (words_of Migrate)
+        (source_state (S.remaining source.old) (S.faults source.old))
+        (source_state (S.remaining source.new) (S.faults source.new))) }
+{
+    let bytes = match read_input(alloc, source, MOST_IMAGE)? {
+        Ok(bytes) => bytes,
+        Err(answer) => return Ok(answer),
+    };
+    match migrate(alloc, &bytes) {
+        Ok(text) => Ok(Answer {
+            status: status::DONE,
+            text,
+        }),
+        Err(err) => refused(alloc, err),
+    }
+}
