@@ -20,3 +20,8 @@ pub mod PlaysSpent
 pub mod PlaysRecords
 pub mod PlaysBusy
 pub mod PlayedReports
+pub mod WordNames
+pub mod TraceLines
+pub mod TraceTurns
+pub mod TracesFurther
+pub mod Joined

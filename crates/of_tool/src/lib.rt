@@ -3,13 +3,16 @@
 
 mod command;
 pub mod laws;
+mod names;
 mod play;
 mod played;
 mod replay;
 pub mod status;
 mod top;
+mod trace_text;
 
 pub use command::{Command, HELP, VERSION};
+pub use play::trace;
 pub use played::play_report;
 pub use replay::serial;
 pub use top::{MOST_INPUT, MOST_WITH_REPORT, tool};
