@@ -21,3 +21,15 @@ pub mod CallerSteps
 pub mod BrakeCharges
 pub mod SpentSteps
 pub mod Schedules
+pub mod Answering
+pub mod RawReplies
+pub mod RowStarts
+pub mod OneCall
+pub mod StopSteps
+pub mod KeptCallers
+pub mod SeenEntries
+pub mod Teams
+pub mod Pairs
+pub mod Seated
+pub mod Evictions
+pub mod TeamEnds

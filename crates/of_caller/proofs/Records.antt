@@ -15,7 +15,7 @@ use Rattle.of_caller.proofs.Stores.{announced_held, read_held}
 use Rattle.of_caller.proofs.StoresRecovered.{recovered_seq_is, recovered_ticket, stands_for}
 use Rattle.of_caller.proofs.StoresLeast.{least_reads}
 use Rattle.of_caller.proofs.RecordsFacts.{CallerFacts, HasNone, IsLast}
-use Rattle.of_caller.proofs.RecordsLawful.{MomentFacts, lawful_left}
+use Rattle.of_caller.proofs.RecordsLawful.{MomentFacts, report_left, lawful_left}
 
 module _ (p : Plan) (s : Start) (B : TableStart) (w : World) (e : Run) (run : IsRunOf p s B w e) where
   abbrev ops : ℕ → List (List ℕ)
@@ -82,8 +82,8 @@ module _ (p : Plan) (s : Start) (B : TableStart) (w : World) (e : Run) (run : Is
     stands_for = stands_for p s B w run.operations run.outcomes moment e run.words;
   }
 
-  pub run_is_lawful : (r : Report) × IsLawful p s e r
-  run_is_lawful = lawful_left p s B w e run.operations run.outcomes facts
+  run_is_lawful : (r : Report) × IsLawful p s e r
+  run_is_lawful = (report_left p s B w e run.operations run.outcomes facts, lawful_left p s B w e run.operations run.outcomes facts)
 
 pub runs_are_lawful : RunsAreLawful
 runs_are_lawful = run_is_lawful

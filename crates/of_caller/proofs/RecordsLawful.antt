@@ -59,22 +59,25 @@ module _ (p : Plan) (s : Start) (B : TableStart) (w : World) (e : Run) (ops : �
   narrow c lt = omega (arith, few_scripts p facts.plan c lt)
 
   -- what each caller has beyond its answers
-  beyond : (c : ℕ) → (extra : List CallEntry) × (c < p.callers → IsOwnOf p s B w e c extra)
+  pub beyond : (c : ℕ) → (extra : List CallEntry) × (c < p.callers → IsOwnOf p s B w e c extra)
   beyond c = elim (cases_lt c p.callers) [
     | inl lt ↦ let own = own_at p s B w facts.sound e c (ops c) (outs c) lt (narrow c lt) (facts.callers c lt) in (own.0, λ below. own.1)
     | inr high ↦ ([], λ below. absurd (omega (arith, high, below)))
   ]
 
-  abbrev extras : ℕ → List CallEntry
+  abbrev pub extras : ℕ → List CallEntry
   extras c = (beyond c).0
 
-  legal_left : IsLegal p s (history_report p s (moment_history p s B w e extras) (moment_lines p s e extras))
-      × ((c : ℕ) → c < p.callers → entries_of (history_report p s (moment_history p s B w e extras) (moment_lines p s e extras)) c ≡ own_entries s e c (extras c))
+  -- the report of what is left
+  abbrev pub report_left : Report
+  report_left = history_report p s (moment_history p s B w e extras) (moment_lines p s e extras)
+
+  legal_left : IsLegal p s report_left × ((c : ℕ) → c < p.callers → entries_of report_left c ≡ own_entries s e c (extras c))
   legal_left =
       histories_legal p s (moment_history p s B w e extras) (moment_lines p s e extras) (is_history p s B facts.seqs w facts.sound e extras (λ c lt. (beyond c).1 lt) facts.sound.from)
       (lines_fit p s B facts.seqs w facts.sound e extras (λ c lt. (beyond c).1 lt) (λ c lt x none among. (answer_is p s B w facts.sound e c (ops c) (outs c) lt (narrow c lt) (facts.callers c lt) x none among).within))
 
-  record_left : IsRecord p s e (history_report p s (moment_history p s B w e extras) (moment_lines p s e extras))
+  record_left : IsRecord p s e report_left
   record_left = record {
     entries = λ c lt. record { extra = extras c; beyond = ((beyond c).1 lt).beyond; own = legal_left.1 c lt };
     each_caller = legal_left.0.open_calls.each_caller;
@@ -84,8 +87,5 @@ module _ (p : Plan) (s : Start) (B : TableStart) (w : World) (e : Run) (ops : �
   }
 
   -- what is left is a lawful record
-  pub lawful_left : (r : Report) × IsLawful p s e r
-  lawful_left = (
-    history_report p s (moment_history p s B w e extras) (moment_lines p s e extras),
-    record { answers = facts.answers; endings = facts.endings; words = facts.words; whole = λ c lt. told_whole (outs c) (answers_of e c) (facts.callers c lt).tells.told; report = record_left; legal = legal_left.0 },
-  )
+  pub lawful_left : IsLawful p s e report_left
+  lawful_left = record { answers = facts.answers; endings = facts.endings; words = facts.words; whole = λ c lt. told_whole (outs c) (answers_of e c) (facts.callers c lt).tells.told; report = record_left; legal = legal_left.0 }

@@ -33,7 +33,7 @@ module _ (p : Plan) (s : Start) (B : TableStart) (starts : StartsAt p s B) where
   may_start start limit = record { start = start; lawful = (s.store, starts.stands.stored); limit = limit }
 
   -- each caller has the calls behind it that are done
-  ticket_is : (c : ℕ) → c < p.callers → start_ticket (setup_for p) B c ≡ finished_of s c
+  pub ticket_is : (c : ℕ) → c < p.callers → start_ticket (setup_for p) B c ≡ finished_of s c
   ticket_is c lt =
       let place : ticket_cell (setup_for p) c ≡ ticket_at MOST_INSTRS c = omega arith in
       ap (λ (a : ℕ). pay (get_or B.cells a 0)) place ∙ sym (number_at B.cells (ticket_at MOST_INSTRS c)) ∙ starts.tickets c lt

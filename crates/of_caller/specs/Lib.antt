@@ -9,3 +9,9 @@ pub mod Callers
 pub mod CallsTold
 pub mod Brakes
 pub mod Vain
+pub mod PlanRows
+pub mod Stops
+pub mod Teams
+pub mod Lanes
+pub mod Trees
+pub mod Seating

@@ -4,12 +4,14 @@ ghost use Rattle.of_plan.specs.Plan.{IsPlan};
 ghost use Rattle.of_caller.specs.Callers.{EnrolledAreNew};
 ghost use Rattle.of_caller.specs.PlanLaws.{KeepsLaws};
 ghost use Rattle.of_caller.specs.Starts.{ZerosAreEmpty};
+ghost use Rattle.of_caller.specs.Teams.{TeamsAreLawful, TeamsKeepAllowances};
 ghost use Rattle.of_caller.specs.Runs.{SchedulesAreMoments, StartsAreRuns, RepliesAreHeld, RunsAreLawful, RunsAreReported, RunsKeepAllowances};
 
 use of_core::laws::{every_call, every_moment, machines, starts, step_kept};
 use of_eval::Scripts;
 use of_mem::Work;
 use of_plan::Plan;
+use of_row::laws::sees_whole;
 
 /// The laws of the protocol hold at the table of a plan. So from every start of the plan its schedules lead to moments of it, and what
 /// is left before anything has happened is what a run leaves. A table of zeros is at the plan's empty start.
@@ -42,6 +44,20 @@ pub fn runs_are_lawful()
     ensures reported { RunsAreReported }
     ensures allowances { RunsKeepAllowances }
 {}
+
+/// What a team of a plan leaves is a lawful record from the start of its row: the laws of runs hold of it, its announced entries are the
+/// calls of the batches that its pass has seen, and a caller that keeps to its stop keeps it as its allowance.
+pub fn teams_are_lawful(plan: &Plan)
+    ensures lawful { TeamsAreLawful plan.now }
+    ensures allowances { TeamsKeepAllowances plan.now }
+{
+    let scripts = Scripts {
+        callers: plan.callers(),
+        blocks: plan.blocks(),
+    };
+    plan_keeps_laws(plan);
+    sees_whole(scripts);
+}
 
 /// A member that has enrolled has made no call on its row.
 pub fn enrolled_are_new<W: Work>(work: W)

@@ -1,7 +1,7 @@
 ghost use Rattle.std.specs.Prelude.{◌≡◌, IfOk, MatchResult};
 ghost use Rattle.of_plan.specs.declared.parsing.PlanErr.TheVariants.{Memory};
 
-use crate::{GREATEST_LIMIT, Item, Plan, PlanErr, parse, parts, print};
+use crate::{GREATEST_LIMIT, Item, Plan, PlanErr, generate, parse, parts, print};
 use std::alloc::{AllocError, Global};
 use std::test::Fail;
 
@@ -127,6 +127,27 @@ fn parts_of_inputs(rt: HostRuntime) -> Result<(), Fail> {
         let (one, two) = parts(input.as_bytes());
         assert_eq!(rt; one, first.as_bytes(), "{input}");
         assert_eq!(rt; two, second.as_bytes(), "{input}");
+    }
+    Ok(())
+}
+
+#[test]
+fn plans_of_loads(rt: HostRuntime) -> Result<(), Fail> {
+    for (callers, scripts, printed) in [
+        (
+            2,
+            2,
+            "onefile plan 1\ncallers 2\nblocks 512\nlimit 4294967294\nscript 0 add 0 1; put 0 0\nscript 0 add 1 1; put 1 1\nscript 1 add 0 1; put 31 0\nscript 1 add 1 1; put 32 1\nend\n",
+        ),
+        (
+            1,
+            0,
+            "onefile plan 1\ncallers 1\nblocks 512\nlimit 4294967294\nend\n",
+        ),
+    ] {
+        let plan = generate(rt.alloc(), callers, scripts)?;
+        let out = print(rt.alloc(), &plan)?;
+        assert_eq!(rt; out.as_slice(), printed.as_bytes());
     }
     Ok(())
 }

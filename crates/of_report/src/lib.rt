@@ -3,6 +3,7 @@
 
 mod found;
 pub mod laws;
+mod load;
 mod make;
 mod printing;
 mod report;

@@ -1,21 +1,48 @@
 -- The words of the commands.
-use Rattle.std.specs.Prelude.{◌≡◌, ℕ, List, [], ◌∷◌, map, codes, string_bytes, String}
+use Rattle.std.specs.Prelude.{◌≡◌, ◌≤◌, ◌*◌, ℕ, List, [], ◌∷◌, map, codes, decimal, string_bytes, String}
 use Rattle.std.specs.Global.{Global}
+use Rattle.of_cell.specs.declared.shape.TheConstants.{MOST_CALLERS}
+use Rattle.of_plan.specs.declared.plan.TheConstants.{MOST_SCRIPTS}
 use Rattle.of_tool.specs.declared.command.Command.{Command}
-use Rattle.of_tool.specs.declared.command.Command.TheVariants.{Serial, Play, Check, Help, Version}
+use Rattle.of_tool.specs.declared.command.Command.TheVariants.{Serial, Play, Load, Check, Help, Version}
 
 -- the bytes of each word
 abbrev pub texts : List (String Global) → List (List ℕ)
 texts words = map string_bytes words
 
+-- the word spells this number, which is at most so great: digits alone, with no 0 in front of others
+abbrev pub SpellsUpTo : (most : ℕ) → List ℕ → ℕ → Type 0
+SpellsUpTo most word n = (n ≤ most) × (word ≡ decimal n)
+
 -- the one list of words that is this command
 abbrev pub words_of : Command → List (List ℕ)
 words_of Serial = codes "serial" ∷ []
 words_of Play = codes "play" ∷ []
+words_of (Load callers scripts) = codes "load" ∷ decimal callers ∷ decimal scripts ∷ []
 words_of Check = codes "check" ∷ []
 words_of Help = codes "--help" ∷ []
 words_of Version = codes "--version" ∷ []
 
--- the words are none of these lists
+-- so many callers with so many scripts each
+pub record IsLoad (callers scripts : ℕ) : Type 0 where
+  pub some : 1 ≤ callers
+  pub few : callers ≤ MOST_CALLERS
+  pub each : scripts ≤ MOST_SCRIPTS
+  pub all : callers * scripts ≤ MOST_SCRIPTS
+
+-- the numbers of a command are in range
+abbrev pub IsInRange : Command → Type 0
+IsInRange Serial = Unit {0}
+IsInRange Play = Unit {0}
+IsInRange (Load callers scripts) = IsLoad callers scripts
+IsInRange Check = Unit {0}
+IsInRange Help = Unit {0}
+IsInRange Version = Unit {0}
+
+-- the words are this command
+abbrev pub Are : List (List ℕ) → Command → Type 0
+Are words command = IsInRange command × (words ≡ words_of command)
+
+-- the words are no command
 abbrev pub IsNoCommand : List (List ℕ) → Type 0
-IsNoCommand words = (command : Command) → words ≡ words_of command → ⊥
+IsNoCommand words = (command : Command) → Are words command → ⊥

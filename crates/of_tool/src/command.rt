@@ -1,7 +1,10 @@
 //! The commands and their words.
 
-ghost use Rattle.std.specs.Prelude.{◌≡◌, MatchOption};
-ghost use Rattle.of_tool.specs.Commands.{texts, words_of, IsNoCommand};
+ghost use Rattle.std.specs.Prelude.{◌≡◌, ◌∷◌, [], ℕ, MatchOption, codes, string_bytes};
+ghost use Rattle.of_tool.specs.Commands.{texts, Are, IsNoCommand, SpellsUpTo};
+
+use of_cell::MOST_CALLERS;
+use of_plan::MOST_SCRIPTS;
 
 /// What `--help` prints.
 pub const HELP: &str = "usage: onefile COMMAND
@@ -10,6 +13,7 @@ Runs scripts of transactions on a store of registers, keys and queues.
 
 serial      reads a plan, runs its scripts one after another, prints the report
 play        reads a plan, runs its schedule step by step, prints the report
+load N S    reads nothing, runs N callers with S scripts each, prints a summary
 check       reads a plan and a report, says whether the report is a legal one
 --help      reads nothing, prints this text
 --version   reads nothing, prints the name and the version
@@ -28,6 +32,8 @@ pub enum Command {
     Serial,
     /// Reads a plan, runs its schedule step by step, and prints the report of what it leaves.
     Play,
+    /// Runs a load of so many callers with so many scripts each, and prints the summary of its report.
+    Load { callers: u32, scripts: u32 },
     /// Reads a plan and a report, and prints whether the report is a legal one of the plan.
     Check,
     /// Prints how the program is used.
@@ -36,18 +42,50 @@ pub enum Command {
     Version,
 }
 
+// The number that a word spells, where it is at most that.
+fn number(word: &str, most: u32) -> Option<u32>
+    ensures { MatchOption result ((n : ℕ) → SpellsUpTo most word.now n → ⊥) (SpellsUpTo most word.now) }
+{
+    of_script::text::number(word.as_bytes(), most)
+}
+
 impl Command {
-    /// The command that the words are, where they are one.
+    // The command of one word.
+    fn plain(word: &str) -> Option<Command>
+        ensures { MatchOption result (IsNoCommand (word.now ∷ [])) (Are (word.now ∷ [])) }
+    {
+        match word {
+            "serial" => Some(Command::Serial),
+            "play" => Some(Command::Play),
+            "check" => Some(Command::Check),
+            "--help" => Some(Command::Help),
+            "--version" => Some(Command::Version),
+            _ => None,
+        }
+    }
+
+    // The load of these numbers, where they are in range.
+    fn load(callers: &str, scripts: &str) -> Option<Command>
+        ensures { MatchOption result
+            (IsNoCommand (codes "load" ∷ callers.now ∷ scripts.now ∷ []))
+            (Are (codes "load" ∷ callers.now ∷ scripts.now ∷ [])) }
+    {
+        let callers = number(callers, MOST_CALLERS)?;
+        let scripts = number(scripts, MOST_SCRIPTS)?;
+        if callers == 0 || callers * scripts > MOST_SCRIPTS {
+            return None;
+        }
+        Some(Command::Load { callers, scripts })
+    }
+
+    /// The command that the words are, where they are one. Numbers are spelled by digits alone, with no 0 in front of others.
     pub fn from_words(words: &[String]) -> Option<Command>
-        ensures { MatchOption result (IsNoCommand (texts words.now)) (λ command. texts words.now ≡ words_of command) }
+        ensures { MatchOption result (IsNoCommand (texts words.now)) (Are (texts words.now)) }
     {
         match words {
-            [word] => match word.as_str() {
-                "serial" => Some(Command::Serial),
-                "play" => Some(Command::Play),
-                "check" => Some(Command::Check),
-                "--help" => Some(Command::Help),
-                "--version" => Some(Command::Version),
+            [word] => Command::plain(word.as_str()),
+            [word, first, second] => match word.as_str() {
+                "load" => Command::load(first.as_str(), second.as_str()),
                 _ => None,
             },
             _ => None,

@@ -1,12 +1,15 @@
 //! The top call.
 
-ghost use Rattle.std.specs.Prelude.{◌≡◌, ◌≤◌, ◌⊎◌, IfOk, MatchResult, codes, decimal, ◌++◌};
+ghost use Rattle.std.specs.Prelude.{◌≡◌, ◌≤◌, ◌⊎◌, ℕ, IfOk, MatchResult, codes, decimal, ◌++◌};
 ghost use Rattle.of_io.specs.Faults.{Rose};
+ghost use Rattle.of_plan.specs.Generated.{generated};
+ghost use Rattle.of_plan.specs.Serial.{serial_report};
+ghost use Rattle.of_report.specs.LoadText.{load_text};
 ghost use Rattle.of_tool.specs.declared.command.Command.{Command};
-ghost use Rattle.of_tool.specs.declared.command.Command.TheVariants.{Serial, Play, Check, Help, Version};
+ghost use Rattle.of_tool.specs.declared.command.Command.TheVariants.{Serial, Play, Load, Check, Help, Version};
 ghost use Rattle.of_tool.specs.declared.status.TheConstants.{DONE, OUT_OF_MEMORY, ILLEGAL};
-ghost use Rattle.of_tool.specs.Commands.{texts, words_of};
-ghost use Rattle.of_tool.specs.Verdicts.{source_state, sink_state, Answers, AskForInput, ReadsAll, ReadsPlan, IsReplayed, PlaysPlan, ChecksReport, Prints, IsValidInput};
+ghost use Rattle.of_tool.specs.Commands.{texts, words_of, IsLoad, Are};
+ghost use Rattle.of_tool.specs.Verdicts.{source_state, sink_state, Answers, AskForInput, ReadsAll, ReadsPlan, IsReplayed, PlaysPlan, LoadsPlan, ChecksReport, Prints, IsValidInput};
 ghost use Rattle.of_tool.specs.Answer.{Answered, Refuses, RefusesUpTo, Judges};
 
 use crate::command::{Command, HELP, VERSION};
@@ -16,7 +19,7 @@ use crate::status;
 use of_check::{Verdict, check};
 use of_io::{ReadErr, Sink, Source, read_all, write_all};
 use of_plan::texts::one_cut;
-use of_plan::{Plan, PlanErr, parse, parts};
+use of_plan::{Plan, PlanErr, generate, parse, parts};
 use std::alloc::{AllocError, Global};
 
 /// The most bytes that a command reads which reads a plan alone.
@@ -123,6 +126,18 @@ fn play_answer<S: Source>(alloc: Global, source: &mut S) -> Result<Answer, Alloc
     }
 }
 
+// What `load` answers.
+fn load_answer(alloc: Global, callers: u32, scripts: u32) -> Result<Answer, AllocError>
+    requires { IsLoad callers scripts }
+    ensures { IfOk result (λ answer. (answer.status ≡ DONE) × (answer.text.items ≡ load_text (serial_report (generated callers scripts)))) }
+{
+    let plan = generate(alloc, callers, scripts)?;
+    Ok(Answer {
+        status: status::DONE,
+        text: serial(alloc, &plan)?.load_print(alloc)?,
+    })
+}
+
 // What `check` says of a report.
 fn judged(alloc: Global, verdict: Verdict) -> Result<Answer, AllocError>
     ensures { IfOk result (Judges verdict) }
@@ -170,6 +185,7 @@ fn decide<S: Source>(alloc: Global, words: &[String], source: &mut S) -> Result<
     match Command::from_words(words) {
         Some(Command::Serial) => serial_answer(alloc, source),
         Some(Command::Play) => play_answer(alloc, source),
+        Some(Command::Load { callers, scripts }) => load_answer(alloc, callers, scripts),
         Some(Command::Check) => check_answer(alloc, source),
         Some(Command::Help) => Ok(Answer {
             status: status::DONE,
@@ -209,6 +225,12 @@ pub fn tool<S: Source, K: Sink>(alloc: Global, words: &[String], source: &mut S,
         (sink_state (K.written sink.old) (K.finished sink.old) (K.faults sink.old))
         (sink_state (K.written sink.new) (K.finished sink.new) (K.faults sink.new)) }
 
+    // With status 0 of `load` the summary of its plan's report was written.
+    ensures load { (callers scripts : ℕ) → Are (texts words.now) (Load callers scripts) → result ≡ DONE
+        → LoadsPlan callers scripts
+        (sink_state (K.written sink.old) (K.finished sink.old) (K.faults sink.old))
+        (sink_state (K.written sink.new) (K.finished sink.new) (K.faults sink.new)) }
+
     // `check` says of a plan and a report whether the report is a legal one: with status 0 it is, and with status 8 it isn't.
     ensures check { texts words.now ≡ words_of Check → ChecksReport
         (source_state (S.remaining source.old) (S.faults source.old))
@@ -226,7 +248,7 @@ pub fn tool<S: Source, K: Sink>(alloc: Global, words: &[String], source: &mut S,
     ensures unread { ¬ (AskForInput (texts words.now)) → source.new ≡ source.old }
 
     // A command with a valid input is done, or memory runs out, unless a read or a write fails.
-    ensures complete { (command : Command) → texts words.now ≡ words_of command
+    ensures complete { (command : Command) → Are (texts words.now) command
         → IsValidInput command (S.remaining source.old)
         → ¬ (Rose (S.faults source.old) (S.faults source.new))
         → ¬ (Rose (K.faults sink.old) (K.faults sink.new))

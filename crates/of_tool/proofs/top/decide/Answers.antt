@@ -1,13 +1,14 @@
 use Rattle.std.proofs.Common.{refl, ◌∙◌}
 use Rattle.of_tool.specs.declared.command.Command.TheVariants.{Serial, Play, Check}
 use Rattle.of_tool.specs.declared.top.TheConstants.{MOST_INPUT, MOST_WITH_REPORT}
-use Rattle.of_tool.specs.Verdicts.{ShowsHelp, ShowsVersion, NoCommand}
+use Rattle.std.proofs.lemmas.Result.{IfOk-weaker}
+use Rattle.of_tool.specs.Verdicts.{ShowsHelp, ShowsVersion, Loaded, NoCommand}
 use Rattle.of_tool.proofs.top.decide.Goals as goal
 
 pub returns-in_ok-from_slice-in-Some-Help-clause-answered : goal.returns-in_ok-from_slice-in-Some-Help-clause-answered
 returns-in_ok-from_slice-in-Some-Help-clause-answered g c = record {
   verdict = ShowsHelp;
-  cause = rw c.in-Some-Help.field-0-is at c.in-Some-Help.ensures;
+  cause = (rw c.in-Some-Help.field-0-is at c.in-Some-Help.ensures).1;
   status_is = refl;
   text_is = c.in_ok-from_slice-in-Some-Help.ensures.items ∙ c.as_bytes.ensures.value;
 }
@@ -15,7 +16,7 @@ returns-in_ok-from_slice-in-Some-Help-clause-answered g c = record {
 pub returns-in_ok-from_slice-in-Some-Version-clause-answered : goal.returns-in_ok-from_slice-in-Some-Version-clause-answered
 returns-in_ok-from_slice-in-Some-Version-clause-answered g c = record {
   verdict = ShowsVersion;
-  cause = rw c.in-Some-Version.field-0-is at c.in-Some-Version.ensures;
+  cause = (rw c.in-Some-Version.field-0-is at c.in-Some-Version.ensures).1;
   status_is = refl;
   text_is = c.in_ok-from_slice-in-Some-Version.ensures.items ∙ c.as_bytes-in-Some-Version.ensures.value;
 }
@@ -36,3 +37,11 @@ returns-in-Some-Play-clause-unread g c = λ none. absurd (none (MOST_INPUT, (Pla
 
 pub returns-in-Some-Check-clause-unread : goal.returns-in-Some-Check-clause-unread
 returns-in-Some-Check-clause-unread g c = λ none. absurd (none (MOST_WITH_REPORT, (Check, rw c.in-Some-Check.field-0-is at c.in-Some-Check.ensures, refl)))
+
+pub returns-in-Some-Load-clause-answered : goal.returns-in-Some-Load-clause-answered
+returns-in-Some-Load-clause-answered g c = IfOk-weaker c.load_answer.result _ _ (λ answer is. record {
+  verdict = Loaded c.in-Some-Load.callers c.in-Some-Load.scripts;
+  cause = rw c.in-Some-Load.field-0-is at c.in-Some-Load.ensures;
+  status_is = is.0;
+  text_is = is.1;
+}) c.load_answer.ensures

@@ -1,0 +1,61 @@
+-- The callers of a team before they run, what the pass knows meanwhile, and what it gathers of them.
+use Rattle.std.specs.Prelude.{◌≡◌, ℕ, ◌+◌, ◌<◌, List, [], ◌∷◌, ◌++◌, map, true}
+use Rattle.of_eval.specs.declared.scripts.Scripts.{Scripts}
+use Rattle.of_plan.specs.declared.answer.Answer.{Answer}
+use Rattle.of_plan.specs.declared.answer.Ending.{Ending}
+use Rattle.of_plan.specs.Plan.{Plan}
+use Rattle.of_eval.specs.Scripts.{scripts_meaning}
+use Rattle.of_row.specs.Views.{Sight}
+use Rattle.of_row.specs.Rule.{IsAsked, done_before}
+use Rattle.of_row.specs.Turned.{joined}
+use Rattle.of_row.specs.Rows.{IsOf, setup_at, start_at}
+use Rattle.of_row.specs.declared.row.Row.{Row}
+use Rattle.of_caller.specs.declared.lane.Lane.{Lane}
+use Rattle.of_caller.specs.Callers.{sight_of}
+use Rattle.of_caller.specs.Lanes.{IsReady}
+
+-- a first pass that has asked for numbers below n alone, keeps no caller and has evicted nothing
+pub record HasSeated (n : ℕ) (v : Sight) : Type 0 where
+  pub first : v.first ≡ true
+  pub kept : v.kept ≡ []
+  pub evicted : v.evicted ≡ []
+  pub below : (m : ℕ) → IsAsked m v.asked → m < n
+
+-- a pass has evicted these cells, in order
+pub record Evicts (cells : List ℕ) (v w : Sight) : Type 0 where
+  pub first : w.first ≡ v.first
+  pub asked : w.asked ≡ v.asked
+  pub kept : w.kept ≡ v.kept
+  pub evicted : w.evicted ≡ v.evicted ++ cells
+
+-- how many scripts of a caller the row has behind it
+abbrev pub done_at : Row Scripts → ℕ → ℕ
+done_at r c = done_before (setup_at scripts_meaning r) (start_at scripts_meaning r) c
+
+module _ {X : Type 0} {Y : X → Type 0} where
+  -- the lane of a caller that has made no call
+  pub record IsSeat (p : Plan) (r : Row Scripts) (n : ℕ) (a : Lane X Y) : Type 0 where
+    pub ready : IsReady p r a
+    pub number : a.number ≡ n
+    pub first : a.first ≡ done_at r n
+
+  -- those of the callers n, n + 1 and so on
+  abbrev pub Seated : Plan → Row Scripts → (n : ℕ) → List (Lane X Y) → Type 0
+  Seated p r n [] = Unit {0}
+  Seated p r n (a ∷ others) = IsSeat p r n a × Seated p r (n + 1) others
+
+  -- the lane's member is of the row
+  abbrev pub IsAt : Row Scripts → Lane X Y → Type 0
+  IsAt r a = IsOf r a.caller.member.seat
+
+  -- what a pass knows that has taken in the members of the lanes
+  abbrev pub gathered : Sight → List (Lane X Y) → Sight
+  gathered v [] = v
+  gathered v (a ∷ others) = gathered (joined v (sight_of a.caller)) others
+
+  -- what the lanes leave, in order
+  abbrev pub answers_in : List (Lane X Y) → List (List Answer)
+  answers_in lanes = map (λ a. a.answers.items) lanes
+
+  abbrev pub endings_in : List (Lane X Y) → List Ending
+  endings_in lanes = map (λ a. a.ending) lanes

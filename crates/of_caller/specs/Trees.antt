@@ -1,0 +1,30 @@
+-- Lists of which each item is worked on by itself, in threads of a tree.
+use Rattle.std.specs.Prelude.{◌≡◌, List, [], ◌∷◌}
+use denote.Ref.{MutBor}
+use denote.Param.Members.{Shared}
+
+-- the items of two lists, one by one
+abbrev pub Both : {A : Type 0} → (A → A → Type 0) → List A → List A → Type 0
+Both P [] [] = Unit {0}
+Both P [] (y ∷ ys) = ⊥
+Both P (x ∷ xs) [] = ⊥
+Both P (x ∷ xs) (y ∷ ys) = P x y × Both P xs ys
+
+-- each item of the second list with the one at its place in the first, which may be longer
+abbrev pub Paired : {A B : Type 0} → (A → B → Type 0) → List A → List B → Type 0
+Paired P xs [] = Unit {0}
+Paired P [] (y ∷ ys) = ⊥
+Paired P (x ∷ xs) (y ∷ ys) = P x y × Paired P xs ys
+
+module _ {F T : Type 0} (g : Shared F (MutBor T × Unit {0}) (Unit {0} × (MutBor T × Unit {0}))) (f : F) where
+  -- f may be called with a `&mut` to x
+  abbrev pub Takes : T → Type 0
+  Takes x = (p : MutBor T) → p.now ≡ x → g.pre f (p, tt)
+
+  -- a call of f with a `&mut` to x may leave y there
+  pub record Leaves (x y : T) : Type 0 where
+    pub argument : MutBor T
+    pub argument_is : argument.now ≡ x
+    pub after_call : MutBor T
+    pub call : g.post f (argument, tt) (tt, (after_call, tt))
+    pub left : after_call.now ≡ y

@@ -1,0 +1,7 @@
+use Rattle.std.proofs.Common.{arith, sym, subst, ap, ◌∙◌, List, ℕ}
+use Rattle.of_script.specs.Reading.{number_of}
+use Rattle.of_tool.proofs.CommandLemmas.{number_is}
+use Rattle.of_tool.proofs.command.number.Goals as goal
+
+pub returns : goal.returns
+returns c = number_is c.args.most c.args.word.now c.number.result (omega arith) (c.number.ensures.value ∙ ap (number_of c.args.most) c.as_bytes.ensures.value)
