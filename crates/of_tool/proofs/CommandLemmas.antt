@@ -14,11 +14,12 @@ use Rattle.of_script.specs.Reading.{number_of}
 use Rattle.of_script.proofs.Numbers.{number_reads, number_again}
 use Rattle.of_plan.proofs.SerialLegal.{serial_legal}
 use Rattle.of_tool.specs.declared.command.Command.{Command}
-use Rattle.of_tool.specs.declared.command.Command.TheVariants.{Serial, Play, Load, Check, Help, Version}
+use Rattle.of_tool.specs.declared.command.Command.TheVariants.{Serial, Play, Trace, Load, Check, Help, Version}
 use Rattle.of_tool.specs.declared.command.TheConstants.{HELP, VERSION}
 use Rattle.of_tool.specs.declared.status.TheConstants.{DONE, ILLEGAL}
-use Rattle.of_tool.specs.Commands.{words_of, IsInRange, IsLoad, SpellsUpTo, Are, IsNoCommand}
-use Rattle.of_tool.specs.Verdicts.{Verdict, ShowsHelp, ShowsVersion, Replayed, Played, Loaded, FoundLegal, FoundIllegal, NoCommand, ReadFault, TooLong, BadPlan, HasCause, status_of, text_of, SourceState, SinkState, IsAnswer, IsWritten, IsReplayed, PlaysPlan, LoadsPlan, AskForPlan, limit_of, AsksUpTo, AskForInput, ReadsNoPlan, ReadsNoFirst, ChecksReport, IsPlanInput, IsCheckInput, IsValidInput}
+use Rattle.of_tool.specs.Commands.{words_of, IsInRange, IsTrace, IsLoad, SpellsUpTo, Are, IsNoCommand}
+use Rattle.of_tool.specs.Trace.{trace_text}
+use Rattle.of_tool.specs.Verdicts.{Verdict, ShowsHelp, ShowsVersion, Replayed, Played, Traced, Loaded, FoundLegal, FoundIllegal, NoCommand, ReadFault, TooLong, BadPlan, HasCause, status_of, text_of, SourceState, SinkState, IsAnswer, IsWritten, IsReplayed, PlaysPlan, TracesPlan, LoadsPlan, AskForPlan, limit_of, AsksUpTo, AskForInput, ReadsNoPlan, ReadsNoFirst, ChecksReport, IsPlanInput, IsCheckInput, IsValidInput}
 
 -- ---- numbers
 
@@ -31,6 +32,7 @@ number_is most w (Some n) small e = let r = number_reads most w n small (sym e) 
 pub no_load : (a b : List ℕ) → ((n m : ℕ) → IsLoad n m → a ≡ decimal n → b ≡ decimal m → ⊥) → IsNoCommand (codes "load" ∷ a ∷ b ∷ [])
 no_load a b h Serial is = absurd (let e = ap length is.1 in omega (arith, e))
 no_load a b h Play is = absurd (let e = ap length is.1 in omega (arith, e))
+no_load a b h (Trace n m) is = absurd (let e = ap (λ (ws : List (List ℕ)). length (get_or ws 0 [])) is.1 in omega (arith, e))
 no_load a b h (Load n m) is = h n m is.0 (ap (λ (ws : List (List ℕ)). get_or ws 1 []) is.1) (ap (λ (ws : List (List ℕ)). get_or ws 2 []) is.1)
 no_load a b h Check is = absurd (let e = ap length is.1 in omega (arith, e))
 no_load a b h Help is = absurd (let e = ap length is.1 in omega (arith, e))
@@ -43,6 +45,21 @@ out_of_range x y few each out = no_load (decimal x) (decimal y) (λ n m is first
     let two : m ≡ y = sym (decimal_injective y m (omega arith) (omega (arith, is.each)) second) in
     let here : IsLoad x y = subst (λ (k : ℕ). IsLoad x k) two (subst (λ (k : ℕ). IsLoad k m) one is) in
     elim out [ inl none ↦ omega (arith, none, here.some) | inr more ↦ omega (arith, more, here.all) ])
+
+pub no_trace : (a b : List ℕ) → ((n m : ℕ) → IsTrace n m → a ≡ decimal n → b ≡ decimal m → ⊥) → IsNoCommand (codes "trace" ∷ a ∷ b ∷ [])
+no_trace a b h Serial is = absurd (let e = ap length is.1 in omega (arith, e))
+no_trace a b h Play is = absurd (let e = ap length is.1 in omega (arith, e))
+no_trace a b h (Trace n m) is = h n m is.0 (ap (λ (ws : List (List ℕ)). get_or ws 1 []) is.1) (ap (λ (ws : List (List ℕ)). get_or ws 2 []) is.1)
+no_trace a b h (Load n m) is = absurd (let e = ap (λ (ws : List (List ℕ)). length (get_or ws 0 [])) is.1 in omega (arith, e))
+no_trace a b h Check is = absurd (let e = ap length is.1 in omega (arith, e))
+no_trace a b h Help is = absurd (let e = ap length is.1 in omega (arith, e))
+no_trace a b h Version is = absurd (let e = ap length is.1 in omega (arith, e))
+
+-- no trace has no events
+pub no_events : (a b : List ℕ) (y : ℕ) → y ≡ 0 → b ≡ decimal y → IsNoCommand (codes "trace" ∷ a ∷ b ∷ [])
+no_events a b y none spelled = no_trace a b (λ n m is first second.
+    let two : y ≡ m = decimal_injective y m (omega (arith, none)) (omega (arith, is.few)) (sym spelled ∙ second) in
+    absurd (omega (arith, two, none, is.some)))
 
 -- the command of a word
 abbrev named_by : List ℕ → Option Command
@@ -59,11 +76,15 @@ abbrev command_of : List (List ℕ) → Option Command
 command_of [] = None
 command_of (w ∷ []) = named_by w
 command_of (w ∷ v ∷ []) = None
-command_of (w ∷ v ∷ u ∷ ws) = Some (Load (digits_value 10 v) (digits_value 10 u))
+command_of (w ∷ v ∷ u ∷ ws) = if bytes_eq w (codes "load") then Some (Load (digits_value 10 v) (digits_value 10 u)) else Some (Trace (digits_value 10 v) (digits_value 10 u))
 
 command_again : (c : Command) → IsInRange c → command_of (words_of c) ≡ Some c
 command_again Serial range = refl
 command_again Play range = refl
+command_again (Trace first count) range =
+    let one : digits_value 10 (decimal first) ≡ first = (decimal_is_IsNumeral first (omega (arith, range.first))).1 in
+    let two : digits_value 10 (decimal count) ≡ count = (decimal_is_IsNumeral count (omega (arith, range.few))).1 in
+    cc
 command_again (Load callers scripts) range =
     let first : digits_value 10 (decimal callers) ≡ callers = (decimal_is_IsNumeral callers (omega (arith, range.few))).1 in
     let second : digits_value 10 (decimal scripts) ≡ scripts = (decimal_is_IsNumeral scripts (omega (arith, range.each))).1 in
@@ -87,7 +108,8 @@ reads_nothing words c none is asks = let e : ◌≡◌ {A = Option ℕ} None (So
 
 pub plan_asks : (words : List (List ℕ)) → AskForPlan words → AsksUpTo words MOST_INPUT
 plan_asks words (inl h) = (Serial, (tt, h), refl)
-plan_asks words (inr h) = (Play, (tt, h), refl)
+plan_asks words (inr (inl h)) = (Play, (tt, h), refl)
+plan_asks words (inr (inr h)) = (Trace h.0 h.1, h.2, refl)
 
 bad_asks : {before after : SourceState} (words : List (List ℕ)) (line : ℕ) → (AskForPlan words × ReadsNoPlan before after line) ⊎ ((words ≡ words_of Check) × ReadsNoFirst before after line) → AskForInput words
 bad_asks words line (inl h) = (MOST_INPUT, plan_asks words h.0)
@@ -100,6 +122,7 @@ helped words before after ShowsHelp is h = (refl, refl)
 helped words before after ShowsVersion is h = absurd (let e = words_of_injective Help Version tt tt (sym is ∙ h) in cc)
 helped words before after (Replayed plan) is h = absurd (let e = words_of_injective Help Serial tt tt (sym is ∙ h.0) in cc)
 helped words before after (Played plan report) is h = absurd (let e = words_of_injective Help Play tt tt (sym is ∙ h.0) in cc)
+helped words before after (Traced plan first count) is h = absurd (let e = words_of_injective Help (Trace first count) tt h.0.0 (sym is ∙ h.0.1) in cc)
 helped words before after (Loaded callers scripts) is h = absurd (let e = words_of_injective Help (Load callers scripts) tt h.0 (sym is ∙ h.1) in cc)
 helped words before after NoCommand is h = absurd (h Help (tt, is))
 helped words before after FoundLegal is h = absurd (let e = words_of_injective Help Check tt tt (sym is ∙ h.0) in cc)
@@ -113,6 +136,7 @@ named words before after ShowsHelp is h = absurd (let e = words_of_injective Ver
 named words before after ShowsVersion is h = (refl, refl)
 named words before after (Replayed plan) is h = absurd (let e = words_of_injective Version Serial tt tt (sym is ∙ h.0) in cc)
 named words before after (Played plan report) is h = absurd (let e = words_of_injective Version Play tt tt (sym is ∙ h.0) in cc)
+named words before after (Traced plan first count) is h = absurd (let e = words_of_injective Version (Trace first count) tt h.0.0 (sym is ∙ h.0.1) in cc)
 named words before after (Loaded callers scripts) is h = absurd (let e = words_of_injective Version (Load callers scripts) tt h.0 (sym is ∙ h.1) in cc)
 named words before after NoCommand is h = absurd (h Version (tt, is))
 named words before after FoundLegal is h = absurd (let e = words_of_injective Version Check tt tt (sym is ∙ h.0) in cc)
@@ -136,6 +160,7 @@ replayed words before after old new ShowsHelp is done h w = absurd (let e = word
 replayed words before after old new ShowsVersion is done h w = absurd (let e = words_of_injective Serial Version tt tt (sym is ∙ h) in cc)
 replayed words before after old new (Replayed plan) is done h w = record { plan = plan; read = h.1; legal = serial_legal plan; written = w }
 replayed words before after old new (Played plan report) is done h w = absurd (let e = words_of_injective Serial Play tt tt (sym is ∙ h.0) in cc)
+replayed words before after old new (Traced plan first count) is done h w = absurd (let e = words_of_injective Serial (Trace first count) tt h.0.0 (sym is ∙ h.0.1) in cc)
 replayed words before after old new (Loaded callers scripts) is done h w = absurd (let e = words_of_injective Serial (Load callers scripts) tt h.0 (sym is ∙ h.1) in cc)
 replayed words before after old new FoundLegal is done h w = absurd (let e = words_of_injective Serial Check tt tt (sym is ∙ h.0) in cc)
 replayed words before after old new FoundIllegal is done h w = absurd (omega arith)
@@ -155,6 +180,7 @@ plays words before after old new ShowsHelp is done h w = absurd (let e = words_o
 plays words before after old new ShowsVersion is done h w = absurd (let e = words_of_injective Play Version tt tt (sym is ∙ h) in cc)
 plays words before after old new (Replayed plan) is done h w = absurd (let e = words_of_injective Play Serial tt tt (sym is ∙ h.0) in cc)
 plays words before after old new (Played plan report) is done h w = record { plan = plan; read = h.1; report = report; played = h.2; written = w }
+plays words before after old new (Traced plan first count) is done h w = absurd (let e = words_of_injective Play (Trace first count) tt h.0.0 (sym is ∙ h.0.1) in cc)
 plays words before after old new (Loaded callers scripts) is done h w = absurd (let e = words_of_injective Play (Load callers scripts) tt h.0 (sym is ∙ h.1) in cc)
 plays words before after old new FoundLegal is done h w = absurd (let e = words_of_injective Play Check tt tt (sym is ∙ h.0) in cc)
 plays words before after old new FoundIllegal is done h w = absurd (omega arith)
@@ -169,12 +195,35 @@ pub play_answer : (words : List (List ℕ)) (before after : SourceState) (old ne
 play_answer words before after old new status text is done a w =
     plays words before after old new a.verdict is (sym a.status_is ∙ done) a.cause (let P : List ℕ → Type 0 = IsWritten old new in subst P a.text_is w)
 
+traces : (words : List (List ℕ)) (before after : SourceState) (f c : ℕ) (old new : SinkState) (v : Verdict) → Are words (Trace f c) → status_of v ≡ DONE → HasCause words before after v → IsWritten old new (text_of v) → TracesPlan f c before after old new
+traces words before after f c old new ShowsHelp is done h w = absurd (let e = words_of_injective (Trace f c) Help is.0 tt (sym is.1 ∙ h) in cc)
+traces words before after f c old new ShowsVersion is done h w = absurd (let e = words_of_injective (Trace f c) Version is.0 tt (sym is.1 ∙ h) in cc)
+traces words before after f c old new (Replayed plan) is done h w = absurd (let e = words_of_injective (Trace f c) Serial is.0 tt (sym is.1 ∙ h.0) in cc)
+traces words before after f c old new (Played plan report) is done h w = absurd (let e = words_of_injective (Trace f c) Play is.0 tt (sym is.1 ∙ h.0) in cc)
+traces words before after f c old new (Traced plan n m) is done h w =
+    let same : trace_text plan n m ≡ trace_text plan f c = (let e = words_of_injective (Trace f c) (Trace n m) is.0 h.0.0 (sym is.1 ∙ h.0.1) in cc) in
+    record { plan = plan; read = h.1; written = (let P : List ℕ → Type 0 = IsWritten old new in subst P same w) }
+traces words before after f c old new (Loaded callers scripts) is done h w = absurd (let e = words_of_injective (Trace f c) (Load callers scripts) is.0 h.0 (sym is.1 ∙ h.1) in cc)
+traces words before after f c old new FoundLegal is done h w = absurd (let e = words_of_injective (Trace f c) Check is.0 tt (sym is.1 ∙ h.0) in cc)
+traces words before after f c old new FoundIllegal is done h w = absurd (omega arith)
+traces words before after f c old new NoCommand is done h w = absurd (h (Trace f c) is)
+traces words before after f c old new ReadFault is done h w = absurd (omega arith)
+traces words before after f c old new TooLong is done h w = absurd (omega arith)
+traces words before after f c old new (BadPlan line) is done h w = absurd (omega arith)
+
+-- what `trace` wrote where it is done
+pub trace_answer : (words : List (List ℕ)) (before after : SourceState) (f c : ℕ) (old new : SinkState) (status : ℕ) (text : List ℕ) → Are words (Trace f c) → status ≡ DONE → IsAnswer words before after status text → IsWritten old new text
+    → TracesPlan f c before after old new
+trace_answer words before after f c old new status text is done a w =
+    traces words before after f c old new a.verdict is (sym a.status_is ∙ done) a.cause (let P : List ℕ → Type 0 = IsWritten old new in subst P a.text_is w)
+
 -- the answer to `load`
 loaded : (words : List (List ℕ)) (before after : SourceState) (callers scripts : ℕ) (v : Verdict) → Are words (Load callers scripts) → HasCause words before after v → (status_of v ≡ DONE) × (text_of v ≡ text_of (Loaded callers scripts))
 loaded words before after callers scripts ShowsHelp is h = absurd (let e = words_of_injective (Load callers scripts) Help is.0 tt (sym is.1 ∙ h) in cc)
 loaded words before after callers scripts ShowsVersion is h = absurd (let e = words_of_injective (Load callers scripts) Version is.0 tt (sym is.1 ∙ h) in cc)
 loaded words before after callers scripts (Replayed plan) is h = absurd (let e = words_of_injective (Load callers scripts) Serial is.0 tt (sym is.1 ∙ h.0) in cc)
 loaded words before after callers scripts (Played plan report) is h = absurd (let e = words_of_injective (Load callers scripts) Play is.0 tt (sym is.1 ∙ h.0) in cc)
+loaded words before after callers scripts (Traced plan first count) is h = absurd (let e = words_of_injective (Load callers scripts) (Trace first count) is.0 h.0.0 (sym is.1 ∙ h.0.1) in cc)
 loaded words before after callers scripts (Loaded n m) is h = (refl, (let e = words_of_injective (Load callers scripts) (Load n m) is.0 h.0 (sym is.1 ∙ h.1) in cc))
 loaded words before after callers scripts NoCommand is h = absurd (h (Load callers scripts) is)
 loaded words before after callers scripts FoundLegal is h = absurd (let e = words_of_injective (Load callers scripts) Check is.0 tt (sym is.1 ∙ h.0) in cc)
@@ -203,6 +252,7 @@ checks words before after ShowsHelp is h = absurd (let e = words_of_injective Ch
 checks words before after ShowsVersion is h = absurd (let e = words_of_injective Check Version tt tt (sym is ∙ h) in cc)
 checks words before after (Replayed plan) is h = absurd (let e = words_of_injective Check Serial tt tt (sym is ∙ h.0) in cc)
 checks words before after (Played plan report) is h = absurd (let e = words_of_injective Check Play tt tt (sym is ∙ h.0) in cc)
+checks words before after (Traced plan first count) is h = absurd (let e = words_of_injective Check (Trace first count) tt h.0.0 (sym is ∙ h.0.1) in cc)
 checks words before after (Loaded callers scripts) is h = absurd (let e = words_of_injective Check (Load callers scripts) tt h.0 (sym is ∙ h.1) in cc)
 checks words before after FoundLegal is h = record { legal = λ e. h.1; illegal = λ e. absurd (omega arith) }
 checks words before after FoundIllegal is h = record { legal = λ e. absurd (omega arith); illegal = λ e. h.1 }
@@ -218,7 +268,8 @@ check_answer words before after status text is a = let P : ℕ → Type 0 = Chec
 
 valid_plan : (words : List (List ℕ)) (command : Command) (left : Option (List ℕ)) → Are words command → AskForPlan words → IsValidInput command left → IsPlanInput left
 valid_plan words command left is (inl asks) valid = let P : Command → Type 0 = λ c. IsValidInput c left in subst P (words_of_injective command Serial is.0 tt (sym is.1 ∙ asks)) valid
-valid_plan words command left is (inr asks) valid = let P : Command → Type 0 = λ c. IsValidInput c left in subst P (words_of_injective command Play is.0 tt (sym is.1 ∙ asks)) valid
+valid_plan words command left is (inr (inr asks)) valid = let P : Command → Type 0 = λ c. IsValidInput c left in subst P (words_of_injective command (Trace asks.0 asks.1) is.0 asks.2.0 (sym is.1 ∙ asks.2.1)) valid
+valid_plan words command left is (inr (inl asks)) valid = let P : Command → Type 0 = λ c. IsValidInput c left in subst P (words_of_injective command Play is.0 tt (sym is.1 ∙ asks)) valid
 
 valid_check : (words : List (List ℕ)) (command : Command) (left : Option (List ℕ)) → Are words command → words ≡ words_of Check → IsValidInput command left → IsCheckInput left
 valid_check words command left is asks valid = let P : Command → Type 0 = λ c. IsValidInput c left in subst P (words_of_injective command Check is.0 tt (sym is.1 ∙ asks)) valid
@@ -231,6 +282,7 @@ valid_within : (c : Command) (left : Option (List ℕ)) (most : ℕ) → limit_o
 valid_within Serial left most is v = (v.0, v.2, subst (λ (n : ℕ). length v.0 ≤ n) (some_same MOST_INPUT most is) v.3)
 valid_within Play left most is v = (v.0, v.2, subst (λ (n : ℕ). length v.0 ≤ n) (some_same MOST_INPUT most is) v.3)
 valid_within Check left most is v = (v.bytes, v.is, subst (λ (n : ℕ). length v.bytes ≤ n) (some_same MOST_WITH_REPORT most is) v.few)
+valid_within (Trace first count) left most is v = (v.0, v.2, subst (λ (n : ℕ). length v.0 ≤ n) (some_same MOST_INPUT most is) v.3)
 valid_within (Load callers scripts) left most is v = absurd cc
 valid_within Help left most is v = absurd cc
 valid_within Version left most is v = absurd cc
@@ -268,6 +320,7 @@ completed one_cut words before after command ShowsHelp is valid calm h = inl ref
 completed one_cut words before after command ShowsVersion is valid calm h = inl refl
 completed one_cut words before after command (Replayed plan) is valid calm h = inl refl
 completed one_cut words before after command (Played plan report) is valid calm h = inl refl
+completed one_cut words before after command (Traced plan first count) is valid calm h = inl refl
 completed one_cut words before after command (Loaded callers scripts) is valid calm h = inl refl
 completed one_cut words before after command FoundLegal is valid calm h = inl refl
 completed one_cut words before after command FoundIllegal is valid calm h = inr (words_of_injective command Check is.0 tt (sym is.1 ∙ h.0), refl)

@@ -4,7 +4,8 @@ use Rattle.std.specs.Global.{Global}
 use Rattle.of_cell.specs.declared.shape.TheConstants.{MOST_CALLERS}
 use Rattle.of_plan.specs.declared.plan.TheConstants.{MOST_SCRIPTS}
 use Rattle.of_tool.specs.declared.command.Command.{Command}
-use Rattle.of_tool.specs.declared.command.Command.TheVariants.{Serial, Play, Load, Check, Help, Version}
+use Rattle.of_tool.specs.declared.command.TheConstants.{MOST_FIRST, MOST_EVENTS}
+use Rattle.of_tool.specs.declared.command.Command.TheVariants.{Serial, Play, Trace, Load, Check, Help, Version}
 
 -- the bytes of each word
 abbrev pub texts : List (String Global) → List (List ℕ)
@@ -18,6 +19,7 @@ SpellsUpTo most word n = (n ≤ most) × (word ≡ decimal n)
 abbrev pub words_of : Command → List (List ℕ)
 words_of Serial = codes "serial" ∷ []
 words_of Play = codes "play" ∷ []
+words_of (Trace first count) = codes "trace" ∷ decimal first ∷ decimal count ∷ []
 words_of (Load callers scripts) = codes "load" ∷ decimal callers ∷ decimal scripts ∷ []
 words_of Check = codes "check" ∷ []
 words_of Help = codes "--help" ∷ []
@@ -30,10 +32,17 @@ pub record IsLoad (callers scripts : ℕ) : Type 0 where
   pub each : scripts ≤ MOST_SCRIPTS
   pub all : callers * scripts ≤ MOST_SCRIPTS
 
+-- so many events from this one on
+pub record IsTrace (first count : ℕ) : Type 0 where
+  pub first : first ≤ MOST_FIRST
+  pub some : 1 ≤ count
+  pub few : count ≤ MOST_EVENTS
+
 -- the numbers of a command are in range
 abbrev pub IsInRange : Command → Type 0
 IsInRange Serial = Unit {0}
 IsInRange Play = Unit {0}
+IsInRange (Trace first count) = IsTrace first count
 IsInRange (Load callers scripts) = IsLoad callers scripts
 IsInRange Check = Unit {0}
 IsInRange Help = Unit {0}

@@ -16,12 +16,13 @@ use Rattle.of_report.specs.ReportText.{report_text}
 use Rattle.of_report.specs.LoadText.{load_text}
 use Rattle.of_check.specs.Verdict.{IsLegalText}
 use Rattle.of_tool.specs.declared.command.Command.{Command}
-use Rattle.of_tool.specs.declared.command.Command.TheVariants.{Serial, Play, Load, Check, Help, Version}
+use Rattle.of_tool.specs.declared.command.Command.TheVariants.{Serial, Play, Trace, Load, Check, Help, Version}
 use Rattle.of_tool.specs.declared.command.TheConstants.{HELP, VERSION}
 use Rattle.of_tool.specs.declared.status.TheConstants.{DONE, OUT_OF_MEMORY, USAGE, READ_FAULT, WRITE_FAULT, BAD_PLAN, TOO_LONG, ILLEGAL}
 use Rattle.of_tool.specs.declared.top.TheConstants.{MOST_INPUT, MOST_WITH_REPORT}
 use Rattle.of_tool.specs.Commands.{words_of, IsLoad, Are, IsNoCommand}
 use Rattle.of_tool.specs.Play.{IsPlayed}
+use Rattle.of_tool.specs.Trace.{trace_text}
 
 -- the report of what a plan's schedule leaves: it says of that run what holds of every run, and each caller keeps to its turns
 pub record IsPlayedReport (p : Plan) (r : Report) : Type 0 where
@@ -36,6 +37,7 @@ pub data Verdict : Type 0 where
   ShowsVersion : Verdict
   Replayed : Plan → Verdict
   Played : Plan → Report → Verdict
+  Traced : Plan → (first count : ℕ) → Verdict
   Loaded : (callers scripts : ℕ) → Verdict
   FoundLegal : Verdict
   FoundIllegal : Verdict
@@ -50,6 +52,7 @@ status_of ShowsHelp = DONE
 status_of ShowsVersion = DONE
 status_of (Replayed plan) = DONE
 status_of (Played plan report) = DONE
+status_of (Traced plan first count) = DONE
 status_of (Loaded callers scripts) = DONE
 status_of FoundLegal = DONE
 status_of FoundIllegal = ILLEGAL
@@ -64,6 +67,7 @@ text_of ShowsHelp = HELP.now
 text_of ShowsVersion = VERSION.now
 text_of (Replayed plan) = report_text (serial_report plan)
 text_of (Played plan report) = report_text report
+text_of (Traced plan first count) = trace_text plan first count
 text_of (Loaded callers scripts) = load_text (serial_report (generated callers scripts))
 text_of FoundLegal = codes "legal report\n"
 text_of FoundIllegal = codes "error: not a legal report\n"
@@ -144,12 +148,13 @@ pub record ReadsIllegal (before after : SourceState) : Type 0 where
 
 -- the words are those of a command that reads a plan
 abbrev pub AskForPlan : List (List ℕ) → Type 0
-AskForPlan words = (words ≡ words_of Serial) ⊎ (words ≡ words_of Play)
+AskForPlan words = (words ≡ words_of Serial) ⊎ ((words ≡ words_of Play) ⊎ ((first count : ℕ) × Are words (Trace first count)))
 
 -- how many bytes a command reads at most, where it reads
 abbrev pub limit_of : Command → Option ℕ
 limit_of Serial = Some MOST_INPUT
 limit_of Play = Some MOST_INPUT
+limit_of (Trace first count) = Some MOST_INPUT
 limit_of (Load callers scripts) = None
 limit_of Check = Some MOST_WITH_REPORT
 limit_of Help = None
@@ -169,6 +174,7 @@ HasCause words before after ShowsHelp = words ≡ words_of Help
 HasCause words before after ShowsVersion = words ≡ words_of Version
 HasCause words before after (Replayed plan) = (words ≡ words_of Serial) × ReadsPlan before after plan
 HasCause words before after (Played plan report) = (words ≡ words_of Play) × ReadsPlan before after plan × IsPlayedReport plan report
+HasCause words before after (Traced plan first count) = Are words (Trace first count) × ReadsPlan before after plan
 HasCause words before after (Loaded callers scripts) = Are words (Load callers scripts)
 HasCause words before after NoCommand = IsNoCommand words
 HasCause words before after FoundLegal = (words ≡ words_of Check) × ReadsLegal before after
@@ -231,6 +237,12 @@ pub record PlaysPlan (before after : SourceState) (old new : SinkState) : Type 0
   pub played : IsPlayedReport plan report
   pub written : IsWritten old new (report_text report)
 
+-- the whole input is a plan's text, and the lines of so many events of its schedule were written, from this one on
+pub record TracesPlan (first count : ℕ) (before after : SourceState) (old new : SinkState) : Type 0 where
+  pub plan : Plan
+  pub read : ReadsPlan before after plan
+  pub written : IsWritten old new (trace_text plan first count)
+
 -- the summary of so many callers with so many scripts each was written
 abbrev pub LoadsPlan : (callers scripts : ℕ) → SinkState → SinkState → Type 0
 LoadsPlan callers scripts old new = IsWritten old new (load_text (serial_report (generated callers scripts)))
@@ -265,6 +277,7 @@ pub record IsCheckInput (left : Option (List ℕ)) : Type 0 where
 abbrev pub IsValidInput : Command → Option (List ℕ) → Type 0
 IsValidInput Serial left = IsPlanInput left
 IsValidInput Play left = IsPlanInput left
+IsValidInput (Trace first count) left = IsPlanInput left
 IsValidInput (Load callers scripts) left = Unit {0}
 IsValidInput Check left = IsCheckInput left
 IsValidInput Help left = Unit {0}

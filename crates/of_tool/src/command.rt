@@ -13,6 +13,7 @@ Runs scripts of transactions on a store of registers, keys and queues.
 
 serial      reads a plan, runs its scripts one after another, prints the report
 play        reads a plan, runs its schedule step by step, prints the report
+trace F C   reads a plan, prints what C events of its schedule do, from event F
 load N S    reads nothing, runs N callers with S scripts each, prints a summary
 check       reads a plan and a report, says whether the report is a legal one
 --help      reads nothing, prints this text
@@ -25,6 +26,12 @@ Input is read from standard input. An example:
 /// What `--version` prints.
 pub const VERSION: &str = "onefile 0.1.0\n";
 
+/// The greatest number of an event that a trace can begin with.
+pub const MOST_FIRST: u32 = 10_000_000;
+
+/// The most events of a trace.
+pub const MOST_EVENTS: u32 = 10_000;
+
 /// What the program can be told to do.
 #[derive(Clone, Copy, Debug, PartialEq, Eq)]
 pub enum Command {
@@ -32,6 +39,8 @@ pub enum Command {
     Serial,
     /// Reads a plan, runs its schedule step by step, and prints the report of what it leaves.
     Play,
+    /// Reads a plan, and prints what so many events of its schedule do, from one event on.
+    Trace { first: u32, count: u32 },
     /// Runs a load of so many callers with so many scripts each, and prints the summary of its report.
     Load { callers: u32, scripts: u32 },
     /// Reads a plan and a report, and prints whether the report is a legal one of the plan.
@@ -78,6 +87,20 @@ impl Command {
         Some(Command::Load { callers, scripts })
     }
 
+    // The trace of these numbers, where they are in range.
+    fn trace(first: &str, count: &str) -> Option<Command>
+        ensures { MatchOption result
+            (IsNoCommand (codes "trace" ∷ first.now ∷ count.now ∷ []))
+            (Are (codes "trace" ∷ first.now ∷ count.now ∷ [])) }
+    {
+        let first = number(first, MOST_FIRST)?;
+        let count = number(count, MOST_EVENTS)?;
+        if count == 0 {
+            return None;
+        }
+        Some(Command::Trace { first, count })
+    }
+
     /// The command that the words are, where they are one. Numbers are spelled by digits alone, with no 0 in front of others.
     pub fn from_words(words: &[String]) -> Option<Command>
         ensures { MatchOption result (IsNoCommand (texts words.now)) (Are (texts words.now)) }
@@ -86,6 +109,7 @@ impl Command {
             [word] => Command::plain(word.as_str()),
             [word, first, second] => match word.as_str() {
                 "load" => Command::load(first.as_str(), second.as_str()),
+                "trace" => Command::trace(first.as_str(), second.as_str()),
                 _ => None,
             },
             _ => None,

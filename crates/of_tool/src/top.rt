@@ -6,13 +6,14 @@ ghost use Rattle.of_plan.specs.Generated.{generated};
 ghost use Rattle.of_plan.specs.Serial.{serial_report};
 ghost use Rattle.of_report.specs.LoadText.{load_text};
 ghost use Rattle.of_tool.specs.declared.command.Command.{Command};
-ghost use Rattle.of_tool.specs.declared.command.Command.TheVariants.{Serial, Play, Load, Check, Help, Version};
+ghost use Rattle.of_tool.specs.declared.command.Command.TheVariants.{Serial, Play, Trace, Load, Check, Help, Version};
 ghost use Rattle.of_tool.specs.declared.status.TheConstants.{DONE, OUT_OF_MEMORY, ILLEGAL};
-ghost use Rattle.of_tool.specs.Commands.{texts, words_of, IsLoad, Are};
-ghost use Rattle.of_tool.specs.Verdicts.{source_state, sink_state, Answers, AskForInput, ReadsAll, ReadsPlan, IsReplayed, PlaysPlan, LoadsPlan, ChecksReport, Prints, IsValidInput};
+ghost use Rattle.of_tool.specs.Commands.{texts, words_of, IsTrace, IsLoad, Are};
+ghost use Rattle.of_tool.specs.Verdicts.{source_state, sink_state, Answers, AskForInput, ReadsAll, ReadsPlan, IsReplayed, PlaysPlan, TracesPlan, LoadsPlan, ChecksReport, Prints, IsValidInput};
 ghost use Rattle.of_tool.specs.Answer.{Answered, Refuses, RefusesUpTo, Judges};
 
 use crate::command::{Command, HELP, VERSION};
+use crate::play::trace;
 use crate::played::play_report;
 use crate::replay::serial;
 use crate::status;
@@ -126,6 +127,27 @@ fn play_answer<S: Source>(alloc: Global, source: &mut S) -> Result<Answer, Alloc
     }
 }
 
+// What `trace` answers.
+fn trace_answer<S: Source>(
+    alloc: Global,
+    source: &mut S,
+    first: u32,
+    count: u32,
+) -> Result<Answer, AllocError>
+    requires { IsTrace first count }
+    ensures { IfOk result (Answered (words_of (Trace first count))
+        (source_state (S.remaining source.old) (S.faults source.old))
+        (source_state (S.remaining source.new) (S.faults source.new))) }
+{
+    match read_plan(alloc, source)? {
+        Ok(plan) => Ok(Answer {
+            status: status::DONE,
+            text: trace(alloc, &plan, first, count)?,
+        }),
+        Err(answer) => Ok(answer),
+    }
+}
+
 // What `load` answers.
 fn load_answer(alloc: Global, callers: u32, scripts: u32) -> Result<Answer, AllocError>
     requires { IsLoad callers scripts }
@@ -185,6 +207,7 @@ fn decide<S: Source>(alloc: Global, words: &[String], source: &mut S) -> Result<
     match Command::from_words(words) {
         Some(Command::Serial) => serial_answer(alloc, source),
         Some(Command::Play) => play_answer(alloc, source),
+        Some(Command::Trace { first, count }) => trace_answer(alloc, source, first, count),
         Some(Command::Load { callers, scripts }) => load_answer(alloc, callers, scripts),
         Some(Command::Check) => check_answer(alloc, source),
         Some(Command::Help) => Ok(Answer {
@@ -220,6 +243,14 @@ pub fn tool<S: Source, K: Sink>(alloc: Global, words: &[String], source: &mut S,
 
     // With status 0 of `play` the report of what the schedule of the plan that the whole input spells leaves was written.
     ensures play { texts words.now ≡ words_of Play → result ≡ DONE → PlaysPlan
+        (source_state (S.remaining source.old) (S.faults source.old))
+        (source_state (S.remaining source.new) (S.faults source.new))
+        (sink_state (K.written sink.old) (K.finished sink.old) (K.faults sink.old))
+        (sink_state (K.written sink.new) (K.finished sink.new) (K.faults sink.new)) }
+
+    // With status 0 of `trace` the lines of so many events of the schedule of the plan that the whole input spells were written.
+    ensures trace { (first count : ℕ) → Are (texts words.now) (Trace first count) → result ≡ DONE
+        → TracesPlan first count
         (source_state (S.remaining source.old) (S.faults source.old))
         (source_state (S.remaining source.new) (S.faults source.new))
         (sink_state (K.written sink.old) (K.finished sink.old) (K.faults sink.old))

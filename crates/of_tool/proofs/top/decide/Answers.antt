@@ -1,5 +1,5 @@
 use Rattle.std.proofs.Common.{refl, ◌∙◌}
-use Rattle.of_tool.specs.declared.command.Command.TheVariants.{Serial, Play, Check}
+use Rattle.of_tool.specs.declared.command.Command.TheVariants.{Serial, Play, Trace, Check}
 use Rattle.of_tool.specs.declared.top.TheConstants.{MOST_INPUT, MOST_WITH_REPORT}
 use Rattle.std.proofs.lemmas.Result.{IfOk-weaker}
 use Rattle.of_tool.specs.Verdicts.{ShowsHelp, ShowsVersion, Loaded, NoCommand}
@@ -45,3 +45,6 @@ returns-in-Some-Load-clause-answered g c = IfOk-weaker c.load_answer.result _ _ 
   status_is = is.0;
   text_is = is.1;
 }) c.load_answer.ensures
+
+pub returns-in-Some-Trace-clause-unread : goal.returns-in-Some-Trace-clause-unread
+returns-in-Some-Trace-clause-unread g c = λ none. absurd (none (MOST_INPUT, (Trace c.in-Some-Trace.first c.in-Some-Trace.count, rw c.in-Some-Trace.field-0-is at c.in-Some-Trace.ensures, refl)))

@@ -1,7 +1,7 @@
 use Rattle.std.proofs.Common.{inl, inr, subst, ◌∙◌, refl}
 use Rattle.std.specs.Io.KnownBytes.{Appends}
 use Rattle.of_io.specs.Faults.{AppendsFront}
-use Rattle.of_tool.proofs.CommandLemmas.{help_answer, version_answer, serial_answer, play_answer, load_answer, check_answer, done_where_valid}
+use Rattle.of_tool.proofs.CommandLemmas.{help_answer, version_answer, serial_answer, play_answer, trace_answer, load_answer, check_answer, done_where_valid}
 use Rattle.of_tool.proofs.top.tool.Goals as goal
 
 pub returns-in-Ok-write_all-clause-serial : goal.returns-in-Ok-write_all-clause-serial
@@ -12,6 +12,11 @@ returns-in-Ok-write_all-clause-serial g c = λ is done.
 pub returns-in-Ok-write_all-clause-play : goal.returns-in-Ok-write_all-clause-play
 returns-in-Ok-write_all-clause-play g c = λ is done.
     play_answer _ _ _ _ _ _ _ is done c.in-Ok.ensures.answered
+    (record { bytes = subst (Appends _ _) c.deref.ensures.value c.in-Ok-write_all.ensures.ok; finished = c.in-Ok-write_all.ensures.finished })
+
+pub returns-in-Ok-write_all-clause-trace : goal.returns-in-Ok-write_all-clause-trace
+returns-in-Ok-write_all-clause-trace g c = λ first count is done.
+    trace_answer _ _ _ first count _ _ _ _ is done c.in-Ok.ensures.answered
     (record { bytes = subst (Appends _ _) c.deref.ensures.value c.in-Ok-write_all.ensures.ok; finished = c.in-Ok-write_all.ensures.finished })
 
 pub returns-in-Ok-write_all-clause-load : goal.returns-in-Ok-write_all-clause-load
