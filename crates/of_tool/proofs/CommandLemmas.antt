@@ -82,7 +82,7 @@ command_again : (c : Command) → IsInRange c → command_of (words_of c) ≡ So
 command_again Serial range = refl
 command_again Play range = refl
 command_again (Trace first count) range =
-    let one : digits_value 10 (decimal first) ≡ first = (decimal_is_IsNumeral first (omega (arith, range.first))).1 in
+    let one : digits_value 10 (decimal first) ≡ first = (decimal_is_IsNumeral first (omega (arith, range.begins))).1 in
     let two : digits_value 10 (decimal count) ≡ count = (decimal_is_IsNumeral count (omega (arith, range.few))).1 in
     cc
 command_again (Load callers scripts) range =

@@ -34,7 +34,7 @@ pub record IsLoad (callers scripts : ℕ) : Type 0 where
 
 -- so many events from this one on
 pub record IsTrace (first count : ℕ) : Type 0 where
-  pub first : first ≤ MOST_FIRST
+  pub begins : first ≤ MOST_FIRST
   pub some : 1 ≤ count
   pub few : count ≤ MOST_EVENTS
 

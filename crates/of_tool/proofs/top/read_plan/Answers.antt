@@ -1,6 +1,7 @@
 use Rattle.std.proofs.Common.{List, ℕ, inl, subst, refl}
 use Rattle.of_plan.specs.Parsed.{IsNoPlan}
 use Rattle.of_tool.specs.Verdicts.{BadPlan}
+use Rattle.of_tool.proofs.CommandLemmas.{plan_asks}
 use Rattle.of_tool.proofs.top.read_plan.Goals as goal
 
 pub returns : goal.returns
@@ -12,3 +13,6 @@ returns g c = λ words asks.
       status_is = refl;
       text_is = c.in_ok-bad_plan-in-Err-Bad.ensures;
     }
+
+pub returns-in-Err : goal.returns-in-Err
+returns-in-Err g c = λ words asks. (rw c.in-Err.is at c.in_ok-bytes.ensures) words (plan_asks words asks)
