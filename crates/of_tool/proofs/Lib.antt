@@ -26,3 +26,8 @@ pub mod LoadStores
 pub mod LoadReports
 pub mod Carried
 pub mod PlayedImages
+pub mod WordNames
+pub mod TraceLines
+pub mod TraceTurns
+pub mod TracesFurther
+pub mod Joined

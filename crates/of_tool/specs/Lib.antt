@@ -9,3 +9,7 @@ pub mod Replay
 pub mod Play
 pub mod Playing
 pub mod HelpText
+pub mod Names
+pub mod TraceText
+pub mod Trace
+pub mod Tracing

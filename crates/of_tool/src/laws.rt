@@ -5,6 +5,7 @@ ghost use Rattle.of_core.specs.Events.{IsSchedule};
 ghost use Rattle.of_caller.specs.Tables.{setup_for, opening_for};
 ghost use Rattle.of_tool.specs.Play.{play_events};
 ghost use Rattle.of_tool.specs.HelpText.{help_text};
+ghost use Rattle.of_tool.specs.Names.{HoldingsAreNamed, CellsAreNamed, WordsAreNamed};
 
 use crate::command::{HELP, VERSION};
 use crate::status::{
@@ -41,4 +42,11 @@ pub fn numbers()
 pub fn help_and_version()
     ensures version { VERSION.now ≡ codes "onefile 0.1.0\n" }
     ensures help { HELP.now ≡ help_text }
+{}
+
+/// The names that a trace prints are those of what stands there: of each data cell, each cell and each word of a table.
+pub fn words_are_named()
+    ensures holdings { HoldingsAreNamed }
+    ensures cells { CellsAreNamed }
+    ensures words { WordsAreNamed }
 {}

@@ -4,14 +4,17 @@
 mod command;
 mod images;
 pub mod laws;
+mod names;
 mod play;
 mod played;
 mod replay;
 mod run;
 pub mod status;
 mod top;
+mod trace_text;
 
 pub use command::{Command, HELP, VERSION};
+pub use play::trace;
 pub use played::play_report;
 pub use replay::serial;
 pub use run::run_report;

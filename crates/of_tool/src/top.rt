@@ -4,24 +4,17 @@ ghost use Rattle.std.specs.Prelude.{◌≡◌, ◌≤◌, ◌⊎◌, ℕ, IfOk, 
 ghost use Rattle.of_io.specs.Faults.{Rose};
 ghost use Rattle.of_plan.specs.Ended.{run_of};
 ghost use Rattle.of_tool.specs.declared.command.Command.{Command};
-<<<<<<< HEAD
-ghost use Rattle.of_tool.specs.declared.command.Command.TheVariants.{Serial, Play, Run, Load, Check, Help, Version};
+ghost use Rattle.of_tool.specs.declared.command.Command.TheVariants.{Serial, Play, Trace, Run, Load, Check, Image, Recover, Renumber, Migrate, Help, Version};
 ghost use Rattle.of_tool.specs.declared.status.TheConstants.{DONE, OUT_OF_MEMORY, ILLEGAL};
-ghost use Rattle.of_tool.specs.Commands.{texts, words_of, IsLoad, IsPlain, Are, RunTeam};
-ghost use Rattle.of_tool.specs.Verdicts.{source_state, sink_state, limit_of, Answers, AskForInput, ReadsAll, ReadsPlan, IsReplayed, PlaysPlan, ChecksReport, Prints, IsValidInput};
+ghost use Rattle.of_tool.specs.Commands.{texts, words_of, IsTrace, IsLoad, IsInRange, IsPlain, Are, RunTeam};
+ghost use Rattle.of_tool.specs.Verdicts.{source_state, sink_state, limit_of, Answers, AskForInput, ReadsAll, ReadsPlan, IsReplayed, PlaysPlan, TracesPlan, ChecksReport, Prints, IsValidInput};
+ghost use Rattle.of_tool.specs.Images.{ImagesPlan, RecoversImage, RenumbersImage, MigratesImage};
 ghost use Rattle.of_tool.specs.Headline.{RunsPlan, LoadsPlan};
 ghost use Rattle.of_tool.specs.Answer.{Answered, Refuses, RefusesUpTo, Judges, CarriesRun, CarriesLoad, Carries};
-=======
-ghost use Rattle.of_tool.specs.declared.command.Command.TheVariants.{Serial, Play, Check, Image, Recover, Renumber, Migrate, Help, Version};
-ghost use Rattle.of_tool.specs.declared.status.TheConstants.{DONE, OUT_OF_MEMORY, ILLEGAL};
-ghost use Rattle.of_tool.specs.Commands.{texts, words_of};
-ghost use Rattle.of_tool.specs.Verdicts.{source_state, sink_state, Answers, AskForInput, ReadsAll, ReadsPlan, IsReplayed, PlaysPlan, ChecksReport, Prints, IsValidInput};
-ghost use Rattle.of_tool.specs.Images.{ImagesPlan, RecoversImage, RenumbersImage, MigratesImage};
-ghost use Rattle.of_tool.specs.Answer.{Answered, Refuses, RefusesUpTo, Judges};
->>>>>>> 27d22d300497c41202221e2461e88023939645ad
 
 use crate::command::{Command, HELP, VERSION};
 use crate::images::{image_answer, migrate_answer, recover_answer, renumber_answer};
+use crate::play::trace;
 use crate::played::play_report;
 use crate::replay::serial;
 use crate::run::run_report;
@@ -42,18 +35,14 @@ pub const MOST_INPUT: usize = 1 << 20;
 /// The most bytes that `check` reads: a plan and a report.
 pub const MOST_WITH_REPORT: usize = 1 << 22;
 
-<<<<<<< HEAD
-/// What callers that ran at once have left, where they did: the record of the run, and the pass that has seen it.
-pub type Ran = Option<(Ended, Pass)>;
-
-// A status, and the text that is to be written with it.
-=======
 /// The most bytes that a command reads which reads an image. The greatest that `image` prints has
 /// 62,304 lines of cells of at most 33 bytes each, and 42 bytes beside them.
 pub const MOST_IMAGE: usize = 1 << 22;
 
+/// What callers that ran at once have left, where they did: the record of the run, and the pass that has seen it.
+pub type Ran = Option<(Ended, Pass)>;
+
 /// A status, and the text that is to be written with it.
->>>>>>> 27d22d300497c41202221e2461e88023939645ad
 #[derive(Drop)]
 pub(crate) struct Answer {
     pub(crate) status: u8,
@@ -202,6 +191,27 @@ fn load_answer<R: Threads + Sync>(
     Ok((answer, Some(ran)))
 }
 
+// What `trace` answers.
+fn trace_answer<S: Source>(
+    alloc: Global,
+    source: &mut S,
+    first: u32,
+    count: u32,
+) -> Result<Answer, AllocError>
+    requires { IsTrace first count }
+    ensures { IfOk result (Answered (words_of (Trace first count))
+        (source_state (S.remaining source.old) (S.faults source.old))
+        (source_state (S.remaining source.new) (S.faults source.new))) }
+{
+    match read_plan(alloc, source)? {
+        Ok(plan) => Ok(Answer {
+            status: status::DONE,
+            text: trace(alloc, &plan, first, count)?,
+        }),
+        Err(answer) => Ok(answer),
+    }
+}
+
 // What `check` says of a report.
 fn judged(alloc: Global, verdict: Verdict) -> Result<Answer, AllocError>
     ensures { IfOk result (Judges verdict) }
@@ -245,7 +255,8 @@ fn plain_answer<S: Source>(
     command: Command,
     source: &mut S,
 ) -> Result<Answer, AllocError>
-    requires { IsPlain command }
+    requires plain { IsPlain command }
+    requires range { IsInRange command }
     ensures plain { IsPlain command }
     ensures answered { IfOk result (Answered (words_of command)
         (source_state (S.remaining source.old) (S.faults source.old))
@@ -255,7 +266,12 @@ fn plain_answer<S: Source>(
     match command {
         Command::Serial => serial_answer(alloc, source),
         Command::Play => play_answer(alloc, source),
+        Command::Trace { first, count } => trace_answer(alloc, source, first, count),
         Command::Check => check_answer(alloc, source),
+        Command::Image => image_answer(alloc, source),
+        Command::Recover => recover_answer(alloc, source),
+        Command::Renumber => renumber_answer(alloc, source),
+        Command::Migrate => migrate_answer(alloc, source),
         Command::Help => Ok(Answer {
             status: status::DONE,
             text: Vec::from_slice(alloc, HELP.as_bytes())?,
@@ -286,7 +302,6 @@ fn decide<R: Threads + Sync, S: Source>(
     ensures unread { ¬ (AskForInput (texts words.now)) → source.new ≡ source.old }
 {
     match Command::from_words(words) {
-<<<<<<< HEAD
         Some(Command::Run) => run_answer(rt, alloc, source, brakes),
         Some(Command::Load { callers, scripts }) => load_answer(
             rt, alloc, callers, scripts, brakes,
@@ -299,27 +314,6 @@ fn decide<R: Threads + Sync, S: Source>(
             },
             None,
         )),
-=======
-        Some(Command::Serial) => serial_answer(alloc, source),
-        Some(Command::Play) => play_answer(alloc, source),
-        Some(Command::Check) => check_answer(alloc, source),
-        Some(Command::Image) => image_answer(alloc, source),
-        Some(Command::Recover) => recover_answer(alloc, source),
-        Some(Command::Renumber) => renumber_answer(alloc, source),
-        Some(Command::Migrate) => migrate_answer(alloc, source),
-        Some(Command::Help) => Ok(Answer {
-            status: status::DONE,
-            text: Vec::from_slice(alloc, HELP.as_bytes())?,
-        }),
-        Some(Command::Version) => Ok(Answer {
-            status: status::DONE,
-            text: Vec::from_slice(alloc, VERSION.as_bytes())?,
-        }),
-        None => Ok(Answer {
-            status: status::USAGE,
-            text: Vec::from_slice(alloc, b"error: usage\n")?,
-        }),
->>>>>>> 27d22d300497c41202221e2461e88023939645ad
     }
 }
 
@@ -379,6 +373,14 @@ pub fn tool<R: Threads + Sync, S: Source, K: Sink>(
         (sink_state (K.written sink.old) (K.finished sink.old) (K.faults sink.old))
         (sink_state (K.written sink.new) (K.finished sink.new) (K.faults sink.new)) }
 
+    // With status 0 of `trace` the lines of so many events of the schedule of the plan that the whole input spells were written.
+    ensures trace { (first count : ℕ) → Are (texts words.now) (Trace first count) → result ≡ DONE
+        → TracesPlan first count
+        (source_state (S.remaining source.old) (S.faults source.old))
+        (source_state (S.remaining source.new) (S.faults source.new))
+        (sink_state (K.written sink.old) (K.finished sink.old) (K.faults sink.old))
+        (sink_state (K.written sink.new) (K.finished sink.new) (K.faults sink.new)) }
+
     // `check` says of a plan and a report whether the report is a legal one: with status 0 it is, and with status 8 it isn't.
     ensures check { texts words.now ≡ words_of Check → ChecksReport
         (source_state (S.remaining source.old) (S.faults source.old))
@@ -431,12 +433,8 @@ pub fn tool<R: Threads + Sync, S: Source, K: Sink>(
         → (result ≡ DONE) ⊎ ((result ≡ OUT_OF_MEMORY) ⊎ ((command ≡ Check) × (result ≡ ILLEGAL))) }
 {
     one_cut();
-<<<<<<< HEAD
-    match decide(rt, alloc, words, source, brakes) {
-=======
     unlawful_have_none();
-    match decide(alloc, words, source) {
->>>>>>> 27d22d300497c41202221e2461e88023939645ad
+    match decide(rt, alloc, words, source, brakes) {
         Err(_) => status::OUT_OF_MEMORY,
         Ok((answer, found)) => match write_all(sink, &answer.text) {
             Ok(()) => {

@@ -1,0 +1,43 @@
+//! Traces of worked schedules.
+
+use crate::play::tracing::trace;
+use of_plan::parse;
+use std::alloc::Global;
+use std::test::Fail;
+
+/// The trace of these lines of a plan of two callers, from an event on, of so many.
+fn traced(alloc: Global, lines: &str, first: u32, count: u32) -> Result<String, Fail> {
+    let text = format!(in alloc; "onefile plan 1\ncallers 2\nblocks 1\nlimit 2\n{lines}end\n")?;
+    let plan = parse(alloc, text.as_bytes())?;
+    let bytes = trace(alloc, &plan, first, count)?;
+    Ok(String::from_utf8(bytes)?)
+}
+
+#[test]
+fn events_of_a_schedule(rt: HostRuntime) -> Result<(), Fail> {
+    let plan =
+        "script 0 store 3 7\nscript 0 load 3\nscript 1 put 2 9\nturns 0 31\nevict 0\nturns 1 9\nturns 0 40\nturns 1 60\n";
+    // the first event that is shown, how many, and their lines
+    let rows = [
+        (
+            30,
+            3,
+            "30 0 0 exchange current, current: (0,0) -> (1,0)\n31 evict, durable current: (0,0) -> (1,0)\n32 1 0 store script, script word 0 of 1: 0 -> 4611686022722355209\n",
+        ),
+        (
+            59,
+            5,
+            "59 0 0 raise closed, durable request 0: (1,0) -> (1,1), answered at 1 in 50 steps\n60 0 1 try current, current: (1,0) -> (1,0)\n61 0 1 try request, request 0: (1,1) -> (1,1)\n62 0 1 try cell, cell 42 (register 3): (1,7) -> (1,7), read at 1 in 3 steps\n63 0 nothing\n",
+        ),
+        (
+            140,
+            5,
+            "140 1 0 reload target, cell 55 (blocks taken): (2,1) -> (2,1)\n",
+        ),
+        (141, 5, ""),
+    ];
+    for (first, count, lines) in rows {
+        assert_eq!(rt; traced(rt.alloc(), plan, first, count)?.as_str(), lines);
+    }
+    Ok(())
+}
