@@ -4,6 +4,10 @@
 #[cfg(test)]
 mod checks;
 #[cfg(test)]
+mod faults;
+#[cfg(test)]
 mod plays;
+#[cfg(test)]
+mod runs;
 #[cfg(test)]
 mod tests;

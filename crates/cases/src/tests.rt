@@ -1,10 +1,12 @@
 //! Worked cases: the words, the input, the status and the text that is written.
 
+use of_brake::{Brake, Fuel};
 use of_io::{MemSink, MemSource};
 use of_tool::{HELP, MOST_INPUT, VERSION, status, tool};
 use std::alloc::Global;
 use std::process::Abort;
 use std::test::Fail;
+use std::thread::Threads;
 
 // The plan of the case `first_run`.
 const FIRST_RUN: &str = "\
@@ -281,9 +283,33 @@ end
     ),
 ];
 
+// How many brakes the top call takes.
+const BRAKES: u32 = 16;
+
+// The status of the top call with these words over this source and sink, with brakes that deny no step but that behind a stop.
+pub fn answer<R: Threads + Sync + AllocGlobal>(
+    rt: &R,
+    words: &[&str],
+    source: &mut MemSource,
+    sink: &mut MemSink,
+) -> Result<u8, Fail> {
+    let alloc = rt.alloc();
+    let mut owned = Vec::new(alloc);
+    for word in words {
+        owned.push(String::from_str(alloc, word)?)?;
+    }
+    let mut brakes: Vec<Box<dyn Brake + Send>> = Vec::new(alloc);
+    for _ in 0..BRAKES {
+        let brake: Box<dyn Brake + Send> = Box::new(alloc, Fuel::new())?;
+        brakes.push(brake)?;
+    }
+    let words = owned.as_slice();
+    Ok(tool(rt, alloc, words, source, sink, brakes, &mut None))
+}
+
 // Runs the top call over a source of whole reads and a sink of 16 bytes a write, and compares its status and its text.
-pub fn expect(
-    rt: &(impl Abort + AllocGlobal),
+pub fn expect<R: Abort + Threads + Sync + AllocGlobal>(
+    rt: &R,
     case: &str,
     words: &[&str],
     input: Vec<u8>,
@@ -291,17 +317,12 @@ pub fn expect(
     status: u8,
     text: &str,
 ) -> Result<(), Fail> {
-    let alloc = rt.alloc();
-    let mut owned = Vec::new(alloc);
-    for word in words {
-        owned.push(String::from_str(alloc, word)?)?;
-    }
-    let read_fails = Vec::from_slice(alloc, fails.0)?;
-    let write_fails = Vec::from_slice(alloc, fails.1)?;
+    let read_fails = Vec::from_slice(rt.alloc(), fails.0)?;
+    let write_fails = Vec::from_slice(rt.alloc(), fails.1)?;
     let mut source = MemSource::new(input, usize::MAX, read_fails);
-    let mut sink = MemSink::new(alloc, 1000, 16, write_fails)?;
-    let answer = tool(alloc, owned.as_slice(), &mut source, &mut sink);
-    assert_eq!(rt; answer, status, "{case}");
+    let mut sink = MemSink::new(rt.alloc(), 1000, 16, write_fails)?;
+    let told = answer(rt, words, &mut source, &mut sink)?;
+    assert_eq!(rt; told, status, "{case}");
     assert_eq!(rt; sink.bytes(), text.as_bytes(), "{case}");
     Ok(())
 }
@@ -343,7 +364,7 @@ fn words(rt: HostRuntime) -> Result<(), Fail> {
     let none: [&str; 0] = [];
     let rows: [(&str, &[&str], u8, &str); 5] = [
         ("no words", &none, status::USAGE, "error: usage\n"),
-        ("unknown word", &["run"], status::USAGE, "error: usage\n"),
+        ("unknown word", &["walk"], status::USAGE, "error: usage\n"),
         (
             "two words",
             &["serial", "serial"],

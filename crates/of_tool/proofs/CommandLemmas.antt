@@ -14,11 +14,11 @@ use Rattle.of_script.specs.Reading.{number_of}
 use Rattle.of_script.proofs.Numbers.{number_reads, number_again}
 use Rattle.of_plan.proofs.SerialLegal.{serial_legal}
 use Rattle.of_tool.specs.declared.command.Command.{Command}
-use Rattle.of_tool.specs.declared.command.Command.TheVariants.{Serial, Play, Load, Check, Help, Version}
+use Rattle.of_tool.specs.declared.command.Command.TheVariants.{Serial, Play, Run, Load, Check, Help, Version}
 use Rattle.of_tool.specs.declared.command.TheConstants.{HELP, VERSION}
 use Rattle.of_tool.specs.declared.status.TheConstants.{DONE, ILLEGAL}
 use Rattle.of_tool.specs.Commands.{words_of, IsInRange, IsLoad, SpellsUpTo, Are, IsNoCommand}
-use Rattle.of_tool.specs.Verdicts.{Verdict, ShowsHelp, ShowsVersion, Replayed, Played, Loaded, FoundLegal, FoundIllegal, NoCommand, ReadFault, TooLong, BadPlan, HasCause, status_of, text_of, SourceState, SinkState, IsAnswer, IsWritten, IsReplayed, PlaysPlan, LoadsPlan, AskForPlan, limit_of, AsksUpTo, AskForInput, ReadsNoPlan, ReadsNoFirst, ChecksReport, IsPlanInput, IsCheckInput, IsValidInput}
+use Rattle.of_tool.specs.Verdicts.{Verdict, ShowsHelp, ShowsVersion, Replayed, Played, Ran, Loaded, FoundLegal, FoundIllegal, NoCommand, ReadFault, TooLong, BadPlan, HasCause, status_of, text_of, SourceState, SinkState, IsAnswer, IsWritten, IsReplayed, PlaysPlan, AskForPlan, limit_of, AsksUpTo, AskForInput, ReadsNoPlan, ReadsNoFirst, ChecksReport, IsPlanInput, IsCheckInput, IsValidInput}
 
 -- ---- numbers
 
@@ -31,6 +31,7 @@ number_is most w (Some n) small e = let r = number_reads most w n small (sym e) 
 pub no_load : (a b : List ℕ) → ((n m : ℕ) → IsLoad n m → a ≡ decimal n → b ≡ decimal m → ⊥) → IsNoCommand (codes "load" ∷ a ∷ b ∷ [])
 no_load a b h Serial is = absurd (let e = ap length is.1 in omega (arith, e))
 no_load a b h Play is = absurd (let e = ap length is.1 in omega (arith, e))
+no_load a b h Run is = absurd (let e = ap length is.1 in omega (arith, e))
 no_load a b h (Load n m) is = h n m is.0 (ap (λ (ws : List (List ℕ)). get_or ws 1 []) is.1) (ap (λ (ws : List (List ℕ)). get_or ws 2 []) is.1)
 no_load a b h Check is = absurd (let e = ap length is.1 in omega (arith, e))
 no_load a b h Help is = absurd (let e = ap length is.1 in omega (arith, e))
@@ -49,6 +50,7 @@ abbrev named_by : List ℕ → Option Command
 named_by w =
     if bytes_eq w (codes "serial") then Some Serial
     else if bytes_eq w (codes "play") then Some Play
+    else if bytes_eq w (codes "run") then Some Run
     else if bytes_eq w (codes "check") then Some Check
     else if bytes_eq w (codes "--help") then Some Help
     else if bytes_eq w (codes "--version") then Some Version
@@ -64,6 +66,7 @@ command_of (w ∷ v ∷ u ∷ ws) = Some (Load (digits_value 10 v) (digits_value
 command_again : (c : Command) → IsInRange c → command_of (words_of c) ≡ Some c
 command_again Serial range = refl
 command_again Play range = refl
+command_again Run range = refl
 command_again (Load callers scripts) range =
     let first : digits_value 10 (decimal callers) ≡ callers = (decimal_is_IsNumeral callers (omega (arith, range.few))).1 in
     let second : digits_value 10 (decimal scripts) ≡ scripts = (decimal_is_IsNumeral scripts (omega (arith, range.each))).1 in
@@ -85,9 +88,17 @@ limit_is words c most is asks = ap limit_of (words_of_injective c asks.0 is.0 as
 reads_nothing : (words : List (List ℕ)) (c : Command) → limit_of c ≡ None → Are words c → AskForInput words → ⊥
 reads_nothing words c none is asks = let e : ◌≡◌ {A = Option ℕ} None (Some asks.0) = sym none ∙ limit_is words c asks.0 is asks.1 in cc
 
+pub unlimited : (words : List (List ℕ)) (c : Command) → Are words c → (AskForInput words → ⊥) → limit_of c ≡ None
+unlimited words c is none = by (limit_of c) refl
+  where
+    by : (o : Option ℕ) → limit_of c ≡ o → limit_of c ≡ None
+    by None e = e
+    by (Some most) e = absurd (none (most, (c, is, e)))
+
 pub plan_asks : (words : List (List ℕ)) → AskForPlan words → AsksUpTo words MOST_INPUT
 plan_asks words (inl h) = (Serial, (tt, h), refl)
-plan_asks words (inr h) = (Play, (tt, h), refl)
+plan_asks words (inr (inl h)) = (Play, (tt, h), refl)
+plan_asks words (inr (inr h)) = (Run, (tt, h), refl)
 
 bad_asks : {before after : SourceState} (words : List (List ℕ)) (line : ℕ) → (AskForPlan words × ReadsNoPlan before after line) ⊎ ((words ≡ words_of Check) × ReadsNoFirst before after line) → AskForInput words
 bad_asks words line (inl h) = (MOST_INPUT, plan_asks words h.0)
@@ -100,7 +111,8 @@ helped words before after ShowsHelp is h = (refl, refl)
 helped words before after ShowsVersion is h = absurd (let e = words_of_injective Help Version tt tt (sym is ∙ h) in cc)
 helped words before after (Replayed plan) is h = absurd (let e = words_of_injective Help Serial tt tt (sym is ∙ h.0) in cc)
 helped words before after (Played plan report) is h = absurd (let e = words_of_injective Help Play tt tt (sym is ∙ h.0) in cc)
-helped words before after (Loaded callers scripts) is h = absurd (let e = words_of_injective Help (Load callers scripts) tt h.0 (sym is ∙ h.1) in cc)
+helped words before after (Ran plan report) is h = absurd (let e = words_of_injective Help Run tt tt (sym is ∙ h.0) in cc)
+helped words before after (Loaded callers scripts report) is h = absurd (let e = words_of_injective Help (Load callers scripts) tt h.0.0 (sym is ∙ h.0.1) in cc)
 helped words before after NoCommand is h = absurd (h Help (tt, is))
 helped words before after FoundLegal is h = absurd (let e = words_of_injective Help Check tt tt (sym is ∙ h.0) in cc)
 helped words before after FoundIllegal is h = absurd (let e = words_of_injective Help Check tt tt (sym is ∙ h.0) in cc)
@@ -113,7 +125,8 @@ named words before after ShowsHelp is h = absurd (let e = words_of_injective Ver
 named words before after ShowsVersion is h = (refl, refl)
 named words before after (Replayed plan) is h = absurd (let e = words_of_injective Version Serial tt tt (sym is ∙ h.0) in cc)
 named words before after (Played plan report) is h = absurd (let e = words_of_injective Version Play tt tt (sym is ∙ h.0) in cc)
-named words before after (Loaded callers scripts) is h = absurd (let e = words_of_injective Version (Load callers scripts) tt h.0 (sym is ∙ h.1) in cc)
+named words before after (Ran plan report) is h = absurd (let e = words_of_injective Version Run tt tt (sym is ∙ h.0) in cc)
+named words before after (Loaded callers scripts report) is h = absurd (let e = words_of_injective Version (Load callers scripts) tt h.0.0 (sym is ∙ h.0.1) in cc)
 named words before after NoCommand is h = absurd (h Version (tt, is))
 named words before after FoundLegal is h = absurd (let e = words_of_injective Version Check tt tt (sym is ∙ h.0) in cc)
 named words before after FoundIllegal is h = absurd (let e = words_of_injective Version Check tt tt (sym is ∙ h.0) in cc)
@@ -136,7 +149,8 @@ replayed words before after old new ShowsHelp is done h w = absurd (let e = word
 replayed words before after old new ShowsVersion is done h w = absurd (let e = words_of_injective Serial Version tt tt (sym is ∙ h) in cc)
 replayed words before after old new (Replayed plan) is done h w = record { plan = plan; read = h.1; legal = serial_legal plan; written = w }
 replayed words before after old new (Played plan report) is done h w = absurd (let e = words_of_injective Serial Play tt tt (sym is ∙ h.0) in cc)
-replayed words before after old new (Loaded callers scripts) is done h w = absurd (let e = words_of_injective Serial (Load callers scripts) tt h.0 (sym is ∙ h.1) in cc)
+replayed words before after old new (Ran plan report) is done h w = absurd (let e = words_of_injective Serial Run tt tt (sym is ∙ h.0) in cc)
+replayed words before after old new (Loaded callers scripts report) is done h w = absurd (let e = words_of_injective Serial (Load callers scripts) tt h.0.0 (sym is ∙ h.0.1) in cc)
 replayed words before after old new FoundLegal is done h w = absurd (let e = words_of_injective Serial Check tt tt (sym is ∙ h.0) in cc)
 replayed words before after old new FoundIllegal is done h w = absurd (omega arith)
 replayed words before after old new NoCommand is done h w = absurd (h Serial (tt, is))
@@ -155,7 +169,8 @@ plays words before after old new ShowsHelp is done h w = absurd (let e = words_o
 plays words before after old new ShowsVersion is done h w = absurd (let e = words_of_injective Play Version tt tt (sym is ∙ h) in cc)
 plays words before after old new (Replayed plan) is done h w = absurd (let e = words_of_injective Play Serial tt tt (sym is ∙ h.0) in cc)
 plays words before after old new (Played plan report) is done h w = record { plan = plan; read = h.1; report = report; played = h.2; written = w }
-plays words before after old new (Loaded callers scripts) is done h w = absurd (let e = words_of_injective Play (Load callers scripts) tt h.0 (sym is ∙ h.1) in cc)
+plays words before after old new (Ran plan report) is done h w = absurd (let e = words_of_injective Play Run tt tt (sym is ∙ h.0) in cc)
+plays words before after old new (Loaded callers scripts report) is done h w = absurd (let e = words_of_injective Play (Load callers scripts) tt h.0.0 (sym is ∙ h.0.1) in cc)
 plays words before after old new FoundLegal is done h w = absurd (let e = words_of_injective Play Check tt tt (sym is ∙ h.0) in cc)
 plays words before after old new FoundIllegal is done h w = absurd (omega arith)
 plays words before after old new NoCommand is done h w = absurd (h Play (tt, is))
@@ -168,26 +183,6 @@ pub play_answer : (words : List (List ℕ)) (before after : SourceState) (old ne
     → PlaysPlan before after old new
 play_answer words before after old new status text is done a w =
     plays words before after old new a.verdict is (sym a.status_is ∙ done) a.cause (let P : List ℕ → Type 0 = IsWritten old new in subst P a.text_is w)
-
--- the answer to `load`
-loaded : (words : List (List ℕ)) (before after : SourceState) (callers scripts : ℕ) (v : Verdict) → Are words (Load callers scripts) → HasCause words before after v → (status_of v ≡ DONE) × (text_of v ≡ text_of (Loaded callers scripts))
-loaded words before after callers scripts ShowsHelp is h = absurd (let e = words_of_injective (Load callers scripts) Help is.0 tt (sym is.1 ∙ h) in cc)
-loaded words before after callers scripts ShowsVersion is h = absurd (let e = words_of_injective (Load callers scripts) Version is.0 tt (sym is.1 ∙ h) in cc)
-loaded words before after callers scripts (Replayed plan) is h = absurd (let e = words_of_injective (Load callers scripts) Serial is.0 tt (sym is.1 ∙ h.0) in cc)
-loaded words before after callers scripts (Played plan report) is h = absurd (let e = words_of_injective (Load callers scripts) Play is.0 tt (sym is.1 ∙ h.0) in cc)
-loaded words before after callers scripts (Loaded n m) is h = (refl, (let e = words_of_injective (Load callers scripts) (Load n m) is.0 h.0 (sym is.1 ∙ h.1) in cc))
-loaded words before after callers scripts NoCommand is h = absurd (h (Load callers scripts) is)
-loaded words before after callers scripts FoundLegal is h = absurd (let e = words_of_injective (Load callers scripts) Check is.0 tt (sym is.1 ∙ h.0) in cc)
-loaded words before after callers scripts FoundIllegal is h = absurd (let e = words_of_injective (Load callers scripts) Check is.0 tt (sym is.1 ∙ h.0) in cc)
-loaded words before after callers scripts ReadFault is h = absurd (reads_nothing words (Load callers scripts) refl is (h.0, h.1))
-loaded words before after callers scripts TooLong is h = absurd (reads_nothing words (Load callers scripts) refl is (h.0, h.1))
-loaded words before after callers scripts (BadPlan line) is h = absurd (reads_nothing words (Load callers scripts) refl is (bad_asks words line h))
-
--- what `load` wrote where it is done
-pub load_answer : (words : List (List ℕ)) (before after : SourceState) (callers scripts : ℕ) (old new : SinkState) (status : ℕ) (text : List ℕ) → Are words (Load callers scripts) → IsAnswer words before after status text → IsWritten old new text
-    → LoadsPlan callers scripts old new
-load_answer words before after callers scripts old new status text is a w =
-    let P : List ℕ → Type 0 = IsWritten old new in subst P (a.text_is ∙ (loaded words before after callers scripts a.verdict is a.cause).1) w
 
 all_taken : (bytes taken : List ℕ) (after : Option (List ℕ)) → Consumes (Some bytes) after taken → IsAtEnd after → bytes ≡ taken
 all_taken bytes taken None h end = absurd h
@@ -203,7 +198,8 @@ checks words before after ShowsHelp is h = absurd (let e = words_of_injective Ch
 checks words before after ShowsVersion is h = absurd (let e = words_of_injective Check Version tt tt (sym is ∙ h) in cc)
 checks words before after (Replayed plan) is h = absurd (let e = words_of_injective Check Serial tt tt (sym is ∙ h.0) in cc)
 checks words before after (Played plan report) is h = absurd (let e = words_of_injective Check Play tt tt (sym is ∙ h.0) in cc)
-checks words before after (Loaded callers scripts) is h = absurd (let e = words_of_injective Check (Load callers scripts) tt h.0 (sym is ∙ h.1) in cc)
+checks words before after (Ran plan report) is h = absurd (let e = words_of_injective Check Run tt tt (sym is ∙ h.0) in cc)
+checks words before after (Loaded callers scripts report) is h = absurd (let e = words_of_injective Check (Load callers scripts) tt h.0.0 (sym is ∙ h.0.1) in cc)
 checks words before after FoundLegal is h = record { legal = λ e. h.1; illegal = λ e. absurd (omega arith) }
 checks words before after FoundIllegal is h = record { legal = λ e. absurd (omega arith); illegal = λ e. h.1 }
 checks words before after NoCommand is h = absurd (h Check (tt, is))
@@ -218,7 +214,8 @@ check_answer words before after status text is a = let P : ℕ → Type 0 = Chec
 
 valid_plan : (words : List (List ℕ)) (command : Command) (left : Option (List ℕ)) → Are words command → AskForPlan words → IsValidInput command left → IsPlanInput left
 valid_plan words command left is (inl asks) valid = let P : Command → Type 0 = λ c. IsValidInput c left in subst P (words_of_injective command Serial is.0 tt (sym is.1 ∙ asks)) valid
-valid_plan words command left is (inr asks) valid = let P : Command → Type 0 = λ c. IsValidInput c left in subst P (words_of_injective command Play is.0 tt (sym is.1 ∙ asks)) valid
+valid_plan words command left is (inr (inl asks)) valid = let P : Command → Type 0 = λ c. IsValidInput c left in subst P (words_of_injective command Play is.0 tt (sym is.1 ∙ asks)) valid
+valid_plan words command left is (inr (inr asks)) valid = let P : Command → Type 0 = λ c. IsValidInput c left in subst P (words_of_injective command Run is.0 tt (sym is.1 ∙ asks)) valid
 
 valid_check : (words : List (List ℕ)) (command : Command) (left : Option (List ℕ)) → Are words command → words ≡ words_of Check → IsValidInput command left → IsCheckInput left
 valid_check words command left is asks valid = let P : Command → Type 0 = λ c. IsValidInput c left in subst P (words_of_injective command Check is.0 tt (sym is.1 ∙ asks)) valid
@@ -231,6 +228,7 @@ valid_within : (c : Command) (left : Option (List ℕ)) (most : ℕ) → limit_o
 valid_within Serial left most is v = (v.0, v.2, subst (λ (n : ℕ). length v.0 ≤ n) (some_same MOST_INPUT most is) v.3)
 valid_within Play left most is v = (v.0, v.2, subst (λ (n : ℕ). length v.0 ≤ n) (some_same MOST_INPUT most is) v.3)
 valid_within Check left most is v = (v.bytes, v.is, subst (λ (n : ℕ). length v.bytes ≤ n) (some_same MOST_WITH_REPORT most is) v.few)
+valid_within Run left most is v = (v.0, v.2, subst (λ (n : ℕ). length v.0 ≤ n) (some_same MOST_INPUT most is) v.3)
 valid_within (Load callers scripts) left most is v = absurd cc
 valid_within Help left most is v = absurd cc
 valid_within Version left most is v = absurd cc
@@ -268,7 +266,8 @@ completed one_cut words before after command ShowsHelp is valid calm h = inl ref
 completed one_cut words before after command ShowsVersion is valid calm h = inl refl
 completed one_cut words before after command (Replayed plan) is valid calm h = inl refl
 completed one_cut words before after command (Played plan report) is valid calm h = inl refl
-completed one_cut words before after command (Loaded callers scripts) is valid calm h = inl refl
+completed one_cut words before after command (Ran plan report) is valid calm h = inl refl
+completed one_cut words before after command (Loaded callers scripts report) is valid calm h = inl refl
 completed one_cut words before after command FoundLegal is valid calm h = inl refl
 completed one_cut words before after command FoundIllegal is valid calm h = inr (words_of_injective command Check is.0 tt (sym is.1 ∙ h.0), refl)
 completed one_cut words before after command NoCommand is valid calm h = absurd (h command is)

@@ -20,3 +20,7 @@ pub mod PlaysSpent
 pub mod PlaysRecords
 pub mod PlaysBusy
 pub mod PlayedReports
+pub mod RanReports
+pub mod LoadStores
+pub mod LoadReports
+pub mod Carried

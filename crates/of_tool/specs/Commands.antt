@@ -1,10 +1,10 @@
 -- The words of the commands.
-use Rattle.std.specs.Prelude.{◌≡◌, ◌≤◌, ◌*◌, ℕ, List, [], ◌∷◌, map, codes, decimal, string_bytes, String}
+use Rattle.std.specs.Prelude.{◌≡◌, ◌≤◌, ◌⊎◌, ◌*◌, ℕ, List, [], ◌∷◌, map, codes, decimal, string_bytes, String}
 use Rattle.std.specs.Global.{Global}
 use Rattle.of_cell.specs.declared.shape.TheConstants.{MOST_CALLERS}
 use Rattle.of_plan.specs.declared.plan.TheConstants.{MOST_SCRIPTS}
 use Rattle.of_tool.specs.declared.command.Command.{Command}
-use Rattle.of_tool.specs.declared.command.Command.TheVariants.{Serial, Play, Load, Check, Help, Version}
+use Rattle.of_tool.specs.declared.command.Command.TheVariants.{Serial, Play, Run, Load, Check, Help, Version}
 
 -- the bytes of each word
 abbrev pub texts : List (String Global) → List (List ℕ)
@@ -18,6 +18,7 @@ SpellsUpTo most word n = (n ≤ most) × (word ≡ decimal n)
 abbrev pub words_of : Command → List (List ℕ)
 words_of Serial = codes "serial" ∷ []
 words_of Play = codes "play" ∷ []
+words_of Run = codes "run" ∷ []
 words_of (Load callers scripts) = codes "load" ∷ decimal callers ∷ decimal scripts ∷ []
 words_of Check = codes "check" ∷ []
 words_of Help = codes "--help" ∷ []
@@ -34,10 +35,21 @@ pub record IsLoad (callers scripts : ℕ) : Type 0 where
 abbrev pub IsInRange : Command → Type 0
 IsInRange Serial = Unit {0}
 IsInRange Play = Unit {0}
+IsInRange Run = Unit {0}
 IsInRange (Load callers scripts) = IsLoad callers scripts
 IsInRange Check = Unit {0}
 IsInRange Help = Unit {0}
 IsInRange Version = Unit {0}
+
+-- it is a command that runs no callers at once
+abbrev pub IsPlain : Command → Type 0
+IsPlain Run = ⊥
+IsPlain (Load callers scripts) = ⊥
+IsPlain Serial = Unit {0}
+IsPlain Play = Unit {0}
+IsPlain Check = Unit {0}
+IsPlain Help = Unit {0}
+IsPlain Version = Unit {0}
 
 -- the words are this command
 abbrev pub Are : List (List ℕ) → Command → Type 0
@@ -46,3 +58,7 @@ Are words command = IsInRange command × (words ≡ words_of command)
 -- the words are no command
 abbrev pub IsNoCommand : List (List ℕ) → Type 0
 IsNoCommand words = (command : Command) → Are words command → ⊥
+
+-- the words are a command that runs callers at once
+abbrev pub RunTeam : List (List ℕ) → Type 0
+RunTeam words = (words ≡ words_of Run) ⊎ ((callers : ℕ) × (scripts : ℕ) × Are words (Load callers scripts))

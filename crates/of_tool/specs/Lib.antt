@@ -1,5 +1,7 @@
 pub mod Commands
+pub mod Ran
 pub mod Verdicts
+pub mod Headline
 pub mod Answer
 pub mod Replay
 pub mod Play

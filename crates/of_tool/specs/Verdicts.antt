@@ -3,7 +3,7 @@ use Rattle.std.specs.Prelude.{◌≡◌, ℕ, ◌≤◌, ◌<◌, ◌⊎◌, Boo
 use Rattle.std.specs.Io.KnownBytes.{Appends, Consumes, IsAtEnd}
 use Rattle.of_io.specs.Faults.{Rose, AppendsFront, TakesMoreThan, TakesAtMost}
 use Rattle.of_plan.specs.Plan.{Plan}
-use Rattle.of_plan.specs.Ended.{Run}
+use Rattle.of_plan.specs.Ended.{Run as Record}
 use Rattle.of_plan.specs.Grammar.{SpellsPlan, IsBadLine}
 use Rattle.of_plan.specs.Parts.{AreParts}
 use Rattle.of_plan.specs.Report.{Report, empty_start}
@@ -16,16 +16,17 @@ use Rattle.of_report.specs.ReportText.{report_text}
 use Rattle.of_report.specs.LoadText.{load_text}
 use Rattle.of_check.specs.Verdict.{IsLegalText}
 use Rattle.of_tool.specs.declared.command.Command.{Command}
-use Rattle.of_tool.specs.declared.command.Command.TheVariants.{Serial, Play, Load, Check, Help, Version}
+use Rattle.of_tool.specs.declared.command.Command.TheVariants.{Serial, Play, Run, Load, Check, Help, Version}
 use Rattle.of_tool.specs.declared.command.TheConstants.{HELP, VERSION}
 use Rattle.of_tool.specs.declared.status.TheConstants.{DONE, OUT_OF_MEMORY, USAGE, READ_FAULT, WRITE_FAULT, BAD_PLAN, TOO_LONG, ILLEGAL}
 use Rattle.of_tool.specs.declared.top.TheConstants.{MOST_INPUT, MOST_WITH_REPORT}
-use Rattle.of_tool.specs.Commands.{words_of, IsLoad, Are, IsNoCommand}
+use Rattle.of_tool.specs.Commands.{words_of, Are, IsNoCommand}
 use Rattle.of_tool.specs.Play.{IsPlayed}
+use Rattle.of_tool.specs.Ran.{IsSomeRuns}
 
 -- the report of what a plan's schedule leaves: it says of that run what holds of every run, and each caller keeps to its turns
 pub record IsPlayedReport (p : Plan) (r : Report) : Type 0 where
-  pub run : Run
+  pub run : Record
   pub played : IsPlayed p run
   pub reports : ReportsRun p (empty_start p) run r
   pub allowance : (c : ℕ) → c < p.callers → KeepsAllowance p r c (Some (turns_for p c))
@@ -36,7 +37,8 @@ pub data Verdict : Type 0 where
   ShowsVersion : Verdict
   Replayed : Plan → Verdict
   Played : Plan → Report → Verdict
-  Loaded : (callers scripts : ℕ) → Verdict
+  Ran : Plan → Report → Verdict
+  Loaded : (callers scripts : ℕ) → Report → Verdict
   FoundLegal : Verdict
   FoundIllegal : Verdict
   NoCommand : Verdict
@@ -50,7 +52,8 @@ status_of ShowsHelp = DONE
 status_of ShowsVersion = DONE
 status_of (Replayed plan) = DONE
 status_of (Played plan report) = DONE
-status_of (Loaded callers scripts) = DONE
+status_of (Ran plan report) = DONE
+status_of (Loaded callers scripts report) = DONE
 status_of FoundLegal = DONE
 status_of FoundIllegal = ILLEGAL
 status_of NoCommand = USAGE
@@ -64,7 +67,8 @@ text_of ShowsHelp = HELP.now
 text_of ShowsVersion = VERSION.now
 text_of (Replayed plan) = report_text (serial_report plan)
 text_of (Played plan report) = report_text report
-text_of (Loaded callers scripts) = load_text (serial_report (generated callers scripts))
+text_of (Ran plan report) = report_text report
+text_of (Loaded callers scripts report) = load_text report
 text_of FoundLegal = codes "legal report\n"
 text_of FoundIllegal = codes "error: not a legal report\n"
 text_of NoCommand = codes "error: usage\n"
@@ -144,12 +148,13 @@ pub record ReadsIllegal (before after : SourceState) : Type 0 where
 
 -- the words are those of a command that reads a plan
 abbrev pub AskForPlan : List (List ℕ) → Type 0
-AskForPlan words = (words ≡ words_of Serial) ⊎ (words ≡ words_of Play)
+AskForPlan words = (words ≡ words_of Serial) ⊎ ((words ≡ words_of Play) ⊎ (words ≡ words_of Run))
 
 -- how many bytes a command reads at most, where it reads
 abbrev pub limit_of : Command → Option ℕ
 limit_of Serial = Some MOST_INPUT
 limit_of Play = Some MOST_INPUT
+limit_of Run = Some MOST_INPUT
 limit_of (Load callers scripts) = None
 limit_of Check = Some MOST_WITH_REPORT
 limit_of Help = None
@@ -169,7 +174,8 @@ HasCause words before after ShowsHelp = words ≡ words_of Help
 HasCause words before after ShowsVersion = words ≡ words_of Version
 HasCause words before after (Replayed plan) = (words ≡ words_of Serial) × ReadsPlan before after plan
 HasCause words before after (Played plan report) = (words ≡ words_of Play) × ReadsPlan before after plan × IsPlayedReport plan report
-HasCause words before after (Loaded callers scripts) = Are words (Load callers scripts)
+HasCause words before after (Ran plan report) = (words ≡ words_of Run) × ReadsPlan before after plan × IsSomeRuns plan report
+HasCause words before after (Loaded callers scripts report) = Are words (Load callers scripts) × IsSomeRuns (generated callers scripts) report
 HasCause words before after NoCommand = IsNoCommand words
 HasCause words before after FoundLegal = (words ≡ words_of Check) × ReadsLegal before after
 HasCause words before after FoundIllegal = (words ≡ words_of Check) × ReadsIllegal before after
@@ -231,10 +237,6 @@ pub record PlaysPlan (before after : SourceState) (old new : SinkState) : Type 0
   pub played : IsPlayedReport plan report
   pub written : IsWritten old new (report_text report)
 
--- the summary of so many callers with so many scripts each was written
-abbrev pub LoadsPlan : (callers scripts : ℕ) → SinkState → SinkState → Type 0
-LoadsPlan callers scripts old new = IsWritten old new (load_text (serial_report (generated callers scripts)))
-
 -- with status 0 the report that was read is legal, and with status 8 it isn't
 pub record ChecksReport (before after : SourceState) (status : ℕ) : Type 0 where
   pub legal : status ≡ DONE → ReadsLegal before after
@@ -265,6 +267,7 @@ pub record IsCheckInput (left : Option (List ℕ)) : Type 0 where
 abbrev pub IsValidInput : Command → Option (List ℕ) → Type 0
 IsValidInput Serial left = IsPlanInput left
 IsValidInput Play left = IsPlanInput left
+IsValidInput Run left = IsPlanInput left
 IsValidInput (Load callers scripts) left = Unit {0}
 IsValidInput Check left = IsCheckInput left
 IsValidInput Help left = Unit {0}

@@ -13,6 +13,7 @@ Runs scripts of transactions on a store of registers, keys and queues.
 
 serial      reads a plan, runs its scripts one after another, prints the report
 play        reads a plan, runs its schedule step by step, prints the report
+run         reads a plan, runs its callers at once, prints the report
 load N S    reads nothing, runs N callers with S scripts each, prints a summary
 check       reads a plan and a report, says whether the report is a legal one
 --help      reads nothing, prints this text
@@ -32,7 +33,9 @@ pub enum Command {
     Serial,
     /// Reads a plan, runs its schedule step by step, and prints the report of what it leaves.
     Play,
-    /// Runs a load of so many callers with so many scripts each, and prints the summary of its report.
+    /// Reads a plan, runs its callers at once, and prints the report of what they leave.
+    Run,
+    /// Runs a load of so many callers with so many scripts each, and prints a summary of the report.
     Load { callers: u32, scripts: u32 },
     /// Reads a plan and a report, and prints whether the report is a legal one of the plan.
     Check,
@@ -57,6 +60,7 @@ impl Command {
         match word {
             "serial" => Some(Command::Serial),
             "play" => Some(Command::Play),
+            "run" => Some(Command::Run),
             "check" => Some(Command::Check),
             "--help" => Some(Command::Help),
             "--version" => Some(Command::Version),

@@ -6,10 +6,12 @@ pub mod laws;
 mod play;
 mod played;
 mod replay;
+mod run;
 pub mod status;
 mod top;
 
 pub use command::{Command, HELP, VERSION};
 pub use played::play_report;
 pub use replay::serial;
-pub use top::{MOST_INPUT, MOST_WITH_REPORT, tool};
+pub use run::run_report;
+pub use top::{MOST_INPUT, MOST_WITH_REPORT, Ran, tool};

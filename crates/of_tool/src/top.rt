@@ -1,32 +1,38 @@
 //! The top call.
 
-ghost use Rattle.std.specs.Prelude.{◌≡◌, ◌≤◌, ◌⊎◌, ℕ, IfOk, MatchResult, codes, decimal, ◌++◌};
+ghost use Rattle.std.specs.Prelude.{◌≡◌, ◌≤◌, ◌⊎◌, ℕ, IfOk, MatchOption, MatchResult, None, vec_len, codes, decimal, ◌++◌};
 ghost use Rattle.of_io.specs.Faults.{Rose};
-ghost use Rattle.of_plan.specs.Generated.{generated};
-ghost use Rattle.of_plan.specs.Serial.{serial_report};
-ghost use Rattle.of_report.specs.LoadText.{load_text};
+ghost use Rattle.of_plan.specs.Ended.{run_of};
 ghost use Rattle.of_tool.specs.declared.command.Command.{Command};
-ghost use Rattle.of_tool.specs.declared.command.Command.TheVariants.{Serial, Play, Load, Check, Help, Version};
+ghost use Rattle.of_tool.specs.declared.command.Command.TheVariants.{Serial, Play, Run, Load, Check, Help, Version};
 ghost use Rattle.of_tool.specs.declared.status.TheConstants.{DONE, OUT_OF_MEMORY, ILLEGAL};
-ghost use Rattle.of_tool.specs.Commands.{texts, words_of, IsLoad, Are};
-ghost use Rattle.of_tool.specs.Verdicts.{source_state, sink_state, Answers, AskForInput, ReadsAll, ReadsPlan, IsReplayed, PlaysPlan, LoadsPlan, ChecksReport, Prints, IsValidInput};
-ghost use Rattle.of_tool.specs.Answer.{Answered, Refuses, RefusesUpTo, Judges};
+ghost use Rattle.of_tool.specs.Commands.{texts, words_of, IsLoad, IsPlain, Are, RunTeam};
+ghost use Rattle.of_tool.specs.Verdicts.{source_state, sink_state, limit_of, Answers, AskForInput, ReadsAll, ReadsPlan, IsReplayed, PlaysPlan, ChecksReport, Prints, IsValidInput};
+ghost use Rattle.of_tool.specs.Headline.{RunsPlan, LoadsPlan};
+ghost use Rattle.of_tool.specs.Answer.{Answered, Refuses, RefusesUpTo, Judges, CarriesRun, CarriesLoad, Carries};
 
 use crate::command::{Command, HELP, VERSION};
 use crate::played::play_report;
 use crate::replay::serial;
+use crate::run::run_report;
 use crate::status;
+use of_brake::Brake;
 use of_check::{Verdict, check};
 use of_io::{ReadErr, Sink, Source, read_all, write_all};
 use of_plan::texts::one_cut;
-use of_plan::{Plan, PlanErr, generate, parse, parts};
+use of_plan::{Ended, Plan, PlanErr, generate, parse, parts};
+use of_row::Pass;
 use std::alloc::{AllocError, Global};
+use std::thread::Threads;
 
 /// The most bytes that a command reads which reads a plan alone.
 pub const MOST_INPUT: usize = 1 << 20;
 
 /// The most bytes that `check` reads: a plan and a report.
 pub const MOST_WITH_REPORT: usize = 1 << 22;
+
+/// What callers that ran at once have left, where they did: the record of the run, and the pass that has seen it.
+pub type Ran = Option<(Ended, Pass)>;
 
 // A status, and the text that is to be written with it.
 #[derive(Drop)]
@@ -126,16 +132,52 @@ fn play_answer<S: Source>(alloc: Global, source: &mut S) -> Result<Answer, Alloc
     }
 }
 
-// What `load` answers.
-fn load_answer(alloc: Global, callers: u32, scripts: u32) -> Result<Answer, AllocError>
-    requires { IsLoad callers scripts }
-    ensures { IfOk result (λ answer. (answer.status ≡ DONE) × (answer.text.items ≡ load_text (serial_report (generated callers scripts)))) }
+// What `run` answers, and beside it what the run has left.
+fn run_answer<R: Threads + Sync, S: Source>(
+    rt: &R,
+    alloc: Global,
+    source: &mut S,
+    brakes: Vec<Box<dyn Brake + Send>>,
+) -> Result<(Answer, Ran), AllocError>
+    requires { vec_len brakes ≡ 16 }
+    ensures answered { IfOk result (λ found. Answered (words_of Run)
+        (source_state (S.remaining source.old) (S.faults source.old))
+        (source_state (S.remaining source.new) (S.faults source.new)) found.0) }
+    ensures carries { IfOk result (CarriesRun (λ b. left b) brakes.items
+        (source_state (S.remaining source.old) (S.faults source.old))
+        (source_state (S.remaining source.new) (S.faults source.new))) }
+{
+    let plan = match read_plan(alloc, source)? {
+        Ok(plan) => plan,
+        Err(answer) => return Ok((answer, None)),
+    };
+    let (report, ran) = run_report(rt, alloc, &plan, brakes)?;
+    let answer = Answer {
+        status: status::DONE,
+        text: report.print(alloc)?,
+    };
+    Ok((answer, Some(ran)))
+}
+
+// What `load` answers, and beside it what the run has left.
+fn load_answer<R: Threads + Sync>(
+    rt: &R,
+    alloc: Global,
+    callers: u32,
+    scripts: u32,
+    brakes: Vec<Box<dyn Brake + Send>>,
+) -> Result<(Answer, Ran), AllocError>
+    requires load { IsLoad callers scripts }
+    requires brakes { vec_len brakes ≡ 16 }
+    ensures { IfOk result (CarriesLoad (λ b. left b) brakes.items callers scripts) }
 {
     let plan = generate(alloc, callers, scripts)?;
-    Ok(Answer {
+    let (report, ran) = run_report(rt, alloc, &plan, brakes)?;
+    let answer = Answer {
         status: status::DONE,
-        text: serial(alloc, &plan)?.load_print(alloc)?,
-    })
+        text: report.load_print(alloc)?,
+    };
+    Ok((answer, Some(ran)))
 }
 
 // What `check` says of a report.
@@ -175,35 +217,103 @@ fn check_answer<S: Source>(alloc: Global, source: &mut S) -> Result<Answer, Allo
     }
 }
 
-// The status and the text, before anything is written.
-fn decide<S: Source>(alloc: Global, words: &[String], source: &mut S) -> Result<Answer, AllocError>
-    ensures answered { IfOk result (Answered (texts words.now)
+// The answer of a command that runs no callers at once.
+fn plain_answer<S: Source>(
+    alloc: Global,
+    command: Command,
+    source: &mut S,
+) -> Result<Answer, AllocError>
+    requires { IsPlain command }
+    ensures plain { IsPlain command }
+    ensures answered { IfOk result (Answered (words_of command)
+        (source_state (S.remaining source.old) (S.faults source.old))
+        (source_state (S.remaining source.new) (S.faults source.new))) }
+    ensures unread { limit_of command ≡ None → source.new ≡ source.old }
+{
+    match command {
+        Command::Serial => serial_answer(alloc, source),
+        Command::Play => play_answer(alloc, source),
+        Command::Check => check_answer(alloc, source),
+        Command::Help => Ok(Answer {
+            status: status::DONE,
+            text: Vec::from_slice(alloc, HELP.as_bytes())?,
+        }),
+        Command::Version => Ok(Answer {
+            status: status::DONE,
+            text: Vec::from_slice(alloc, VERSION.as_bytes())?,
+        }),
+        Command::Run | Command::Load { .. } => unreachable!(),
+    }
+}
+
+// The status and the text, and what a run has left, before anything is written.
+fn decide<R: Threads + Sync, S: Source>(
+    rt: &R,
+    alloc: Global,
+    words: &[String],
+    source: &mut S,
+    brakes: Vec<Box<dyn Brake + Send>>,
+) -> Result<(Answer, Ran), AllocError>
+    requires { vec_len brakes ≡ 16 }
+    ensures answered { IfOk result (λ found. Answered (texts words.now)
+        (source_state (S.remaining source.old) (S.faults source.old))
+        (source_state (S.remaining source.new) (S.faults source.new)) found.0) }
+    ensures carries { IfOk result (Carries (λ b. left b) brakes.items (texts words.now)
         (source_state (S.remaining source.old) (S.faults source.old))
         (source_state (S.remaining source.new) (S.faults source.new))) }
     ensures unread { ¬ (AskForInput (texts words.now)) → source.new ≡ source.old }
 {
     match Command::from_words(words) {
-        Some(Command::Serial) => serial_answer(alloc, source),
-        Some(Command::Play) => play_answer(alloc, source),
-        Some(Command::Load { callers, scripts }) => load_answer(alloc, callers, scripts),
-        Some(Command::Check) => check_answer(alloc, source),
-        Some(Command::Help) => Ok(Answer {
-            status: status::DONE,
-            text: Vec::from_slice(alloc, HELP.as_bytes())?,
-        }),
-        Some(Command::Version) => Ok(Answer {
-            status: status::DONE,
-            text: Vec::from_slice(alloc, VERSION.as_bytes())?,
-        }),
-        None => Ok(Answer {
-            status: status::USAGE,
-            text: Vec::from_slice(alloc, b"error: usage\n")?,
-        }),
+        Some(Command::Run) => run_answer(rt, alloc, source, brakes),
+        Some(Command::Load { callers, scripts }) => load_answer(
+            rt, alloc, callers, scripts, brakes,
+        ),
+        Some(command) => Ok((plain_answer(alloc, command, source)?, None)),
+        None => Ok((
+            Answer {
+                status: status::USAGE,
+                text: Vec::from_slice(alloc, b"error: usage\n")?,
+            },
+            None,
+        )),
     }
 }
 
-/// Does what the words say with the source's bytes, and answers the exit status.
-pub fn tool<S: Source, K: Sink>(alloc: Global, words: &[String], source: &mut S, sink: &mut K) -> u8
+/// Does what the words say with the source's bytes, and answers the exit status. `run` and `load` run callers at once, that of number i
+/// with the brake at place i; what such a run has left is put into `ran`.
+pub fn tool<R: Threads + Sync, S: Source, K: Sink>(
+    rt: &R,
+    alloc: Global,
+    words: &[String],
+    source: &mut S,
+    sink: &mut K,
+    brakes: Vec<Box<dyn Brake + Send>>,
+    ran: &mut Ran,
+) -> u8
+    requires brakes { vec_len brakes ≡ 16 }
+    requires none { ran.old ≡ None }
+
+    // THE HEADLINE. With status 0 of `run` the report of what the plan's callers left, running at once, was written: one legal history.
+    // The record of the run and the pass that has seen it are in `ran`.
+    ensures run { texts words.now ≡ words_of Run → result ≡ DONE
+        → MatchOption ran.new ⊥ (λ r. RunsPlan (λ b. left b) brakes.items
+        (source_state (S.remaining source.old) (S.faults source.old))
+        (source_state (S.remaining source.new) (S.faults source.new))
+        (sink_state (K.written sink.old) (K.finished sink.old) (K.faults sink.old))
+        (sink_state (K.written sink.new) (K.finished sink.new) (K.faults sink.new))
+        (run_of r.0) r.1.seat.me.0) }
+
+    // With status 0 of `load` the same holds of the plan that is made for it, and the summary of the report was written.
+    ensures load { (callers scripts : ℕ) → Are (texts words.now) (Load callers scripts) → result ≡ DONE
+        → MatchOption ran.new ⊥ (λ r. LoadsPlan (λ b. left b) brakes.items callers scripts
+        (sink_state (K.written sink.old) (K.finished sink.old) (K.faults sink.old))
+        (sink_state (K.written sink.new) (K.finished sink.new) (K.faults sink.new))
+        (run_of r.0) r.1.seat.me.0) }
+
+    // After any other command or status there is no record.
+    ensures other_command { (RunTeam (texts words.now) → ⊥) → ran.new ≡ None }
+    ensures other_status { (result ≡ DONE → ⊥) → ran.new ≡ None }
+
     // Each status comes exactly for its cause, and what is written is its text.
     ensures answered { Answers (texts words.now)
         (source_state (S.remaining source.old) (S.faults source.old))
@@ -222,12 +332,6 @@ pub fn tool<S: Source, K: Sink>(alloc: Global, words: &[String], source: &mut S,
     ensures play { texts words.now ≡ words_of Play → result ≡ DONE → PlaysPlan
         (source_state (S.remaining source.old) (S.faults source.old))
         (source_state (S.remaining source.new) (S.faults source.new))
-        (sink_state (K.written sink.old) (K.finished sink.old) (K.faults sink.old))
-        (sink_state (K.written sink.new) (K.finished sink.new) (K.faults sink.new)) }
-
-    // With status 0 of `load` the summary of its plan's report was written.
-    ensures load { (callers scripts : ℕ) → Are (texts words.now) (Load callers scripts) → result ≡ DONE
-        → LoadsPlan callers scripts
         (sink_state (K.written sink.old) (K.finished sink.old) (K.faults sink.old))
         (sink_state (K.written sink.new) (K.finished sink.new) (K.faults sink.new)) }
 
@@ -255,10 +359,13 @@ pub fn tool<S: Source, K: Sink>(alloc: Global, words: &[String], source: &mut S,
         → (result ≡ DONE) ⊎ ((result ≡ OUT_OF_MEMORY) ⊎ ((command ≡ Check) × (result ≡ ILLEGAL))) }
 {
     one_cut();
-    match decide(alloc, words, source) {
+    match decide(rt, alloc, words, source, brakes) {
         Err(_) => status::OUT_OF_MEMORY,
-        Ok(answer) => match write_all(sink, &answer.text) {
-            Ok(()) => answer.status,
+        Ok((answer, found)) => match write_all(sink, &answer.text) {
+            Ok(()) => {
+                *ran = found;
+                answer.status
+            }
             Err(_) => status::WRITE_FAULT,
         },
     }

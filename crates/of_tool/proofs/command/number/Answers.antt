@@ -1,4 +1,4 @@
-use Rattle.std.proofs.Common.{arith, sym, subst, ap, ◌∙◌, List, ℕ}
+use Rattle.std.proofs.Common.{arith, ap, ◌∙◌}
 use Rattle.of_script.specs.Reading.{number_of}
 use Rattle.of_tool.proofs.CommandLemmas.{number_is}
 use Rattle.of_tool.proofs.command.number.Goals as goal

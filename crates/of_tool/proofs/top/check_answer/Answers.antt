@@ -1,6 +1,8 @@
 use Rattle.std.proofs.Common.{List, ℕ, inr, subst, refl}
 use Rattle.of_plan.specs.Parts.{AreParts}
 use Rattle.of_tool.specs.Verdicts.{BadPlan}
+use Rattle.of_tool.specs.declared.command.Command.TheVariants.{Check}
+use Rattle.of_tool.specs.Commands.{words_of}
 use Rattle.of_tool.proofs.Judged.{found, answered_so}
 use Rattle.of_tool.proofs.top.check_answer.Goals as goal
 
@@ -19,3 +21,6 @@ returns g c =
       status_is = refl;
       text_is = (let number = c.in-Err-Bad.line-is in let text = c.in_ok-bad_plan-in-Err-Bad.ensures in cc);
     }
+
+pub returns-in-Err : goal.returns-in-Err
+returns-in-Err g c = (rw c.in-Err.is at c.in_ok-bytes.ensures).0 (words_of Check) (Check, (tt, refl), refl)

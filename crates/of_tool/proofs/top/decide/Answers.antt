@@ -1,25 +1,12 @@
-use Rattle.std.proofs.Common.{refl, ◌∙◌}
-use Rattle.of_tool.specs.declared.command.Command.TheVariants.{Serial, Play, Check}
-use Rattle.of_tool.specs.declared.top.TheConstants.{MOST_INPUT, MOST_WITH_REPORT}
+use Rattle.std.proofs.Common.{rules, refl}
 use Rattle.std.proofs.lemmas.Result.{IfOk-weaker}
-use Rattle.of_tool.specs.Verdicts.{ShowsHelp, ShowsVersion, Loaded, NoCommand}
+use Rattle.of_tool.specs.declared.command.Command.TheVariants.{Run}
+use Rattle.of_tool.specs.declared.top.TheConstants.{MOST_INPUT}
+use Rattle.of_tool.specs.Commands.{texts}
+use Rattle.of_tool.specs.Verdicts.{NoCommand}
+use Rattle.of_tool.proofs.CommandLemmas.{unlimited}
+use Rattle.of_tool.proofs.Carried.{plain_answers, carries_none, carries_nothing, carries_load, load_answers}
 use Rattle.of_tool.proofs.top.decide.Goals as goal
-
-pub returns-in_ok-from_slice-in-Some-Help-clause-answered : goal.returns-in_ok-from_slice-in-Some-Help-clause-answered
-returns-in_ok-from_slice-in-Some-Help-clause-answered g c = record {
-  verdict = ShowsHelp;
-  cause = (rw c.in-Some-Help.field-0-is at c.in-Some-Help.ensures).1;
-  status_is = refl;
-  text_is = c.in_ok-from_slice-in-Some-Help.ensures.items ∙ c.as_bytes.ensures.value;
-}
-
-pub returns-in_ok-from_slice-in-Some-Version-clause-answered : goal.returns-in_ok-from_slice-in-Some-Version-clause-answered
-returns-in_ok-from_slice-in-Some-Version-clause-answered g c = record {
-  verdict = ShowsVersion;
-  cause = (rw c.in-Some-Version.field-0-is at c.in-Some-Version.ensures).1;
-  status_is = refl;
-  text_is = c.in_ok-from_slice-in-Some-Version.ensures.items ∙ c.as_bytes-in-Some-Version.ensures.value;
-}
 
 pub returns-in_ok-from_slice-in-None-clause-answered : goal.returns-in_ok-from_slice-in-None-clause-answered
 returns-in_ok-from_slice-in-None-clause-answered g c = record {
@@ -29,19 +16,29 @@ returns-in_ok-from_slice-in-None-clause-answered g c = record {
   text_is = c.in_ok-from_slice-in-None.ensures.items;
 }
 
-pub returns-in-Some-Serial-clause-unread : goal.returns-in-Some-Serial-clause-unread
-returns-in-Some-Serial-clause-unread g c = λ none. absurd (none (MOST_INPUT, (Serial, rw c.in-Some-Serial.field-0-is at c.in-Some-Serial.ensures, refl)))
+pub returns-in_ok-from_slice-in-None-clause-carries : goal.returns-in_ok-from_slice-in-None-clause-carries
+returns-in_ok-from_slice-in-None-clause-carries g c = carries_nothing _ _ _ _ _ _ c.in-None.ensures
 
-pub returns-in-Some-Play-clause-unread : goal.returns-in-Some-Play-clause-unread
-returns-in-Some-Play-clause-unread g c = λ none. absurd (none (MOST_INPUT, (Play, rw c.in-Some-Play.field-0-is at c.in-Some-Play.ensures, refl)))
-
-pub returns-in-Some-Check-clause-unread : goal.returns-in-Some-Check-clause-unread
-returns-in-Some-Check-clause-unread g c = λ none. absurd (none (MOST_WITH_REPORT, (Check, rw c.in-Some-Check.field-0-is at c.in-Some-Check.ensures, refl)))
+pub returns-in-Some-Run-clause-unread : goal.returns-in-Some-Run-clause-unread
+returns-in-Some-Run-clause-unread g c = λ none. absurd (none (MOST_INPUT, (Run, rw c.in-Some-Run.field-0-is at c.in-Some-Run.ensures, refl)))
 
 pub returns-in-Some-Load-clause-answered : goal.returns-in-Some-Load-clause-answered
-returns-in-Some-Load-clause-answered g c = IfOk-weaker c.load_answer.result _ _ (λ answer is. record {
-  verdict = Loaded c.in-Some-Load.callers c.in-Some-Load.scripts;
-  cause = rw c.in-Some-Load.field-0-is at c.in-Some-Load.ensures;
-  status_is = is.0;
-  text_is = is.1;
-}) c.load_answer.ensures
+returns-in-Some-Load-clause-answered g c = IfOk-weaker c.load_answer.result _ _ (λ found h. load_answers _ _ _ _ _ c.in-Some-Load.callers c.in-Some-Load.scripts found (rw c.in-Some-Load.field-0-is at c.in-Some-Load.ensures) h) c.load_answer.ensures
+
+pub returns-in-Some-Load-clause-carries : goal.returns-in-Some-Load-clause-carries
+returns-in-Some-Load-clause-carries g c = IfOk-weaker c.load_answer.result _ _ (λ found h. carries_load _ _ _ _ _ found.0 found.1 c.in-Some-Load.callers c.in-Some-Load.scripts (rw c.in-Some-Load.field-0-is at c.in-Some-Load.ensures) h) c.load_answer.ensures
+
+pub returns-in_ok-plain_answer-in-Some : goal.returns-in_ok-plain_answer-in-Some
+returns-in_ok-plain_answer-in-Some g c =
+    record {
+      answered = plain_answers (texts c.args.words.now) c.in-Some.command _ _ _ _ c.in-Some.ensures c.in_ok-plain_answer-in-Some.ensures.answered;
+      carries = carries_none _ _ _ _ _ c.in_ok-plain_answer-in-Some.field-0 c.in-Some.command c.plain_answer.ensures.plain c.in-Some.ensures;
+      unread = λ none. c.in_ok-plain_answer-in-Some.ensures.unread (unlimited (texts c.args.words.now) c.in-Some.command c.in-Some.ensures none);
+    }
+
+pub returns-in_err-plain_answer-in-Some : goal.returns-in_err-plain_answer-in-Some
+returns-in_err-plain_answer-in-Some g c = record {
+  answered = search rules;
+  carries = search rules;
+  unread = λ none. c.plain_answer.ensures.unread (unlimited (texts c.args.words.now) c.in-Some.command c.in-Some.ensures none);
+}

@@ -1,9 +1,12 @@
-use Rattle.std.proofs.Common.{ap, ◌∙◌, refl}
-use Rattle.of_plan.specs.Plan as plan
-use Rattle.of_plan.specs.Report as plain
-use Rattle.of_plan.specs.Serial.{serial_report}
-use Rattle.of_report.specs.LoadText.{load_text}
+use Rattle.std.proofs.Common.{refl, arith}
+use Rattle.of_plan.specs.Ended.{run_of}
+use Rattle.of_report.specs.Report.{report_of}
+use Rattle.of_tool.proofs.Carried.{holds_load}
 use Rattle.of_tool.proofs.top.load_answer.Goals as goal
 
 pub returns : goal.returns
-returns c = (refl, c.in_ok-load_print.ensures ∙ ap (λ (r : plain.Report). load_text r) c.in_ok-serial.ensures.report ∙ ap (λ (p : plan.Plan). load_text (serial_report p)) c.in_ok-plan.ensures)
+returns g c = (
+  refl,
+  holds_load _ c.args.brakes.items c.args.callers c.args.scripts c.in_ok-plan.plan (report_of c.in_ok-report.report) c.in_ok-load_print.field-0.items (run_of c.in_ok-report.ran.0) c.in_ok-report.ran.1.seat.me.0
+      c.in_ok-plan.ensures c.requires.load (omega (arith, c.requires.brakes, c.requires.load.few, c.args.brakes.ok)) c.in_ok-report.ensures c.in_ok-load_print.ensures,
+)

@@ -1,7 +1,8 @@
 use Rattle.std.proofs.Common.{inl, inr, subst, ◌∙◌, refl}
 use Rattle.std.specs.Io.KnownBytes.{Appends}
 use Rattle.of_io.specs.Faults.{AppendsFront}
-use Rattle.of_tool.proofs.CommandLemmas.{help_answer, version_answer, serial_answer, play_answer, load_answer, check_answer, done_where_valid}
+use Rattle.of_tool.proofs.CommandLemmas.{help_answer, version_answer, serial_answer, play_answer, check_answer, done_where_valid}
+use Rattle.of_tool.proofs.Carried.{run_told, load_told}
 use Rattle.of_tool.proofs.top.tool.Goals as goal
 
 pub returns-in-Ok-write_all-clause-serial : goal.returns-in-Ok-write_all-clause-serial
@@ -14,9 +15,14 @@ returns-in-Ok-write_all-clause-play g c = λ is done.
     play_answer _ _ _ _ _ _ _ is done c.in-Ok.ensures.answered
     (record { bytes = subst (Appends _ _) c.deref.ensures.value c.in-Ok-write_all.ensures.ok; finished = c.in-Ok-write_all.ensures.finished })
 
+pub returns-in-Ok-write_all-clause-run : goal.returns-in-Ok-write_all-clause-run
+returns-in-Ok-write_all-clause-run g c = λ is done.
+    run_told _ _ _ _ _ _ c.in-Ok.answer _ (c.in-Ok.ensures.carries.run is) done
+    (record { bytes = subst (Appends _ _) c.deref.ensures.value c.in-Ok-write_all.ensures.ok; finished = c.in-Ok-write_all.ensures.finished })
+
 pub returns-in-Ok-write_all-clause-load : goal.returns-in-Ok-write_all-clause-load
 returns-in-Ok-write_all-clause-load g c = λ callers scripts is done.
-    load_answer _ _ _ callers scripts _ _ _ _ is c.in-Ok.ensures.answered
+    load_told _ _ _ _ c.in-Ok.answer callers scripts _ (c.in-Ok.ensures.carries.load callers scripts is)
     (record { bytes = subst (Appends _ _) c.deref.ensures.value c.in-Ok-write_all.ensures.ok; finished = c.in-Ok-write_all.ensures.finished })
 
 pub returns-in-Ok-write_all-clause-help : goal.returns-in-Ok-write_all-clause-help
