@@ -27,6 +27,7 @@ pub(crate) struct Lane {
     pub(crate) brake: Box<dyn Brake + Send>,
     /// There is room for an answer to each script that isn't done.
     pub(crate) answers: Vec<Answer>,
+    /// Until it has run, that of a caller whose first step was denied.
     pub(crate) ending: Ending,
 }
 
