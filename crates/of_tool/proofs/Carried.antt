@@ -12,7 +12,7 @@ use Rattle.of_plan.specs.Allowance.{KeepsAllowance}
 use Rattle.of_plan.specs.Generated.{generated}
 use Rattle.of_row.specs.declared.member.Pass.{Pass}
 use Rattle.of_tool.specs.declared.command.Command.{Command}
-use Rattle.of_tool.specs.declared.command.Command.TheVariants.{Serial, Play, Run, Load, Check, Help, Version}
+use Rattle.of_tool.specs.declared.command.Command.TheVariants.{Serial, Play, Trace, Run, Load, Check, Image, Recover, Renumber, Migrate, Help, Version}
 use Rattle.of_tool.specs.declared.status.TheConstants.{DONE}
 use Rattle.of_tool.specs.declared.top.Answer.{Answer}
 use Rattle.of_tool.specs.Commands.{words_of, IsLoad, IsPlain, Are, IsNoCommand}
@@ -55,7 +55,12 @@ module _ {A : Type 0} (left : A → Option (Option ℕ)) (brakes : List A) (word
     LoadOf Serial = Unit {0}
     LoadOf Play = Unit {0}
     LoadOf Run = Unit {0}
+    LoadOf (Trace f c) = Unit {0}
     LoadOf Check = Unit {0}
+    LoadOf Image = Unit {0}
+    LoadOf Recover = Unit {0}
+    LoadOf Renumber = Unit {0}
+    LoadOf Migrate = Unit {0}
     LoadOf Help = Unit {0}
     LoadOf Version = Unit {0}
 

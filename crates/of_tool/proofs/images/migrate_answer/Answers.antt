@@ -25,4 +25,4 @@ returns g c =
     c.refused.ensures
 
 pub returns-in-Err : goal.returns-in-Err
-returns-in-Err g c = (rw c.in-Err.is at c.in_ok-bytes.ensures) (words_of Migrate) (Migrate, refl, refl)
+returns-in-Err g c = (rw c.in-Err.is at c.in_ok-bytes.ensures).0 (words_of Migrate) (Migrate, (tt, refl), refl)

@@ -10,4 +10,4 @@ returns-clause-read g c = refusal_told Two _ _ c.in-Ok.bytes.items (rw c.in-Ok.i
     (subst (λ (b : List ℕ). IsRefused Two b c.in-Err-image_parse.err) c.deref.ensures.value c.in-Err-image_parse.ensures.err) c.in_ok-refused-in-Err-image_parse.ensures
 
 pub returns-in-Err-clause-read : goal.returns-in-Err-clause-read
-returns-in-Err-clause-read g c = λ words asks. (rw c.in-Err.is at c.in_ok-bytes.ensures) words (image_asks Two words asks)
+returns-in-Err-clause-read g c = λ words asks. (rw c.in-Err.is at c.in_ok-bytes.ensures).0 words (image_asks Two words asks)

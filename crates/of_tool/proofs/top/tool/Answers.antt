@@ -1,7 +1,7 @@
 use Rattle.std.proofs.Common.{inl, inr, subst, ◌∙◌, refl}
 use Rattle.std.specs.Io.KnownBytes.{Appends}
 use Rattle.of_io.specs.Faults.{AppendsFront}
-use Rattle.of_tool.proofs.CommandLemmas.{help_answer, version_answer, serial_answer, play_answer, image_answer, recover_answer, renumber_answer, migrate_answer, check_answer, done_where_valid}
+use Rattle.of_tool.proofs.CommandLemmas.{help_answer, version_answer, serial_answer, play_answer, trace_answer, image_answer, recover_answer, renumber_answer, migrate_answer, check_answer, done_where_valid}
 use Rattle.of_tool.proofs.Carried.{run_told, load_told}
 use Rattle.of_tool.proofs.top.tool.Goals as goal
 
@@ -23,6 +23,11 @@ returns-in-Ok-write_all-clause-run g c = λ is done.
 pub returns-in-Ok-write_all-clause-load : goal.returns-in-Ok-write_all-clause-load
 returns-in-Ok-write_all-clause-load g c = λ callers scripts is done.
     load_told _ _ _ _ c.in-Ok.answer callers scripts _ (c.in-Ok.ensures.carries.load callers scripts is)
+    (record { bytes = subst (Appends _ _) c.deref.ensures.value c.in-Ok-write_all.ensures.ok; finished = c.in-Ok-write_all.ensures.finished })
+
+pub returns-in-Ok-write_all-clause-trace : goal.returns-in-Ok-write_all-clause-trace
+returns-in-Ok-write_all-clause-trace g c = λ first count is done.
+    trace_answer _ _ _ first count _ _ _ _ is done c.in-Ok.ensures.answered
     (record { bytes = subst (Appends _ _) c.deref.ensures.value c.in-Ok-write_all.ensures.ok; finished = c.in-Ok-write_all.ensures.finished })
 
 pub returns-in-Ok-write_all-clause-image : goal.returns-in-Ok-write_all-clause-image
