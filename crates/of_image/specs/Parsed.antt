@@ -1,5 +1,5 @@
 -- Which image a text has, and why another text has none.
-use Rattle.std.specs.Prelude.{ℕ, List}
+use Rattle.std.specs.Prelude.{◌≡◌, ℕ, List}
 use Rattle.of_plan.specs.BadLine.{HasBadLine}
 use Rattle.of_report.specs.ImageRow.{Row, recovered_row}
 use Rattle.of_report.specs.Image.{Image, IsRestored}

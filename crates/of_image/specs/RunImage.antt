@@ -1,6 +1,5 @@
 -- The image of what a run of a plan leaves.
-use Rattle.std.specs.Prelude.{◌≡◌, ℕ, ◌+◌, List, slice_range}
-use Rattle.of_cell.specs.Cells.{durable_cells}
+use Rattle.std.specs.Prelude.{◌≡◌, ℕ, List}
 use Rattle.of_script.specs.declared.instr.TheConstants.{MOST_INSTRS}
 use Rattle.of_plan.specs.Plan.{Plan, IsPlan}
 use Rattle.of_plan.specs.Ended.{Run}
@@ -9,17 +8,12 @@ use Rattle.of_eval.specs.Record.{cells_in, IsLawful}
 use Rattle.of_report.specs.ImageRow.{Row, recovered_row}
 use Rattle.of_report.specs.ImageLaw.{IsOwned, NoneNewer}
 use Rattle.of_report.specs.Image.{Image}
+pub use Rattle.of_report.specs.Image.{durable_row}
 use Rattle.of_image.specs.declared.version.Version.TheVariants.{Two}
 use Rattle.of_image.specs.ImageText.{image_text, SpellsImage}
 use Rattle.of_image.specs.Parsed.{ReadsImage}
 
--- the durable words that a run leaves
-abbrev pub durable_row : Plan → Run → Row
-durable_row p e =
-    let cells = durable_cells p.callers (cells_in p) in
-    record { callers = p.callers; blocks = p.blocks; words = slice_range e.words cells (cells + cells) }
-
--- the same, recovered
+-- the durable words that a run leaves, recovered
 abbrev pub row_after : Plan → Run → Row
 row_after p e = recovered_row MOST_INSTRS (durable_row p e)
 

@@ -23,10 +23,10 @@ use Rattle.of_caller.specs.Starts.{StartsAt}
 use Rattle.of_caller.specs.Stops.{CallerStops, KeepStops}
 use Rattle.of_caller.specs.Allowances.{AllowedBy, KeepAllowances}
 use Rattle.of_caller.specs.Teams.{IsTeamOf, IsHandedBack, TeamsKeepAllowances}
-use Rattle.of_report.specs.Image.{Image, IsImage, start_of}
+use Rattle.of_report.specs.Image.{Image, IsImage, start_of, durable_row}
 use Rattle.of_lives.specs.OneHistory.{IsBehind}
 use Rattle.of_lives.specs.Restarts.{start_in}
-use Rattle.of_lives.specs.Continuing.{IsLifeOf, durable_row, LeavesImage}
+use Rattle.of_lives.specs.Continuing.{IsLifeOf, LeavesImage}
 use Rattle.of_lives.proofs.OneLife.{lived}
 use Rattle.of_lives.specs.Images.{Fits}
 use Rattle.of_lives.proofs.ImageStarts.{image_begins}

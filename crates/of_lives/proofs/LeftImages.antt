@@ -22,10 +22,10 @@ use Rattle.of_caller.specs.Tables.{setup_for}
 use Rattle.of_caller.specs.Restarts.{HoldLast}
 use Rattle.of_report.specs.ImageRow.{recovered_row}
 use Rattle.of_report.specs.ImageLaw.{IsLawfulRow}
-use Rattle.of_report.specs.Image.{Image, ticket_in, start_of, IsRestored}
+use Rattle.of_report.specs.Image.{Image, ticket_in, start_of, IsRestored, durable_row}
 use Rattle.of_lives.specs.Lives.{Life, start_behind, finished_behind}
 use Rattle.of_lives.specs.Restarts.{Leaves}
-use Rattle.of_lives.specs.Continuing.{durable_row, LeavesImage}
+use Rattle.of_lives.specs.Continuing.{LeavesImage}
 use Rattle.of_lives.proofs.ImageStarts.{part_at, part_long, word_at, numbers_are, number_is}
 
 -- the durable words of a table are its durable row

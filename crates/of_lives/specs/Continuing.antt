@@ -1,11 +1,10 @@
 -- What a life that goes on from an image leaves.
-use Rattle.std.specs.Prelude.{◌≡◌, ℕ, ◌+◌, ◌<◌, slice_range}
+use Rattle.std.specs.Prelude.{◌≡◌, ℕ, ◌<◌}
 use Rattle.of_script.specs.declared.instr.TheConstants.{MOST_INSTRS}
-use Rattle.of_plan.specs.Plan.{Plan, durable_cells_of}
+use Rattle.of_plan.specs.Plan.{Plan}
 use Rattle.of_plan.specs.Report.{Start, Report, entries_of, finished_of}
 use Rattle.of_plan.specs.Ended.{Run}
-use Rattle.of_report.specs.ImageRow.{Row}
-use Rattle.of_report.specs.Image.{Image, IsRestored, start_of}
+use Rattle.of_report.specs.Image.{Image, IsRestored, start_of, durable_row}
 use Rattle.of_row.specs.Views.{Sight}
 use Rattle.of_caller.specs.Restarts.{HoldLast}
 use Rattle.of_caller.specs.Teams.{IsHandedBack}
@@ -18,14 +17,6 @@ use Rattle.of_lives.specs.Images.{number_of}
 pub record IsLifeOf (i : Image) (p : Plan) (e : Run) (w : Sight) (r : Report) : Type 0 where
   pub handed : IsHandedBack p (start_of i) (start_in p i.row.words) e w
   pub report : handed.report ≡ r
-
--- the durable words that a run leaves
-abbrev pub durable_row : Plan → Run → Row
-durable_row p e = record {
-  callers = p.callers;
-  blocks = p.blocks;
-  words = slice_range e.words (durable_cells_of p) (durable_cells_of p + durable_cells_of p);
-}
 
 -- recovery finds this image in the durable words that a life with this report, from this start, has
 -- left: it is where the life ends, so the next one goes on from there

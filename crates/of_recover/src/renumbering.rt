@@ -39,7 +39,10 @@ pub fn renumber(shape: &Shape, durable: &mut [u64])
 #[cfg(test)]
 mod tests {
     use super::*;
+    use crate::laws::{recovered_cells, recovered_twice};
+    use crate::recovery::recover;
 
+    // Recovery changes nothing in the row, and renumbering asks for a recovered one.
     // One caller and two data cells: the current transaction, its closed request, the two data cells, and
     // a log of a count and two entries.
     #[test]
@@ -58,6 +61,9 @@ mod tests {
             pack(1, 1),
             pack(1, 6),
         ];
+        recovered_cells(&shape, &durable);
+        recovered_twice(&shape, &durable);
+        recover(&shape, &mut durable);
         renumber(&shape, &mut durable);
         assert_eq!(rt; durable, [0, 0, 5, 7, 0, 0, 0, 0, 0]);
     }

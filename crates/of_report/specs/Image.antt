@@ -1,13 +1,15 @@
 -- What an image holds: a recovered row, what recovery found, and the store for which the row stands.
-use Rattle.std.specs.Prelude.{◌≡◌, ℕ, Bool, map, slice_index}
+use Rattle.std.specs.Prelude.{◌≡◌, ℕ, ◌+◌, Bool, map, slice_index, slice_range}
 use Rattle.std.specs.List.{range_with_len}
 use Rattle.of_cell.specs.Words.{pay}
-use Rattle.of_cell.specs.Cells.{data_cell}
+use Rattle.of_cell.specs.Cells.{data_cell, durable_cells}
 use Rattle.of_mem.specs.Places.{ticket_at}
 use Rattle.of_script.specs.declared.instr.TheConstants.{MOST_INSTRS}
 use Rattle.of_recover.specs.Row.{current_seq, is_open}
 use Rattle.of_store.specs.State.{State}
+use Rattle.of_plan.specs.Plan.{Plan, data_cells}
 use Rattle.of_plan.specs.Report.{Start}
+use Rattle.of_plan.specs.Ended.{Run}
 use Rattle.of_report.specs.declared.image.Image.{Image as Held}
 use Rattle.of_report.specs.ImageRow.{Row, IsRow, recovered_row}
 use Rattle.of_report.specs.ImageLaw.{IsLawfulRow}
@@ -44,3 +46,9 @@ ticket_in i c = pay (slice_index i.row.words (data_cell i.row.callers (ticket_at
 -- where a run from the image starts: so many scripts of a caller are done as its ticket says
 abbrev pub start_of : Image → Start
 start_of i = record { store = i.store; seq = i.seq; finished = map (ticket_in i) (range_with_len 0 i.row.callers) }
+
+-- the durable words that a run leaves
+abbrev pub durable_row : Plan → Run → Row
+durable_row p e =
+    let cells = durable_cells p.callers (data_cells p.callers p.blocks) in
+    record { callers = p.callers; blocks = p.blocks; words = slice_range e.words cells (cells + cells) }

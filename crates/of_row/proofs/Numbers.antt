@@ -1,7 +1,6 @@
 -- Whom a seat keeps are callers of its row, after each step.
-use Rattle.std.proofs.Common.{◌≡◌, ℕ, ◌<◌, ◌==◌, Bool, true, false, List, [], ◌∷◌, ◌∙◌, sym, ap, subst}
+use Rattle.std.proofs.Common.{ℕ, ◌<◌, ◌==◌, Bool, true, false, List, [], ◌∷◌, ◌∙◌, sym, subst}
 use Rattle.std.specs.Int.{bit_at}
-use Rattle.of_mem.specs.Meaning.{Meaning}
 use Rattle.of_core.specs.Table.{Setup}
 use Rattle.of_core.specs.Machine.{Data}
 use Rattle.of_core.specs.World.{Start}

@@ -9,18 +9,18 @@ use Rattle.of_core.specs.declared.place.Outcome.TheVariants.{Answered, Spent}
 use Rattle.of_core.specs.Table.{Setup}
 use Rattle.of_core.specs.Machine.{Call, no_call}
 use Rattle.of_core.specs.World.{Batch, Start}
-use Rattle.of_core.specs.History.{batch, HasCall}
+use Rattle.of_core.specs.History.{batch, EachBatch, Rising}
 use Rattle.of_core.specs.Claim.{IsNewer}
 use Rattle.of_row.specs.Views.{Committed, Kept, Sight, IsFront, KnowsMet, dressed, shown, reach}
 use Rattle.of_row.specs.Turned.{joined}
-use Rattle.of_row.specs.Rule.{HasEnded, HasOwn, IsOnce, IsOwn, OwnOnce, StandsOnce, done_before, op_at, outcome_at, ticket_at}
+use Rattle.of_row.specs.Rule.{HasEnded, HasOwn, IsOnce, IsOwn, OwnOnce, op_at, outcome_at, ticket_at}
 use Rattle.of_row.proofs.Fronts.{seen_calls}
 
 -- of two calls of one caller in batches up to a sequence, the one in the later batch is the newer
 abbrev TicketsRise : Start → List Batch → (upto : ℕ) → Type 0
 TicketsRise B bs upto = (j k : ℕ) → B.seq < j → j < k → k ≤ upto → All (λ (c : Call). All (IsNewer c) (batch B bs k).calls) (batch B bs j).calls
 
-module _ (S : Setup) (B : Start) (cs : List Committed) (bs : List Batch) (x : Kept) (front : IsFront cs bs) (rise : TicketsRise B bs (B.seq + length bs)) (own : HasOwn S B cs x) where
+module _ (S : Setup) (B : Start) (cs : List Committed) (bs : List Batch) (x : Kept) (front : IsFront cs bs) (rise : TicketsRise B bs (B.seq + length bs)) (by_caller : EachBatch B bs Rising) (own : HasOwn S B cs x) where
   abbrev seen : List Batch
   seen = shown cs
 
@@ -31,7 +31,7 @@ module _ (S : Setup) (B : Start) (cs : List Committed) (bs : List Batch) (x : Ke
   rises j k l m u = subst (λ (z : List Call × List Call). All (λ (c : Call). All (IsNewer c) z.1) z.0) (λ i. (sym (seen_calls B cs bs j front l (omega arith)) i, sym (seen_calls B cs bs k front (omega arith) u) i)) (rise j k l m (omega (arith, front.few)))
 
   stands : (i ticket : ℕ) (op : List ℕ) (o : Outcome) → HasEnded S B seen (reach B cs) i ticket op o → IsOnce S B seen i ticket op o
-  stands i ticket op (Answered n true raw steps) h = record { from = h.0; upto = omega (arith, long, h.1); has = h.3; only = only }
+  stands i ticket op (Answered n true raw steps) h = record { from = h.0; upto = omega (arith, long, h.1); has = h.3; only = only; single = subst Rising (sym (seen_calls B cs bs n front h.0 h.1)) (by_caller n h.0 (omega (arith, h.1, front.few))) }
     where
       here : Call
       here = get_or (batch B seen n).calls h.3.place no_call
