@@ -6,10 +6,10 @@ use std::alloc::Global;
 use std::test::Fail;
 
 /// The trace of these lines of a plan of two callers, from an event on, of so many.
-fn traced(alloc: Global, lines: &str, first: u32, count: u32) -> Result<String, Fail> {
+fn traced(alloc: Global, lines: &str, first: u16, count: u16) -> Result<String, Fail> {
     let text = format!(in alloc; "onefile plan 1\ncallers 2\nblocks 1\nlimit 2\n{lines}end\n")?;
     let plan = parse(alloc, text.as_bytes())?;
-    let bytes = trace(alloc, &plan, first, count)?;
+    let bytes = trace(alloc, &plan, u32::from(first), u32::from(count))?;
     Ok(String::from_utf8(bytes)?)
 }
 
