@@ -12,7 +12,7 @@ use Rattle.of_plan.specs.Allowance.{KeepsAllowance}
 use Rattle.of_plan.specs.Generated.{generated}
 use Rattle.of_row.specs.declared.member.Pass.{Pass}
 use Rattle.of_tool.specs.declared.command.Command.{Command}
-use Rattle.of_tool.specs.declared.command.Command.TheVariants.{Serial, Play, Trace, Run, Load, Check, Image, Recover, Renumber, Migrate, Help, Version}
+use Rattle.of_tool.specs.declared.command.Command.TheVariants.{Serial, Play, Trace, Run, Load, Check, Image, Recover, Renumber, Migrate, Continue, Help, Version}
 use Rattle.of_tool.specs.declared.status.TheConstants.{DONE}
 use Rattle.of_tool.specs.declared.top.Answer.{Answer}
 use Rattle.of_tool.specs.Commands.{words_of, IsLoad, IsPlain, Are, IsNoCommand}
@@ -20,8 +20,8 @@ use Rattle.of_tool.specs.Ran.{AllowedBy, KeepAllowances, AllTell, IsRunReport}
 use Rattle.of_report.specs.LoadText.{load_text}
 use Rattle.of_row.specs.Views.{Sight}
 use Rattle.of_tool.specs.Verdicts.{Loaded, SourceState, SinkState, IsAnswer, IsWritten}
-use Rattle.of_tool.specs.Headline.{RunsPlan, LoadsPlan, AllDone, IsWhole}
-use Rattle.of_tool.specs.Answer.{HoldsLoad, CarriesRun, CarriesLoad, Carries}
+use Rattle.of_tool.specs.Headline.{RunsPlan, LoadsPlan, ContinuesImage, AllDone, IsWhole}
+use Rattle.of_tool.specs.Answer.{HoldsLoad, CarriesRun, CarriesLoad, CarriesLife, Carries}
 use Rattle.of_tool.proofs.CommandLemmas.{words_of_injective}
 use Rattle.of_tool.proofs.LoadReports.{done_if, one_text}
 
@@ -29,6 +29,9 @@ use Rattle.of_tool.proofs.LoadReports.{done_if, one_text}
 
 plain_is_not_run : (c : Command) → IsPlain c → c ≡ Run → ⊥
 plain_is_not_run c plain e = subst IsPlain e plain
+
+plain_is_not_continue : (c : Command) → IsPlain c → c ≡ Continue → ⊥
+plain_is_not_continue c plain e = subst IsPlain e plain
 
 plain_is_not_load : (c : Command) (n m : ℕ) → IsPlain c → c ≡ Load n m → ⊥
 plain_is_not_load c n m plain e = subst IsPlain e plain
@@ -38,6 +41,7 @@ module _ {A : Type 0} (left : A → Option (Option ℕ)) (brakes : List A) (word
   carries_none c plain is = record {
     run = λ h. absurd (plain_is_not_run c plain (words_of_injective c Run is.0 tt (sym is.1 ∙ h)));
     load = λ n m h. absurd (plain_is_not_load c n m plain (words_of_injective c (Load n m) is.0 h.0 (sym is.1 ∙ h.1)));
+    continued = λ h. absurd (plain_is_not_continue c plain (words_of_injective c Continue is.0 tt (sym is.1 ∙ h)));
     none = λ h. refl;
   }
 
@@ -45,6 +49,7 @@ module _ {A : Type 0} (left : A → Option (Option ℕ)) (brakes : List A) (word
   carries_nothing nothing = record {
     run = λ h. absurd (nothing Run (tt, h));
     load = λ n m h. absurd (nothing (Load n m) h);
+    continued = λ h. absurd (nothing Continue (tt, h));
     none = λ h. refl;
   }
 
@@ -61,6 +66,7 @@ module _ {A : Type 0} (left : A → Option (Option ℕ)) (brakes : List A) (word
     LoadOf Recover = Unit {0}
     LoadOf Renumber = Unit {0}
     LoadOf Migrate = Unit {0}
+    LoadOf Continue = Unit {0}
     LoadOf Help = Unit {0}
     LoadOf Version = Unit {0}
 
@@ -68,14 +74,24 @@ module _ {A : Type 0} (left : A → Option (Option ℕ)) (brakes : List A) (word
     carries_run is h = record {
       run = λ k. h;
       load = λ n m k. absurd (let e = words_of_injective Run (Load n m) tt k.0 (sym is ∙ k.1) in cc);
+      continued = λ k. absurd (let e = words_of_injective Run Continue tt tt (sym is ∙ k) in cc);
       none = λ k. absurd (k (inl is));
+    }
+
+    pub carries_life : words ≡ words_of Continue → CarriesLife left brakes before after (answer, ran) → Carries left brakes words before after (answer, ran)
+    carries_life is h = record {
+      run = λ k. absurd (let e = words_of_injective Continue Run tt tt (sym is ∙ k) in cc);
+      load = λ n m k. absurd (let e = words_of_injective Continue (Load n m) tt k.0 (sym is ∙ k.1) in cc);
+      continued = λ k. h;
+      none = λ k. absurd (k (inr (inl is)));
     }
 
     pub carries_load : (n m : ℕ) → Are words (Load n m) → CarriesLoad left brakes n m (answer, ran) → Carries left brakes words before after (answer, ran)
     carries_load n m is h = record {
       run = λ k. absurd (let e = words_of_injective (Load n m) Run is.0 tt (sym is.1 ∙ k) in cc);
       load = λ k l there. subst LoadOf (words_of_injective (Load n m) (Load k l) is.0 there.0 (sym is.1 ∙ there.1)) h;
-      none = λ k. absurd (k (inr (n, m, is)));
+      continued = λ k. absurd (let e = words_of_injective (Load n m) Continue is.0 tt (sym is.1 ∙ k) in cc);
+      none = λ k. absurd (k (inr (inr (n, m, is))));
     }
 
 -- an answer to a command is one to its words
@@ -127,6 +143,11 @@ module _ {A : Type 0} (left : A → Option (Option ℕ)) (brakes : List A) (befo
       → MatchOption ran ⊥ (λ r. RunsPlan left brakes before after old new (run_of r.0) r.1.seat.me.0)
   run_told None h done w = h done
   run_told (Some r) h done w = record { plan = h.1.plan; read = h.1.read; report = h.1.report; run = h.1.run; written = subst (IsWritten old new) h.1.text_is w }
+
+  pub life_told : (ran : Option (Ended × Pass)) → CarriesLife left brakes before after (answer, ran) → answer.status ≡ DONE → IsWritten old new answer.text.items
+      → MatchOption ran ⊥ (λ r. ContinuesImage left brakes before after old new (run_of r.0) r.1.seat.me.0)
+  life_told None h done w = h done
+  life_told (Some r) h done w = record { image = h.1.image; plan = h.1.plan; read = h.1.read; report = h.1.writes.report; life = h.1.writes.life; written = subst (IsWritten old new) h.1.writes.text_is w }
 
 pub load_told : {A : Type 0} (left : A → Option (Option ℕ)) (brakes : List A) (old new : SinkState) (answer : Answer) (n m : ℕ) (ran : Option (Ended × Pass)) → CarriesLoad left brakes n m (answer, ran) → IsWritten old new answer.text.items
     → MatchOption ran ⊥ (λ r. LoadsPlan left brakes n m old new (run_of r.0) r.1.seat.me.0)

@@ -13,17 +13,19 @@ use Rattle.std.specs.Option.{MatchOption}
 use Rattle.of_script.specs.Reading.{number_of}
 use Rattle.of_script.proofs.Numbers.{number_reads, number_again}
 use Rattle.of_plan.proofs.SerialLegal.{serial_legal}
+use Rattle.of_plan.specs.Plan.{Plan}
+use Rattle.of_report.specs.Image.{Image as AnImage}
 use Rattle.of_image.specs.declared.version.Version.{Version as Edition}
 use Rattle.of_image.specs.declared.version.Version.TheVariants.{One, Two}
 use Rattle.of_image.specs.Parsed.{ReadsImage, UnlawfulHaveNone}
 use Rattle.of_tool.specs.declared.command.Command.{Command}
-use Rattle.of_tool.specs.declared.command.Command.TheVariants.{Serial, Play, Trace, Run, Load, Check, Image, Recover, Renumber, Migrate, Help, Version}
+use Rattle.of_tool.specs.declared.command.Command.TheVariants.{Serial, Play, Trace, Run, Load, Check, Image, Recover, Renumber, Migrate, Continue, Help, Version}
 use Rattle.of_tool.specs.declared.command.TheConstants.{HELP, VERSION}
-use Rattle.of_tool.specs.declared.status.TheConstants.{DONE, ILLEGAL}
+use Rattle.of_tool.specs.declared.status.TheConstants.{DONE, ILLEGAL, DOES_NOT_FIT}
 use Rattle.of_tool.specs.Commands.{words_of, IsInRange, IsTrace, IsLoad, SpellsUpTo, Are, IsNoCommand}
 use Rattle.of_tool.specs.Trace.{trace_text}
-use Rattle.of_tool.specs.Verdicts.{Verdict, ShowsHelp, ShowsVersion, Replayed, Played, Traced, Ran, Loaded, FoundLegal, FoundIllegal, Imaged, Recovered, Renumbered, Migrated, NoCommand, ReadFault, TooLong, BadPlan, BadImage, UnlawfulImage}
-use Rattle.of_tool.specs.Verdicts.{HasCause, status_of, text_of, SourceState, SinkState, IsAnswer, IsWritten, IsReplayed, PlaysPlan, TracesPlan, AskForPlan, AskForImage, limit_of, AsksUpTo, AskForInput, ReadsNoPlan, ReadsNoFirst, ChecksReport, IsPlanInput, IsImageInput, IsValidInput}
+use Rattle.of_tool.specs.Verdicts.{Verdict, ShowsHelp, ShowsVersion, Replayed, Played, Traced, Ran, Loaded, FoundLegal, FoundIllegal, Imaged, Recovered, Renumbered, Migrated, Continued, DoesNotFit, NoCommand, ReadFault, TooLong, BadPlan, BadImage, UnlawfulImage}
+use Rattle.of_tool.specs.Verdicts.{HasCause, status_of, text_of, SourceState, SinkState, IsAnswer, IsWritten, IsReplayed, PlaysPlan, TracesPlan, AskForPlan, AskForImage, limit_of, AsksUpTo, AskForInput, ReadsNoPlan, ReadsNoFirst, ReadsNoSecond, ReadsMisfit, ChecksReport, IsPlanInput, IsImageInput, ReadsBehind, IsValidInput}
 use Rattle.of_tool.specs.Images.{ImagesPlan, RecoversImage, RenumbersImage, MigratesImage}
 
 -- ---- numbers
@@ -43,6 +45,7 @@ no_load a b h Image is = absurd (let e = ap length is.1 in omega (arith, e))
 no_load a b h Recover is = absurd (let e = ap length is.1 in omega (arith, e))
 no_load a b h Renumber is = absurd (let e = ap length is.1 in omega (arith, e))
 no_load a b h Migrate is = absurd (let e = ap length is.1 in omega (arith, e))
+no_load a b h Continue is = absurd (let e = ap length is.1 in omega (arith, e))
 no_load a b h Help is = absurd (let e = ap length is.1 in omega (arith, e))
 no_load a b h Version is = absurd (let e = ap length is.1 in omega (arith, e))
 no_load a b h (Trace n m) is = absurd (let e = ap (λ (ws : List (List ℕ)). length (get_or ws 0 [])) is.1 in omega (arith, e))
@@ -65,6 +68,7 @@ no_trace a b h Image is = absurd (let e = ap length is.1 in omega (arith, e))
 no_trace a b h Recover is = absurd (let e = ap length is.1 in omega (arith, e))
 no_trace a b h Renumber is = absurd (let e = ap length is.1 in omega (arith, e))
 no_trace a b h Migrate is = absurd (let e = ap length is.1 in omega (arith, e))
+no_trace a b h Continue is = absurd (let e = ap length is.1 in omega (arith, e))
 no_trace a b h Help is = absurd (let e = ap length is.1 in omega (arith, e))
 no_trace a b h Version is = absurd (let e = ap length is.1 in omega (arith, e))
 no_trace a b h (Trace n m) is = h n m is.0 (ap (λ (ws : List (List ℕ)). get_or ws 1 []) is.1) (ap (λ (ws : List (List ℕ)). get_or ws 2 []) is.1)
@@ -87,6 +91,7 @@ named_by w =
     else if bytes_eq w (codes "recover") then Some Recover
     else if bytes_eq w (codes "renumber") then Some Renumber
     else if bytes_eq w (codes "migrate") then Some Migrate
+    else if bytes_eq w (codes "continue") then Some Continue
     else if bytes_eq w (codes "--help") then Some Help
     else if bytes_eq w (codes "--version") then Some Version
     else None
@@ -107,6 +112,7 @@ command_again Image range = refl
 command_again Recover range = refl
 command_again Renumber range = refl
 command_again Migrate range = refl
+command_again Continue range = refl
 command_again Help range = refl
 command_again Version range = refl
 command_again (Trace first count) range =
@@ -154,9 +160,16 @@ image_asks One words h = (Migrate, (tt, h), refl)
 image_asks Two words (inl h) = (Recover, (tt, h), refl)
 image_asks Two words (inr h) = (Renumber, (tt, h), refl)
 
-bad_asks : {before after : SourceState} (words : List (List ℕ)) (line : ℕ) → (AskForPlan words × ReadsNoPlan before after line) ⊎ ((words ≡ words_of Check) × ReadsNoFirst before after line) → AskForInput words
+bad_asks : {before after : SourceState} (words : List (List ℕ)) (line : ℕ)
+    → (AskForPlan words × ReadsNoPlan before after line) ⊎ (((words ≡ words_of Check) × ReadsNoFirst before after line) ⊎ ((words ≡ words_of Continue) × ReadsNoSecond before after line)) → AskForInput words
 bad_asks words line (inl h) = (MOST_INPUT, plan_asks words h.0)
-bad_asks words line (inr h) = (MOST_WITH_REPORT, (Check, (tt, h.0), refl))
+bad_asks words line (inr (inl h)) = (MOST_WITH_REPORT, (Check, (tt, h.0), refl))
+bad_asks words line (inr (inr h)) = (MOST_WITH_REPORT, (Continue, (tt, h.0), refl))
+
+-- a command that reads an image, alone or with a plan behind it
+no_image_asks : {P : Edition → Type 0} {Q : Type 0} (words : List (List ℕ)) → ((edition : Edition) × AskForImage edition words × P edition) ⊎ ((words ≡ words_of Continue) × Q) → AskForInput words
+no_image_asks words (inl h) = (MOST_IMAGE, image_asks h.0 words h.1)
+no_image_asks words (inr h) = (MOST_WITH_REPORT, (Continue, (tt, h.0), refl))
 
 -- ---- whose a verdict is
 
@@ -175,6 +188,8 @@ owner_of (Imaged plan text) = Some Image
 owner_of (Recovered image) = Some Recover
 owner_of (Renumbered image text) = Some Renumber
 owner_of (Migrated text) = Some Migrate
+owner_of (Continued image plan text) = Some Continue
+owner_of DoesNotFit = Some Continue
 owner_of v = None
 
 -- it refuses an input
@@ -201,12 +216,14 @@ belongs words before after (Imaged plan text) c is h = inl (ap Some (same_comman
 belongs words before after (Recovered image) c is h = inl (ap Some (same_command words Recover c (tt, h.0) is))
 belongs words before after (Renumbered image text) c is h = inl (ap Some (same_command words Renumber c (tt, h.0) is))
 belongs words before after (Migrated text) c is h = inl (ap Some (same_command words Migrate c (tt, h.0) is))
+belongs words before after (Continued image plan text) c is h = inl (ap Some (same_command words Continue c (tt, h.0) is))
+belongs words before after DoesNotFit c is h = inl (ap Some (same_command words Continue c (tt, h.0) is))
 belongs words before after NoCommand c is h = absurd (h c is)
 belongs words before after ReadFault c is h = inr ((h.0, h.1), refl)
 belongs words before after TooLong c is h = inr ((h.0, h.1), refl)
 belongs words before after (BadPlan line) c is h = inr (bad_asks words line h, refl)
-belongs words before after (BadImage line) c is h = inr ((MOST_IMAGE, image_asks h.0 words h.1), refl)
-belongs words before after (UnlawfulImage cell) c is h = inr ((MOST_IMAGE, image_asks h.0 words h.1), refl)
+belongs words before after (BadImage line) c is h = inr (no_image_asks words h, refl)
+belongs words before after (UnlawfulImage cell) c is h = inr (no_image_asks words h, refl)
 
 -- a refusal is no verdict of work that is done, nor of a report that was judged
 refused_undone : (v : Verdict) → refuses v ≡ true → (status_of v ≡ DONE → ⊥) × (status_of v ≡ ILLEGAL → ⊥)
@@ -327,6 +344,28 @@ checks words before after v is h = elim (belongs words before after v Check (tt,
 pub check_answer : (words : List (List ℕ)) (before after : SourceState) (status : ℕ) (text : List ℕ) → words ≡ words_of Check → IsAnswer words before after status text → ChecksReport before after status
 check_answer words before after status text is a = let P : ℕ → Type 0 = ChecksReport before after in subst P (sym a.status_is) (checks words before after a.verdict is a.cause)
 
+-- ---- what doesn't fit
+
+-- a refusal has another status
+refused_otherwise : (v : Verdict) → refuses v ≡ true → status_of v ≡ DOES_NOT_FIT → ⊥
+refused_otherwise ReadFault r = λ e. omega arith
+refused_otherwise TooLong r = λ e. omega arith
+refused_otherwise (BadPlan line) r = λ e. omega arith
+refused_otherwise (BadImage line) r = λ e. omega arith
+refused_otherwise (UnlawfulImage cell) r = λ e. omega arith
+refused_otherwise v r = absurd cc
+
+misfits : (words : List (List ℕ)) (before after : SourceState) (v : Verdict) → owner_of v ≡ Some Continue → HasCause words before after v → status_of v ≡ DOES_NOT_FIT → ReadsMisfit before after
+misfits words before after (Continued image plan text) own h e = absurd (omega (arith, e))
+misfits words before after DoesNotFit own h e = h.1
+misfits words before after v own h e = absurd cc
+
+-- with status 9 the plan doesn't fit the image
+pub misfit_answer : (words : List (List ℕ)) (before after : SourceState) (status : ℕ) (text : List ℕ) → words ≡ words_of Continue → status ≡ DOES_NOT_FIT → IsAnswer words before after status text → ReadsMisfit before after
+misfit_answer words before after status text is e a =
+    let e = sym a.status_is ∙ e in
+    elim (belongs words before after a.verdict Continue (tt, is) a.cause) [ inl own ↦ misfits words before after a.verdict own a.cause e | inr r ↦ absurd (refused_otherwise a.verdict r.1 e) ]
+
 -- ---- completeness
 
 all_taken : (bytes taken : List ℕ) (after : Option (List ℕ)) → Consumes (Some bytes) after taken → IsAtEnd after → bytes ≡ taken
@@ -367,6 +406,7 @@ valid_within Image left most is v = (v.0, v.2, subst (λ (n : ℕ). length v.0 �
 valid_within Recover left most is v = (v.0, v.2, subst (λ (n : ℕ). length v.0 ≤ n) (some_same MOST_IMAGE most is) v.3)
 valid_within Renumber left most is v = (v.0, v.2, subst (λ (n : ℕ). length v.0 ≤ n) (some_same MOST_IMAGE most is) v.3)
 valid_within Migrate left most is v = (v.0, v.2, subst (λ (n : ℕ). length v.0 ≤ n) (some_same MOST_IMAGE most is) v.3)
+valid_within Continue left most is v = (v.bytes, v.is, subst (λ (n : ℕ). length v.bytes ≤ n) (some_same MOST_WITH_REPORT most is) v.few)
 valid_within Help left most is v = absurd cc
 valid_within Version left most is v = absurd cc
 
@@ -380,51 +420,73 @@ not_too_long words before after command most is valid asks takes =
 same_bytes : (bytes taken : List ℕ) (before after : Option (List ℕ)) → before ≡ Some bytes → Consumes before after taken → IsAtEnd after → bytes ≡ taken
 same_bytes bytes taken before after is consumes ended = let P : Option (List ℕ) → Type 0 = λ left. Consumes left after taken in all_taken bytes taken after (subst P is consumes) ended
 
-not_bad : OneCut → (words : List (List ℕ)) (before after : SourceState) (command : Command) (line : ℕ) → Are words command → IsValidInput command before.left
-    → (AskForPlan words × ReadsNoPlan before after line) ⊎ ((words ≡ words_of Check) × ReadsNoFirst before after line) → ⊥
+not_bad : OneCut → (words : List (List ℕ)) (before after : SourceState) (command : Command) (line : ℕ) → Are words command → IsValidInput command before.left → HasCause words before after (BadPlan line) → ⊥
 not_bad one_cut words before after command line is valid (inl h) =
     let v = valid_plan words command before.left is h.0 valid in
     let same = same_bytes v.0 h.1.bytes before.left after.left v.2 h.1.read.taken h.1.read.ended in
     let Q : List ℕ → Type 0 = λ bytes. SpellsPlan bytes v.1 in
     h.1.bad.none (v.1, subst Q same v.4)
-not_bad one_cut words before after command line is valid (inr h) =
+not_bad one_cut words before after command line is valid (inr (inl h)) =
     let v = valid_at words command Check before.left is (tt, h.0) valid in
     let same = same_bytes v.bytes h.1.bytes before.left after.left v.is h.1.read.taken h.1.read.ended in
     let here : AreParts h.1.bytes v.first v.report = subst (λ (bytes : List ℕ). AreParts bytes v.first v.report) same v.parts in
     let Q : List ℕ → Type 0 = λ bytes. SpellsPlan bytes v.plan in
     h.1.bad.none (v.plan, subst Q (one_cut h.1.bytes v.first v.report h.1.first h.1.report here h.1.parts).0 v.spelled)
+not_bad one_cut words before after command line is valid (inr (inr h)) =
+    let v = valid_at words command Continue before.left is (tt, h.0) valid in
+    let same = same_bytes v.bytes h.1.bytes before.left after.left v.is h.1.read.taken h.1.read.ended in
+    let here : AreParts h.1.bytes v.first v.second = subst (λ (bytes : List ℕ). AreParts bytes v.first v.second) same v.parts in
+    let Q : List ℕ → Type 0 = λ bytes. SpellsPlan bytes v.plan in
+    h.1.bad.none (v.plan, subst Q (one_cut h.1.bytes v.first v.second h.1.first h.1.second here h.1.parts).1 v.spelled)
+
+-- the first part of a valid input has an image
+valid_first : {Holds : List ℕ → Type 0} → OneCut → (words : List (List ℕ)) (before after : SourceState) (command : Command) (plan : Plan) → Are words command → words ≡ words_of Continue → IsValidInput command before.left
+    → (read : ReadsBehind Holds before after plan) → (image : AnImage) × ReadsImage Two read.first image
+valid_first one_cut words before after command plan is asks valid read =
+    let v = valid_at words command Continue before.left is (tt, asks) valid in
+    let same = same_bytes v.bytes read.bytes before.left after.left v.is read.read.taken read.read.ended in
+    let here : AreParts read.bytes v.first v.second = subst (λ (bytes : List ℕ). AreParts bytes v.first v.second) same v.parts in
+    let Q : List ℕ → Type 0 = λ bytes. ReadsImage Two bytes v.image in
+    (v.image, subst Q (one_cut read.bytes v.first v.second read.first read.second here read.parts).0 v.image_of)
 
 -- an image's input is not refused
-not_bad_image : (words : List (List ℕ)) (before after : SourceState) (command : Command) (line : ℕ) → Are words command → IsValidInput command before.left → HasCause words before after (BadImage line) → ⊥
-not_bad_image words before after command line is valid h =
+not_bad_image : OneCut → (words : List (List ℕ)) (before after : SourceState) (command : Command) (line : ℕ) → Are words command → IsValidInput command before.left → HasCause words before after (BadImage line) → ⊥
+not_bad_image one_cut words before after command line is valid (inl h) =
     let v = valid_image h.0 words command before.left is h.1 valid in
     let same = same_bytes v.0 h.2.bytes before.left after.left v.2 h.2.read.taken h.2.read.ended in
     let Q : List ℕ → Type 0 = λ bytes. ReadsImage h.0 bytes v.1 in
     let read = subst Q same v.4 in
     h.2.bad.none (read.raw, read.spelled)
+not_bad_image one_cut words before after command line is valid (inr h) =
+    let found = valid_first one_cut words before after command h.1.0 is h.0 valid h.1.1 in
+    h.1.1.holds.none (found.1.raw, found.1.spelled)
 
-not_unlawful : UnlawfulHaveNone → (words : List (List ℕ)) (before after : SourceState) (command : Command) (cell : ℕ) → Are words command → IsValidInput command before.left → HasCause words before after (UnlawfulImage cell) → ⊥
-not_unlawful none words before after command cell is valid h =
+not_unlawful : OneCut → UnlawfulHaveNone → (words : List (List ℕ)) (before after : SourceState) (command : Command) (cell : ℕ) → Are words command → IsValidInput command before.left → HasCause words before after (UnlawfulImage cell) → ⊥
+not_unlawful one_cut none words before after command cell is valid (inl h) =
     let v = valid_image h.0 words command before.left is h.1 valid in
     let same = same_bytes v.0 h.2.bytes before.left after.left v.2 h.2.read.taken h.2.read.ended in
     let Q : List ℕ → Type 0 = λ bytes. ReadsImage h.0 bytes v.1 in
     none h.0 h.2.bytes cell v.1 h.2.unlawful (subst Q same v.4)
+not_unlawful one_cut none words before after command cell is valid (inr h) =
+    let found = valid_first one_cut words before after command h.1.0 is h.0 valid h.1.1 in
+    none Two h.1.1.first cell found.0 h.1.1.holds found.1
 
--- done, or the report is found illegal
+-- done, or the report is found illegal, or the plan not to fit
 abbrev pub IsComplete : Command → ℕ → Type 0
-IsComplete command status = (status ≡ DONE) ⊎ ((command ≡ Check) × (status ≡ ILLEGAL))
+IsComplete command status = (status ≡ DONE) ⊎ (((command ≡ Check) × (status ≡ ILLEGAL)) ⊎ ((command ≡ Continue) × (status ≡ DOES_NOT_FIT)))
 
 completed : OneCut → UnlawfulHaveNone → (words : List (List ℕ)) (before after : SourceState) (command : Command) (v : Verdict) → Are words command → IsValidInput command before.left → ¬ (Rose before.faults after.faults) → HasCause words before after v → IsComplete command (status_of v)
 completed one_cut none words before after command NoCommand is valid calm h = absurd (h command is)
-completed one_cut none words before after command FoundIllegal is valid calm h = inr (same_command words command Check is (tt, h.0), refl)
+completed one_cut none words before after command FoundIllegal is valid calm h = inr (inl (same_command words command Check is (tt, h.0), refl))
+completed one_cut none words before after command DoesNotFit is valid calm h = inr (inr (same_command words command Continue is (tt, h.0), refl))
 completed one_cut none words before after command ReadFault is valid calm h = absurd (calm h.2)
 completed one_cut none words before after command TooLong is valid calm h = absurd (not_too_long words before after command h.0 is valid h.1 h.2)
 completed one_cut none words before after command (BadPlan line) is valid calm h = absurd (not_bad one_cut words before after command line is valid h)
-completed one_cut none words before after command (BadImage line) is valid calm h = absurd (not_bad_image words before after command line is valid h)
-completed one_cut none words before after command (UnlawfulImage cell) is valid calm h = absurd (not_unlawful none words before after command cell is valid h)
+completed one_cut none words before after command (BadImage line) is valid calm h = absurd (not_bad_image one_cut words before after command line is valid h)
+completed one_cut none words before after command (UnlawfulImage cell) is valid calm h = absurd (not_unlawful one_cut none words before after command cell is valid h)
 completed one_cut none words before after command v is valid calm h = inl refl
 
--- a command with a valid input is done, or its report is found illegal
+-- a command with a valid input is done, or its report is found illegal, or its plan not to fit
 pub done_where_valid : OneCut → UnlawfulHaveNone → (words : List (List ℕ)) (before after : SourceState) (command : Command) (status : ℕ) (text : List ℕ) → Are words command → IsValidInput command before.left → ¬ (Rose before.faults after.faults)
     → IsAnswer words before after status text → IsComplete command status
 done_where_valid one_cut none words before after command status text is valid calm a = let P : ℕ → Type 0 = IsComplete command in subst P (sym a.status_is) (completed one_cut none words before after command a.verdict is valid calm a.cause)

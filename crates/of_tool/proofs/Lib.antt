@@ -31,3 +31,4 @@ pub mod TraceLines
 pub mod TraceTurns
 pub mod TracesFurther
 pub mod Joined
+pub mod Continuing

@@ -1,31 +1,28 @@
 -- What the code reads before and after an event, and writes as its line.
-use Rattle.std.proofs.Common.{◌≡◌, ℕ, ◌+◌, ◌-◌, ◌<◌, ◌≤◌, List, [], ◌∷◌, ◌++◌, length, get_or, refl, sym, ◌∙◌, ap, subst, arith, Option, Bool, true, false}
+use Rattle.std.proofs.Common.{◌≡◌, ℕ, ◌-◌, ◌<◌, List, [], ◌∷◌, ◌++◌, length, get_or, refl, sym, ◌∙◌, ap, subst, Option, Bool, true, false}
 use Rattle.std.proofs.lemmas.List.{append_assoc, append-nil, get_or-set_same}
-use Rattle.of_eval.specs.declared.scripts.Scripts.{Scripts}
 use Rattle.of_eval.specs.Scripts.{scripts_meaning}
-use Rattle.of_script.specs.declared.instr.Instr.{Instr}
-use Rattle.of_plan.specs.Plan.{Plan, IsPlan, scripts_of, data_cells}
+use Rattle.of_plan.specs.Plan.{Plan, scripts_of, data_cells}
 use Rattle.of_core.specs.declared.place.Place.{Place}
 use Rattle.of_core.specs.declared.place.Place.TheVariants.{Idle}
 use Rattle.of_core.specs.declared.place.Op.{Op}
 use Rattle.of_core.specs.declared.place.Outcome.{Outcome}
-use Rattle.of_core.specs.Table.{Setup, size, table_size, durable_at}
+use Rattle.of_core.specs.Table.{Setup, durable_at}
 use Rattle.of_core.specs.Machine.{Data, is_idle, no_machine, opened, first_place}
 use Rattle.of_core.specs.Seen.{ended}
 use Rattle.of_core.specs.Steps.{want, word_of}
 use Rattle.of_core.specs.World.{World}
-use Rattle.of_core.specs.Moment.{Bench, table, table_words, machine_of}
+use Rattle.of_core.specs.Moment.{table, machine_of}
 use Rattle.of_core.specs.Events.{Event, Begins, Turns, Raises, machine, happens}
 use Rattle.of_caller.specs.Tables.{setup_for, opening_for, operation_of}
 use Rattle.of_caller.specs.Left.{moment_after}
-use Rattle.of_tool.specs.Play.{begins_call, next_call, events_from}
-use Rattle.of_tool.specs.Playing.{StandsAfter, IsPlaying, GoesOn, BeginsNext}
+use Rattle.of_tool.specs.Play.{begins_call, next_call}
+use Rattle.of_tool.specs.Playing.{StandsAfter, GoesOn, BeginsNext}
 use Rattle.of_tool.specs.TraceText.{step_line, rest_line, evict_line}
-use Rattle.of_tool.specs.Trace.{change_of, step_of, turn_line, ready, line_at}
+use Rattle.of_tool.specs.Trace.{turn_line, ready, line_at}
 use Rattle.of_tool.specs.declared.play.Playing.{Playing}
-use Rattle.of_tool.specs.declared.trace_text.Change.{Change}
 use Rattle.of_tool.specs.declared.trace_text.Step.{Step}
-use Rattle.of_tool.proofs.PlaysMoments.{IsPlayable, idle_or_open}
+use Rattle.of_tool.proofs.PlaysMoments.{IsPlayable}
 use Rattle.of_tool.proofs.PlaysEvents.{run_append}
 use Rattle.of_tool.proofs.PlaysGood.{good_at, here}
 use Rattle.of_tool.proofs.PlaysStand.{machine_same, next_none, next_one, begins_busy}

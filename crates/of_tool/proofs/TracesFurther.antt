@@ -5,7 +5,7 @@ use Rattle.std.specs.List.{flat_map}
 use Rattle.std.proofs.lemmas.Grind.{flat_map-append}
 use Rattle.std.proofs.lemmas.List.{append_assoc, append-nil, take_more}
 use Rattle.of_plan.specs.declared.plan.Item.{Item}
-use Rattle.of_plan.specs.Plan.{Plan, IsPlan}
+use Rattle.of_plan.specs.Plan.{Plan}
 use Rattle.of_core.specs.Events.{Event, Turns, run}
 use Rattle.of_caller.specs.Tables.{setup_for, opening_for}
 use Rattle.of_tool.specs.Play.{moves_in, moves_for, events_from}
@@ -13,9 +13,8 @@ use Rattle.of_tool.specs.Playing.{StandsAfter, IsPlaying, GoesOn}
 use Rattle.of_tool.specs.Trace.{line_at, lines_from, trace_text}
 use Rattle.of_tool.specs.Tracing.{WritesLine, shown, TracesAfter, IsTracing, TracesOn}
 use Rattle.of_tool.specs.declared.play.tracing.Tracing.{Tracing}
-use Rattle.of_tool.specs.declared.play.Playing.{Playing}
 use Rattle.of_tool.proofs.PlaysEvents.{events_append}
-use Rattle.of_tool.proofs.TraceLines.{lines_length, lines_more, lines_begin, shown_none, shown_more, shown_over, shown_nothing}
+use Rattle.of_tool.proofs.TraceLines.{lines_length, lines_more, shown_none, shown_more, shown_over, shown_nothing}
 
 -- where it hasn't shown all it is at a run of the plan
 pub runs_on : (p : Plan) (t : Tracing) → IsTracing p t → t.number < t.end → IsPlaying p t.playing

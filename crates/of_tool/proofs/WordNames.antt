@@ -1,15 +1,15 @@
 -- Each word of a table has the name of what stands there: the layout, read backwards.
-use Rattle.std.proofs.Common.{◌≡◌, ℕ, ◌+◌, ◌-◌, ◌*◌, ◌/◌, ◌%◌, ◌<◌, ◌≤◌, ◌==◌, nat_lt, Bool, true, false, if◌then◌else◌, refl, ap, ◌∙◌, sym, arith}
+use Rattle.std.proofs.Common.{◌≡◌, ℕ, ◌+◌, ◌-◌, ◌*◌, ◌/◌, ◌%◌, ◌<◌, ◌≤◌, ◌==◌, nat_lt, Bool, true, false, if◌then◌else◌, refl, ◌∙◌, sym, arith}
 use Rattle.std.proofs.Math.Nat.{mod-lt}
 use Rattle.std.proofs.lemmas.Nat.{div-add-mod'}
 use Rattle.std.proofs.lemmas.Bool.Decides.{nat_tests}
-use Rattle.of_cell.specs.Cells.{data_cell, log_cell, durable_cells, durable_place, script_place, announce_place, members_place, table_words}
+use Rattle.of_cell.specs.Cells.{data_cell, durable_cells, script_place, members_place}
 use Rattle.of_mem.specs.declared.work.TheConstants.{MOST_INSTRS}
-use Rattle.of_mem.specs.Places.{base_of, fresh_at, free_at, keys_at, bucket_at, head_at, length_at, block_at}
+use Rattle.of_mem.specs.Places.{base_of, fresh_at, free_at, keys_at, head_at, length_at, block_at}
 use Rattle.of_tool.specs.declared.names.Holding.{Holding}
 use Rattle.of_tool.specs.declared.names.Cell.{Cell}
 use Rattle.of_tool.specs.declared.names.Word.{Word}
-use Rattle.of_tool.specs.Names.{address_of, number_of, place_of, own_cell, queue_cell, store_cell, holding_at, cell_at, row_word, word_at, HoldingsAreNamed, CellsAreNamed, WordsAreNamed}
+use Rattle.of_tool.specs.Names.{address_of, number_of, place_of, own_cell, queue_cell, store_cell, row_word, HoldingsAreNamed, CellsAreNamed, WordsAreNamed}
 
 -- what holds of either case holds of the choice
 either : {A : Type 0} (P : A → Type 0) (b : Bool) (x y : A) → (b ≡ true → P x) → (b ≡ false → P y) → P (if b then x else y)

@@ -7,6 +7,7 @@ use Rattle.of_plan.specs.Generated.{generated}
 use Rattle.of_plan.specs.declared.ended.Ended.{Ended}
 use Rattle.of_report.specs.ReportText.{report_text}
 use Rattle.of_report.specs.LoadText.{load_text}
+use Rattle.of_report.specs.Image.{Image}
 use Rattle.of_row.specs.Views.{Sight}
 use Rattle.of_row.specs.declared.member.Pass.{Pass}
 use Rattle.of_image.specs.declared.error.ImageErr.{ImageErr}
@@ -16,10 +17,11 @@ use Rattle.of_check.specs.declared.verdict.Verdict.{Verdict}
 use Rattle.of_check.specs.declared.verdict.Verdict.TheVariants.{Legal, Illegal}
 use Rattle.of_tool.specs.declared.status.TheConstants.{DONE, BAD_IMAGE, ILLEGAL}
 use Rattle.of_tool.specs.declared.top.Answer.{Answer}
-use Rattle.of_tool.specs.declared.command.Command.TheVariants.{Run, Load}
+use Rattle.of_tool.specs.declared.command.Command.TheVariants.{Run, Load, Continue}
 use Rattle.of_tool.specs.Commands.{words_of, Are, RunTeam}
 use Rattle.of_tool.specs.Ran.{IsRunReport}
-use Rattle.of_tool.specs.Verdicts.{SourceState, IsAnswer, ReadsPlan, AskForPlan, AskForImage, AsksUpTo}
+use Rattle.of_tool.specs.Continued.{WritesLife}
+use Rattle.of_tool.specs.Verdicts.{SourceState, IsAnswer, ReadsPlan, ReadsLife, AskForPlan, AskForImage, AsksUpTo}
 use Rattle.of_tool.specs.Headline.{IsWhole}
 
 abbrev pub Answered : List (List ℕ) → SourceState → SourceState → Answer → Type 0
@@ -32,6 +34,10 @@ Refuses before after answer = ((words : List (List ℕ)) → AskForPlan words �
 -- it is one of each command that reads an image of this version
 abbrev pub RefusesImage : Version → SourceState → SourceState → Answer → Type 0
 RefusesImage v before after answer = (words : List (List ℕ)) → AskForImage v words → IsAnswer words before after answer.status answer.text.items
+
+-- it is one of `continue`, and not done
+abbrev pub RefusesLife : SourceState → SourceState → Answer → Type 0
+RefusesLife before after answer = IsAnswer (words_of Continue) before after answer.status answer.text.items × (answer.status ≡ DONE → ⊥)
 
 -- it tells why a text has no image
 abbrev pub TellsRefusal : ImageErr → Answer → Type 0
@@ -65,10 +71,22 @@ pub record HoldsLoad {A : Type 0} (left : A → Option (Option ℕ)) (brakes : L
   pub whole : IsWhole left brakes (generated callers scripts) report
   pub text_is : text ≡ load_text report
 
+-- the text is that of a life with this record, which has gone on from the image by the plan that were read
+pub record HoldsLife {A : Type 0} (left : A → Option (Option ℕ)) (brakes : List A) (before after : SourceState) (text : List ℕ) (e : Record) (w : Sight) : Type 0 where
+  pub image : Image
+  pub plan : Plan
+  pub read : ReadsLife before after image plan
+  pub writes : WritesLife left brakes image plan e w text
+
 -- beside an answer to `run` that is done stands the record, and beside no other one
 abbrev pub CarriesRun : {A : Type 0} → (A → Option (Option ℕ)) → List A → SourceState → SourceState → Answer × Option (Ended × Pass) → Type 0
 CarriesRun left brakes before after found =
     MatchOption found.1 (found.0.status ≡ DONE → ⊥) (λ r. (found.0.status ≡ DONE) × HoldsRun left brakes before after found.0.text.items (run_of r.0) r.1.seat.me.0)
+
+-- and so it is with an answer to `continue`
+abbrev pub CarriesLife : {A : Type 0} → (A → Option (Option ℕ)) → List A → SourceState → SourceState → Answer × Option (Ended × Pass) → Type 0
+CarriesLife left brakes before after found =
+    MatchOption found.1 (found.0.status ≡ DONE → ⊥) (λ r. (found.0.status ≡ DONE) × HoldsLife left brakes before after found.0.text.items (run_of r.0) r.1.seat.me.0)
 
 -- an answer to `load` is done, and beside it stands the record
 abbrev pub CarriesLoad : {A : Type 0} → (A → Option (Option ℕ)) → List A → (callers scripts : ℕ) → Answer × Option (Ended × Pass) → Type 0
@@ -79,4 +97,5 @@ CarriesLoad left brakes callers scripts found =
 pub record Carries {A : Type 0} (left : A → Option (Option ℕ)) (brakes : List A) (words : List (List ℕ)) (before after : SourceState) (found : Answer × Option (Ended × Pass)) : Type 0 where
   pub run : words ≡ words_of Run → CarriesRun left brakes before after found
   pub load : (callers scripts : ℕ) → Are words (Load callers scripts) → CarriesLoad left brakes callers scripts found
+  pub continued : words ≡ words_of Continue → CarriesLife left brakes before after found
   pub none : (RunTeam words → ⊥) → found.1 ≡ None

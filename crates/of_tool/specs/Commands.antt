@@ -5,7 +5,7 @@ use Rattle.of_cell.specs.declared.shape.TheConstants.{MOST_CALLERS}
 use Rattle.of_plan.specs.declared.plan.TheConstants.{MOST_SCRIPTS}
 use Rattle.of_tool.specs.declared.command.Command.{Command}
 use Rattle.of_tool.specs.declared.command.TheConstants.{MOST_FIRST, MOST_EVENTS}
-use Rattle.of_tool.specs.declared.command.Command.TheVariants.{Serial, Play, Trace, Run, Load, Check, Image, Recover, Renumber, Migrate, Help, Version}
+use Rattle.of_tool.specs.declared.command.Command.TheVariants.{Serial, Play, Trace, Run, Load, Check, Image, Recover, Renumber, Migrate, Continue, Help, Version}
 
 -- the bytes of each word
 abbrev pub texts : List (String Global) → List (List ℕ)
@@ -27,6 +27,7 @@ words_of Image = codes "image" ∷ []
 words_of Recover = codes "recover" ∷ []
 words_of Renumber = codes "renumber" ∷ []
 words_of Migrate = codes "migrate" ∷ []
+words_of Continue = codes "continue" ∷ []
 words_of Help = codes "--help" ∷ []
 words_of Version = codes "--version" ∷ []
 
@@ -55,12 +56,14 @@ IsInRange Image = Unit {0}
 IsInRange Recover = Unit {0}
 IsInRange Renumber = Unit {0}
 IsInRange Migrate = Unit {0}
+IsInRange Continue = Unit {0}
 IsInRange Help = Unit {0}
 IsInRange Version = Unit {0}
 
 -- it is a command that runs no callers at once
 abbrev pub IsPlain : Command → Type 0
 IsPlain Run = ⊥
+IsPlain Continue = ⊥
 IsPlain (Load callers scripts) = ⊥
 IsPlain Serial = Unit {0}
 IsPlain Play = Unit {0}
@@ -83,4 +86,4 @@ IsNoCommand words = (command : Command) → Are words command → ⊥
 
 -- the words are a command that runs callers at once
 abbrev pub RunTeam : List (List ℕ) → Type 0
-RunTeam words = (words ≡ words_of Run) ⊎ ((callers : ℕ) × (scripts : ℕ) × Are words (Load callers scripts))
+RunTeam words = (words ≡ words_of Run) ⊎ ((words ≡ words_of Continue) ⊎ ((callers : ℕ) × (scripts : ℕ) × Are words (Load callers scripts)))

@@ -7,9 +7,11 @@ use Rattle.of_plan.specs.Serial.{serial_report}
 use Rattle.of_plan.specs.Generated.{generated}
 use Rattle.of_report.specs.ReportText.{report_text}
 use Rattle.of_report.specs.LoadText.{load_text}
+use Rattle.of_report.specs.Image.{Image}
 use Rattle.of_row.specs.Views.{Sight}
 use Rattle.of_tool.specs.Ran.{AllTell, IsRunReport}
-use Rattle.of_tool.specs.Verdicts.{SourceState, SinkState, ReadsPlan, IsWritten}
+use Rattle.of_tool.specs.Continued.{IsLifeReport, life_text}
+use Rattle.of_tool.specs.Verdicts.{SourceState, SinkState, ReadsPlan, ReadsLife, IsWritten}
 
 -- THE HEADLINE. The whole input is the text of a plan whose callers have run at once on a table of zeros. The report of what they left
 -- was written: one legal history, in which each caller whose brake tells its steps left keeps its allowance
@@ -35,3 +37,13 @@ pub record LoadsPlan {A : Type 0} (left : A → Option (Option ℕ)) (brakes : L
   pub run : IsRunReport left brakes (generated callers scripts) report e w
   pub whole : IsWhole left brakes (generated callers scripts) report
   pub written : IsWritten old new (load_text report)
+
+-- the whole input is the text of an image and behind it that of a plan that fits it, whose callers have gone on from there at once. The
+-- report of what they left was written, and behind it the image of the durable words, from which the next life can go on
+pub record ContinuesImage {A : Type 0} (left : A → Option (Option ℕ)) (brakes : List A) (before after : SourceState) (old new : SinkState) (e : Run) (w : Sight) : Type 0 where
+  pub image : Image
+  pub plan : Plan
+  pub read : ReadsLife before after image plan
+  pub report : Report
+  pub life : IsLifeReport left brakes image plan report e w
+  pub written : IsWritten old new (life_text plan report e)

@@ -1,5 +1,6 @@
 pub mod Commands
 pub mod Ran
+pub mod Continued
 pub mod Played
 pub mod Verdicts
 pub mod Headline

@@ -1,7 +1,7 @@
 -- What a trace prints: the plain names of steps and words, and a line for each event.
 use Rattle.std.specs.Prelude.{ℕ, List, [], ◌++◌, Option, Some, None, true, false, codes, decimal}
 use Rattle.of_cell.specs.Words.{seq, pay}
-use Rattle.of_cell.specs.Cells.{data_cell, durable_place}
+use Rattle.of_cell.specs.Cells.{data_cell}
 use Rattle.of_core.specs.declared.place.Place.{Place}
 use Rattle.of_core.specs.declared.place.Place.TheVariants.{Idle, TryCurrent, TryRequest, TryCell, StoreScript, StoreAnnouncement, LoadCurrent, LoadRequest, CopyLog, LookAgain, LoadOwnTicket, LoadShape, LoadReply, LoadAnnouncement, LoadTicket, LoadScript, LoadCell, RaiseOld, StoreLog, RaiseLog, StoreRequest, RaiseRequest, ExchangeCurrent, RaiseCurrent, LoadTarget, ExchangeTarget, ReloadTarget, RaiseTarget, CloseRequest, RaiseClosed}
 use Rattle.of_core.specs.declared.place.Outcome.{Outcome}

@@ -1,5 +1,5 @@
 -- How the code that traces a plan stands between two events.
-use Rattle.std.specs.Prelude.{◌≡◌, ℕ, ◌-◌, ◌+◌, ◌≤◌, ◌<◌, List, ◌++◌, length, take, drop, flat_map, string_bytes}
+use Rattle.std.specs.Prelude.{◌≡◌, ℕ, ◌-◌, ◌≤◌, ◌<◌, List, ◌++◌, length, take, drop, flat_map, string_bytes}
 use Rattle.of_plan.specs.Plan.{Plan, IsPlan}
 use Rattle.of_core.specs.Table.{size}
 use Rattle.of_core.specs.Events.{Event, Turns, Raises}

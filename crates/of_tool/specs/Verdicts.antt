@@ -21,15 +21,17 @@ use Rattle.of_image.specs.Parsed.{ReadsImage, IsUnlawful}
 use Rattle.of_image.specs.RecoveredText.{recovered_text}
 use Rattle.of_image.specs.RenumberedImage.{Renumbers}
 use Rattle.of_image.specs.MovedRow.{Migrates}
+use Rattle.of_lives.specs.Images.{Fits}
 use Rattle.of_tool.specs.declared.command.Command.{Command}
-use Rattle.of_tool.specs.declared.command.Command.TheVariants.{Serial, Play, Trace, Run, Load, Check, Image, Recover, Renumber, Migrate, Help, Version}
+use Rattle.of_tool.specs.declared.command.Command.TheVariants.{Serial, Play, Trace, Run, Load, Check, Image, Recover, Renumber, Migrate, Continue, Help, Version}
 use Rattle.of_tool.specs.declared.command.TheConstants.{HELP, VERSION}
-use Rattle.of_tool.specs.declared.status.TheConstants.{DONE, OUT_OF_MEMORY, USAGE, READ_FAULT, WRITE_FAULT, BAD_PLAN, TOO_LONG, BAD_IMAGE, ILLEGAL}
+use Rattle.of_tool.specs.declared.status.TheConstants.{DONE, OUT_OF_MEMORY, USAGE, READ_FAULT, WRITE_FAULT, BAD_PLAN, TOO_LONG, BAD_IMAGE, ILLEGAL, DOES_NOT_FIT}
 use Rattle.of_tool.specs.declared.top.TheConstants.{MOST_INPUT, MOST_WITH_REPORT, MOST_IMAGE}
 use Rattle.of_tool.specs.Commands.{words_of, Are, IsNoCommand}
 use Rattle.of_tool.specs.Played.{IsPlayedReport, IsPlayedImage}
 use Rattle.of_tool.specs.Trace.{trace_text}
 use Rattle.of_tool.specs.Ran.{IsSomeRuns}
+use Rattle.of_tool.specs.Continued.{IsSomeLifes}
 
 -- what the words and the input lead to
 pub data Verdict : Type 0 where
@@ -46,6 +48,8 @@ pub data Verdict : Type 0 where
   Recovered : AnImage → Verdict
   Renumbered : AnImage → List ℕ → Verdict
   Migrated : List ℕ → Verdict
+  Continued : AnImage → Plan → List ℕ → Verdict
+  DoesNotFit : Verdict
   NoCommand : Verdict
   ReadFault : Verdict
   TooLong : Verdict
@@ -68,6 +72,8 @@ status_of (Imaged plan text) = DONE
 status_of (Recovered image) = DONE
 status_of (Renumbered image text) = DONE
 status_of (Migrated text) = DONE
+status_of (Continued image plan text) = DONE
+status_of DoesNotFit = DOES_NOT_FIT
 status_of NoCommand = USAGE
 status_of ReadFault = READ_FAULT
 status_of TooLong = TOO_LONG
@@ -90,6 +96,8 @@ text_of (Imaged plan text) = text
 text_of (Recovered image) = recovered_text image
 text_of (Renumbered image text) = text
 text_of (Migrated text) = text
+text_of (Continued image plan text) = text
+text_of DoesNotFit = codes "error: plan does not fit image\n"
 text_of NoCommand = codes "error: usage\n"
 text_of ReadFault = codes "error: read fault\n"
 text_of TooLong = codes "error: input too long\n"
@@ -189,6 +197,36 @@ pub record ReadsUnlawful (edition : Edition) (before after : SourceState) (cell 
   pub read : ReadsAll MOST_IMAGE before after bytes
   pub unlawful : IsUnlawful edition bytes cell
 
+-- the whole input has two parts: of the first this holds, and the second is the text of this plan
+pub record ReadsBehind (Holds : List ℕ → Type 0) (before after : SourceState) (plan : Plan) : Type 0 where
+  pub bytes : List ℕ
+  pub first : List ℕ
+  pub second : List ℕ
+  pub read : ReadsAll MOST_WITH_REPORT before after bytes
+  pub parts : AreParts bytes first second
+  pub holds : Holds first
+  pub spelled : SpellsPlan second plan
+
+-- the first is the text of this image
+abbrev pub ReadsLife : SourceState → SourceState → AnImage → Plan → Type 0
+ReadsLife before after image plan = ReadsBehind (λ text. ReadsImage Two text image) before after plan
+
+-- the second part of the whole input is no plan's text, and this is its bad line, counted in that part
+pub record ReadsNoSecond (before after : SourceState) (line : ℕ) : Type 0 where
+  pub bytes : List ℕ
+  pub first : List ℕ
+  pub second : List ℕ
+  pub read : ReadsAll MOST_WITH_REPORT before after bytes
+  pub parts : AreParts bytes first second
+  pub bad : HasBadLine IsPlanText second line
+
+-- the first part is the text of an image, and the second that of a plan that doesn't fit it
+pub record ReadsMisfit (before after : SourceState) : Type 0 where
+  pub image : AnImage
+  pub plan : Plan
+  pub read : ReadsLife before after image plan
+  pub misfit : Fits image plan → ⊥
+
 -- the words are those of a command that reads a plan
 abbrev pub AskForPlan : List (List ℕ) → Type 0
 AskForPlan words =
@@ -211,6 +249,7 @@ limit_of Image = Some MOST_INPUT
 limit_of Recover = Some MOST_IMAGE
 limit_of Renumber = Some MOST_IMAGE
 limit_of Migrate = Some MOST_IMAGE
+limit_of Continue = Some MOST_WITH_REPORT
 limit_of Help = None
 limit_of Version = None
 
@@ -238,13 +277,20 @@ HasCause words before after (Imaged plan text) = (words ≡ words_of Image) × R
 HasCause words before after (Recovered image) = (words ≡ words_of Recover) × ReadsItsImage Two before after image
 HasCause words before after (Renumbered image text) = (words ≡ words_of Renumber) × ReadsItsImage Two before after image × Renumbers image text
 HasCause words before after (Migrated text) = (words ≡ words_of Migrate) × ReadsEarlier before after text
+HasCause words before after (Continued image plan text) = (words ≡ words_of Continue) × ReadsLife before after image plan × IsSomeLifes image plan text
+HasCause words before after DoesNotFit = (words ≡ words_of Continue) × ReadsMisfit before after
 HasCause words before after ReadFault =
     (most : ℕ) × AsksUpTo words most × Rose before.faults after.faults × TakesAtMost most before.left after.left
 HasCause words before after TooLong = (most : ℕ) × AsksUpTo words most × TakesMoreThan most before.left after.left
 HasCause words before after (BadPlan line) =
-    (AskForPlan words × ReadsNoPlan before after line) ⊎ ((words ≡ words_of Check) × ReadsNoFirst before after line)
-HasCause words before after (BadImage line) = (edition : Edition) × AskForImage edition words × ReadsNoImage edition before after line
-HasCause words before after (UnlawfulImage cell) = (edition : Edition) × AskForImage edition words × ReadsUnlawful edition before after cell
+    (AskForPlan words × ReadsNoPlan before after line)
+    ⊎ (((words ≡ words_of Check) × ReadsNoFirst before after line) ⊎ ((words ≡ words_of Continue) × ReadsNoSecond before after line))
+HasCause words before after (BadImage line) =
+    ((edition : Edition) × AskForImage edition words × ReadsNoImage edition before after line)
+    ⊎ ((words ≡ words_of Continue) × ((plan : Plan) × ReadsBehind (λ text. HasBadLine (IsImageText Two) text line) before after plan))
+HasCause words before after (UnlawfulImage cell) =
+    ((edition : Edition) × AskForImage edition words × ReadsUnlawful edition before after cell)
+    ⊎ ((words ≡ words_of Continue) × ((plan : Plan) × ReadsBehind (λ text. IsUnlawful Two text cell) before after plan))
 
 -- the status and the text are those of a verdict with its cause
 pub record IsAnswer (words : List (List ℕ)) (before after : SourceState) (status : ℕ) (text : List ℕ) : Type 0 where
@@ -334,6 +380,19 @@ pub record IsCheckInput (left : Option (List ℕ)) : Type 0 where
 abbrev pub IsImageInput : Edition → Option (List ℕ) → Type 0
 IsImageInput edition left = (bytes : List ℕ) × (image : AnImage) × (left ≡ Some bytes) × (length bytes ≤ MOST_IMAGE) × ReadsImage edition bytes image
 
+-- the bytes that are left are the text of a lawful image and that of a plan behind it, within the limit
+pub record IsLifeInput (left : Option (List ℕ)) : Type 0 where
+  pub bytes : List ℕ
+  pub first : List ℕ
+  pub second : List ℕ
+  pub image : AnImage
+  pub plan : Plan
+  pub is : left ≡ Some bytes
+  pub few : length bytes ≤ MOST_WITH_REPORT
+  pub parts : AreParts bytes first second
+  pub image_of : ReadsImage Two first image
+  pub spelled : SpellsPlan second plan
+
 -- the input of a command is what the command reads
 abbrev pub IsValidInput : Command → Option (List ℕ) → Type 0
 IsValidInput Serial left = IsPlanInput left
@@ -346,5 +405,6 @@ IsValidInput Image left = IsPlanInput left
 IsValidInput Recover left = IsImageInput Two left
 IsValidInput Renumber left = IsImageInput Two left
 IsValidInput Migrate left = IsImageInput One left
+IsValidInput Continue left = IsLifeInput left
 IsValidInput Help left = Unit {0}
 IsValidInput Version left = Unit {0}

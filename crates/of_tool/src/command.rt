@@ -21,6 +21,7 @@ image       reads a plan, runs its schedule step by step, prints the image of wh
 recover     reads an image, prints what recovery finds in it
 renumber    reads an image, prints it recovered and with its sequences begun anew
 migrate     reads an image of version 1, prints it recovered and in version 2
+continue    reads an image and a plan, goes on from the image, prints a report and an image
 --help      reads nothing, prints this text
 --version   reads nothing, prints the name and the version
 
@@ -60,6 +61,9 @@ pub enum Command {
     Renumber,
     /// Reads an image of version 1, recovers it, and prints it in version 2.
     Migrate,
+    /// Reads an image and a plan, runs the plan's callers at once from where the image left, and prints
+    /// the report and the image of what they leave.
+    Continue,
     /// Prints how the program is used.
     Help,
     /// Prints the name and the version.
@@ -87,6 +91,7 @@ impl Command {
             "recover" => Some(Command::Recover),
             "renumber" => Some(Command::Renumber),
             "migrate" => Some(Command::Migrate),
+            "continue" => Some(Command::Continue),
             "--help" => Some(Command::Help),
             "--version" => Some(Command::Version),
             _ => None,

@@ -39,8 +39,8 @@ fn play_image(alloc: Global, plan: &Plan) -> Result<Vec<u8>, AllocError>
     image_print(alloc, &plan.plot(), &ended.words)
 }
 
-// The answer to a text that has no image.
-fn refused(alloc: Global, err: ImageErr) -> Result<Answer, AllocError>
+/// The answer to a text that has no image.
+pub(crate) fn refused(alloc: Global, err: ImageErr) -> Result<Answer, AllocError>
     ensures { IfOk result (TellsRefusal err) }
 {
     if err == ImageErr::Memory {

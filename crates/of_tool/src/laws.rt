@@ -9,7 +9,8 @@ ghost use Rattle.of_tool.specs.Names.{HoldingsAreNamed, CellsAreNamed, WordsAreN
 
 use crate::command::{HELP, VERSION};
 use crate::status::{
-    BAD_IMAGE, BAD_PLAN, DONE, ILLEGAL, OUT_OF_MEMORY, READ_FAULT, TOO_LONG, USAGE, WRITE_FAULT,
+    BAD_IMAGE, BAD_PLAN, DOES_NOT_FIT, DONE, ILLEGAL, OUT_OF_MEMORY, READ_FAULT, TOO_LONG, USAGE,
+    WRITE_FAULT,
 };
 use crate::top::{MOST_IMAGE, MOST_INPUT, MOST_WITH_REPORT};
 use of_caller::laws::plan_keeps_laws;
@@ -33,6 +34,7 @@ pub fn numbers()
     ensures too_long { TOO_LONG ≡ 6 }
     ensures bad_image { BAD_IMAGE ≡ 7 }
     ensures illegal { ILLEGAL ≡ 8 }
+    ensures does_not_fit { DOES_NOT_FIT ≡ 9 }
     ensures input { MOST_INPUT ≡ 1048576 }
     ensures with_report { MOST_WITH_REPORT ≡ 4194304 }
     ensures image { MOST_IMAGE ≡ 4194304 }

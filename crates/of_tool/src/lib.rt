@@ -2,6 +2,7 @@
 #![tactic(auto)]
 
 mod command;
+mod continued;
 mod images;
 pub mod laws;
 mod names;

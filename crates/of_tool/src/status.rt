@@ -26,3 +26,6 @@ pub const BAD_IMAGE: u8 = 7;
 
 /// The report is not a legal one of its plan.
 pub const ILLEGAL: u8 = 8;
+
+/// The plan does not fit the image.
+pub const DOES_NOT_FIT: u8 = 9;

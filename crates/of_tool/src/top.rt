@@ -4,15 +4,16 @@ ghost use Rattle.std.specs.Prelude.{◌≡◌, ◌≤◌, ◌⊎◌, ℕ, IfOk, 
 ghost use Rattle.of_io.specs.Faults.{Rose};
 ghost use Rattle.of_plan.specs.Ended.{run_of};
 ghost use Rattle.of_tool.specs.declared.command.Command.{Command};
-ghost use Rattle.of_tool.specs.declared.command.Command.TheVariants.{Serial, Play, Trace, Run, Load, Check, Image, Recover, Renumber, Migrate, Help, Version};
-ghost use Rattle.of_tool.specs.declared.status.TheConstants.{DONE, OUT_OF_MEMORY, ILLEGAL};
+ghost use Rattle.of_tool.specs.declared.command.Command.TheVariants.{Serial, Play, Trace, Run, Load, Check, Image, Recover, Renumber, Migrate, Continue, Help, Version};
+ghost use Rattle.of_tool.specs.declared.status.TheConstants.{DONE, OUT_OF_MEMORY, ILLEGAL, DOES_NOT_FIT};
 ghost use Rattle.of_tool.specs.Commands.{texts, words_of, IsTrace, IsLoad, IsInRange, IsPlain, Are, RunTeam};
-ghost use Rattle.of_tool.specs.Verdicts.{source_state, sink_state, limit_of, Answers, AskForInput, ReadsAll, ReadsPlan, IsReplayed, PlaysPlan, TracesPlan, ChecksReport, Prints, IsValidInput};
+ghost use Rattle.of_tool.specs.Verdicts.{source_state, sink_state, limit_of, Answers, AskForInput, ReadsAll, ReadsPlan, IsReplayed, PlaysPlan, TracesPlan, ChecksReport, ReadsMisfit, Prints, IsValidInput};
 ghost use Rattle.of_tool.specs.Images.{ImagesPlan, RecoversImage, RenumbersImage, MigratesImage};
-ghost use Rattle.of_tool.specs.Headline.{RunsPlan, LoadsPlan};
+ghost use Rattle.of_tool.specs.Headline.{RunsPlan, LoadsPlan, ContinuesImage};
 ghost use Rattle.of_tool.specs.Answer.{Answered, Refuses, RefusesUpTo, Judges, CarriesRun, CarriesLoad, Carries};
 
 use crate::command::{Command, HELP, VERSION};
+use crate::continued::continue_answer;
 use crate::images::{image_answer, migrate_answer, recover_answer, renumber_answer};
 use crate::play::trace;
 use crate::played::play_report;
@@ -32,7 +33,8 @@ use std::thread::Threads;
 /// The most bytes that a command reads which reads a plan alone.
 pub const MOST_INPUT: usize = 1 << 20;
 
-/// The most bytes that `check` reads: a plan and a report.
+/// The most bytes that a command reads whose input has two parts: `check` a plan and a report,
+/// `continue` an image and a plan.
 pub const MOST_WITH_REPORT: usize = 1 << 22;
 
 /// The most bytes that a command reads which reads an image. The greatest that `image` prints has
@@ -49,8 +51,8 @@ pub(crate) struct Answer {
     pub(crate) text: Vec<u8>,
 }
 
-// The text that names a bad line of a plan.
-fn bad_plan(alloc: Global, line: u64) -> Result<Vec<u8>, AllocError>
+/// The text that names a bad line of a plan.
+pub(crate) fn bad_plan(alloc: Global, line: u64) -> Result<Vec<u8>, AllocError>
     ensures { IfOk result (λ text. text.items ≡ codes "error: bad plan, line " ++ decimal line ++ codes "\n") }
 {
     let text = format!(in alloc; "error: bad plan, line {line}\n")?;
@@ -280,7 +282,7 @@ fn plain_answer<S: Source>(
             status: status::DONE,
             text: Vec::from_slice(alloc, VERSION.as_bytes())?,
         }),
-        Command::Run | Command::Load { .. } => unreachable!(),
+        Command::Run | Command::Continue | Command::Load { .. } => unreachable!(),
     }
 }
 
@@ -303,6 +305,7 @@ fn decide<R: Threads + Sync, S: Source>(
 {
     match Command::from_words(words) {
         Some(Command::Run) => run_answer(rt, alloc, source, brakes),
+        Some(Command::Continue) => continue_answer(rt, alloc, source, brakes),
         Some(Command::Load { callers, scripts }) => load_answer(
             rt, alloc, callers, scripts, brakes,
         ),
@@ -317,8 +320,8 @@ fn decide<R: Threads + Sync, S: Source>(
     }
 }
 
-/// Does what the words say with the source's bytes, and answers the exit status. `run` and `load` run callers at once, that of number i
-/// with the brake at place i; what such a run has left is put into `ran`.
+/// Does what the words say with the source's bytes, and answers the exit status. `run`, `load` and `continue` run callers at once, that
+/// of number i with the brake at place i; what such a run has left is put into `ran`.
 pub fn tool<R: Threads + Sync, S: Source, K: Sink>(
     rt: &R,
     alloc: Global,
@@ -347,6 +350,21 @@ pub fn tool<R: Threads + Sync, S: Source, K: Sink>(
         (sink_state (K.written sink.old) (K.finished sink.old) (K.faults sink.old))
         (sink_state (K.written sink.new) (K.finished sink.new) (K.faults sink.new))
         (run_of r.0) r.1.seat.me.0) }
+
+    // With status 0 of `continue` the report of what the plan's callers left, who went on from the image at once, was written, and behind
+    // it the image of their durable words: the one from which the next life can go on.
+    ensures continued { texts words.now ≡ words_of Continue → result ≡ DONE
+        → MatchOption ran.new ⊥ (λ r. ContinuesImage (λ b. left b) brakes.items
+        (source_state (S.remaining source.old) (S.faults source.old))
+        (source_state (S.remaining source.new) (S.faults source.new))
+        (sink_state (K.written sink.old) (K.finished sink.old) (K.faults sink.old))
+        (sink_state (K.written sink.new) (K.finished sink.new) (K.faults sink.new))
+        (run_of r.0) r.1.seat.me.0) }
+
+    // With status 9 the plan that was read does not fit the image.
+    ensures misfit { texts words.now ≡ words_of Continue → result ≡ DOES_NOT_FIT → ReadsMisfit
+        (source_state (S.remaining source.old) (S.faults source.old))
+        (source_state (S.remaining source.new) (S.faults source.new)) }
 
     // After any other command or status there is no record.
     ensures other_command { (RunTeam (texts words.now) → ⊥) → ran.new ≡ None }
@@ -430,7 +448,8 @@ pub fn tool<R: Threads + Sync, S: Source, K: Sink>(
         → IsValidInput command (S.remaining source.old)
         → ¬ (Rose (S.faults source.old) (S.faults source.new))
         → ¬ (Rose (K.faults sink.old) (K.faults sink.new))
-        → (result ≡ DONE) ⊎ ((result ≡ OUT_OF_MEMORY) ⊎ ((command ≡ Check) × (result ≡ ILLEGAL))) }
+        → (result ≡ DONE) ⊎ ((result ≡ OUT_OF_MEMORY) ⊎ (((command ≡ Check) × (result ≡ ILLEGAL))
+        ⊎ ((command ≡ Continue) × (result ≡ DOES_NOT_FIT)))) }
 {
     one_cut();
     unlawful_have_none();

@@ -1,4 +1,4 @@
-use Rattle.std.proofs.Common.{List, ℕ, inr, subst, refl}
+use Rattle.std.proofs.Common.{List, ℕ, inl, inr, subst, refl}
 use Rattle.of_plan.specs.Parts.{AreParts}
 use Rattle.of_tool.specs.Verdicts.{BadPlan}
 use Rattle.of_tool.proofs.Judged.{found, answered_so}
@@ -17,7 +17,7 @@ returns g c =
     let gone = rw c.in-Err-Bad.field-0-is at c.in-Err-Bad.ensures.bad in
     record {
       verdict = BadPlan c.in-Err-Bad.line;
-      cause = inr (refl, record { bytes = c.in-Ok.bytes.items; first = c.parts.result.0.now; report = c.parts.result.1.now; read = rw c.in-Ok.is at c.in_ok-bytes.ensures; parts = are; bad = gone });
+      cause = inr (inl (refl, record { bytes = c.in-Ok.bytes.items; first = c.parts.result.0.now; report = c.parts.result.1.now; read = rw c.in-Ok.is at c.in_ok-bytes.ensures; parts = are; bad = gone }));
       status_is = refl;
       text_is = (let number = c.in-Err-Bad.line-is in let text = c.in_ok-bad_plan-in-Err-Bad.ensures in cc);
     }

@@ -1,7 +1,7 @@
 use Rattle.std.proofs.Common.{rules, refl}
 use Rattle.std.proofs.lemmas.Result.{IfOk-weaker}
-use Rattle.of_tool.specs.declared.command.Command.TheVariants.{Run}
-use Rattle.of_tool.specs.declared.top.TheConstants.{MOST_INPUT}
+use Rattle.of_tool.specs.declared.command.Command.TheVariants.{Run, Continue}
+use Rattle.of_tool.specs.declared.top.TheConstants.{MOST_INPUT, MOST_WITH_REPORT}
 use Rattle.of_tool.specs.Commands.{texts}
 use Rattle.of_tool.specs.Verdicts.{NoCommand}
 use Rattle.of_tool.proofs.CommandLemmas.{unlimited}
@@ -21,6 +21,9 @@ returns-in_ok-from_slice-in-None-clause-carries g c = carries_nothing _ _ _ _ _ 
 
 pub returns-in-Some-Run-clause-unread : goal.returns-in-Some-Run-clause-unread
 returns-in-Some-Run-clause-unread g c = λ none. absurd (none (MOST_INPUT, (Run, rw c.in-Some-Run.field-0-is at c.in-Some-Run.ensures, refl)))
+
+pub returns-in-Some-Continue-clause-unread : goal.returns-in-Some-Continue-clause-unread
+returns-in-Some-Continue-clause-unread g c = λ none. absurd (none (MOST_WITH_REPORT, (Continue, rw c.in-Some-Continue.field-0-is at c.in-Some-Continue.ensures, refl)))
 
 pub returns-in-Some-Load-clause-answered : goal.returns-in-Some-Load-clause-answered
 returns-in-Some-Load-clause-answered g c = IfOk-weaker c.load_answer.result _ _ (λ found h. load_answers _ _ _ _ _ c.in-Some-Load.callers c.in-Some-Load.scripts found (rw c.in-Some-Load.field-0-is at c.in-Some-Load.ensures) h) c.load_answer.ensures

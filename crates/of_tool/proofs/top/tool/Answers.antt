@@ -1,8 +1,8 @@
 use Rattle.std.proofs.Common.{inl, inr, subst, ◌∙◌, refl}
 use Rattle.std.specs.Io.KnownBytes.{Appends}
 use Rattle.of_io.specs.Faults.{AppendsFront}
-use Rattle.of_tool.proofs.CommandLemmas.{help_answer, version_answer, serial_answer, play_answer, trace_answer, image_answer, recover_answer, renumber_answer, migrate_answer, check_answer, done_where_valid}
-use Rattle.of_tool.proofs.Carried.{run_told, load_told}
+use Rattle.of_tool.proofs.CommandLemmas.{help_answer, version_answer, serial_answer, play_answer, trace_answer, image_answer, recover_answer, renumber_answer, migrate_answer, check_answer, misfit_answer, done_where_valid}
+use Rattle.of_tool.proofs.Carried.{run_told, life_told, load_told}
 use Rattle.of_tool.proofs.top.tool.Goals as goal
 
 pub returns-in-Ok-write_all-clause-serial : goal.returns-in-Ok-write_all-clause-serial
@@ -19,6 +19,14 @@ pub returns-in-Ok-write_all-clause-run : goal.returns-in-Ok-write_all-clause-run
 returns-in-Ok-write_all-clause-run g c = λ is done.
     run_told _ _ _ _ _ _ c.in-Ok.answer _ (c.in-Ok.ensures.carries.run is) done
     (record { bytes = subst (Appends _ _) c.deref.ensures.value c.in-Ok-write_all.ensures.ok; finished = c.in-Ok-write_all.ensures.finished })
+
+pub returns-in-Ok-write_all-clause-continued : goal.returns-in-Ok-write_all-clause-continued
+returns-in-Ok-write_all-clause-continued g c = λ is done.
+    life_told _ _ _ _ _ _ c.in-Ok.answer _ (c.in-Ok.ensures.carries.continued is) done
+    (record { bytes = subst (Appends _ _) c.deref.ensures.value c.in-Ok-write_all.ensures.ok; finished = c.in-Ok-write_all.ensures.finished })
+
+pub returns-in-Ok-write_all-clause-misfit : goal.returns-in-Ok-write_all-clause-misfit
+returns-in-Ok-write_all-clause-misfit g c = λ is e. misfit_answer _ _ _ _ _ is e c.in-Ok.ensures.answered
 
 pub returns-in-Ok-write_all-clause-load : goal.returns-in-Ok-write_all-clause-load
 returns-in-Ok-write_all-clause-load g c = λ callers scripts is done.

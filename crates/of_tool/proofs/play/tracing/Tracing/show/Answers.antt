@@ -1,4 +1,4 @@
-use Rattle.std.proofs.Common.{arith, refl}
+use Rattle.std.proofs.Common.{refl}
 use Rattle.of_tool.specs.Tracing.{event_of}
 use Rattle.of_tool.proofs.TracesFurther.{runs_on, trace_shows}
 use Rattle.of_tool.proofs.play.tracing.Tracing.show.Goals as goal
