@@ -8,6 +8,8 @@ mod faults;
 #[cfg(test)]
 mod images;
 #[cfg(test)]
+mod lives;
+#[cfg(test)]
 mod plays;
 #[cfg(test)]
 mod runs;

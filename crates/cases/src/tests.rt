@@ -358,7 +358,7 @@ pub fn expect<R: Abort + Threads + Sync + AllocGlobal>(
     let read_fails = Vec::from_slice(rt.alloc(), fails.0)?;
     let write_fails = Vec::from_slice(rt.alloc(), fails.1)?;
     let mut source = MemSource::new(input, usize::MAX, read_fails);
-    let mut sink = MemSink::new(rt.alloc(), 1000, 16, write_fails)?;
+    let mut sink = MemSink::new(rt.alloc(), 2000, 16, write_fails)?;
     let told = answer(rt, words, &mut source, &mut sink)?;
     assert_eq!(rt; told, status, "{case}");
     assert_eq!(rt; sink.bytes(), text.as_bytes(), "{case}");
