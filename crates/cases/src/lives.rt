@@ -463,7 +463,10 @@ fn refused_lives(rt: HostRuntime) -> Result<(), Fail> {
 fn second_life(rt: HostRuntime) -> Result<(), Fail> {
     let first = Vec::from_slice(rt.alloc(), FIRST.as_bytes())?;
     let printed = life(&rt, "the first life", first)?;
-    let mut second = Vec::from_slice(rt.alloc(), &printed[FIRST_REPORT.len()..])?;
+    let Some(image) = printed.as_slice().get(FIRST_REPORT.len()..) else {
+        panic!(rt; "continue_twice");
+    };
+    let mut second = Vec::from_slice(rt.alloc(), image)?;
     second.extend_from_slice(SECOND_PLAN.as_bytes())?;
     let printed = life(&rt, "continue_twice", second)?;
     assert!(rt;
