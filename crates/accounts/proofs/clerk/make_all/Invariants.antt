@@ -1,0 +1,10 @@
+use Rattle.std.proofs.Common.{◌≡◌, vec_len}
+use Rattle.accounts.specs.Clerks.{IsClerk}
+use Rattle.accounts.proofs.clerk.make_all.Given as goal
+
+abbrev pub invariant-loop-i : goal.invariant-loop-i
+invariant-loop-i g l = record {
+  clerk : IsClerk l.row l.clerk;
+  number : l.clerk.number ≡ l.initial.clerk.number;
+  to_do : l.clerk.to_do ≡ l.initial.clerk.to_do;
+}

@@ -1,0 +1,4 @@
+pub mod Money
+pub mod Closed
+pub mod Clerks
+pub mod Books

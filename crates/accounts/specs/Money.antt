@@ -1,0 +1,59 @@
+-- What the accounts hold together, and the calls that leave it as it is.
+use Rattle.std.specs.Prelude.{◌≡◌, ℕ, ◌≤◌, List, [], ◌∷◌, length, map, drop, take, sum, sum_by, Bool, true, false, ◌&&◌}
+use Rattle.std.specs.List.{AllByRecursion as Each}
+use Rattle.of_cell.specs.Words.{pay}
+use Rattle.of_script.specs.declared.instr.Instr.{Instr}
+use Rattle.of_script.specs.declared.instr.Instr.TheVariants.{Load, Store, Add, Sub, Get, Put, Del, Need, Push, Pop, Len, Count}
+use Rattle.of_script.specs.declared.instr.TheConstants.{REGISTERS}
+use Rattle.of_script.specs.Language.{IsScript, instr_word}
+use Rattle.of_store.specs.State.{State, run}
+use Rattle.of_eval.specs.declared.scripts.Scripts.{Scripts}
+use Rattle.of_eval.specs.Scripts.{store_at, cells_in, LawfulCells, scripts_meaning}
+use Rattle.of_core.specs.Starts.{start_of}
+
+-- The accounts are the registers. What they hold together, where these are the numbers of the data cells.
+abbrev pub money : Scripts → List ℕ → ℕ
+money w xs = sum (take REGISTERS (drop (store_at w) xs))
+
+-- what they hold in a durable row
+abbrev pub money_in : Scripts → List ℕ → ℕ
+money_in w row = money w (map pay (start_of w.callers (cells_in w) row).cells)
+
+-- what an instruction adds to an account
+abbrev pub paid_in : Instr → ℕ
+paid_in (Add r v) = v
+paid_in i = 0
+
+-- and what it takes off one
+abbrev pub paid_out : Instr → ℕ
+paid_out (Sub r v) = v
+paid_out i = 0
+
+-- whether it sets no account to a number, whatever that held
+abbrev pub sets_none : Instr → Bool
+sets_none (Store r v) = false
+sets_none i = true
+
+-- the same of each instruction
+abbrev pub all_set_none : List Instr → Bool
+all_set_none [] = true
+all_set_none (i ∷ is) = sets_none i && all_set_none is
+
+-- the script takes off accounts what it adds to others
+pub record IsBalanced (script : List Instr) : Type 0 where
+  pub moves : all_set_none script ≡ true
+  pub even : sum_by paid_in script ≡ sum_by paid_out script
+
+-- the operation is a balanced script's
+abbrev pub IsTransfer : List ℕ → Type 0
+IsTransfer op = (script : List Instr) × IsScript script × IsBalanced script × (op ≡ map instr_word script)
+
+-- on every store with sixteen registers a balanced script leaves them as much as they held together
+abbrev pub TransfersKeep : Type 0
+TransfersKeep = (s : State) (script : List Instr) → length s.registers ≡ REGISTERS → IsScript script → IsBalanced script
+    → sum (run s script).0.registers ≡ sum s.registers
+
+-- an operation that is a transfer leaves the accounts of cells that stand for a store as much as they held together
+abbrev pub OperationsKeep : Scripts → Type 0
+OperationsKeep w = (xs op : List ℕ) → length xs ≡ cells_in w → LawfulCells w xs → IsTransfer op
+    → money w ((scripts_meaning w).cells xs op) ≡ money w xs

@@ -1,0 +1,43 @@
+//! Why the bank can't go on.
+
+use of_eval::LawErr;
+use std::alloc::AllocError;
+use std::error::Error;
+use std::fmt;
+
+/// Why the bank can't go on. What is durable stays as it was.
+#[derive(Clone, Copy, Debug, PartialEq, Eq)]
+pub enum BankErr {
+    Memory,
+    /// Somebody has the clerk's number.
+    NumberTaken { number: u32 },
+    /// The books stand for no store, and this is the first data cell at fault.
+    Unlawful { cell: u32 },
+}
+
+impl From<AllocError> for BankErr {
+    fn from(_error: AllocError) -> BankErr {
+        BankErr::Memory
+    }
+}
+
+impl From<LawErr> for BankErr {
+    fn from(error: LawErr) -> BankErr {
+        match error {
+            LawErr::Memory => BankErr::Memory,
+            LawErr::Unlawful { cell } => BankErr::Unlawful { cell },
+        }
+    }
+}
+
+impl fmt::Display for BankErr {
+    fn fmt<W: fmt::Write>(&self, f: &mut fmt::Formatter<W>) -> fmt::Result {
+        match self {
+            BankErr::Memory => write!(f, "out of memory"),
+            BankErr::NumberTaken { number } => write!(f, "number {number} is taken"),
+            BankErr::Unlawful { cell } => write!(f, "data cell {cell} is at fault"),
+        }
+    }
+}
+
+impl Error for BankErr {}

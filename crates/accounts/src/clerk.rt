@@ -1,0 +1,241 @@
+//! Clerks: callers that make transfers, each on a thread of its own where one can be made.
+
+ghost use Rattle.std.specs.Prelude.{◌≡◌, ◌<◌, ℕ, IfOk};
+ghost use Rattle.std.specs.Thread.{IsSync};
+ghost use Rattle.of_eval.specs.Scripts.{scripts_meaning};
+ghost use Rattle.of_row.specs.Rows.{IsOf, key_of};
+ghost use Rattle.of_core.specs.Turn.{IsIdle};
+ghost use Rattle.of_caller.specs.Callers.{IsCaller, call_of, sight_of};
+ghost use Rattle.accounts.specs.Money.{IsBalanced};
+ghost use Rattle.accounts.specs.Closed.{KeepsOne};
+ghost use Rattle.accounts.specs.Clerks.{IsClerk, AreClerks, SameNumbers, Hires};
+
+use crate::bank_err::BankErr;
+use crate::transfer::Transfer;
+use of_brake::{Brake, Fuel, Steps};
+use of_caller::Caller;
+use of_eval::Scripts;
+use of_row::laws::members;
+use of_row::{Pass, Row};
+use of_script::{MOST_INSTRS, Script, to_words};
+use std::alloc::Global;
+use std::marker::Brand;
+use std::sync::ledger::{Blank, Ledger};
+use std::thread::{Threads, join};
+
+/// Gives a number to a new caller. An error leaves the row without it.
+pub fn enter(
+    alloc: Global,
+    row: &Row<Scripts>,
+    pass: Pass,
+    number: u32,
+) -> Result<(Caller<Scripts>, Pass), BankErr>
+    requires pass { Hires row.now pass }
+    requires number { number < (key_of row.now).callers }
+    ensures caller { IfOk result (λ r. IsCaller scripts_meaning row.now r.0) }
+    ensures idle { IfOk result (λ r. IsIdle (call_of r.0)) }
+    ensures keeps { IfOk result (λ r. KeepsOne number (sight_of r.0).kept) }
+    ensures pass { IfOk result (λ r. Hires row.now r.1) }
+{
+    members(row.work());
+    match row.enrol(pass, number) {
+        Ok((member, pass)) => match Caller::new(alloc, row, member) {
+            Ok(caller) => Ok((caller, pass)),
+            Err(_) => Err(BankErr::Memory),
+        },
+        Err(_) => Err(BankErr::NumberTaken { number }),
+    }
+}
+
+/// Makes a call of a script. Whether it was answered; a caller with an open call makes none.
+pub fn call<L: Ledger>(
+    row: &Row<Scripts>,
+    caller: &mut Caller<Scripts>,
+    script: &Script,
+    brake: &mut Box<dyn Brake + Send>,
+    steps: &mut Steps<L>,
+) -> bool
+    requires { IsCaller scripts_meaning row.now caller.old }
+    ensures caller { IsCaller scripts_meaning row.now caller.new }
+    ensures keeps { IsBalanced script.now → (number : ℕ) →
+        KeepsOne number (sight_of caller.old).kept → KeepsOne number (sight_of caller.new).kept }
+{
+    if !caller.is_idle() || caller.made() == u32::MAX {
+        return false;
+    }
+    let len = script.len() as usize;
+    let mut words = [0; MOST_INSTRS];
+    to_words(script, &mut words);
+    caller.call(row, &words[..len], brake, steps).is_ok()
+}
+
+/// A caller with the transfers that it is to make.
+#[derive(Drop)]
+pub struct Clerk {
+    pub number: u32,
+    pub caller: Caller<Scripts>,
+    /// After how many steps it stops, in whatever call it is then; None is never.
+    pub stop: Option<u64>,
+    pub to_do: Vec<Transfer>,
+    /// How many of its transfers were answered.
+    pub answered: u32,
+}
+
+impl Clerk {
+    /// A clerk with a number that nobody has. An error leaves the row without it.
+    pub fn hire(
+        alloc: Global,
+        row: &Row<Scripts>,
+        pass: Pass,
+        number: u32,
+        to_do: Vec<Transfer>,
+    ) -> Result<(Clerk, Pass), BankErr>
+        requires pass { Hires row.now pass }
+        requires number { number < (key_of row.now).callers }
+        ensures clerk { IfOk result (λ r. IsClerk row.now r.0) }
+        ensures number { IfOk result (λ r. r.0.number ≡ number) }
+        ensures pass { IfOk result (λ r. Hires row.now r.1) }
+    {
+        let (caller, pass) = enter(alloc, row, pass, number)?;
+        Ok((
+            Clerk {
+                number,
+                caller,
+                stop: None,
+                to_do,
+                answered: 0,
+            },
+            pass,
+        ))
+    }
+
+    /// Makes its transfers in their order, until it stops. Without memory it makes none.
+    pub fn work(self, alloc: Global, row: &Row<Scripts>) -> Clerk
+        requires { IsClerk row.now self }
+        ensures clerk { IsClerk row.now result }
+        ensures number { result.number ≡ self.number }
+    {
+        let mut fuel = Fuel::new();
+        fuel.arm(self.stop);
+        let Ok(fuel) = Box::new(alloc, fuel) else {
+            return self;
+        };
+        self.work_under(row, fuel)
+    }
+
+    // Makes its transfers under a brake, with a count of its own.
+    fn work_under(self, row: &Row<Scripts>, brake: Box<dyn Brake + Send>) -> Clerk
+        requires clerk { IsClerk row.now self }
+        ensures clerk { IsClerk row.now result }
+        ensures number { result.number ≡ self.number }
+    {
+        make_all::<Brand>(self, row, brake, Blank::new(1))
+    }
+
+    // Makes one transfer. Whether it was answered.
+    fn make<L: Ledger>(
+        &mut self,
+        row: &Row<Scripts>,
+        transfer: &Transfer,
+        brake: &mut Box<dyn Brake + Send>,
+        steps: &mut Steps<L>,
+    ) -> bool
+        requires { IsClerk row.now self.old }
+        ensures clerk { IsClerk row.now self.new }
+        ensures number { self.new.number ≡ self.old.number }
+        ensures to_do { self.new.to_do ≡ self.old.to_do }
+    {
+        let script = transfer.script();
+        let answered = call(row, &mut self.caller, &script, brake, steps);
+        self.answered = self.answered.saturating_add(u32::from(answered));
+        answered
+    }
+
+    /// Hands all that it has done to the pass, which keeps it.
+    pub fn leave(self, row: &Row<Scripts>, pass: Pass) -> Pass
+        requires clerk { IsClerk row.now self }
+        requires pass { IsOf row.now pass.seat }
+        ensures pass { IsOf row.now result.seat }
+        ensures own { KeepsOne self.number result.seat.me.0.kept }
+        ensures others { (number : ℕ) →
+            KeepsOne number pass.seat.me.0.kept → KeepsOne number result.seat.me.0.kept }
+    {
+        row.join(pass, self.caller.leave())
+    }
+}
+
+// Makes a clerk's transfers in their order under a brake, until it denies a step.
+fn make_all<L: Ledger>(
+    mut clerk: Clerk,
+    row: &Row<Scripts>,
+    mut brake: Box<dyn Brake + Send>,
+    blank: Blank,
+) -> Clerk
+    requires name { blank.name ≡ L.name }
+    requires parts { (blank.parts ≡ L.parts) × (blank.parts ≡ 1) }
+    requires clerk { IsClerk row.now clerk }
+    ensures clerk { IsClerk row.now result }
+    ensures number { result.number ≡ clerk.number }
+{
+    let mut steps: Steps<L> = Steps::new(blank);
+    for i in 0..clerk.to_do.len() {
+        let transfer = clerk.to_do[i];
+        if !clerk.make(row, &transfer, &mut brake, &mut steps) {
+            break;
+        }
+    }
+    clerk
+}
+
+/// Two clerks at work beside each other.
+pub fn two_at_once<R: Threads + Sync>(
+    rt: &R,
+    alloc: Global,
+    row: &Row<Scripts>,
+    two: (Clerk, Clerk),
+) -> (Clerk, Clerk)
+    requires { AreClerks row.now two }
+    ensures clerks { AreClerks row.now result }
+    ensures numbers { SameNumbers two result }
+{
+    let (one, other) = two;
+    let (a, b) = join(
+        rt,
+        || -> Clerk
+            requires { IsClerk row.now one }
+            ensures { IsClerk row.entry.now result × (result.number ≡ one.number) }
+        { one.work(alloc, row) },
+        || -> Clerk
+            requires { IsClerk row.now other }
+            ensures { IsClerk row.entry.now result × (result.number ≡ other.number) }
+        { other.work(alloc, row) },
+    );
+    (a, b)
+}
+
+/// Two and two of them.
+pub fn four_at_once<R: Threads + Sync>(
+    rt: &R,
+    alloc: Global,
+    row: &Row<Scripts>,
+    two: (Clerk, Clerk),
+    others: (Clerk, Clerk),
+) -> ((Clerk, Clerk), (Clerk, Clerk))
+    requires two { AreClerks row.now two }
+    requires others { AreClerks row.now others }
+    ensures two { AreClerks row.now result.0 × SameNumbers two result.0 }
+    ensures others { AreClerks row.now result.1 × SameNumbers others result.1 }
+{
+    let (a, b) = join(
+        rt,
+        || -> (Clerk, Clerk)
+            requires { IsSync R.row × AreClerks row.now two }
+            ensures { AreClerks row.entry.now result × SameNumbers two result }
+        { two_at_once(rt, alloc, row, two) },
+        || -> (Clerk, Clerk)
+            requires { IsSync R.row × AreClerks row.now others }
+            ensures { AreClerks row.entry.now result × SameNumbers others result }
+        { two_at_once(rt, alloc, row, others) },
+    );
+    (a, b)
+}
