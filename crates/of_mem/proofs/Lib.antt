@@ -1,5 +1,7 @@
 pub mod Indexed
 pub mod Cells
+pub mod Eras
+pub mod Newest
 pub mod PlotPlaces
 pub mod Changes
 pub mod Heaps

@@ -1,6 +1,8 @@
 pub mod Meaning
 pub mod Pairs
 pub mod Indexed
+pub mod Eras
+pub mod Newest
 pub mod Numbers
 pub mod Pad
 pub mod Places

@@ -1,8 +1,8 @@
 -- Partial memory: what is known of each cell, what a batch wrote over it, and what a script wrote over both.
-use Rattle.std.specs.Prelude.{◌≡◌, ℕ, Result, MatchResult, zero, suc, List, [], ◌∷◌, Option, Some, None}
+use Rattle.std.specs.Prelude.{◌≡◌, ℕ, Result, MatchResult, List, [], ◌∷◌, Option, Some, None}
 use Rattle.std.proofs.Common.{get_or, set, replicate}
 use Rattle.of_mem.specs.declared.part.Need.{Need}
-use Rattle.of_mem.specs.Pairs.{Pairs, value_at, put, put_all}
+use Rattle.of_mem.specs.Pairs.{value_at, put, put_all}
 
 -- the writes of batch and script stand in order of first writing
 pub record Pad : Type 0 where
@@ -44,12 +44,3 @@ ReadsAt p a result =
 abbrev pub over : List (Option ℕ) → List (ℕ × ℕ) → List (Option ℕ)
 over known [] = known
 over known (e ∷ es) = set (over known es) e.0 (Some e.1)
-
--- what pairs say of the n cells from cell i on
-abbrev pub cells_from : ℕ → List (ℕ × ℕ) → ℕ → List (Option ℕ)
-cells_from zero es i = []
-cells_from (suc n) es i = value_at es i ∷ cells_from n es (suc i)
-
--- what pairs say of each cell below their room
-unfoldable pub cells_of : Pairs → List (Option ℕ)
-cells_of p = cells_from p.room p.entries 0

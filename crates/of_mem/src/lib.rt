@@ -5,6 +5,7 @@ mod cell_map;
 pub mod laws;
 mod part;
 mod plot;
+mod slots;
 mod work;
 
 pub use part::{Need, Part};

@@ -4,6 +4,7 @@ ghost use Rattle.std.specs.Prelude.{◌≡◌, ◌<◌, ◌≤◌, [], length, s
 ghost use Rattle.of_mem.specs.Pad.{unknown, learnt, wrote, kept, ReadsAt};
 
 use crate::cell_map::CellMap;
+use crate::slots::Slots;
 use std::alloc::{AllocError, Global};
 use std::marker::Model;
 
@@ -18,9 +19,11 @@ pub struct Need {
 /// script, each in order of first writing. Only `new` takes memory.
 #[derive(Drop)]
 pub struct Part {
-    known: CellMap,
+    known: Slots,
     batch: CellMap,
     script: CellMap,
+    /// What each cell holds, so that a read is one look-up.
+    newest: Slots,
 }
 
 impl Model for Part {
@@ -28,28 +31,31 @@ impl Model for Part {
 
     ghost Value = { Pad };
 
-    ghost use Rattle.std.specs.Prelude.{◌≡◌};
-    ghost use Rattle.of_mem.specs.Pad.{cells_of};
+    ghost use Rattle.std.specs.Prelude.{◌≡◌, length};
+    ghost use Rattle.of_mem.specs.Newest.{HasNewest};
 
-    ghost view = { λ p. record { known = cells_of p.known; batch = p.batch.entries; script = p.script.entries } };
+    ghost view = { λ p. record { known = p.known; batch = p.batch.entries; script = p.script.entries } };
 
-    ghost invariant = { λ p. (p.batch.room ≡ p.known.room) × (p.script.room ≡ p.known.room) };
+    ghost invariant = { λ p. (p.batch.room ≡ length p.known) × (p.script.room ≡ length p.known)
+        × HasNewest (record { known = p.known; batch = p.batch.entries; script = p.script.entries }) p.newest };
 }
 
-#[tactic(auto, using(crate::proofs::Cells::cell_laws), unfolding(crate::specs::Pad::newest, crate::specs::Pad::wrote))]
+#[tactic(auto, unfolding(crate::specs::Pad::newest, crate::specs::Pad::wrote))]
 impl Part {
     /// A memory of the cells below `cells` of which nothing is known. The error is that there is no
     /// memory.
     pub fn new(alloc: Global, cells: u32) -> Result<Self, AllocError>
         ensures { IfOk result (λ p. p ≡ unknown cells) }
     {
-        let known = CellMap::new(alloc, cells)?;
+        let known = Slots::new(alloc, cells)?;
         let batch = CellMap::new(alloc, cells)?;
         let script = CellMap::new(alloc, cells)?;
+        let newest = Slots::new(alloc, cells)?;
         Ok(Part {
             known,
             batch,
             script,
+            newest,
         })
     }
 
@@ -58,7 +64,9 @@ impl Part {
         requires { addr < length self.old.known }
         ensures { self.new ≡ learnt self.old addr value }
     {
-        self.known.put(addr, value);
+        self.known.set(addr, Some(value));
+        let over = self.script.get(addr).or(self.batch.get(addr));
+        self.newest.set(addr, over.or(Some(value)));
     }
 
     /// What a cell holds: the script's number, else the batch's, else the known one. The error
@@ -67,12 +75,7 @@ impl Part {
         requires { addr < length self.now.known }
         ensures { ReadsAt self.now addr result }
     {
-        match self
-            .script
-            .get(addr)
-            .or(self.batch.get(addr))
-            .or(self.known.get(addr))
-        {
+        match self.newest.get(addr) {
             Some(value) => Ok(value),
             None => Err(Need { addr }),
         }
@@ -86,6 +89,7 @@ impl Part {
         ensures batch { self.new.batch ≡ self.old.batch }
     {
         self.script.put(addr, value);
+        self.newest.set(addr, Some(value));
     }
 
     /// How many cells the script wrote.
@@ -120,6 +124,11 @@ impl Part {
     pub fn undo(&mut self)
         ensures { self.new ≡ record self.old { script = [] } }
     {
+        for i in 0..self.script.len() {
+            let (addr, _) = self.script.entry(i);
+            let under = self.batch.get(addr).or(self.known.get(addr));
+            self.newest.set(addr, under);
+        }
         self.script.clear();
     }
 
@@ -128,6 +137,7 @@ impl Part {
         ensures { self.new ≡ unknown (length self.old.known) }
     {
         self.known.clear();
+        self.newest.clear();
         self.batch.clear();
         self.script.clear();
     }
@@ -165,6 +175,24 @@ mod tests {
         assert_eq!(rt; part.read(7), Ok(3));
         part.clear();
         assert_eq!(rt; part.read(7), Err(Need { addr: 7 }));
+        Ok(())
+    }
+
+    #[test]
+    fn undo_shows_what_lay_under(rt: HostRuntime) -> Result<(), Fail> {
+        let mut part = Part::new(rt.alloc(), 100)?;
+        part.write(7, 1);
+        part.keep();
+        part.write(7, 2);
+        part.write(8, 3);
+        part.learn(7, 4);
+        part.learn(8, 5);
+        assert_eq!(rt; (part.read(7), part.read(8)), (Ok(2), Ok(3)));
+        part.undo();
+        assert_eq!(rt; (part.read(7), part.read(8)), (Ok(1), Ok(5)));
+        part.write(9, 6);
+        part.undo();
+        assert_eq!(rt; part.read(9), Err(Need { addr: 9 }));
         Ok(())
     }
 }

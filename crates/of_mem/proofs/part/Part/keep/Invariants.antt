@@ -1,11 +1,12 @@
-use Rattle.std.proofs.Common.{◌≡◌, take}
+use Rattle.std.proofs.Common.{◌≡◌, length, take}
 use Rattle.of_mem.specs.Pairs.{put_all}
 use Rattle.of_mem.proofs.part.Part.keep.Given as goal
 
 abbrev pub invariant-loop-i : goal.invariant-loop-i
 invariant-loop-i l = record {
   written : l.self-inside.batch.entries ≡ put_all l.initial.self-inside.batch.entries (take l.i l.initial.self-inside.script.entries);
-  batch : l.self-inside.batch.room ≡ l.initial.self-inside.known.room;
+  batch : l.self-inside.batch.room ≡ length l.initial.self-inside.known;
   script : l.self-inside.script ≡ l.initial.self-inside.script;
   known : l.self-inside.known ≡ l.initial.self-inside.known;
+  newest : l.self-inside.newest ≡ l.initial.self-inside.newest;
 }
