@@ -23,7 +23,7 @@ mod trying;
 use crate::place::{Op, Outcome, Place};
 use crate::ran::RanCall;
 use of_cell::{Shape, pack};
-use of_mem::{MOST_INSTRS, Part, RawReply, Work};
+use of_mem::{MOST_INSTRS, RawReply, Work, Workspace};
 use of_wset::WriteSet;
 use std::alloc::{AllocError, Global};
 use std::marker::Model;
@@ -48,7 +48,7 @@ pub struct Machine<W: Work> {
     seq: u32,
     owner: u32,
     /// What is known of the data cells; in a scan the log lies over it as the batch.
-    part: Part,
+    part: Workspace<W>,
     log: WriteSet,
     /// The log words that a helper has loaded.
     copy: Vec<u32>,
@@ -102,7 +102,7 @@ impl<W: Work> Machine<W> {
         ensures idle { IfOk result (λ m. m.call ≡ idle (setup W.meaning m) caller made) }
     {
         let op = Vec::with_capacity(alloc, MOST_INSTRS)?;
-        let part = Part::new(alloc, shape.cells)?;
+        let part = Workspace::new(alloc, shape.cells)?;
         let log = WriteSet::new(alloc, shape.cells)?;
         let copy = Vec::with_capacity(alloc, 2 * shape.cells as usize + 1)?;
         let script = Vec::with_capacity(alloc, MOST_INSTRS)?;

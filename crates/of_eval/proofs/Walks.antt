@@ -5,7 +5,8 @@ use Rattle.std.proofs.lemmas.Option.{none-some}
 use Rattle.std.proofs.lemmas.List.{drop_more, take_more_set, take_all, get_or-drop, length-take-le}
 use Rattle.of_mem.specs.declared.work.RawReply.{RawReply}
 use Rattle.of_mem.specs.Pad.{Pad, newest}
-use Rattle.of_mem.specs.Places.{register_at}
+use Rattle.of_mem.specs.Places.{register_at, cells_at}
+use Rattle.of_mem.specs.declared.plot.TheConstants.{MOST_BLOCKS}
 use Rattle.of_mem.specs.Programs.{Program, Lacks, Ends, run, answer, after}
 use Rattle.of_mem.specs.declared.plot.Plot.{Plot}
 use Rattle.of_mem.specs.Numbers.{IsNumber}
@@ -24,7 +25,7 @@ use Rattle.of_store.specs.Replies.{IsSmall}
 use Rattle.of_store.proofs.Keeps.{Leaves}
 use Rattle.of_store.proofs.Values.{value_of}
 use Rattle.of_eval.specs.Shapes.{cells_of}
-use Rattle.of_eval.specs.Stored.{plain, HasState}
+use Rattle.of_eval.specs.Stopped.{IsOfStore}
 use Rattle.of_eval.specs.Words.{word_effect, reply_to}
 use Rattle.of_eval.specs.ScriptPrograms.{Answer, word_program, go_on, words_program, script_program}
 use Rattle.of_eval.specs.Calls.{run_word}
@@ -37,23 +38,6 @@ pub register_small : (plot : Plot) (p : Pad) (r n a : ℕ) → HasStore plot p �
 register_small plot p r n a h l at e =
     let is : h.memory (register_at (base plot) r) ≡ n = h.part (register_at (base plot) r) n (subst (λ (x : ℕ). newest p x ≡ Some n) at e) in
     let k = (h.stands.holds.registers r l).1 in omega (arith, is, k)
-
--- the instruction of the only word of a script
-pub decoded : (script : List Instr) (w : ℕ) (i : Instr) → map instr_word script ≡ w ∷ [] → slice_get script 0 ≡ Some i → InRange i → Some i ≡ instr_at w
-decoded [] w i e at h = absurd cc
-decoded (x ∷ xs) w i e at h =
-    let same : x ≡ i = some_is x i at in
-    let first : instr_word x ≡ w = cc in
-    sym (ap instr_at (sym first ∙ ap instr_word same) ∙ instr_at_again i h)
-
-no_instr : (w : ℕ) (o : Option Instr) → instr_at w ≡ o → ((script : List Instr) → IsScript script → map instr_word script ≡ w ∷ [] → ◌≡◌ {A = Option (List Instr)} None (Some script)) → ◌≡◌ {A = Option Instr} None o
-no_instr w None e h = refl
-no_instr w (Some i) e h =
-    let u = instr_at_takes w i e in
-    absurd (none-some (i ∷ []) (h (i ∷ []) (record { some = omega arith; few = omega arith; in_range = (u.range, tt) }) (ap (λ (x : ℕ). x ∷ []) u.word)))
-
-pub not_decoded : (w : ℕ) → ((script : List Instr) → IsScript script → map instr_word script ≡ w ∷ [] → ◌≡◌ {A = Option (List Instr)} None (Some script)) → None ≡ instr_at w
-not_decoded w h = no_instr w (instr_at w) refl h
 
 module _ (o blocks : ℕ) where
   pub script_is : (op : List ℕ) (p : Pad) → length op ≤ MOST_INSTRS → run (script_program o blocks op) p ≡ run (words_program o blocks (length op) [] op) p
@@ -75,22 +59,19 @@ module _ (o blocks : ℕ) where
     pub ran_lacks : (a : ℕ) → run (word_program o blocks (get_or op i 0)) p ≡ Lacks a → run (words_program o blocks n (take i vs) (drop i op)) p ≡ Lacks a
     ran_lacks a e = opened ∙ run_then_needs (word_program o blocks (get_or op i 0)) next p a e
 
-module _ (plot : Plot) (w : ℕ) (p q : Pad) (v : Option ℕ) where
-  by_effect : (m : ℕ → ℕ) (e : Effect) → length q.known ≡ size plot → Gives (base plot) plot.blocks e (answer (run_word plot w) m) (after (run_word plot w) m) → Leaves e → IsSmall (value_of e) → Ended (run_word plot w) p m (Ok v) q → HasState plot q × IsSmall v
-  by_effect m (Ok x) fits g l k d =
+module _ (o blocks : ℕ) (few : blocks ≤ MOST_BLOCKS) (w : ℕ) (p q : Pad) (v : Option ℕ) where
+  by_effect : (m : ℕ → ℕ) (e : Effect) → Gives o blocks e (answer (word_program o blocks w) m) (after (word_program o blocks w) m) → Leaves e → IsSmall (value_of e) → Ended (word_program o blocks w) p m (Ok v) q → IsOfStore o blocks q × IsSmall v
+  by_effect m (Ok x) g l k d =
       let same : v ≡ x.1 = (let both : ◌≡◌ {A = Answer} (Ok v) (Ok x.1) = d.answers ∙ g.0 in cc) in
-      (record { fits = fits; memory = after (run_word plot w) m; state = x.0; part = d.part; stored = record { state = l; stands = g.1 } }, subst IsSmall (sym same) k)
-  by_effect m (Err cause) fits g l k d = absurd (let both : ◌≡◌ {A = Answer} (Ok v) (Err cause) = d.answers ∙ g in cc)
+      ((after (word_program o blocks w) m, (x.0, record { state = l; stands = g.1 }), d.part), subst IsSmall (sym same) k)
+  by_effect m (Err cause) g l k d = absurd (let both : ◌≡◌ {A = Answer} (Ok v) (Err cause) = d.answers ∙ g in cc)
 
   -- what a word leaves stands for a store, and its value is a number of one
-  pub word_leaves : HasState plot p → RunsOn (run_word plot w) p q (Ok (Ok v)) → HasState plot q × IsSmall v
+  pub word_leaves : IsOfStore o blocks p → run (word_program o blocks w) p ≡ Ends (Ok v) q → IsOfStore o blocks q × IsSmall v
   word_leaves h e =
-      let a = word_acts (base plot) plot.blocks plot.few_blocks h.memory h.state h.stored w (instr_at w) refl in
-      by_effect h.memory (word_effect h.state w) (ap length e.known ∙ h.fits) a.1 (instr_leaves h.state w (instr_at w) refl h.stored.state) (instr_small h.state w (instr_at w) refl h.stored.state)
-      (run_ended (base plot) (size plot) (run_word plot w) p q h.memory (Ok v) h.part a.0 e.walk)
-
-pub has_store : (plot : Plot) (p : Pad) → HasState plot p → HasStore plot p
-has_store plot p h = record { fits = h.fits; memory = h.memory; store = plain h.state; part = h.part; stands = h.stored.stands }
+      let a = word_acts o blocks few h.0 h.1.0 h.1.1 w (instr_at w) refl in
+      by_effect h.0 (word_effect h.1.0 w) a.1 (instr_leaves h.1.0 w (instr_at w) refl h.1.1.state) (instr_small h.1.0 w (instr_at w) refl h.1.1.state)
+      (run_ended o (cells_at o blocks) (word_program o blocks w) p q h.0 (Ok v) h.2 a.0 e)
 
 -- values with none from place n on are the first n values, filled up
 filled : (vs : List (Option ℕ)) (n : ℕ) → length vs ≡ MOST_INSTRS → n ≤ MOST_INSTRS → ((k : ℕ) → n ≤ k → get_or vs k None ≡ None) → take n vs ++ replicate (MOST_INSTRS - length (take n vs)) None ≡ vs

@@ -18,3 +18,4 @@ pub mod Record
 pub mod Faults
 pub mod Walking
 pub mod Reported
+pub mod Stopped

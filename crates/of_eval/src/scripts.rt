@@ -6,7 +6,7 @@ ghost use Rattle.of_mem.specs.declared.plot.TheConstants.{MOST_BLOCKS};
 
 use crate::reply::reply_cells;
 use crate::walk::run_words;
-use of_mem::{MOST_INSTRS, Need, Part, Plot, RawReply, Work};
+use of_mem::{Keeps, Kept, MOST_INSTRS, Need, Part, Plot, RawReply, Work};
 use of_script::from_words;
 
 /// What runs scripts on cells: so many callers, 1 to `MOST_CALLERS`, and room for so
@@ -36,6 +36,16 @@ impl Scripts {
     }
 }
 
+impl Keeps for Scripts {
+    ghost use Rattle.of_eval.specs.Stopped.{HoldsScript, holds_nothing, holds_learnt};
+
+    ghost holds = { HoldsScript };
+
+    ghost nothing = { holds_nothing };
+
+    ghost learns = { holds_learnt };
+}
+
 impl Work for Scripts {
     ghost use Rattle.of_eval.specs.Scripts.{cells_in, LawfulCells, scripts_meaning};
     ghost use Rattle.of_eval.specs.SoundScripts.{scripts_fit, scripts_sound};
@@ -56,8 +66,14 @@ impl Work for Scripts {
         self.plot().cells()
     }
 
-    fn run(&self, part: &mut Part, op: &[u64], out: &mut RawReply) -> Result<(), Need> {
-        match run_words(&self.plot(), part, op) {
+    fn run_on(
+        &self,
+        part: &mut Part,
+        kept: &mut Kept,
+        op: &[u64],
+        out: &mut RawReply,
+    ) -> Result<(), Need> {
+        match run_words(&self.plot(), part, kept, op) {
             Ok(reply) => {
                 if reply.abort.is_some() {
                     part.undo();

@@ -1,29 +1,19 @@
 //! One instruction over cells.
 
-ghost use Rattle.std.specs.Prelude.{◌≡◌, IfSome};
+ghost use Rattle.std.specs.Prelude.{◌≡◌};
 ghost use Rattle.of_mem.specs.Calls.{RunsOn, HasStore};
 ghost use Rattle.of_mem.specs.Programs.{Done};
 ghost use Rattle.of_script.specs.Language.{InRange};
-ghost use Rattle.of_script.specs.Reading.{instr_at};
 ghost use Rattle.of_script.specs.declared.instr.Instr.TheVariants.{Load, Store, Add, Sub, Get, Put as PutAt, Del, Need as Needs, Push, Pop, Len, Count, First, Next, DropBelow};
 ghost use Rattle.of_eval.specs.ScriptPrograms.{need_answers};
 ghost use Rattle.of_eval.specs.Calls.{step, run_word};
 
 use of_map::Put;
 use of_mem::{Need, Part, Plot};
-use of_script::{Cause, GREATEST, Instr, from_words};
+use of_script::{Cause, GREATEST, Instr, from_word};
 
 /// A number or none, or the cause for which the script aborts.
 pub(crate) type Answer = Result<Option<u32>, Cause>;
-
-/// The instruction whose word it is.
-fn decode(word: u64) -> Option<Instr>
-    ensures value { result ≡ instr_at word }
-    ensures range { IfSome result InRange }
-{
-    let script = from_words(&[word])?;
-    Some(script.at(0))
-}
 
 /// Runs one word, which aborts where it is no instruction. The error names a cell that is read and
 /// isn't known.
@@ -31,7 +21,7 @@ pub(crate) fn run_word(plot: &Plot, part: &mut Part, word: u64) -> Result<Answer
     requires { HasStore plot.now part.old }
     ensures { RunsOn (run_word plot.now word) part.old part.new result }
 {
-    match decode(word) {
+    match from_word(word) {
         None => Ok(Err(Cause::BadOp)),
         Some(instr) => step(plot, part, instr),
     }

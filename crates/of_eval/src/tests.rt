@@ -2,7 +2,7 @@
 
 use crate::reply::{reply_cells, reply_of};
 use crate::scripts::Scripts;
-use of_mem::{Need, Part, RawReply, Work};
+use of_mem::{Need, RawReply, Work, Workspace};
 use of_script::{Abort, Cause, MOST_INSTRS, Reply};
 use std::test::Fail;
 
@@ -56,7 +56,7 @@ fn a_run_asks_for_what_it_reads(rt: HostRuntime) -> Result<(), Fail> {
         callers: 1,
         blocks: 1,
     };
-    let mut part = Part::new(rt.alloc(), scripts.cells())?;
+    let mut space = Workspace::new(rt.alloc(), scripts.cells())?;
     let mut out = RawReply {
         shape: 0,
         values: [0; MOST_INSTRS],
@@ -64,9 +64,9 @@ fn a_run_asks_for_what_it_reads(rt: HostRuntime) -> Result<(), Fail> {
     // put 5 7
     let put = [4_611_686_029_164_806_151];
     assert_eq!(rt;
-        scripts.run(&mut part, &put, &mut out),
+        scripts.run(&mut space, &put, &mut out),
         Err(Need { addr: 42 })
     );
-    assert_eq!(rt; part.pending_len(), 0);
+    assert_eq!(rt; space.pending_len(), 0);
     Ok(())
 }

@@ -14,3 +14,4 @@ pub mod Overlaid
 pub mod Sounds
 pub mod Counts
 pub mod Calls
+pub mod Extended

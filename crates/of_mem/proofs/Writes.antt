@@ -1,11 +1,12 @@
 -- Writes as pairs: what pairs in order of first writing leave, and that no cell stands in them twice.
-use Rattle.std.proofs.Common.{◌≡◌, ◌≢◌, ℕ, zero, suc, ◌+◌, ◌-◌, ◌==◌, inl, inr, Bool, true, false, if◌then◌else◌, List, [], ◌∷◌, length, set, drop, refl, sym, ◌∙◌, ap, subst, arith, length-set}
+use Rattle.std.proofs.Common.{◌≡◌, ◌≢◌, ℕ, zero, suc, ◌+◌, ◌-◌, ◌<◌, ◌==◌, inl, inr, Bool, true, false, if◌then◌else◌, List, [], ◌∷◌, length, get_or, set, take, drop, refl, sym, ◌∙◌, ap, subst, arith, length-set}
 use Rattle.std.specs.List.{All, AllByRecursion as Each}
 use Rattle.std.proofs.lemmas.Bool.{cases_lt}
 use Rattle.std.proofs.lemmas.Bool.Decides.{nat_tests}
-use Rattle.std.proofs.lemmas.List.{set_comm, drop-set-lt, drop-set-add}
+use Rattle.std.proofs.lemmas.List.{set_comm, drop-set-lt, drop-set-add, take_more, length-take, get_or-take}
 use Rattle.of_mem.specs.Pairs.{put, put_all, IsAbsent}
 use Rattle.of_mem.specs.Meaning.{written, Once, SameFrom}
+use Rattle.of_mem.proofs.Indexed.{put-absent}
 
 absent_tail : (e : ℕ × ℕ) (es : List (ℕ × ℕ)) (a : ℕ) → IsAbsent (e ∷ es) a → IsAbsent es a
 absent_tail e es a h k l q = h (suc k) (omega arith) q
@@ -109,3 +110,14 @@ set_from low xs ys a v h = elim (cases_lt a low) [
 pub written_from : (low : ℕ) (xs ys : List ℕ) (es : List (ℕ × ℕ)) → SameFrom low xs ys → SameFrom low (written xs es) (written ys es)
 written_from low xs ys [] h = h
 written_from low xs ys (e ∷ es) h = written_from low (set xs e.0 e.1) (set ys e.0 e.1) es (set_from low xs ys e.0 e.1 h)
+
+-- the next of entries whose addresses differ is put last
+pub put_next : (es : List (ℕ × ℕ)) → Once es → (i : ℕ) → i < length es → put (take i es) (get_or es i (0, 0)).0 (get_or es i (0, 0)).1 ≡ take (i + 1) es
+put_next es once i l = put-absent (take i es) (get_or es i (0, 0)).0 (get_or es i (0, 0)).1 absent ∙ sym (take_more es i (0, 0) l)
+  where
+    absent : IsAbsent (take i es) (get_or es i (0, 0)).0
+    absent k m e =
+        let n : k < i = omega (arith, length-take i es) in
+        let same : get_or (take i es) k (0, 0) ≡ get_or es k (0, 0) = get_or-take i es k (0, 0) n in
+        let j : k ≡ i = once k i (omega arith) l (ap (λ (x : ℕ × ℕ). x.0) (sym same) ∙ e) in
+        omega arith

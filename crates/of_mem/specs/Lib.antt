@@ -5,6 +5,7 @@ pub mod Eras
 pub mod Newest
 pub mod Numbers
 pub mod Pad
+pub mod Remains
 pub mod Places
 pub mod Plots
 pub mod Programs

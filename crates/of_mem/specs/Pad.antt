@@ -40,6 +40,14 @@ abbrev pub ReadsAt : Pad → ℕ → Result ℕ Need → Type 0
 ReadsAt p a result =
     MatchResult result (λ v. newest p a ≡ Some v) (λ need. (newest p a ≡ None) × (need.addr ≡ a))
 
+-- more is known: each cell that was known has the same number
+abbrev pub Extends : List (Option ℕ) → List (Option ℕ) → Type 0
+Extends more known = (a v : ℕ) → get_or known a None ≡ Some v → get_or more a None ≡ Some v
+
+-- the same memory where this is known
+abbrev pub with_known : List (Option ℕ) → Pad → Pad
+with_known more p = record p { known = more }
+
 -- the known cells with these pairs over them; the first pair for a cell counts
 abbrev pub over : List (Option ℕ) → List (ℕ × ℕ) → List (Option ℕ)
 over known [] = known

@@ -103,4 +103,17 @@ impl CellMap {
     {
         self.entries.clear();
     }
+
+    /// Takes the entries of another one.
+    pub fn copy_from(&mut self, other: &CellMap)
+        requires { self.old.room ≡ other.now.room }
+        ensures entries { self.new.entries ≡ other.now.entries }
+        ensures room { self.new.room ≡ self.old.room }
+    {
+        self.clear();
+        for i in 0..other.len() {
+            let (addr, value) = other.entry(i);
+            self.put(addr, value);
+        }
+    }
 }

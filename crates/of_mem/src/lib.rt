@@ -2,12 +2,16 @@
 #![tactic(auto)]
 
 mod cell_map;
+mod kept;
 pub mod laws;
 mod part;
 mod plot;
 mod slots;
 mod work;
+mod workspace;
 
+pub use kept::{Keeps, Kept};
 pub use part::{Need, Part};
 pub use plot::{BUCKETS, MOST_BLOCKS, Plot, QUEUES, REGISTERS};
 pub use work::{LEAST_ABORT, MOST_CALLERS, MOST_DATA_CELLS, MOST_INSTRS, RawReply, Work};
+pub use workspace::Workspace;

@@ -141,6 +141,27 @@ impl Part {
         self.batch.clear();
         self.script.clear();
     }
+
+    /// Copies what the script wrote.
+    pub(crate) fn copy_script(&self, to: &mut CellMap)
+        requires { to.old.room ≡ length self.now.known }
+        ensures entries { to.new.entries ≡ self.now.script }
+        ensures room { to.new.room ≡ to.old.room }
+    {
+        to.copy_from(&self.script);
+    }
+
+    /// Lets these be what the script wrote.
+    pub(crate) fn set_script(&mut self, writes: &CellMap)
+        requires { writes.now.room ≡ length self.old.known }
+        ensures { self.new ≡ record self.old { script = writes.now.entries } }
+    {
+        self.undo();
+        for i in 0..writes.len() {
+            let (addr, value) = writes.entry(i);
+            self.write(addr, value);
+        }
+    }
 }
 
 #[cfg(test)]

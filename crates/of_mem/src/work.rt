@@ -5,7 +5,9 @@ ghost use Rattle.of_mem.specs.declared.work.TheConstants.{MOST_INSTRS};
 ghost use Rattle.of_mem.specs.Meaning.{Meaning, Sound, HasRoom, KnowsSome, RunsAsWalked};
 ghost use Rattle.of_mem.specs.Pad.{over};
 
+use crate::kept::{Keeps, Kept};
 use crate::part::{Need, Part};
+use crate::workspace::Workspace;
 
 /// The most words of an operation, and the most numbers of a reply.
 pub const MOST_INSTRS: usize = 16;
@@ -28,7 +30,7 @@ pub struct RawReply {
 
 /// What runs operations on cells: the first `callers * (MOST_INSTRS + 2)` cells are the callers'
 /// own, and no operation reads or writes them.
-pub trait Work: Copy + Send + Sync {
+pub trait Work: Keeps {
     /// How many callers there are.
     ghost many: { Self → ℕ };
 
@@ -51,9 +53,39 @@ pub trait Work: Copy + Send + Sync {
         ensures { result ≡ size self.now };
 
     /// Runs an operation of 1 to `MOST_INSTRS` words on what is known, the batch's writes over the
+    /// known cells, from where `kept` says that it stopped. Ok leaves the writes with the script
+    /// and the reply in `out`. The error names the cell that the run needs next; then the script
+    /// has no writes and `out` is as before.
+    fn run_on(
+        &self,
+        part: &mut Part,
+        kept: &mut Kept,
+        op: &[u64],
+        out: &mut RawReply,
+    ) -> Result<(), Need>
+        requires agrees { KnowsSome (lawful self.now) (size self.now)
+            (over part.old.known part.old.batch) }
+        requires cells { length part.old.known ≡ size self.now }
+        requires empty { part.old.script ≡ [] }
+        requires some { 1 ≤ length op.now }
+        requires few { length op.now ≤ MOST_INSTRS }
+        requires holds { Self.holds kept.old part.old }
+        requires room { kept.old.room ≡ length part.old.known }
+        ensures part { part.new ≡ record part.old { script = part.new.script } }
+        ensures walk { RunsAsWalked (meaning self.now) (over part.old.known part.old.batch)
+            op.now result part.new.script out.old out.new }
+        ensures holds { Self.holds kept.new part.old }
+        ensures room { kept.new.room ≡ kept.old.room };
+
+    /// Runs an operation of 1 to `MOST_INSTRS` words on what is known, the batch's writes over the
     /// known cells. Ok leaves the writes with the script and the reply in `out`. The error names
     /// the cell that the run needs next; then the script has no writes and `out` is as before.
-    fn run(&self, part: &mut Part, op: &[u64], out: &mut RawReply) -> Result<(), Need>
+    final fn run(
+        &self,
+        part: &mut Workspace<Self>,
+        op: &[u64],
+        out: &mut RawReply,
+    ) -> Result<(), Need>
         requires agrees { KnowsSome (lawful self.now) (size self.now)
             (over part.old.known part.old.batch) }
         requires cells { length part.old.known ≡ size self.now }
@@ -62,7 +94,10 @@ pub trait Work: Copy + Send + Sync {
         requires few { length op.now ≤ MOST_INSTRS }
         ensures part { part.new ≡ record part.old { script = part.new.script } }
         ensures walk { RunsAsWalked (meaning self.now) (over part.old.known part.old.batch)
-            op.now result part.new.script out.old out.new };
+            op.now result part.new.script out.old out.new }
+    {
+        self.run_on(&mut part.part, &mut part.kept, op, out)
+    }
 
     /// Whether an operation is known to write nothing.
     fn reads_only(&self, op: &[u64]) -> bool

@@ -8,7 +8,7 @@ ghost use Rattle.toy.specs.Register.{meaning_of, reply_of, reads_only};
 ghost use Rattle.toy.specs.Sound.{register_sound, register_fits};
 
 use of_cell::{payload_of, seq_of};
-use of_mem::{MOST_INSTRS, Need, Part, RawReply, Work};
+use of_mem::{Keeps, Kept, MOST_INSTRS, Need, Part, RawReply, Work};
 
 /// How many cells belong to each caller.
 const OWN_CELLS: u32 = MOST_INSTRS as u32 + 2;
@@ -40,6 +40,15 @@ fn reply(value: u32) -> RawReply
     }
 }
 
+/// It keeps nothing: whatever is there is so.
+impl Keeps for Register {
+    ghost holds = { λ k p. Unit {0} };
+
+    ghost nothing = { λ k p e. tt };
+
+    ghost learns = { λ k p a v e h. tt };
+}
+
 impl Work for Register {
     ghost many = { λ w. w.callers };
 
@@ -57,7 +66,13 @@ impl Work for Register {
         self.callers * OWN_CELLS + 1
     }
 
-    fn run(&self, part: &mut Part, op: &[u64], out: &mut RawReply) -> Result<(), Need> {
+    fn run_on(
+        &self,
+        part: &mut Part,
+        _kept: &mut Kept,
+        op: &[u64],
+        out: &mut RawReply,
+    ) -> Result<(), Need> {
         let register = self.callers * OWN_CELLS;
         let word = first_word(op);
         if seq_of(word) == 0 {

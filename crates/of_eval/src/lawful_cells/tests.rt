@@ -5,7 +5,7 @@
 
 use crate::lawful_cells::{LawErr, lawful};
 use crate::scripts::Scripts;
-use of_mem::{MOST_INSTRS, Part, Plot, RawReply, Work};
+use of_mem::{MOST_INSTRS, Plot, RawReply, Work, Workspace};
 use of_script::REGISTERS;
 use std::test::Fail;
 
@@ -96,9 +96,9 @@ fn a_run_leaves_a_store(rt: HostRuntime) -> Result<(), Fail> {
         callers: 1,
         blocks: 2,
     };
-    let mut part = Part::new(rt.alloc(), CELLS as u32)?;
+    let mut space = Workspace::new(rt.alloc(), CELLS as u32)?;
     for cell in 0..CELLS as u32 {
-        part.learn(cell, 0);
+        space.learn(cell, 0);
     }
     let mut out = RawReply {
         shape: 0,
@@ -106,10 +106,10 @@ fn a_run_leaves_a_store(rt: HostRuntime) -> Result<(), Fail> {
     };
     // put 5 7; push 1 9
     let words = [4_611_686_029_164_806_151, 242_665_652_233];
-    assert_eq!(rt; scripts.run(&mut part, &words, &mut out), Ok(()));
+    assert_eq!(rt; scripts.run(&mut space, &words, &mut out), Ok(()));
     let mut cells = [0; CELLS];
-    for i in 0..part.pending_len() {
-        let (cell, number) = part.pending(i);
+    for i in 0..space.pending_len() {
+        let (cell, number) = space.pending(i);
         if (cell as usize) < CELLS {
             cells[cell as usize] = number;
         }

@@ -9,7 +9,7 @@ pub run-requires-clause-agrees : goal.run-requires-clause-agrees
 run-requires-clause-agrees g c =
     let batch : c.self.inside.part.batch ≡ [] = c.self.invariant.room.reading (rw (← c.self.view_is) at c.requires.reading) in
     let a = rw (← c.self.view_is) at c.requires.agrees in
-    (a.0, a.1 ∙ sym c.self.invariant.fit.cells, a.2, rw batch a.3)
+    λ _ _. (a.0, a.1 ∙ sym c.self.invariant.fit.cells, a.2, rw batch a.3)
 
 pub invariant_of-self-in-Err : goal.invariant_of-self-in-Err
 invariant_of-self-in-Err g c =

@@ -22,7 +22,7 @@ run-requires-clause-agrees g c =
     let before : c.self.inside.part.batch ≡ log = i.room.scanning (rw (← c.self.view_is) at c.requires.scanning) in
     let all : over known c.self.inside.part.batch ≡ over known log = ap (over known) before in
     let a = rw (← c.self.view_is) at c.requires.agrees in
-    (a.0, a.1 ∙ sym i.fit.cells, a.2, rw all a.3)
+    λ _ _. (a.0, a.1 ∙ sym i.fit.cells, a.2, rw all a.3)
 
 pub invariant_of-self-in-Err : goal.invariant_of-self-in-Err
 invariant_of-self-in-Err g c =

@@ -5,7 +5,7 @@ use Rattle.of_core.proofs.Puts.{wset_put, put_all_take}
 use Rattle.of_core.proofs.machine.fill.collect.Goals as goal
 
 pub loop-i-preserved : goal.loop-i-preserved
-loop-i-preserved c =
+loop-i-preserved g c =
     let script : List (ℕ × ℕ) = c.args.part.now.script in
     let i : ℕ = c.loop-i.i in
     let here : i < length script = omega (arith, c.pending_len-i-end.ensures.value) in

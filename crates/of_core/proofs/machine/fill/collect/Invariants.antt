@@ -3,7 +3,7 @@ use Rattle.of_mem.specs.Pairs.{put_all}
 use Rattle.of_core.proofs.machine.fill.collect.Given as goal
 
 abbrev pub invariant-loop-i : goal.invariant-loop-i
-invariant-loop-i l = record {
+invariant-loop-i g l = record {
   entries : l.log.entries ≡ put_all l.initial.log.entries (take l.i l.initial.part.script);
   room : l.log.room ≡ l.initial.log.room;
   part : l.part ≡ l.initial.part;

@@ -6,7 +6,7 @@ use Rattle.of_core.proofs.Puts.{put_all_append, wrote_script}
 use Rattle.of_core.proofs.machine.fill.put_own.Goals as goal
 
 pub returns-clause-script : goal.returns-clause-script
-returns-clause-script c =
+returns-clause-script g c =
     let shape : ℕ × ℕ = (c.args.row + 1, c.args.raw.now.shape) in
     let ticket : ℕ × ℕ = (c.args.row, c.args.ticket) in
     let first = ap (λ (p : Pad). p.script) c.write.ensures.writes ∙ wrote_script c.put_reply.new.part (c.args.row + 1) c.args.raw.now.shape in

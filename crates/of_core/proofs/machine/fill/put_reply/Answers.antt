@@ -5,7 +5,7 @@ use Rattle.of_core.proofs.Puts.{put_listed, wrote_script}
 use Rattle.of_core.proofs.machine.fill.put_reply.Goals as goal
 
 pub loop-j-preserved : goal.loop-j-preserved
-loop-j-preserved c =
+loop-j-preserved g c =
     let j : ℕ = c.loop-j.j in
     let vs : List ℕ = c.args.raw.now.values in
     let here : j < length vs = omega arith in

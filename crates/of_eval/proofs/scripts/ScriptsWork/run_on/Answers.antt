@@ -5,8 +5,8 @@ use Rattle.of_mem.specs.Plots.{base}
 use Rattle.of_eval.specs.Scripts.{store_at}
 use Rattle.of_eval.specs.Shapes.{cells_of}
 use Rattle.of_eval.proofs.Overlay.{state_on, run_at, walk_gives, walk_needs, kept_when, dropped_when}
-use Rattle.of_eval.proofs.scripts.ScriptsWork.run.Goals as goal
-use Rattle.of_eval.proofs.scripts.ScriptsWork.run.Goals.{then-is_some, else-is_some}
+use Rattle.of_eval.proofs.scripts.ScriptsWork.run_on.Goals as goal
+use Rattle.of_eval.proofs.scripts.ScriptsWork.run_on.Goals.{then-is_some, else-is_some}
 
 pub run_words-requires-clause-stands : goal.run_words-requires-clause-stands
 run_words-requires-clause-stands c = state_on c.args.self.now c.args.part.now c.requires.agrees c.requires.cells c.requires.empty c.plot.result (λ i. base_of (c.plot.ensures.callers i) (c.plot.ensures.instrs i)) c.plot.ensures.blocks

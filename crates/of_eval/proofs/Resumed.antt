@@ -1,0 +1,81 @@
+-- A script goes on behind the words that have run, whatever else is known.
+use Rattle.std.proofs.Common.{◌≡◌, ℕ, zero, suc, ◌+◌, ◌<◌, ◌≤◌, refl, sym, ◌∙◌, ap, subst, arith, Option, None, Ok, List, [], length, get_or, set, take, drop, replicate, length-set}
+use Rattle.std.proofs.lemmas.List.{length-replicate}
+use Rattle.of_mem.specs.declared.plot.Plot.{Plot}
+use Rattle.of_mem.specs.declared.plot.TheConstants.{MOST_BLOCKS}
+use Rattle.of_mem.specs.Pad.{Pad, Extends, with_known}
+use Rattle.of_mem.specs.Places.{base_of}
+use Rattle.of_mem.specs.Plots.{base, size}
+use Rattle.of_mem.specs.Programs.{Ends, run}
+use Rattle.of_mem.specs.Calls.{HasStore}
+use Rattle.of_mem.specs.Remains.{Remains, begun, IsOf}
+use Rattle.of_mem.proofs.Extended.{ends_again}
+use Rattle.of_script.specs.declared.instr.TheConstants.{MOST_INSTRS}
+use Rattle.of_store.specs.Replies.{IsSmall}
+use Rattle.of_store.proofs.Values.{small_values, none_left}
+use Rattle.of_eval.specs.ScriptPrograms.{word_program, words_program, script_program}
+use Rattle.of_eval.specs.Stopped.{pad, IsOfStore, GoesOn, HoldsScript}
+use Rattle.of_eval.specs.Stored.{plain, HasState}
+use Rattle.of_eval.proofs.Walks.{script_is, ran_more, word_leaves}
+
+-- nothing has run yet
+pub begun_goes : (o blocks room callers n : ℕ) (words : List ℕ) (p : Pad) → GoesOn o blocks (begun room callers n words) p
+begun_goes o blocks room callers n words p = record {
+  runs = λ more e. refl;
+  stands = λ more e h. h;
+  width = length-replicate {A = Option ℕ} MOST_INSTRS None;
+  past = λ i l. none_there MOST_INSTRS i;
+  small = λ i. subst IsSmall (sym (none_there MOST_INSTRS i)) tt;
+}
+  where
+    none_there : (n i : ℕ) → get_or {A = Option ℕ} (replicate n None) i None ≡ None
+    none_there zero i = refl
+    none_there (suc n) zero = refl
+    none_there (suc n) (suc i) = none_there n i
+
+module _ (o blocks : ℕ) (few : blocks ≤ MOST_BLOCKS) (k : Remains) (p : Pad) (g : GoesOn o blocks k p) where
+  -- the next word in this memory, and in one where more is known
+  module _ (q : Pad) (v : Option ℕ) (e : run (word_program o blocks (get_or k.words k.done 0)) (pad p.known p.batch k.writes) ≡ Ends (Ok v) q) (same : q.batch ≡ p.batch) where
+    word_again : (more : List (Option ℕ)) → Extends more p.known → run (word_program o blocks (get_or k.words k.done 0)) (pad more p.batch k.writes) ≡ Ends (Ok v) (pad more p.batch q.script)
+    word_again more h = ends_again more (word_program o blocks (get_or k.words k.done 0)) (pad p.known p.batch k.writes) q (Ok v) h e ∙ ap (λ (es : List (ℕ × ℕ)). Ends (Ok v) (pad more es q.script)) same
+
+    -- one word more has run
+    pub goes_more : IsOfStore o blocks (pad p.known p.batch []) → k.done < length k.words → length k.words ≤ MOST_INSTRS
+        → GoesOn o blocks (record k { done = k.done + 1; values = set k.values k.done v; writes = q.script }) p
+    goes_more h l most = record {
+      runs = λ more x. g.runs more x ∙ ran_more o blocks (length k.words) k.words k.done l k.values (pad more p.batch k.writes) (pad more p.batch q.script) v (omega (arith, g.width, most, l)) (word_again more x);
+      stands = λ more x y. (word_leaves o blocks few (get_or k.words k.done 0) (pad more p.batch k.writes) (pad more p.batch q.script) v (g.stands more x y) (word_again more x)).0;
+      width = length-set k.values k.done v ∙ g.width;
+      past = none_left k.values k.done v g.past;
+      small = small_values k.values k.done v g.small (word_leaves o blocks few (get_or k.words k.done 0) (pad p.known p.batch k.writes) (pad p.known p.batch q.script) v (g.stands p.known (λ a w x. x) h) (word_again p.known (λ a w x. x))).1;
+    }
+
+  -- the script from its first word, in the memory in which the words have run
+  pub ran_so : p.script ≡ [] → (op : List ℕ) → k.words ≡ op → length op ≤ MOST_INSTRS → (i : ℕ) → k.done ≡ i → (q : Pad) → q ≡ pad p.known p.batch k.writes
+      → run (script_program o blocks op) p ≡ run (words_program o blocks (length op) (take i k.values) (drop i op)) q
+  ran_so none op is most i at q here =
+      script_is o blocks op p most
+      ∙ ap (λ (es : List (ℕ × ℕ)). run (words_program o blocks (length op) [] op) (pad p.known p.batch es)) none
+      ∙ subst (λ (ws : List ℕ). run (words_program o blocks (length ws) [] ws) (pad p.known p.batch []) ≡ run (words_program o blocks (length ws) (take k.done k.values) (drop k.done ws)) (pad p.known p.batch k.writes)) is (g.runs p.known (λ a w x. x))
+      ∙ ap (λ (j : ℕ). run (words_program o blocks (length op) (take j k.values) (drop j op)) (pad p.known p.batch k.writes)) at
+      ∙ ap (λ (x : Pad). run (words_program o blocks (length op) (take i k.values) (drop i op)) x) (sym here)
+
+pub of_store : (plot : Plot) (p : Pad) → HasState plot p → p.script ≡ [] → IsOfStore (base plot) plot.blocks (pad p.known p.batch [])
+of_store plot p h none = subst (λ (es : List (ℕ × ℕ)). IsOfStore (base plot) plot.blocks (pad p.known p.batch es)) none (h.memory, (h.state, h.stored), h.part)
+
+-- the memory in which the words have run stands for a store
+pub has_store : (plot : Plot) (k : Remains) (p q : Pad) → GoesOn (base plot) plot.blocks k p → HasState plot p → p.script ≡ [] → q ≡ pad p.known p.batch k.writes → HasStore plot q
+has_store plot k p q g h none here =
+    let s = g.stands p.known (λ a w x. x) (of_store plot p h none) in
+    subst (HasStore plot) (sym here) (record { fits = h.fits; memory = s.0; store = plain s.1.0; part = s.2; stands = s.1.1.stands })
+
+-- how the call reads and leaves what is kept
+module _ (plot : Plot) (k : Remains) (p : Pad) (words : List ℕ) (is : IsOf k plot.callers plot.blocks words) (instrs : plot.instrs ≡ MOST_INSTRS) where
+  at : base_of k.callers MOST_INSTRS ≡ base plot
+  at i = base_of (is.callers i) (sym instrs i)
+
+  pub goes_there : 1 ≤ length words → HoldsScript k p → GoesOn (base plot) plot.blocks k p
+  goes_there some h = subst (λ (b : ℕ). GoesOn (base plot) b k p) is.blocks (subst (λ (o : ℕ). GoesOn o k.blocks k p) at (h (omega (arith, some, ap length is.words))))
+
+  pub holds_so : GoesOn (base plot) plot.blocks k p → HoldsScript k p
+  holds_so g some = subst (λ (o : ℕ). GoesOn o k.blocks k p) (sym at) (subst (λ (b : ℕ). GoesOn (base plot) b k p) (sym is.blocks) g)

@@ -1,0 +1,47 @@
+-- What is kept of a script whose run lacked a cell.
+use Rattle.std.specs.Prelude.{◌≡◌, ℕ, ◌≤◌, List, [], length, take, drop, Option, None}
+use Rattle.std.proofs.Common.{get_or, arith, ap, subst}
+use Rattle.of_mem.specs.declared.work.TheConstants.{MOST_INSTRS}
+use Rattle.of_mem.specs.Pad.{Pad, Extends, learnt}
+use Rattle.of_mem.specs.Places.{base_of}
+use Rattle.of_mem.specs.Programs.{run, IsPartOf}
+use Rattle.of_mem.specs.Remains.{Remains}
+use Rattle.of_mem.proofs.Extended.{extends_learnt}
+use Rattle.of_store.specs.Replies.{IsSmall}
+use Rattle.of_eval.specs.ScriptPrograms.{words_program}
+use Rattle.of_eval.specs.Scripts.{StandsForSome}
+
+-- partial memory with these writes of a script
+abbrev pub pad : List (Option ℕ) → List (ℕ × ℕ) → List (ℕ × ℕ) → Pad
+pad known batch script = record { known = known; batch = batch; script = script }
+
+-- the partial memory is part of one that stands for some store
+abbrev pub IsOfStore : ℕ → ℕ → Pad → Type 0
+IsOfStore o blocks p = (m : ℕ → ℕ) × StandsForSome o blocks m × IsPartOf p m
+
+-- whatever else is known, the script goes on behind the words that have run, with what these answered and wrote
+pub record GoesOn (o blocks : ℕ) (k : Remains) (p : Pad) : Type 0 where
+  pub runs : (more : List (Option ℕ)) → Extends more p.known → run (words_program o blocks (length k.words) [] k.words) (pad more p.batch [])
+      ≡ run (words_program o blocks (length k.words) (take k.done k.values) (drop k.done k.words)) (pad more p.batch k.writes)
+  pub stands : (more : List (Option ℕ)) → Extends more p.known → IsOfStore o blocks (pad more p.batch []) → IsOfStore o blocks (pad more p.batch k.writes)
+  pub width : length k.values ≡ MOST_INSTRS
+  pub past : (i : ℕ) → k.done ≤ i → get_or k.values i None ≡ None
+  pub small : (i : ℕ) → IsSmall (get_or k.values i None)
+
+-- where a script is kept, it goes on so on the cells of the work that kept it
+abbrev pub HoldsScript : Remains → Pad → Type 0
+HoldsScript k p = 1 ≤ length k.words → GoesOn (base_of k.callers MOST_INSTRS) k.blocks k p
+
+pub holds_nothing : (k : Remains) (p : Pad) → k.words ≡ [] → HoldsScript k p
+holds_nothing k p e l = absurd (omega (arith, l, ap length e))
+
+pub holds_learnt : (k : Remains) (p : Pad) (a v : ℕ) → get_or p.known a None ≡ None → HoldsScript k p → HoldsScript k (learnt p a v)
+holds_learnt k p a v none h l =
+    let g = h l in
+    record {
+      runs = λ more e. g.runs more (extends_learnt more p.known a v none e);
+      stands = λ more e. g.stands more (extends_learnt more p.known a v none e);
+      width = g.width;
+      past = g.past;
+      small = g.small;
+    }

@@ -1,0 +1,116 @@
+//! Partial memory, and what a work keeps over it.
+
+ghost use Rattle.std.specs.Prelude.{◌≡◌, ◌<◌, ◌≤◌, [], length, slice_index_or, IfOk};
+ghost use Rattle.of_mem.specs.Pad.{unknown, learnt, wrote, kept, ReadsAt};
+
+use crate::kept::{Keeps, Kept};
+use crate::part::{Need, Part};
+use std::alloc::{AllocError, Global};
+use std::marker::{Model, PhantomData};
+
+/// Partial memory, and what a work keeps between two runs over it. A contract sees the memory
+/// alone, as that of `Part`. Only `new` takes memory.
+#[derive(Drop)]
+pub struct Workspace<W: Keeps> {
+    pub(crate) part: Part,
+    pub(crate) kept: Kept,
+    of: PhantomData<W>,
+}
+
+impl<W: Keeps> Model for Workspace<W> {
+    ghost use Rattle.of_mem.specs.Pad.{Pad};
+
+    ghost Value = { Pad };
+
+    ghost use Rattle.std.specs.Prelude.{◌≡◌, [], length};
+
+    ghost view = { λ s. s.part };
+
+    ghost invariant = { λ s. W.holds s.kept (record s.part { script = [] }) × (s.kept.room ≡ length s.part.known) };
+}
+
+impl<W: Keeps> Workspace<W> {
+    /// A memory of the cells below `cells` of which nothing is known. The error is that there is no
+    /// memory.
+    pub fn new(alloc: Global, cells: u32) -> Result<Self, AllocError>
+        ensures { IfOk result (λ p. p ≡ unknown cells) }
+    {
+        let part = Part::new(alloc, cells)?;
+        let kept = Kept::new(alloc, cells)?;
+        Ok(Workspace {
+            part,
+            kept,
+            of: PhantomData,
+        })
+    }
+
+    /// Makes a cell's number known. What was kept is forgotten where the cell had a number.
+    pub fn learn(&mut self, addr: u32, value: u32)
+        requires { addr < length self.old.known }
+        ensures { self.new ≡ learnt self.old addr value }
+    {
+        if self.part.read(addr).is_ok() {
+            self.kept.forget();
+        }
+        self.part.learn(addr, value);
+    }
+
+    /// What a cell holds: the script's number, else the batch's, else the known one. The error
+    /// names the cell where there is none.
+    pub fn read(&self, addr: u32) -> Result<u32, Need>
+        requires { addr < length self.now.known }
+        ensures { ReadsAt self.now addr result }
+    {
+        self.part.read(addr)
+    }
+
+    /// Writes a number for the script.
+    pub fn write(&mut self, addr: u32, value: u32)
+        requires { addr < length self.old.known }
+        ensures writes { self.new ≡ wrote self.old addr value }
+        ensures known { self.new.known ≡ self.old.known }
+        ensures batch { self.new.batch ≡ self.old.batch }
+    {
+        self.part.write(addr, value);
+    }
+
+    /// How many cells the script wrote.
+    pub fn pending_len(&self) -> u32
+        ensures value { result ≡ length self.now.script }
+        ensures few { length self.now.script ≤ length self.now.known }
+    {
+        self.part.pending_len()
+    }
+
+    /// A cell that the script wrote and its number, in order of first writing.
+    pub fn pending(&self, i: u32) -> (u32, u32)
+        requires { i < length self.now.script }
+        ensures value { result ≡ slice_index_or self.now.script i (0, 0) }
+        ensures below { result.0 < length self.now.known }
+    {
+        self.part.pending(i)
+    }
+
+    /// Hands what the script wrote to the batch.
+    pub fn keep(&mut self)
+        ensures { self.new ≡ kept self.old }
+    {
+        self.kept.forget();
+        self.part.keep();
+    }
+
+    /// Forgets what the script wrote.
+    pub fn undo(&mut self)
+        ensures { self.new ≡ record self.old { script = [] } }
+    {
+        self.part.undo();
+    }
+
+    /// Forgets everything.
+    pub fn clear(&mut self)
+        ensures { self.new ≡ unknown (length self.old.known) }
+    {
+        self.kept.forget();
+        self.part.clear();
+    }
+}
