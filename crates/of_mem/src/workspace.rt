@@ -114,3 +114,63 @@ impl<W: Keeps> Workspace<W> {
         self.part.clear();
     }
 }
+
+#[cfg(test)]
+mod tests {
+    use crate::kept::Keeps;
+    use crate::part::Need;
+    use crate::workspace::Workspace;
+    use std::test::Fail;
+
+    /// Of which anything may be kept.
+    #[derive(Clone, Copy)]
+    struct Any;
+
+    impl Keeps for Any {
+        ghost holds = { λ k p. Unit {0} };
+
+        ghost nothing = { λ k p e. tt };
+
+        ghost learns = { λ k p a v e h. tt };
+    }
+
+    #[test]
+    fn is_a_memory(rt: HostRuntime) -> Result<(), Fail> {
+        let mut space: Workspace<Any> = Workspace::new(rt.alloc(), 100)?;
+        assert_eq!(rt; space.read(2), Err(Need { addr: 2 }));
+        space.learn(2, 9);
+        space.write(2, 1);
+        assert_eq!(rt; space.read(2), Ok(1));
+        space.undo();
+        assert_eq!(rt; space.read(2), Ok(9));
+        space.write(7, 3);
+        assert_eq!(rt; space.pending_len(), 1);
+        assert_eq!(rt; space.pending(0), (7, 3));
+        space.keep();
+        assert_eq!(rt; space.read(7), Ok(3));
+        space.clear();
+        assert_eq!(rt; space.read(7), Err(Need { addr: 7 }));
+        Ok(())
+    }
+
+    #[test]
+    fn a_cell_that_was_lacking_forgets_nothing(rt: HostRuntime) -> Result<(), Fail> {
+        let words = [5, 6];
+        let mut space: Workspace<Any> = Workspace::new(rt.alloc(), 100)?;
+        space.write(7, 3);
+        space.kept.begin(1, 2, words.as_slice());
+        space.kept.advance(Some(4), &space.part);
+        space.undo();
+        space.learn(2, 9);
+        assert!(rt; space.kept.is_of(1, 2, words.as_slice()));
+        assert!(rt; !space.kept.is_of(2, 2, words.as_slice()));
+        assert_eq!(rt; space.kept.done(), 1);
+        assert_eq!(rt; space.kept.values()[0], Some(4));
+        space.kept.restore(&mut space.part);
+        assert_eq!(rt; space.read(7), Ok(3));
+        space.undo();
+        space.learn(2, 8);
+        assert!(rt; !space.kept.is_of(1, 2, words.as_slice()));
+        Ok(())
+    }
+}

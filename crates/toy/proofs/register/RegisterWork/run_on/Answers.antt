@@ -4,7 +4,7 @@ use Rattle.of_mem.specs.declared.work.TheConstants.{MOST_INSTRS}
 use Rattle.of_mem.specs.Pad.{Pad, over}
 use Rattle.toy.specs.Register.{reads_only}
 use Rattle.toy.proofs.Walks.{over_newest, wrote_first, is_read, is_write}
-use Rattle.toy.proofs.register.RegisterWork.run.Goals as goal
+use Rattle.toy.proofs.register.RegisterWork.run_on.Goals as goal
 
 pub returns-in-Ok-clause-walk : goal.returns-in-Ok-clause-walk
 returns-in-Ok-clause-walk c =
