@@ -19,21 +19,43 @@ evict 0
 end
 ";
 
+// An image without cells, and a plan of one call that goes on from it.
+const LIFE: &str = "\
+onefile image 2
+callers 1
+blocks 0
+end
+onefile plan 1
+callers 1
+blocks 0
+script 0 store 3 7; add 3 1
+end
+";
+
+// Each command that reads a plan and runs its callers, with what it reads.
+const READERS: [(&str, &str); 4] = [
+    ("serial", PLAN),
+    ("play", PLAN),
+    ("run", PLAN),
+    ("continue", LIFE),
+];
+
 // How many bytes a read gives and a write takes at most.
 const PIECE: usize = 16;
 
 // More reads and writes than any of these calls makes.
 const MOST_CALLS: u64 = 1000;
 
-// The status of the words over the plan, and what was written, where the source and the sink fail at calls of these numbers.
+// The status of the words over this input, and what was written, where the source and the sink fail at calls of these numbers.
 fn told<R: Threads + Sync + AllocGlobal>(
     rt: &R,
     words: &[&str],
+    text: &str,
     reads: &[u64],
     writes: &[u64],
 ) -> Result<(u8, Vec<u8>), Fail> {
     let alloc = rt.alloc();
-    let input = Vec::from_slice(alloc, PLAN.as_bytes())?;
+    let input = Vec::from_slice(alloc, text.as_bytes())?;
     let mut source = MemSource::new(input, PIECE, Vec::from_slice(alloc, reads)?);
     let mut sink = MemSink::new(alloc, 1000, PIECE, Vec::from_slice(alloc, writes)?)?;
     let status = answer(rt, words, &mut source, &mut sink)?;
@@ -44,11 +66,12 @@ fn told<R: Threads + Sync + AllocGlobal>(
 fn each_read_fails<R: Abort + Threads + Sync + AllocGlobal>(
     rt: &R,
     words: &[&str],
+    input: &str,
 ) -> Result<(), Fail> {
     for number in 0..MOST_CALLS {
-        let (status, text) = told(rt, words, &[number], &[])?;
+        let (status, text) = told(rt, words, input, &[number], &[])?;
         if status == status::DONE {
-            assert!(rt; number > PLAN.len() as u64 / PIECE as u64, "{number}");
+            assert!(rt; number > input.len() as u64 / PIECE as u64, "{number}");
             return Ok(());
         }
         assert_eq!(rt; status, status::READ_FAULT, "{number}");
@@ -65,11 +88,12 @@ fn each_read_fails<R: Abort + Threads + Sync + AllocGlobal>(
 fn each_write_fails<R: Abort + Threads + Sync + AllocGlobal>(
     rt: &R,
     words: &[&str],
+    input: &str,
 ) -> Result<(), Fail> {
-    let (done, whole) = told(rt, words, &[], &[])?;
+    let (done, whole) = told(rt, words, input, &[], &[])?;
     assert_eq!(rt; done, status::DONE);
     for number in 0..MOST_CALLS {
-        let (status, text) = told(rt, words, &[], &[number])?;
+        let (status, text) = told(rt, words, input, &[], &[number])?;
         if status == status::DONE {
             assert_eq!(rt; text.as_slice(), whole.as_slice(), "{number}");
             return Ok(());
@@ -83,16 +107,16 @@ fn each_write_fails<R: Abort + Threads + Sync + AllocGlobal>(
 
 #[test]
 fn reads_fail(rt: HostRuntime) -> Result<(), Fail> {
-    for word in ["serial", "play", "run"] {
-        each_read_fails(&rt, &[word])?;
+    for (word, input) in READERS {
+        each_read_fails(&rt, &[word], input)?;
     }
     Ok(())
 }
 
 #[test]
 fn writes_fail(rt: HostRuntime) -> Result<(), Fail> {
-    for word in ["serial", "play", "run"] {
-        each_write_fails(&rt, &[word])?;
+    for (word, input) in READERS {
+        each_write_fails(&rt, &[word], input)?;
     }
-    each_write_fails(&rt, &["load", "2", "3"])
+    each_write_fails(&rt, &["load", "2", "3"], "")
 }
