@@ -58,12 +58,20 @@ module _ (w : Scripts) where
         ∙ transfers_keep s t.0 h.lawful.1.state.registers t.1 t.2
         ∙ ap sum (sym (registers_are xs s h.size h.lawful.1))
 
--- what the store holds for which the cells of a durable row stand
-pub store_holds : (w : Scripts) (p : Plot) (row xs : List ℕ) (s : State) → p.callers ≡ w.callers → p.instrs ≡ MOST_INSTRS → p.blocks ≡ w.blocks
-    → xs ≡ map pay (slice_range row (data_cell w.callers 0) (data_cell w.callers 0 + cells_in w)) → length row ≡ durable_cells w.callers (cells_in w) → CellsStandFor p xs s → sum s.registers ≡ money_in w row
-store_holds w p row xs s callers instrs blocks is whole h =
+-- the numbers of a durable row's data cells stand for the store that a plot's cells with these numbers stand for
+pub store_stands : (w : Scripts) (p : Plot) (row xs : List ℕ) (s : State) → p.callers ≡ w.callers → p.instrs ≡ MOST_INSTRS → p.blocks ≡ w.blocks
+    → xs ≡ map pay (slice_range row (data_cell w.callers 0) (data_cell w.callers 0 + cells_in w)) → CellsStandFor p xs s
+    → IsStored (store_at w) w.blocks (memory (map pay (slice_range row (data_cell w.callers 0) (data_cell w.callers 0 + cells_in w)))) s
+store_stands w p row xs s callers instrs blocks is h =
+    subst (λ (k : ℕ × ℕ × ℕ × List ℕ). IsStored (base_of k.0 k.1) k.2 (memory k.3) s) (λ i. (callers i, instrs i, blocks i, is i)) h.stored
+
+-- and it holds what the accounts hold in the row
+pub store_holds : (w : Scripts) (row : List ℕ) (s : State) → length row ≡ durable_cells w.callers (cells_in w)
+    → IsStored (store_at w) w.blocks (memory (map pay (slice_range row (data_cell w.callers 0) (data_cell w.callers 0 + cells_in w)))) s
+    → sum s.registers ≡ money_in w row
+store_holds w row s whole h =
     let a : ℕ = data_cell w.callers 0 in
     let same : a + cells_in w - a ≡ cells_in w = omega arith in
-    let long : length xs ≡ cells_in w = ap length is ∙ length-map (slice_range row a (a + cells_in w)) pay ∙ length-take-le (a + cells_in w - a) (drop a row) (omega (arith, length-drop a row, whole)) ∙ same in
-    ap sum (sym (registers_are w xs s long (subst (λ (k : ℕ × ℕ × ℕ). IsStored (base_of k.0 k.1) k.2 (memory xs) s) (λ i. (callers i, instrs i, blocks i)) h.stored)))
-    ∙ ap (λ ys. sum (take REGISTERS (drop (store_at w) ys))) is
+    let xs : List ℕ = map pay (slice_range row a (a + cells_in w)) in
+    let long : length xs ≡ cells_in w = length-map (slice_range row a (a + cells_in w)) pay ∙ length-take-le (a + cells_in w - a) (drop a row) (omega (arith, length-drop a row, whole)) ∙ same in
+    ap sum (sym (registers_are w xs s long h))

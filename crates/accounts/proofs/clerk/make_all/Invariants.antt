@@ -6,5 +6,5 @@ abbrev pub invariant-loop-i : goal.invariant-loop-i
 invariant-loop-i g l = record {
   clerk : IsClerk l.row l.clerk;
   number : l.clerk.number ≡ l.initial.clerk.number;
-  to_do : l.clerk.to_do ≡ l.initial.clerk.to_do;
+  job : l.clerk.job ≡ l.initial.clerk.job;
 }
