@@ -1,28 +1,23 @@
 -- What the data cells say of the accounts, and what operations and batches of them do.
-use Rattle.std.proofs.Common.{◌≡◌, ℕ, ◌+◌, ◌-◌, ◌*◌, ◌<◌, ◌≤◌, refl, sym, ◌∙◌, ap, subst, arith, List, [], ◌∷◌, length, get_or, take, drop, map}
+use Rattle.std.proofs.Common.{◌≡◌, ℕ, ◌+◌, ◌-◌, ◌<◌, ◌≤◌, sym, ◌∙◌, ap, subst, arith, List, length, take, drop, map}
 use Rattle.std.specs.Prelude.{sum, slice_range}
 use Rattle.of_cell.specs.Words.{pay}
 use Rattle.of_cell.specs.Cells.{data_cell, durable_cells}
 use Rattle.of_mem.specs.declared.plot.Plot.{Plot}
 use Rattle.of_mem.specs.Places.{base_of}
 use Rattle.of_eval.specs.Walking.{CellsStandFor}
-use Rattle.std.specs.List.{All}
 use Rattle.std.proofs.lemmas.List.{length-map, ext_get_or, get_or-take, get_or-drop, length-take-le, length-drop}
-use Rattle.of_mem.specs.Meaning.{Meaning, Sound, SameFrom}
+use Rattle.of_mem.specs.Meaning.{SameFrom}
 use Rattle.of_mem.specs.ProgramWork.{memory}
-use Rattle.of_mem.specs.Places.{register_at}
-use Rattle.of_script.specs.declared.instr.Instr.{Instr}
 use Rattle.of_script.specs.declared.instr.TheConstants.{REGISTERS, MOST_INSTRS}
 use Rattle.of_script.specs.Language.{instr_word}
-use Rattle.of_store.specs.State.{State, run}
+use Rattle.of_store.specs.State.{State}
 use Rattle.of_eval.specs.declared.scripts.Scripts.{Scripts}
 use Rattle.of_eval.specs.Means.{Does, MeansWords, WordsMeanScript}
 use Rattle.of_eval.specs.Stored.{IsStored}
 use Rattle.of_eval.specs.Scripts.{store_at, cells_in, LawfulCells, scripts_meaning}
 use Rattle.of_eval.specs.SoundScripts.{scripts_sound}
 use Rattle.of_eval.specs.Words.{run_words}
-use Rattle.of_core.specs.Machine.{Call}
-use Rattle.of_core.specs.History.{after_calls}
 use Rattle.accounts.specs.Money.{money, money_in, IsTransfer}
 use Rattle.accounts.proofs.Balanced.{transfers_keep}
 

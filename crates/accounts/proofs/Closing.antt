@@ -1,5 +1,5 @@
 -- The durable words of a closed row, and where a row of scripts starts and ends.
-use Rattle.std.proofs.Common.{◌≡◌, ℕ, ◌+◌, ◌-◌, ◌*◌, ◌<◌, ◌≤◌, refl, sym, ◌∙◌, ap, subst, arith, List, ◌++◌, length, get_or, take, drop, map, length-take-le}
+use Rattle.std.proofs.Common.{◌≡◌, ℕ, ◌+◌, ◌-◌, sym, ◌∙◌, ap, subst, arith, List, ◌++◌, length, get_or, take, drop, map, length-take-le}
 use Rattle.std.specs.Prelude.{slice_range}
 use Rattle.std.proofs.lemmas.List.{get_or-take, get_or-drop, length-drop, take_at}
 use Rattle.of_cell.specs.Words.{pay}

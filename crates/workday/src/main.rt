@@ -2,8 +2,9 @@
 #![tactic(auto)]
 
 ghost use Rattle.std.specs.Prelude.{◌≡◌, IfOk, sum};
+ghost use Rattle.accounts.specs.Books.{AreBooks, Hold};
 
-use accounts::{BankErr, Books, CLERKS, Day, Job, Jobs, Transfer, working_day};
+use accounts::{BankErr, Books, CLERKS, Day, Job, Jobs, Tally, Transfer, working_day};
 use of_eval::Scripts;
 use of_script::REGISTERS;
 use of_store::Store;
@@ -48,13 +49,25 @@ fn jobs(alloc: Global) -> Result<Jobs, AllocError> {
     })
 }
 
-/// Founds the bank, and has its clerks work for a day.
+/// Founds the bank, and has its clerks work for a day. What recovery finds behind it is the store
+/// `after`, whose accounts hold as much together as those of the store before it.
 fn a_day<R: Threads + Sync>(rt: &R, alloc: Global) -> Result<Day, BankErr>
-    ensures { IfOk result (λ d. sum d.after.registers ≡ sum d.before.registers) }
+    ensures books { IfOk result (λ d. AreBooks d.books) }
+    ensures after { IfOk result (λ d. Hold d.books d.after) }
+    ensures money { IfOk result (λ d. sum d.after.registers ≡ sum d.before.registers) }
 {
     let books = Books::found(alloc, SCRIPTS, AMOUNT)?;
     let day = working_day(rt, alloc, &books, jobs(alloc)?)?;
     Ok(day)
+}
+
+/// What else there is to say of a clerk.
+fn remark(tally: Tally) -> &'static str {
+    if tally.answered < tally.done {
+        ", stopped in its last, which others finished"
+    } else {
+        ""
+    }
 }
 
 fn print_accounts(rt: &impl Print, store: &Store) -> io::Result<()> {
@@ -71,17 +84,11 @@ fn print_day(rt: &impl Print, day: &Day) -> io::Result<()> {
     print_accounts(rt, &day.before)?;
     for clerk in 0..CLERKS {
         let tally = day.tallies[clerk as usize];
-        print!(rt;
-            "clerk {clerk}: {} answered, {} done",
-            tally.answered, tally.done
-        )?;
         println!(rt;
-            "{}",
-            if tally.answered < tally.done {
-                ", of which others finished the last"
-            } else {
-                ""
-            }
+            "clerk {clerk}: {} answered, {} done{}",
+            tally.answered,
+            tally.done,
+            remark(tally)
         )?;
     }
     print!(rt; "after:")?;

@@ -1,4 +1,4 @@
-use Rattle.std.proofs.Common.{◌≡◌, vec_len}
+use Rattle.std.proofs.Common.{◌≡◌}
 use Rattle.accounts.specs.Clerks.{IsClerk}
 use Rattle.accounts.proofs.clerk.make_all.Given as goal
 

@@ -1,4 +1,4 @@
-use Rattle.std.proofs.Common.{◌≡◌, ◌∙◌, ℕ}
+use Rattle.std.proofs.Common.{◌∙◌, ℕ}
 use Rattle.accounts.specs.Closed.{KeepsOne}
 use Rattle.accounts.proofs.Clerks.{four}
 use Rattle.accounts.proofs.day.close_after_work.Goals as goal

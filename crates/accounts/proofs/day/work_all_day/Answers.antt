@@ -1,4 +1,4 @@
-use Rattle.std.proofs.Common.{◌≡◌, ◌∙◌, ℕ, List, subst}
+use Rattle.std.proofs.Common.{◌∙◌, ℕ, List, subst}
 use Rattle.of_row.specs.Views.{Kept}
 use Rattle.accounts.specs.Closed.{KeepsOne}
 use Rattle.accounts.proofs.day.work_all_day.Goals as goal

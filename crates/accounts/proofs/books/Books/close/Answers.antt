@@ -1,6 +1,5 @@
-use Rattle.std.proofs.Common.{◌≡◌, List, ℕ, ◌+◌, length, drop, map, ap, subst, sym, ◌∙◌}
+use Rattle.std.proofs.Common.{◌≡◌, List, ℕ, ◌+◌, length, map, ap, subst, sym, ◌∙◌}
 use Rattle.std.specs.Prelude.{slice_range}
-use Rattle.std.proofs.lemmas.List.{take_at}
 use Rattle.of_cell.specs.Words.{pay}
 use Rattle.of_cell.specs.Cells.{durable_cells}
 use Rattle.of_recover.specs.Recovered.{recovered}

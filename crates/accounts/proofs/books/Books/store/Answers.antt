@@ -1,8 +1,7 @@
-use Rattle.std.proofs.Common.{◌≡◌, List, ℕ, ◌+◌, map, ap, ◌∙◌}
+use Rattle.std.proofs.Common.{List, ℕ, ◌+◌, map, ap, ◌∙◌}
 use Rattle.std.specs.Prelude.{slice_range}
 use Rattle.of_cell.specs.Words.{pay}
 use Rattle.of_cell.specs.Cells.{data_cell}
-use Rattle.accounts.specs.Books.{Hold}
 use Rattle.accounts.proofs.Cells.{store_stands, store_holds}
 use Rattle.accounts.proofs.books.Books.store.Goals as goal
 
