@@ -133,6 +133,7 @@ pub fn working_day<R: Threads + Sync>(
     ensures books { IfOk result (λ d. AreBooks d.books) }
     ensures before { IfOk result (λ d. Hold books.now d.before) }
     ensures after { IfOk result (λ d. Hold d.books d.after) }
+    ensures holds { IfOk result (λ d. sum d.before.registers ≡ money_of books.now) }
     ensures money { IfOk result (λ d. sum d.after.registers ≡ sum d.before.registers) }
 {
     let before = books.store(alloc)?;

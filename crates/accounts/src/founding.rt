@@ -1,12 +1,13 @@
 //! How the accounts get their money.
 
-ghost use Rattle.std.specs.Prelude.{◌≡◌, ◌≤◌, IfOk};
-ghost use Rattle.of_script.specs.declared.instr.TheConstants.{GREATEST};
+ghost use Rattle.std.specs.Prelude.{◌≡◌, ◌*◌, ◌≤◌, IfOk};
+ghost use Rattle.of_script.specs.declared.instr.TheConstants.{GREATEST, REGISTERS};
 ghost use Rattle.of_eval.specs.Scripts.{scripts_meaning};
 ghost use Rattle.of_caller.specs.Callers.{IsCaller};
-ghost use Rattle.accounts.specs.Books.{AreBooks};
+ghost use Rattle.accounts.specs.Books.{AreBooks, money_of};
 ghost use Rattle.accounts.specs.declared.books.TheConstants.{CLERKS};
 
+use crate::balance::together;
 use crate::bank_err::BankErr;
 use crate::books::{Books, LIMIT, shape_of};
 use crate::clerk::{call, enter};
@@ -36,29 +37,31 @@ fn founding(amount: u32) -> Script
     Script::new(&instrs)
 }
 
-// Makes one call, with a count of its own. Whether it was answered.
+// Makes one call, with a count of its own.
 fn call_once<L: Ledger>(
     row: &Row<Scripts>,
     caller: &mut Caller<Scripts>,
     script: &Script,
     mut brake: Box<dyn Brake + Send>,
     blank: Blank,
-) -> bool
+)
     requires name { blank.name ≡ L.name }
     requires parts { (blank.parts ≡ L.parts) × (blank.parts ≡ 1) }
     requires caller { IsCaller scripts_meaning row.now caller.old }
     ensures { IsCaller scripts_meaning row.now caller.new }
 {
     let mut steps: Steps<L> = Steps::new(blank);
-    call(row, caller, script, &mut brake, &mut steps)
+    call(row, caller, script, &mut brake, &mut steps);
 }
 
 impl Books {
-    /// The first books of a bank, each of whose accounts gets an amount.
+    /// The first books of a bank, each of whose accounts gets an amount. What the founder's call left
+    /// is looked at when the books are closed.
     pub fn found(alloc: Global, scripts: Scripts, amount: u32) -> Result<Books, BankErr>
         requires clerks { scripts.callers ≡ CLERKS }
         requires amount { amount ≤ GREATEST }
-        ensures { IfOk result AreBooks }
+        ensures books { IfOk result AreBooks }
+        ensures money { IfOk result (λ b. money_of b ≡ amount * REGISTERS) }
     {
         let (row, pass) = Row::new(alloc, shape_of(scripts), LIMIT, scripts)?;
         let (mut founder, pass) = enter(alloc, &row, pass, 0)?;
@@ -66,11 +69,13 @@ impl Books {
             return Err(BankErr::Memory);
         };
         let script = founding(amount);
-        if !call_once::<Brand>(&row, &mut founder, &script, brake, Blank::new(1)) {
-            return Err(BankErr::NotFounded);
-        }
+        call_once::<Brand>(&row, &mut founder, &script, brake, Blank::new(1));
         let pass = row.join(pass, founder.leave());
         let books = Books::close(alloc, scripts, row, pass)?;
-        Ok(books)
+        if together(&books.store(alloc)?) == u64::from(amount) * REGISTERS as u64 {
+            Ok(books)
+        } else {
+            Err(BankErr::NotFounded)
+        }
     }
 }

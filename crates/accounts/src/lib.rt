@@ -3,6 +3,7 @@
 
 #![tactic(auto)]
 
+mod balance;
 mod bank_err;
 mod books;
 mod clerk;
@@ -12,6 +13,7 @@ mod founding;
 pub mod laws;
 mod transfer;
 
+pub use balance::together;
 pub use bank_err::BankErr;
 pub use books::{Books, CLERKS, LIMIT, shape_of};
 pub use clerk::{Clerk, Job, call, enter};

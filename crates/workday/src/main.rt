@@ -1,10 +1,12 @@
 //! A day at the bank: four clerks at work beside each other, one of whom is stopped in a transfer.
 #![tactic(auto)]
 
-ghost use Rattle.std.specs.Prelude.{◌≡◌, IfOk, sum};
+ghost use Rattle.std.specs.Prelude.{◌≡◌, ◌*◌, IfOk, sum};
+ghost use Rattle.of_script.specs.declared.instr.TheConstants.{REGISTERS};
 ghost use Rattle.accounts.specs.Books.{AreBooks, Hold};
+ghost use Rattle.workday.specs.declared.TheConstants.{AMOUNT};
 
-use accounts::{BankErr, Books, CLERKS, Day, Job, Jobs, Tally, Transfer, working_day};
+use accounts::{BankErr, Books, CLERKS, Day, Job, Jobs, Tally, Transfer, together, working_day};
 use of_eval::Scripts;
 use of_script::REGISTERS;
 use of_store::Store;
@@ -55,6 +57,7 @@ fn a_day<R: Threads + Sync>(rt: &R, alloc: Global) -> Result<Day, BankErr>
     ensures books { IfOk result (λ d. AreBooks d.books) }
     ensures after { IfOk result (λ d. Hold d.books d.after) }
     ensures money { IfOk result (λ d. sum d.after.registers ≡ sum d.before.registers) }
+    ensures founded { IfOk result (λ d. sum d.before.registers ≡ AMOUNT * REGISTERS) }
 {
     let books = Books::found(alloc, SCRIPTS, AMOUNT)?;
     let day = working_day(rt, alloc, &books, jobs(alloc)?)?;
@@ -71,12 +74,10 @@ fn remark(tally: Tally) -> &'static str {
 }
 
 fn print_accounts(rt: &impl Print, store: &Store) -> io::Result<()> {
-    let mut together: u32 = 0;
     for account in 0..REGISTERS as u32 {
         print!(rt; " {}", store.register(account))?;
-        together = together.saturating_add(store.register(account));
     }
-    println!(rt; ", together {together}")
+    println!(rt; ", together {}", together(store))
 }
 
 fn print_day(rt: &impl Print, day: &Day) -> io::Result<()> {

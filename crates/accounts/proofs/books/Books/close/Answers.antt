@@ -15,8 +15,8 @@ use Rattle.accounts.proofs.books.Books.close.Goals as goal
 pub returns-clause-books : goal.returns-clause-books
 returns-clause-books c =
     let size : length (recovered c.shape_of-shape.result.callers c.shape_of-shape.result.cells c.in_ok-durable.durable.items) ≡ length c.in_ok-durable.durable.items =
-        ap (λ (xs : List ℕ). length (recovered c.shape_of-shape.result.callers c.shape_of-shape.result.cells xs)) (sym c.deref-2.ensures.value)
-        ∙ c.recovered_cells.ensures.size ∙ sym c.in_ok-durable.ensures.size in
+    ap (λ (xs : List ℕ). length (recovered c.shape_of-shape.result.callers c.shape_of-shape.result.cells xs)) (sym c.deref-2.ensures.value)
+    ∙ c.recovered_cells.ensures.size ∙ sym c.in_ok-durable.ensures.size in
     let w = c.args.scripts in
     let shape = c.shape_of-shape in
     subst (IsStartRow (setup_with w LIMIT) (LawfulCells w))
@@ -27,8 +27,8 @@ returns-clause-books c =
 pub returns-clause-money : goal.returns-clause-money
 returns-clause-money c =
     let size : length (recovered c.shape_of-shape.result.callers c.shape_of-shape.result.cells c.in_ok-durable.durable.items) ≡ length c.in_ok-durable.durable.items =
-        ap (λ (xs : List ℕ). length (recovered c.shape_of-shape.result.callers c.shape_of-shape.result.cells xs)) (sym c.deref-2.ensures.value)
-        ∙ c.recovered_cells.ensures.size ∙ sym c.in_ok-durable.ensures.size in
+    ap (λ (xs : List ℕ). length (recovered c.shape_of-shape.result.callers c.shape_of-shape.result.cells xs)) (sym c.deref-2.ensures.value)
+    ∙ c.recovered_cells.ensures.size ∙ sym c.in_ok-durable.ensures.size in
     let w = c.args.scripts in
     let shape = c.shape_of-shape in
     subst (λ (xs : List ℕ). KeepsTransfers (setup_with w LIMIT) c.args.pass.seat.me.0 → money_in w xs ≡ money w (map pay (start_at scripts_meaning c.args.row).cells))
