@@ -1,5 +1,5 @@
 -- A balanced script leaves the accounts of a store as much as they held together.
-use Rattle.std.proofs.Common.{◌≡◌, ℕ, suc, ◌+◌, ◌-◌, ◌<◌, ◌≤◌, refl, sym, ◌∙◌, ap, subst, arith, Bool, true, false, Option, Some, None, Ok, Err, List, [], ◌∷◌, length, get_or, set, length-set}
+use Rattle.std.proofs.Common.{◌≡◌, ℕ, ◌+◌, ◌-◌, ◌<◌, refl, sym, ◌∙◌, subst, arith, Bool, true, false, Option, Ok, Err, List, [], ◌∷◌, length, get_or, set, length-set}
 use Rattle.std.specs.Prelude.{sum, sum_by, nat_lt, nat_le, is_none, ◌&&◌, if◌then◌else◌}
 use Rattle.std.specs.List.{AllByRecursion as Each}
 use Rattle.std.specs.FinMap as fm
@@ -10,8 +10,8 @@ use Rattle.of_script.specs.declared.instr.Instr.{Instr}
 use Rattle.of_script.specs.declared.instr.Instr.TheVariants.{Load, Store, Add, Sub, Get, Put, Del, Need, Push, Pop, Len, Count, First, Next, DropBelow}
 use Rattle.of_script.specs.declared.instr.TheConstants.{REGISTERS}
 use Rattle.of_script.specs.Language.{InRange, greatest}
-use Rattle.of_store.specs.State.{State, Effect, Outcome, register, effect, with_register, popped, queue, kept, is_there, in_front, then_on, outcome, settled, run}
-use Rattle.accounts.specs.Money.{paid_in, paid_out, sets_none, all_set_none, IsBalanced, TransfersKeep}
+use Rattle.of_store.specs.State.{State, Effect, Outcome, register, effect, with_register, popped, queue, kept, is_there, in_front, then_on, outcome, settled}
+use Rattle.accounts.specs.Money.{paid_in, paid_out, sets_none, all_set_none, TransfersKeep}
 
 -- there are sixteen accounts still, and what was paid out and what is there now is what was there and what was paid in
 abbrev Moves : (into out : ℕ) → State → State → Type 0

@@ -1,28 +1,23 @@
 -- What the data cells say of the accounts, and what operations and batches of them do.
-use Rattle.std.proofs.Common.{◌≡◌, ℕ, ◌+◌, ◌-◌, ◌*◌, ◌<◌, ◌≤◌, refl, sym, ◌∙◌, ap, subst, arith, List, [], ◌∷◌, length, get_or, take, drop, map}
+use Rattle.std.proofs.Common.{◌≡◌, ℕ, ◌+◌, ◌-◌, ◌<◌, ◌≤◌, sym, ◌∙◌, ap, subst, arith, List, length, take, drop, map}
 use Rattle.std.specs.Prelude.{sum, slice_range}
 use Rattle.of_cell.specs.Words.{pay}
 use Rattle.of_cell.specs.Cells.{data_cell, durable_cells}
 use Rattle.of_mem.specs.declared.plot.Plot.{Plot}
 use Rattle.of_mem.specs.Places.{base_of}
 use Rattle.of_eval.specs.Walking.{CellsStandFor}
-use Rattle.std.specs.List.{All}
 use Rattle.std.proofs.lemmas.List.{length-map, ext_get_or, get_or-take, get_or-drop, length-take-le, length-drop}
-use Rattle.of_mem.specs.Meaning.{Meaning, Sound, SameFrom}
+use Rattle.of_mem.specs.Meaning.{SameFrom}
 use Rattle.of_mem.specs.ProgramWork.{memory}
-use Rattle.of_mem.specs.Places.{register_at}
-use Rattle.of_script.specs.declared.instr.Instr.{Instr}
 use Rattle.of_script.specs.declared.instr.TheConstants.{REGISTERS, MOST_INSTRS}
 use Rattle.of_script.specs.Language.{instr_word}
-use Rattle.of_store.specs.State.{State, run}
+use Rattle.of_store.specs.State.{State}
 use Rattle.of_eval.specs.declared.scripts.Scripts.{Scripts}
 use Rattle.of_eval.specs.Means.{Does, MeansWords, WordsMeanScript}
 use Rattle.of_eval.specs.Stored.{IsStored}
 use Rattle.of_eval.specs.Scripts.{store_at, cells_in, LawfulCells, scripts_meaning}
 use Rattle.of_eval.specs.SoundScripts.{scripts_sound}
 use Rattle.of_eval.specs.Words.{run_words}
-use Rattle.of_core.specs.Machine.{Call}
-use Rattle.of_core.specs.History.{after_calls}
 use Rattle.accounts.specs.Money.{money, money_in, IsTransfer}
 use Rattle.accounts.proofs.Balanced.{transfers_keep}
 
@@ -58,12 +53,20 @@ module _ (w : Scripts) where
         ∙ transfers_keep s t.0 h.lawful.1.state.registers t.1 t.2
         ∙ ap sum (sym (registers_are xs s h.size h.lawful.1))
 
--- what the store holds for which the cells of a durable row stand
-pub store_holds : (w : Scripts) (p : Plot) (row xs : List ℕ) (s : State) → p.callers ≡ w.callers → p.instrs ≡ MOST_INSTRS → p.blocks ≡ w.blocks
-    → xs ≡ map pay (slice_range row (data_cell w.callers 0) (data_cell w.callers 0 + cells_in w)) → length row ≡ durable_cells w.callers (cells_in w) → CellsStandFor p xs s → sum s.registers ≡ money_in w row
-store_holds w p row xs s callers instrs blocks is whole h =
+-- the numbers of a durable row's data cells stand for the store that a plot's cells with these numbers stand for
+pub store_stands : (w : Scripts) (p : Plot) (row xs : List ℕ) (s : State) → p.callers ≡ w.callers → p.instrs ≡ MOST_INSTRS → p.blocks ≡ w.blocks
+    → xs ≡ map pay (slice_range row (data_cell w.callers 0) (data_cell w.callers 0 + cells_in w)) → CellsStandFor p xs s
+    → IsStored (store_at w) w.blocks (memory (map pay (slice_range row (data_cell w.callers 0) (data_cell w.callers 0 + cells_in w)))) s
+store_stands w p row xs s callers instrs blocks is h =
+    subst (λ (k : ℕ × ℕ × ℕ × List ℕ). IsStored (base_of k.0 k.1) k.2 (memory k.3) s) (λ i. (callers i, instrs i, blocks i, is i)) h.stored
+
+-- and it holds what the accounts hold in the row
+pub store_holds : (w : Scripts) (row : List ℕ) (s : State) → length row ≡ durable_cells w.callers (cells_in w)
+    → IsStored (store_at w) w.blocks (memory (map pay (slice_range row (data_cell w.callers 0) (data_cell w.callers 0 + cells_in w)))) s
+    → sum s.registers ≡ money_in w row
+store_holds w row s whole h =
     let a : ℕ = data_cell w.callers 0 in
     let same : a + cells_in w - a ≡ cells_in w = omega arith in
-    let long : length xs ≡ cells_in w = ap length is ∙ length-map (slice_range row a (a + cells_in w)) pay ∙ length-take-le (a + cells_in w - a) (drop a row) (omega (arith, length-drop a row, whole)) ∙ same in
-    ap sum (sym (registers_are w xs s long (subst (λ (k : ℕ × ℕ × ℕ). IsStored (base_of k.0 k.1) k.2 (memory xs) s) (λ i. (callers i, instrs i, blocks i)) h.stored)))
-    ∙ ap (λ ys. sum (take REGISTERS (drop (store_at w) ys))) is
+    let xs : List ℕ = map pay (slice_range row a (a + cells_in w)) in
+    let long : length xs ≡ cells_in w = length-map (slice_range row a (a + cells_in w)) pay ∙ length-take-le (a + cells_in w - a) (drop a row) (omega (arith, length-drop a row, whole)) ∙ same in
+    ap sum (sym (registers_are w xs s long h))

@@ -1,5 +1,5 @@
 -- A call of a transfer leaves a caller that has made transfers alone.
-use Rattle.std.proofs.Common.{◌≡◌, ℕ, zero, suc, ◌+◌, ◌<◌, ◌≤◌, refl, sym, ◌∙◌, ap, subst, arith, inl, inr, ◌⊎◌, List, [], ◌∷◌, ◌++◌, length, map, take, Ok, Err, Result}
+use Rattle.std.proofs.Common.{◌≡◌, ℕ, zero, suc, ◌<◌, refl, sym, ◌∙◌, ap, subst, arith, inl, inr, ◌⊎◌, List, [], ◌∷◌, ◌++◌, length, map, take, Ok, Err, Result}
 use Rattle.std.specs.List.{All}
 use Rattle.std.proofs.lemmas.List.Elements.{All-push, All-same}
 use Rattle.std.proofs.Math.Seq.{take-append_seam}
@@ -9,9 +9,9 @@ use Rattle.of_script.specs.Language.{instr_word}
 use Rattle.of_core.specs.declared.place.Outcome.{Outcome}
 use Rattle.of_core.specs.Table.{Setup}
 use Rattle.of_core.specs.World.{Start}
-use Rattle.of_core.specs.Machine.{Data, IsOpen, TakesPlace, idle, opened}
+use Rattle.of_core.specs.Machine.{Data, TakesPlace}
 use Rattle.of_row.specs.Views.{Ended, Kept, Sight}
-use Rattle.of_row.specs.Turned.{StandsFor, Opens}
+use Rattle.of_row.specs.Turned.{StandsFor}
 use Rattle.of_caller.specs.declared.caller.CallErr.{CallErr}
 use Rattle.of_caller.specs.declared.caller.CallErr.TheVariants.{Stopped, Spent}
 use Rattle.of_caller.specs.CallsTold.{HasTold, ResultTold}

@@ -1,8 +1,7 @@
 -- The durable words of a closed row, and where a row of scripts starts and ends.
-use Rattle.std.proofs.Common.{◌≡◌, ℕ, ◌+◌, ◌-◌, ◌*◌, ◌<◌, ◌≤◌, refl, sym, ◌∙◌, ap, subst, arith, List, ◌++◌, length, get_or, take, drop, map, length-take-le}
+use Rattle.std.proofs.Common.{◌≡◌, ℕ, ◌+◌, ◌-◌, sym, ◌∙◌, ap, subst, arith, List, ◌++◌, length, get_or, take, drop, map, length-take-le}
 use Rattle.std.specs.Prelude.{slice_range}
 use Rattle.std.proofs.lemmas.List.{get_or-take, get_or-drop, length-drop, take_at}
-use Rattle.of_recover.proofs.Rows.{length-recovered}
 use Rattle.of_cell.specs.Words.{pay}
 use Rattle.of_cell.specs.declared.shape.Shape.{Shape}
 use Rattle.of_cell.specs.Cells.{durable_cells, table_words}
@@ -77,8 +76,9 @@ closed_long w limit r p ws shape h m callers instrs cells =
     let meets : Meets (setup_with w limit) (LawfulCells w) (start_at scripts_meaning r) ws p.seat.me.0 = closes_scripts r w limit p ws h m in
     ap length (sym meets.words) ∙ meets.rule.room ∙ (λ i. table_words (sym callers i) (sym instrs i) (sym cells i))
 
--- what stands in a list of words when recovery has been through it
-pub is_left : (callers cells : ℕ) (new given items : List ℕ) (len : ℕ) → new ≡ recovered callers cells given → given ≡ items → len ≡ length items → take len (new ++ drop (length new) items) ≡ recovered callers cells items
-is_left callers cells new given items len row same long =
+-- what stands in a list of words when recovery, which leaves as many, has been through it
+pub is_left : (callers cells : ℕ) (new given items : List ℕ) (len : ℕ) → new ≡ recovered callers cells given → given ≡ items → len ≡ length items
+    → length (recovered callers cells items) ≡ length items → take len (new ++ drop (length new) items) ≡ recovered callers cells items
+is_left callers cells new given items len row same long size =
     let is : new ≡ recovered callers cells items = row ∙ ap (recovered callers cells) same in
-    take_at new (drop (length new) items) len (ap length is ∙ length-recovered callers cells items ∙ sym long) ∙ is
+    take_at new (drop (length new) items) len (ap length is ∙ size ∙ sym long) ∙ is

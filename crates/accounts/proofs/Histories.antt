@@ -1,26 +1,24 @@
 -- A history of transfers leaves the accounts as much as they held together.
-use Rattle.std.proofs.Common.{◌≡◌, ℕ, ◌+◌, ◌-◌, ◌<◌, ◌≤◌, refl, sym, ◌∙◌, ap, subst, arith, inl, inr, ◌⊎◌, List, [], ◌∷◌, ◌++◌, length, get_or, take, map, Bool, true, false}
+use Rattle.std.proofs.Common.{◌≡◌, ℕ, ◌+◌, ◌-◌, ◌<◌, ◌≤◌, refl, sym, ◌∙◌, ap, subst, arith, inl, inr, List, [], ◌∷◌, length, get_or, take, map}
 use Rattle.std.specs.List.{All}
 use Rattle.std.proofs.lemmas.List.{get_or-take, length-take-le, length-map}
 use Rattle.std.proofs.lemmas.List.Elements.{All-head, All-tail, All-get_or, All-from_get_or}
 use Rattle.of_cell.specs.Words.{pay}
-use Rattle.of_mem.specs.Meaning.{SameFrom}
-use Rattle.of_recover.specs.Recovered.{recovered}
 use Rattle.of_eval.specs.declared.scripts.Scripts.{Scripts}
-use Rattle.of_eval.specs.Scripts.{store_at, cells_in, LawfulCells, scripts_meaning}
+use Rattle.of_eval.specs.Scripts.{LawfulCells, scripts_meaning}
 use Rattle.of_eval.specs.SoundScripts.{scripts_sound}
 use Rattle.of_core.specs.Table.{Setup, risen}
-use Rattle.of_core.specs.Machine.{Call, IsOpen, is_idle}
+use Rattle.of_core.specs.Machine.{Call}
 use Rattle.of_core.specs.World.{Batch, World, Start}
 use Rattle.of_core.specs.History.{after_calls, replay, numbers, batch, no_batch}
 use Rattle.of_core.specs.Invariant.{Good}
 use Rattle.of_core.specs.Claim.{IsSound}
-use Rattle.of_core.specs.Starts.{IsDurable, IsStartRow}
+use Rattle.of_core.specs.Starts.{IsDurable}
 use Rattle.of_core.specs.Laws.{GoodIsSound, Restarts, BatchesNumbered, FirstState}
-use Rattle.of_row.specs.Views.{Ended, Kept, Sight, no_ended, reach, Each}
-use Rattle.of_row.specs.Rule.{Meets, Knows, world, IsOwn, IsOwnOf, EachCall, end_of}
-use Rattle.accounts.specs.Money.{money, money_in, IsTransfer, OperationsKeep}
-use Rattle.accounts.specs.Closed.{MakesTransfers, KeepsOne, KeepsTransfers, setup_with, NoMoneyIsLost}
+use Rattle.of_row.specs.Views.{Ended, Kept, no_ended, reach, Each}
+use Rattle.of_row.specs.Rule.{Knows, world, IsOwn, end_of}
+use Rattle.accounts.specs.Money.{money, IsTransfer, OperationsKeep}
+use Rattle.accounts.specs.Closed.{MakesTransfers, KeepsOne, setup_with, NoMoneyIsLost}
 use Rattle.accounts.proofs.Cells.{AreCells, same_money}
 
 module _ (w : Scripts) (keep : OperationsKeep w) where

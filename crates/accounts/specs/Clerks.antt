@@ -27,6 +27,10 @@ AreClerks r two = IsClerk r two.0 × IsClerk r two.1
 abbrev pub SameNumbers : (before now : Clerk × Clerk) → Type 0
 SameNumbers a b = (b.0.number ≡ a.0.number) × (b.1.number ≡ a.1.number)
 
+-- and these are their numbers
+abbrev pub HaveNumbers : (one other : ℕ) → Clerk × Clerk → Type 0
+HaveNumbers one other two = (two.0.number ≡ one) × (two.1.number ≡ other)
+
 -- the row is one of these scripts
 pub record IsRowOf (r : Row Scripts) (w : Scripts) (limit : ℕ) : Type 0 where
   pub work : (key_of r).work ≡ w

@@ -23,6 +23,13 @@ abbrev pub KeepsOne : ℕ → List Kept → Type 0
 KeepsOne i [] = ⊥
 KeepsOne i (x ∷ xs) = ((x.machine.caller ≡ i) × MakesTransfers x) ⊎ KeepsOne i xs
 
+-- so it is of four
+pub record KeepsFour (xs : List Kept) : Type 0 where
+  pub first : KeepsOne 0 xs
+  pub second : KeepsOne 1 xs
+  pub third : KeepsOne 2 xs
+  pub fourth : KeepsOne 3 xs
+
 -- so it is of each caller
 abbrev pub KeepsTransfers : Setup → Sight → Type 0
 KeepsTransfers S v = (i : ℕ) → i < S.callers → KeepsOne i v.kept

@@ -1,9 +1,8 @@
 -- What the accounts hold together, and the calls that leave it as it is.
-use Rattle.std.specs.Prelude.{◌≡◌, ℕ, ◌≤◌, List, [], ◌∷◌, length, map, drop, take, sum, sum_by, Bool, true, false, ◌&&◌}
-use Rattle.std.specs.List.{AllByRecursion as Each}
+use Rattle.std.specs.Prelude.{◌≡◌, ℕ, List, [], ◌∷◌, length, map, drop, take, sum, sum_by, Bool, true, false, ◌&&◌}
 use Rattle.of_cell.specs.Words.{pay}
 use Rattle.of_script.specs.declared.instr.Instr.{Instr}
-use Rattle.of_script.specs.declared.instr.Instr.TheVariants.{Load, Store, Add, Sub, Get, Put, Del, Need, Push, Pop, Len, Count}
+use Rattle.of_script.specs.declared.instr.Instr.TheVariants.{Store, Add, Sub}
 use Rattle.of_script.specs.declared.instr.TheConstants.{REGISTERS}
 use Rattle.of_script.specs.Language.{IsScript, instr_word}
 use Rattle.of_store.specs.State.{State, run}

@@ -13,6 +13,8 @@ pub enum BankErr {
     NumberTaken { number: u32 },
     /// The books stand for no store, and this is the first data cell at fault.
     Unlawful { cell: u32 },
+    /// The accounts don't hold what their founder gave them.
+    NotFounded,
 }
 
 impl From<AllocError> for BankErr {
@@ -36,6 +38,7 @@ impl fmt::Display for BankErr {
             BankErr::Memory => write!(f, "out of memory"),
             BankErr::NumberTaken { number } => write!(f, "number {number} is taken"),
             BankErr::Unlawful { cell } => write!(f, "data cell {cell} is at fault"),
+            BankErr::NotFounded => write!(f, "the accounts don't hold what was given"),
         }
     }
 }

@@ -16,6 +16,7 @@ use crate::bank_err::BankErr;
 use crate::laws::no_money_is_lost;
 use of_cell::{Shape, payload_of};
 use of_eval::{Scripts, lawful};
+use of_recover::laws::recovered_cells;
 use of_recover::recover;
 use of_row::{Pass, Row};
 use of_store::Store;
@@ -52,8 +53,10 @@ pub struct Books {
 /// The durable words of a table.
 fn durable_words(alloc: Global, shape: &Shape, words: &[u64]) -> Result<Vec<u64>, AllocError>
     requires { length words.now ≡ table_words shape.now.callers shape.now.instrs shape.now.cells }
-    ensures { let cells = durable_cells shape.now.callers shape.now.cells in
+    ensures words { let cells = durable_cells shape.now.callers shape.now.cells in
         IfOk result (λ row. row.items ≡ slice_range words.now cells (cells + cells)) }
+    ensures size { IfOk result (λ row.
+        IsDurableRow shape.now.callers shape.now.cells row.items) }
 {
     let cells = shape.durable_cells() as usize;
     Vec::from_slice(alloc, &words[cells..cells + cells])
@@ -77,7 +80,7 @@ fn numbers(alloc: Global, words: &[u64]) -> Result<Vec<u32>, AllocError>
 }
 
 impl Books {
-    ghost use Rattle.accounts.specs.Books.{AreBooks, money_of};
+    ghost use Rattle.accounts.specs.Books.{AreBooks, Hold, money_of, last_ticket_in};
 
     /// Closes a row, takes its durable words alone, as a crash does, and recovers them.
     pub fn close(
@@ -99,6 +102,7 @@ impl Books {
         let shape = shape_of(scripts);
         let (words, _pass) = row.close(pass);
         let mut durable = durable_words(alloc, &shape, &words)?;
+        recovered_cells(&shape, &durable);
         recover(&shape, &mut durable);
         Ok(Books {
             scripts,
@@ -123,7 +127,8 @@ impl Books {
     /// The store that the books stand for.
     pub fn store(&self, alloc: Global) -> Result<Store, BankErr>
         requires { AreBooks self.now }
-        ensures { IfOk result (λ s. sum s.registers ≡ money_of self.now) }
+        ensures store { IfOk result (Hold self.now) }
+        ensures money { IfOk result (λ s. sum s.registers ≡ money_of self.now) }
     {
         let words = data_words(alloc, &shape_of(self.scripts), &self.row)?;
         let cells = numbers(alloc, &words)?;
@@ -135,6 +140,7 @@ impl Books {
     pub fn last_ticket(&self, clerk: u32) -> u32
         requires books { AreBooks self.now }
         requires clerk { clerk < self.now.scripts.callers }
+        ensures { result ≡ last_ticket_in self.now clerk }
     {
         let ticket = self.scripts.plot().ticket(clerk);
         let cell = shape_of(self.scripts).data_cell(ticket);

@@ -1,14 +1,13 @@
 //! Clerks: callers that make transfers, each on a thread of its own where one can be made.
 
 ghost use Rattle.std.specs.Prelude.{◌≡◌, ◌<◌, ℕ, IfOk};
-ghost use Rattle.std.specs.Thread.{IsSync};
 ghost use Rattle.of_eval.specs.Scripts.{scripts_meaning};
 ghost use Rattle.of_row.specs.Rows.{IsOf, key_of};
 ghost use Rattle.of_core.specs.Turn.{IsIdle};
 ghost use Rattle.of_caller.specs.Callers.{IsCaller, call_of, sight_of};
 ghost use Rattle.accounts.specs.Money.{IsBalanced};
 ghost use Rattle.accounts.specs.Closed.{KeepsOne};
-ghost use Rattle.accounts.specs.Clerks.{IsClerk, AreClerks, SameNumbers, Hires};
+ghost use Rattle.accounts.specs.Clerks.{IsClerk, Hires};
 
 use crate::bank_err::BankErr;
 use crate::transfer::Transfer;
@@ -21,7 +20,6 @@ use of_script::{MOST_INSTRS, Script, to_words};
 use std::alloc::Global;
 use std::marker::Brand;
 use std::sync::ledger::{Blank, Ledger};
-use std::thread::{Threads, join};
 
 /// Gives a number to a new caller. An error leaves the row without it.
 pub fn enter(
@@ -69,14 +67,21 @@ pub fn call<L: Ledger>(
     caller.call(row, &words[..len], brake, steps).is_ok()
 }
 
-/// A caller with the transfers that it is to make.
+/// What a clerk is to do.
+#[derive(Drop)]
+pub struct Job {
+    /// Its transfers, in their order.
+    pub to_do: Vec<Transfer>,
+    /// After how many steps it stops, in whatever call it is then; None is never.
+    pub stop: Option<u64>,
+}
+
+/// A caller with its job.
 #[derive(Drop)]
 pub struct Clerk {
     pub number: u32,
     pub caller: Caller<Scripts>,
-    /// After how many steps it stops, in whatever call it is then; None is never.
-    pub stop: Option<u64>,
-    pub to_do: Vec<Transfer>,
+    pub job: Job,
     /// How many of its transfers were answered.
     pub answered: u32,
 }
@@ -88,7 +93,7 @@ impl Clerk {
         row: &Row<Scripts>,
         pass: Pass,
         number: u32,
-        to_do: Vec<Transfer>,
+        job: Job,
     ) -> Result<(Clerk, Pass), BankErr>
         requires pass { Hires row.now pass }
         requires number { number < (key_of row.now).callers }
@@ -101,8 +106,7 @@ impl Clerk {
             Clerk {
                 number,
                 caller,
-                stop: None,
-                to_do,
+                job,
                 answered: 0,
             },
             pass,
@@ -116,7 +120,7 @@ impl Clerk {
         ensures number { result.number ≡ self.number }
     {
         let mut fuel = Fuel::new();
-        fuel.arm(self.stop);
+        fuel.arm(self.job.stop);
         let Ok(fuel) = Box::new(alloc, fuel) else {
             return self;
         };
@@ -143,7 +147,7 @@ impl Clerk {
         requires { IsClerk row.now self.old }
         ensures clerk { IsClerk row.now self.new }
         ensures number { self.new.number ≡ self.old.number }
-        ensures to_do { self.new.to_do ≡ self.old.to_do }
+        ensures job { self.new.job ≡ self.old.job }
     {
         let script = transfer.script();
         let answered = call(row, &mut self.caller, &script, brake, steps);
@@ -178,64 +182,11 @@ fn make_all<L: Ledger>(
     ensures number { result.number ≡ clerk.number }
 {
     let mut steps: Steps<L> = Steps::new(blank);
-    for i in 0..clerk.to_do.len() {
-        let transfer = clerk.to_do[i];
+    for i in 0..clerk.job.to_do.len() {
+        let transfer = clerk.job.to_do[i];
         if !clerk.make(row, &transfer, &mut brake, &mut steps) {
             break;
         }
     }
     clerk
-}
-
-/// Two clerks at work beside each other.
-pub fn two_at_once<R: Threads + Sync>(
-    rt: &R,
-    alloc: Global,
-    row: &Row<Scripts>,
-    two: (Clerk, Clerk),
-) -> (Clerk, Clerk)
-    requires { AreClerks row.now two }
-    ensures clerks { AreClerks row.now result }
-    ensures numbers { SameNumbers two result }
-{
-    let (one, other) = two;
-    let (a, b) = join(
-        rt,
-        || -> Clerk
-            requires { IsClerk row.now one }
-            ensures { IsClerk row.entry.now result × (result.number ≡ one.number) }
-        { one.work(alloc, row) },
-        || -> Clerk
-            requires { IsClerk row.now other }
-            ensures { IsClerk row.entry.now result × (result.number ≡ other.number) }
-        { other.work(alloc, row) },
-    );
-    (a, b)
-}
-
-/// Two and two of them.
-pub fn four_at_once<R: Threads + Sync>(
-    rt: &R,
-    alloc: Global,
-    row: &Row<Scripts>,
-    two: (Clerk, Clerk),
-    others: (Clerk, Clerk),
-) -> ((Clerk, Clerk), (Clerk, Clerk))
-    requires two { AreClerks row.now two }
-    requires others { AreClerks row.now others }
-    ensures two { AreClerks row.now result.0 × SameNumbers two result.0 }
-    ensures others { AreClerks row.now result.1 × SameNumbers others result.1 }
-{
-    let (a, b) = join(
-        rt,
-        || -> (Clerk, Clerk)
-            requires { IsSync R.row × AreClerks row.now two }
-            ensures { AreClerks row.entry.now result × SameNumbers two result }
-        { two_at_once(rt, alloc, row, two) },
-        || -> (Clerk, Clerk)
-            requires { IsSync R.row × AreClerks row.now others }
-            ensures { AreClerks row.entry.now result × SameNumbers others result }
-        { two_at_once(rt, alloc, row, others) },
-    );
-    (a, b)
 }

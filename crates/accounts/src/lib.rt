@@ -3,13 +3,22 @@
 
 #![tactic(auto)]
 
+mod balance;
 mod bank_err;
 mod books;
 mod clerk;
+mod crew;
+mod day;
+mod founding;
 pub mod laws;
 mod transfer;
 
+pub use balance::together;
 pub use bank_err::BankErr;
 pub use books::{Books, CLERKS, LIMIT, shape_of};
-pub use clerk::{Clerk, call, enter, four_at_once, two_at_once};
+pub use clerk::{Clerk, Job, call, enter};
+pub use day::{Day, Jobs, Tally, working_day};
 pub use transfer::Transfer;
+
+#[cfg(test)]
+mod tests;

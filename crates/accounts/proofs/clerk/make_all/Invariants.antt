@@ -1,4 +1,4 @@
-use Rattle.std.proofs.Common.{◌≡◌, vec_len}
+use Rattle.std.proofs.Common.{◌≡◌}
 use Rattle.accounts.specs.Clerks.{IsClerk}
 use Rattle.accounts.proofs.clerk.make_all.Given as goal
 
@@ -6,5 +6,5 @@ abbrev pub invariant-loop-i : goal.invariant-loop-i
 invariant-loop-i g l = record {
   clerk : IsClerk l.row l.clerk;
   number : l.clerk.number ≡ l.initial.clerk.number;
-  to_do : l.clerk.to_do ≡ l.initial.clerk.to_do;
+  job : l.clerk.job ≡ l.initial.clerk.job;
 }
