@@ -4,6 +4,7 @@ pub mod Eras
 pub mod Newest
 pub mod PlotPlaces
 pub mod Changes
+pub mod Unread
 pub mod Heaps
 pub mod Standing
 pub mod Frames

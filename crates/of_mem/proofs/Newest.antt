@@ -1,13 +1,11 @@
 -- What each cell holds, where a number is learnt, written, kept or undone.
-use Rattle.std.proofs.Common.{◌≡◌, ℕ, suc, ◌+◌, ◌<◌, ◌==◌, Bool, true, false, if◌then◌else◌, Result, Ok, Err, List, [], ◌∷◌, length, Option, Some, None, get_or, set, drop, replicate, refl, sym, ◌∙◌, ap, arith, length-set, ◌⊎◌, inl, inr}
+use Rattle.std.proofs.Common.{◌≡◌, ℕ, suc, ◌+◌, ◌<◌, ◌==◌, Bool, true, false, if◌then◌else◌, List, [], ◌∷◌, length, Option, Some, None, get_or, set, drop, replicate, refl, sym, ◌∙◌, ap, arith, length-set, ◌⊎◌, inl, inr}
 use Rattle.std.proofs.lemmas.Bool.{cases_eq}
 use Rattle.std.proofs.lemmas.Bool.Decides.{nat_tests}
 use Rattle.std.proofs.lemmas.List.{drop_more, get_or-drop, length-drop, get_or-set_same, get_or-set_other}
 use Rattle.std.specs.Option.{option_or}
-use Rattle.std.specs.Result.{is_ok}
-use Rattle.of_mem.specs.declared.part.Need.{Need}
 use Rattle.of_mem.specs.Pairs.{Pairs, IsMap, value_at, put, put_all, address, IsAbsent}
-use Rattle.of_mem.specs.Pad.{Pad, ReadsAt, newest, newer, unknown, learnt, wrote, kept}
+use Rattle.of_mem.specs.Pad.{Pad, newest, newer, unknown, learnt, wrote, kept}
 use Rattle.of_mem.specs.Newest.{HasNewest}
 use Rattle.of_mem.proofs.Indexed.{value_at_put, value_at-absent}
 
@@ -108,14 +106,3 @@ newest_undone p room cells i m l below h = record { size = length-set cells x _ 
       where
         later : value_at (drop i p.script) a ≡ value_at (drop (i + 1) p.script) a
         later = ap (λ (xs : List (ℕ × ℕ)). value_at xs a) (drop_more p.script i (0, 0) l) ∙ rw (differs x a (λ q. n (sym q))) refl
-
--- where a cell could not be read its number isn't known
-pub unread : (p : Pad) (a : ℕ) (r : Result ℕ Need) → ReadsAt p a r → is_ok r ≡ false → get_or p.known a None ≡ None
-unfolding newest
-unread p a (Ok v) h e = absurd (let z : ◌≡◌ {A = Bool} true false = e in cc)
-unread p a (Err need) h e = below (value_at p.script a) (value_at p.batch a) (get_or p.known a None) h.0
-  where
-    below : (x y z : Option ℕ) → newer x (newer y z) ≡ None → z ≡ None
-    below None None z e = e
-    below None (Some v) z e = absurd (let q : Some v ≡ None = e in cc)
-    below (Some v) y z e = absurd (let q : Some v ≡ None = e in cc)

@@ -150,18 +150,6 @@ impl Part {
     {
         to.copy_from(&self.script);
     }
-
-    /// Lets these be what the script wrote.
-    pub(crate) fn set_script(&mut self, writes: &CellMap)
-        requires { writes.now.room ≡ length self.old.known }
-        ensures { self.new ≡ record self.old { script = writes.now.entries } }
-    {
-        self.undo();
-        for i in 0..writes.len() {
-            let (addr, value) = writes.entry(i);
-            self.write(addr, value);
-        }
-    }
 }
 
 #[cfg(test)]

@@ -1,6 +1,6 @@
 use Rattle.std.proofs.Common.{Some, refl, sym, ◌∙◌}
 use Rattle.std.proofs.lemmas.List.{length-set}
-use Rattle.of_mem.proofs.Newest.{unread}
+use Rattle.of_mem.proofs.Unread.{unread}
 use Rattle.of_mem.proofs.workspace.Workspace.learn.Goals as goal
 use Rattle.of_mem.proofs.workspace.Workspace.learn.Goals.{then-is_ok, else-is_ok}
 
