@@ -21,5 +21,6 @@ pub mod OwnFaults
 pub mod ChainFaults
 pub mod FaultLaws
 pub mod Zeros
+pub mod Asked
 pub mod OneFault
 pub mod Exact

@@ -3,9 +3,9 @@ use Rattle.std.proofs.Common.{◌≡◌, ℕ, zero, suc, ◌+◌, ◌<◌, ◌�
 use Rattle.std.proofs.lemmas.List.{length-replicate}
 use Rattle.of_mem.specs.declared.plot.Plot.{Plot}
 use Rattle.of_mem.specs.declared.plot.TheConstants.{MOST_BLOCKS}
-use Rattle.of_mem.specs.Pad.{Pad, Extends, with_known}
+use Rattle.of_mem.specs.Pad.{Pad, Extends}
 use Rattle.of_mem.specs.Places.{base_of}
-use Rattle.of_mem.specs.Plots.{base, size}
+use Rattle.of_mem.specs.Plots.{base}
 use Rattle.of_mem.specs.Programs.{Ends, run}
 use Rattle.of_mem.specs.Calls.{HasStore}
 use Rattle.of_mem.specs.Remains.{Remains, begun, IsOf}

@@ -1,7 +1,5 @@
 -- The walk of an operation's words, one by one.
-use Rattle.std.proofs.Common.{◌≡◌, ℕ, ◌+◌, ◌-◌, ◌<◌, ◌≤◌, refl, sym, ◌∙◌, ap, subst, arith, Option, Some, None, Ok, Err, List, [], ◌∷◌, ◌++◌, length, get_or, set, map, take, drop, replicate, length-drop, take-append-drop, drop_of_length-le}
-use Rattle.std.specs.Prelude.{slice_get}
-use Rattle.std.proofs.lemmas.Option.{none-some}
+use Rattle.std.proofs.Common.{◌≡◌, ℕ, ◌+◌, ◌-◌, ◌<◌, ◌≤◌, refl, sym, ◌∙◌, ap, subst, arith, Option, Some, None, Ok, Err, List, [], ◌∷◌, ◌++◌, length, get_or, set, take, drop, replicate, length-drop, take-append-drop, drop_of_length-le}
 use Rattle.std.proofs.lemmas.List.{drop_more, take_more_set, take_all, get_or-drop, length-take-le}
 use Rattle.of_mem.specs.declared.work.RawReply.{RawReply}
 use Rattle.of_mem.specs.Pad.{Pad, newest}
@@ -10,16 +8,12 @@ use Rattle.of_mem.specs.declared.plot.TheConstants.{MOST_BLOCKS}
 use Rattle.of_mem.specs.Programs.{Program, Lacks, Ends, run, answer, after}
 use Rattle.of_mem.specs.declared.plot.Plot.{Plot}
 use Rattle.of_mem.specs.Numbers.{IsNumber}
-use Rattle.of_mem.specs.Plots.{base, size}
-use Rattle.of_mem.specs.Calls.{RunsOn, HasStore}
+use Rattle.of_mem.specs.Plots.{base}
+use Rattle.of_mem.specs.Calls.{HasStore}
 use Rattle.of_mem.proofs.Runs.{Ended, run_ended, run_then_gives, run_then_needs}
 use Rattle.of_script.specs.declared.instr.TheConstants.{MOST_INSTRS}
-use Rattle.of_script.specs.declared.instr.Instr.{Instr}
 use Rattle.of_script.specs.declared.instr.Cause.{Cause}
-use Rattle.of_script.specs.Language.{IsScript, InRange, instr_word}
 use Rattle.of_script.specs.Reading.{instr_at}
-use Rattle.of_script.proofs.WordLaws.{instr_at_again, instr_at_takes}
-use Rattle.of_script.proofs.Instrs.{some_is}
 use Rattle.of_store.specs.State.{Effect, Aborted}
 use Rattle.of_store.specs.Replies.{IsSmall}
 use Rattle.of_store.proofs.Keeps.{Leaves}
@@ -28,7 +22,6 @@ use Rattle.of_eval.specs.Shapes.{cells_of}
 use Rattle.of_eval.specs.Stopped.{IsOfStore}
 use Rattle.of_eval.specs.Words.{word_effect, reply_to}
 use Rattle.of_eval.specs.ScriptPrograms.{Answer, word_program, go_on, words_program, script_program}
-use Rattle.of_eval.specs.Calls.{run_word}
 use Rattle.of_eval.specs.Instructions.{Gives}
 use Rattle.of_eval.specs.Scripted.{word_acts, instr_leaves, instr_small}
 use Rattle.of_eval.proofs.Unpacked.{nones}

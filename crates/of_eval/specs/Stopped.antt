@@ -1,6 +1,6 @@
 -- What is kept of a script whose run lacked a cell.
 use Rattle.std.specs.Prelude.{◌≡◌, ℕ, ◌≤◌, List, [], length, take, drop, Option, None}
-use Rattle.std.proofs.Common.{get_or, arith, ap, subst}
+use Rattle.std.proofs.Common.{get_or, arith, ap}
 use Rattle.of_mem.specs.declared.work.TheConstants.{MOST_INSTRS}
 use Rattle.of_mem.specs.Pad.{Pad, Extends, learnt}
 use Rattle.of_mem.specs.Places.{base_of}

@@ -17,27 +17,27 @@ use Rattle.of_eval.proofs.walk.run_words.Goals.{then-is_of, else-is_of}
 pub loop-i-init : goal.loop-i-init
 loop-i-init c = elim c.if-is_of.branch [
   | then-is_of w ↦ (
-    let was = c.is_of.ensures.0 w.if-is_of.true in
-    let of : IsOf c.if-is_of.kept c.args.plot.now.callers c.args.plot.now.blocks c.args.op.now = rw w.kept-is was in
-    record {
-      of = of;
-      done = sym c.done-i.ensures.value;
-      below = omega (arith, c.done-i.ensures.value, c.done-i.ensures.few, ap length of.words);
-      goes = rw w.kept-is (goes_there c.args.plot.now c.args.kept.now c.args.part.now c.args.op.now was c.requires.instrs c.requires.words.some c.requires.holds);
-      part = rw (w.part-is, w.kept-is) w.restore.ensures;
-      room = ap (λ k. k.room) w.kept-is;
-    })
+      let was = c.is_of.ensures.0 w.if-is_of.true in
+      let of : IsOf c.if-is_of.kept c.args.plot.now.callers c.args.plot.now.blocks c.args.op.now = rw w.kept-is was in
+      record {
+        of = of;
+        done = sym c.done-i.ensures.value;
+        below = omega (arith, c.done-i.ensures.value, c.done-i.ensures.few, ap length of.words);
+        goes = rw w.kept-is (goes_there c.args.plot.now c.args.kept.now c.args.part.now c.args.op.now was c.requires.instrs c.requires.words.some c.requires.holds);
+        part = rw (w.part-is, w.kept-is) w.restore.ensures;
+        room = ap (λ k. k.room) w.kept-is;
+      })
   | else-is_of w ↦ (
-    let new : c.if-is_of.kept ≡ begun c.args.kept.now.room c.args.plot.now.callers c.args.plot.now.blocks c.args.op.now = w.kept-is ∙ w.begin.ensures in
-    let of : IsOf c.if-is_of.kept c.args.plot.now.callers c.args.plot.now.blocks c.args.op.now = rw new (record { callers = refl; blocks = refl; words = refl }) in
-    record {
-      of = of;
-      done = sym c.done-i.ensures.value;
-      below = omega (arith, c.done-i.ensures.value, c.done-i.ensures.few, ap length of.words);
-      goes = rw new (begun_goes (base c.args.plot.now) c.args.plot.now.blocks c.args.kept.now.room c.args.plot.now.callers c.args.plot.now.blocks c.args.op.now c.args.part.now);
-      part = rw (w.part-is, new) (ap (pad c.args.part.now.known c.args.part.now.batch) c.requires.empty);
-      room = ap (λ k. k.room) new;
-    })
+      let new : c.if-is_of.kept ≡ begun c.args.kept.now.room c.args.plot.now.callers c.args.plot.now.blocks c.args.op.now = w.kept-is ∙ w.begin.ensures in
+      let of : IsOf c.if-is_of.kept c.args.plot.now.callers c.args.plot.now.blocks c.args.op.now = rw new (record { callers = refl; blocks = refl; words = refl }) in
+      record {
+        of = of;
+        done = sym c.done-i.ensures.value;
+        below = omega (arith, c.done-i.ensures.value, c.done-i.ensures.few, ap length of.words);
+        goes = rw new (begun_goes (base c.args.plot.now) c.args.plot.now.blocks c.args.kept.now.room c.args.plot.now.callers c.args.plot.now.blocks c.args.op.now c.args.part.now);
+        part = rw (w.part-is, new) (ap (pad c.args.part.now.known c.args.part.now.batch) c.requires.empty);
+        room = ap (λ k. k.room) new;
+      })
 ]
 
 pub run_word-requires : goal.run_word-requires
