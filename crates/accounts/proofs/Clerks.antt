@@ -1,5 +1,5 @@
 -- A call of a transfer leaves a caller that has made transfers alone.
-use Rattle.std.proofs.Common.{◌≡◌, ℕ, zero, suc, ◌<◌, refl, sym, ◌∙◌, ap, subst, arith, inl, inr, ◌⊎◌, List, [], ◌∷◌, ◌++◌, length, map, take, Ok, Err, Result}
+use Rattle.std.proofs.Common.{◌≡◌, ℕ, ◌+◌, zero, suc, ◌<◌, refl, sym, ◌∙◌, ap, subst, arith, inl, inr, ◌⊎◌, List, [], ◌∷◌, ◌++◌, length, map, take, Ok, Err, Result}
 use Rattle.std.specs.List.{All}
 use Rattle.std.proofs.lemmas.List.Elements.{All-push, All-same}
 use Rattle.std.proofs.Math.Seq.{take-append_seam}
@@ -10,11 +10,19 @@ use Rattle.of_core.specs.declared.place.Outcome.{Outcome}
 use Rattle.of_core.specs.Table.{Setup}
 use Rattle.of_core.specs.World.{Start}
 use Rattle.of_core.specs.Machine.{Data, TakesPlace}
+use Rattle.of_row.specs.declared.member.Member.{Member}
+use Rattle.of_row.specs.declared.member.Pass.{Pass}
+use Rattle.of_row.specs.declared.row.Row.{Row}
+use Rattle.of_row.specs.Passes.{HasEnrolled}
+use Rattle.of_row.specs.Rule.{IsAsked}
 use Rattle.of_row.specs.Views.{Ended, Kept, Sight}
 use Rattle.of_row.specs.Turned.{StandsFor}
 use Rattle.of_caller.specs.declared.caller.CallErr.{CallErr}
 use Rattle.of_caller.specs.declared.caller.CallErr.TheVariants.{Stopped, Spent}
 use Rattle.of_caller.specs.CallsTold.{HasTold, ResultTold}
+use Rattle.of_eval.specs.declared.scripts.Scripts.{Scripts}
+use Rattle.of_eval.specs.Scripts.{scripts_meaning}
+use Rattle.accounts.specs.Clerks.{Hires}
 use Rattle.accounts.specs.Money.{IsTransfer}
 use Rattle.accounts.specs.Closed.{MakesTransfers, KeepsOne}
 
@@ -88,6 +96,30 @@ number_of S i x xs d e s k = stands_caller S x d s ∙ (only (subst (KeepsOne i)
     only : KeepsOne i (x ∷ []) → x.machine.caller ≡ i
     only (inl h) = h.0
     only (inr h) = absurd h
+
+-- ---- numbers that a pass has asked for
+
+asked_or_last : (n r m : ℕ) (xs : List (ℕ × ℕ)) → IsAsked n (xs ++ (r, m) ∷ []) → IsAsked n xs ⊎ (m ≡ n)
+asked_or_last n r m [] (inl e) = inr e
+asked_or_last n r m [] (inr a) = absurd a
+asked_or_last n r m (x ∷ xs) (inl e) = inl (inl e)
+asked_or_last n r m (x ∷ xs) (inr a) = later (asked_or_last n r m xs a)
+  where
+    later : IsAsked n xs ⊎ (m ≡ n) → IsAsked n (x ∷ xs) ⊎ (m ≡ n)
+    later (inl t) = inl (inr t)
+    later (inr t) = inr t
+
+pub hires_next : (r : Row Scripts) (n : ℕ) (before : Pass) (member : Member) (now : Pass) → Hires r n before → HasEnrolled scripts_meaning r n before member now → Hires r (n + 1) now
+hires_next r n before member now h e = record {
+  row = e.at_row.1;
+  first = ap (λ (v : Sight). v.first) e.pass_is ∙ h.first;
+  nobody = ap (λ (v : Sight). v.kept) e.pass_is ∙ h.nobody;
+  below = λ m a. low m (asked_or_last m e.found n before.seat.me.0.asked (subst (λ (v : Sight). IsAsked m v.asked) e.pass_is a));
+}
+  where
+    low : (m : ℕ) → IsAsked m before.seat.me.0.asked ⊎ (n ≡ m) → m < n + 1
+    low m (inl t) = let b = h.below m t in omega (arith, b)
+    low m (inr t) = omega (arith, t)
 
 -- what holds of the four first numbers
 pub four : (P : ℕ → Type 0) → P 0 → P 1 → P 2 → P 3 → (n : ℕ) → n ≡ 4 → (i : ℕ) → i < n → P i

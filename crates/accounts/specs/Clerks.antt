@@ -1,10 +1,11 @@
 -- Clerks of a row: callers that make transfers alone.
-use Rattle.std.specs.Prelude.{◌≡◌, ℕ, [], true}
+use Rattle.std.specs.Prelude.{◌≡◌, ℕ, ◌<◌, [], true}
 use Rattle.of_eval.specs.declared.scripts.Scripts.{Scripts}
 use Rattle.of_eval.specs.Scripts.{scripts_meaning, cells_in}
 use Rattle.of_row.specs.declared.member.Pass.{Pass}
 use Rattle.of_row.specs.declared.row.Row.{Row}
 use Rattle.of_row.specs.Rows.{key_of, IsOf}
+use Rattle.of_row.specs.Rule.{IsAsked}
 use Rattle.of_caller.specs.declared.caller.Caller.{Caller}
 use Rattle.of_caller.specs.Callers.{IsCaller, sight_of}
 use Rattle.accounts.specs.declared.clerk.Clerk.{Clerk}
@@ -38,8 +39,9 @@ pub record IsRowOf (r : Row Scripts) (w : Scripts) (limit : ℕ) : Type 0 where
   pub cells : (key_of r).cells ≡ cells_in w
   pub limit_is : (key_of r).limit ≡ limit
 
--- the row's first pass, which keeps nobody yet
-pub record Hires (r : Row Scripts) (p : Pass) : Type 0 where
+-- the row's first pass, which has asked for numbers below the next one alone and keeps nobody yet
+pub record Hires (r : Row Scripts) (next : ℕ) (p : Pass) : Type 0 where
   pub row : IsOf r p.seat
   pub first : p.seat.me.0.first ≡ true
   pub nobody : p.seat.me.0.kept ≡ []
+  pub below : (number : ℕ) → IsAsked number p.seat.me.0.asked → number < next

@@ -9,8 +9,6 @@ use std::fmt;
 #[derive(Clone, Copy, Debug, PartialEq, Eq)]
 pub enum BankErr {
     Memory,
-    /// Somebody has the clerk's number.
-    NumberTaken { number: u32 },
     /// The books stand for no store, and this is the first data cell at fault.
     Unlawful { cell: u32 },
     /// The accounts don't hold what their founder gave them.
@@ -36,7 +34,6 @@ impl fmt::Display for BankErr {
     fn fmt<W: fmt::Write>(&self, f: &mut fmt::Formatter<W>) -> fmt::Result {
         match self {
             BankErr::Memory => write!(f, "out of memory"),
-            BankErr::NumberTaken { number } => write!(f, "number {number} is taken"),
             BankErr::Unlawful { cell } => write!(f, "data cell {cell} is at fault"),
             BankErr::NotFounded => write!(f, "the accounts don't hold what was given"),
         }

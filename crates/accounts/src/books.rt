@@ -114,7 +114,7 @@ impl Books {
     pub fn open(&self, alloc: Global) -> Result<(Row<Scripts>, Pass), AllocError>
         requires { AreBooks self.now }
         ensures row { IfOk result (λ r. IsRowOf r.0 self.now.scripts LIMIT) }
-        ensures pass { IfOk result (λ r. Hires r.0 r.1) }
+        ensures pass { IfOk result (λ r. Hires r.0 0 r.1) }
         ensures money { IfOk result (λ r.
             money self.now.scripts (map pay (start_at scripts_meaning r.0).cells)
             ≡ money_of self.now) }

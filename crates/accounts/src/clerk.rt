@@ -1,6 +1,6 @@
 //! Clerks: callers that make transfers, each on a thread of its own where one can be made.
 
-ghost use Rattle.std.specs.Prelude.{◌≡◌, ◌<◌, ℕ, IfOk};
+ghost use Rattle.std.specs.Prelude.{◌≡◌, ◌+◌, ◌<◌, ℕ, IfOk};
 ghost use Rattle.of_eval.specs.Scripts.{scripts_meaning};
 ghost use Rattle.of_row.specs.Rows.{IsOf, key_of};
 ghost use Rattle.of_core.specs.Turn.{IsIdle};
@@ -9,7 +9,6 @@ ghost use Rattle.accounts.specs.Money.{IsBalanced};
 ghost use Rattle.accounts.specs.Closed.{KeepsOne};
 ghost use Rattle.accounts.specs.Clerks.{IsClerk, Hires};
 
-use crate::bank_err::BankErr;
 use crate::transfer::Transfer;
 use of_brake::{Brake, Fuel, Steps};
 use of_caller::Caller;
@@ -17,31 +16,32 @@ use of_eval::Scripts;
 use of_row::laws::members;
 use of_row::{Pass, Row};
 use of_script::{MOST_INSTRS, Script, to_words};
-use std::alloc::Global;
+use std::alloc::{AllocError, Global};
 use std::marker::Brand;
 use std::sync::ledger::{Blank, Ledger};
 
-/// Gives a number to a new caller. An error leaves the row without it.
+/// Gives a number to a new caller, none below which was asked for. The error is that there is no
+/// memory.
 pub fn enter(
     alloc: Global,
     row: &Row<Scripts>,
     pass: Pass,
     number: u32,
-) -> Result<(Caller<Scripts>, Pass), BankErr>
-    requires pass { Hires row.now pass }
+) -> Result<(Caller<Scripts>, Pass), AllocError>
+    requires pass { Hires row.now number pass }
     requires number { number < (key_of row.now).callers }
     ensures caller { IfOk result (λ r. IsCaller scripts_meaning row.now r.0) }
     ensures idle { IfOk result (λ r. IsIdle (call_of r.0)) }
     ensures keeps { IfOk result (λ r. KeepsOne number (sight_of r.0).kept) }
-    ensures pass { IfOk result (λ r. Hires row.now r.1) }
+    ensures pass { IfOk result (λ r. Hires row.now (number + 1) r.1) }
 {
     members(row.work());
-    match row.enrol(pass, number) {
-        Ok((member, pass)) => match Caller::new(alloc, row, member) {
-            Ok(caller) => Ok((caller, pass)),
-            Err(_) => Err(BankErr::Memory),
-        },
-        Err(_) => Err(BankErr::NumberTaken { number }),
+    let Ok((member, pass)) = row.enrol(pass, number) else {
+        unreachable!()
+    };
+    match Caller::new(alloc, row, member) {
+        Ok(caller) => Ok((caller, pass)),
+        Err((_member, error)) => Err(error),
     }
 }
 
@@ -87,19 +87,19 @@ pub struct Clerk {
 }
 
 impl Clerk {
-    /// A clerk with a number that nobody has. An error leaves the row without it.
+    /// A clerk with a number, none below which was asked for. The error is that there is no memory.
     pub fn hire(
         alloc: Global,
         row: &Row<Scripts>,
         pass: Pass,
         number: u32,
         job: Job,
-    ) -> Result<(Clerk, Pass), BankErr>
-        requires pass { Hires row.now pass }
+    ) -> Result<(Clerk, Pass), AllocError>
+        requires pass { Hires row.now number pass }
         requires number { number < (key_of row.now).callers }
         ensures clerk { IfOk result (λ r. IsClerk row.now r.0) }
         ensures number { IfOk result (λ r. r.0.number ≡ number) }
-        ensures pass { IfOk result (λ r. Hires row.now r.1) }
+        ensures pass { IfOk result (λ r. Hires row.now (number + 1) r.1) }
     {
         let (caller, pass) = enter(alloc, row, pass, number)?;
         Ok((

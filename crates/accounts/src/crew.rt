@@ -6,26 +6,25 @@ ghost use Rattle.of_row.specs.Rows.{IsOf, key_of};
 ghost use Rattle.accounts.specs.Closed.{KeepsOne};
 ghost use Rattle.accounts.specs.Clerks.{IsClerk, AreClerks, SameNumbers, HaveNumbers, Hires};
 
-use crate::bank_err::BankErr;
 use crate::clerk::{Clerk, Job};
 use of_eval::Scripts;
 use of_row::{Pass, Row};
-use std::alloc::Global;
+use std::alloc::{AllocError, Global};
 use std::thread::{Threads, join};
 
-/// Hires two clerks, of this number and the next. An error leaves the row without them.
+/// Hires two clerks, of this number and the next. The error is that there is no memory.
 pub(crate) fn hire_two(
     alloc: Global,
     row: &Row<Scripts>,
     pass: Pass,
     first: u32,
     jobs: (Job, Job),
-) -> Result<((Clerk, Clerk), Pass), BankErr>
-    requires pass { Hires row.now pass }
+) -> Result<((Clerk, Clerk), Pass), AllocError>
+    requires pass { Hires row.now first pass }
     requires numbers { first + 1 < (key_of row.now).callers }
     ensures clerks { IfOk result (λ r. AreClerks row.now r.0) }
     ensures numbers { IfOk result (λ r. HaveNumbers first (first + 1) r.0) }
-    ensures pass { IfOk result (λ r. Hires row.now r.1) }
+    ensures pass { IfOk result (λ r. Hires row.now (first + 2) r.1) }
 {
     let (one, pass) = Clerk::hire(alloc, row, pass, first, jobs.0)?;
     let (other, pass) = Clerk::hire(alloc, row, pass, first + 1, jobs.1)?;

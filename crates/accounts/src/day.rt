@@ -14,7 +14,7 @@ use crate::crew::{four_at_once, hire_two, leave_two};
 use of_eval::Scripts;
 use of_row::{Pass, Row};
 use of_store::Store;
-use std::alloc::Global;
+use std::alloc::{AllocError, Global};
 use std::thread::Threads;
 
 /// What is to be done in a day.
@@ -65,9 +65,9 @@ fn work_all_day<R: Threads + Sync>(
     row: &Row<Scripts>,
     pass: Pass,
     jobs: Jobs,
-) -> Result<(Pass, [u32; CLERKS as usize]), BankErr>
+) -> Result<(Pass, [u32; CLERKS as usize]), AllocError>
     requires row { (key_of row.now).callers ≡ CLERKS }
-    requires pass { Hires row.now pass }
+    requires pass { Hires row.now 0 pass }
     ensures pass { IfOk result (λ r. IsOf row.now r.0.seat) }
     ensures keeps { IfOk result (λ r. KeepsFour r.0.seat.me.0.kept) }
 {
@@ -93,7 +93,7 @@ fn close_after_work<R: Threads + Sync>(
     alloc: Global,
     books: &Books,
     jobs: Jobs,
-) -> Result<(Books, [u32; CLERKS as usize]), BankErr>
+) -> Result<(Books, [u32; CLERKS as usize]), AllocError>
     requires { AreBooks books.now }
     ensures books { IfOk result (λ r. AreBooks r.0) }
     ensures scripts { IfOk result (λ r. r.0.scripts ≡ books.now.scripts) }

@@ -1,8 +1,5 @@
 //! Two days that follow one another.
 
-ghost use Rattle.std.specs.Prelude.{◌≡◌, IfOk};
-ghost use Rattle.accounts.specs.Books.{AreBooks};
-
 use crate::{BankErr, Books, CLERKS, Day, Job, Jobs, Tally, Transfer, working_day};
 use of_eval::Scripts;
 use std::alloc::{AllocError, Global};
@@ -44,7 +41,13 @@ type Seen = ([u32; 4], [Tally; 2]);
 
 /// What is seen in the evening.
 fn seen(day: &Day) -> Seen {
-    let numbers = [0, 2, 3, 15].map(|account| day.after.register(account));
+    let after = &day.after;
+    let numbers = [
+        after.register(0),
+        after.register(2),
+        after.register(3),
+        after.register(15),
+    ];
     (numbers, [day.tallies[1], day.tallies[2]])
 }
 
