@@ -246,6 +246,7 @@ impl<W: Work> Bank<W> {
     }
 
     /// Makes the next step of a caller's call. Where none is open nothing changes.
+    #[inline(always)]
     pub fn turn(&mut self, caller: u32) -> Turn
         requires { caller < self.old.callers }
         ensures after { self.new ≡ after W.meaning (Turns caller ∷ []) self.old }

@@ -235,6 +235,8 @@ impl<W: Work> Machine<W> {
     }
 
     /// The next atomic step.
+    // in line the step's own form is known where it is made, and there is one jump by the place
+    #[inline(always)]
     #[tactic(auto, unfolding(crate::specs::Steps::want))]
     pub fn want(&self) -> Op
         requires { self.now.call.place ≢ Place.Idle }
@@ -336,6 +338,7 @@ impl<W: Work> Machine<W> {
     }
 
     /// Goes on with the word that the wanted step found, for a store with any number.
+    #[inline(always)]
     #[tactic(auto, unfolding(crate::specs::Steps::took))]
     pub fn take(&mut self, found: u64)
         requires open { self.old.call.place ≢ Place.Idle }
