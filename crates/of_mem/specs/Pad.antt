@@ -1,5 +1,5 @@
 -- Partial memory: what is known of each cell, what a batch wrote over it, and what a script wrote over both.
-use Rattle.std.specs.Prelude.{◌≡◌, ℕ, Result, MatchResult, List, [], ◌∷◌, Option, Some, None}
+use Rattle.std.specs.Prelude.{◌≡◌, ℕ, Bool, true, false, Result, MatchResult, List, [], ◌∷◌, Option, Some, None}
 use Rattle.std.proofs.Common.{get_or, set, replicate}
 use Rattle.of_mem.specs.declared.part.Need.{Need}
 use Rattle.of_mem.specs.Pairs.{value_at, put, put_all}
@@ -43,6 +43,11 @@ ReadsAt p a result =
 -- more is known: each cell that was known has the same number
 abbrev pub Extends : List (Option ℕ) → List (Option ℕ) → Type 0
 Extends more known = (a v : ℕ) → get_or known a None ≡ Some v → get_or more a None ≡ Some v
+
+-- what is seen of a memory whose script's writes are undone, or not
+abbrev pub shown : Bool → Pad → Pad
+shown true p = record p { script = [] }
+shown false p = p
 
 -- the same memory where this is known
 abbrev pub with_known : List (Option ℕ) → Pad → Pad

@@ -1,6 +1,6 @@
 //! A map from cells to numbers, in order of first writing.
 
-ghost use Rattle.std.specs.Prelude.{◌≡◌, ◌<◌, [], length, IfOk, MatchOption, slice_index_or};
+ghost use Rattle.std.specs.Prelude.{◌↔◌, IsTrue, ◌≡◌, ◌<◌, [], length, IfOk, MatchOption, slice_index_or};
 ghost use Rattle.of_mem.specs.Pairs.{value_at, put, IsMap};
 ghost use Rattle.of_mem.specs.Indexed.{Finds, Misses};
 
@@ -102,6 +102,13 @@ impl CellMap {
         ensures room { self.new.room ≡ self.old.room }
     {
         self.entries.clear();
+    }
+
+    /// Whether its entries are those of another one, in the same order.
+    pub fn has_entries_of(&self, other: &CellMap) -> bool
+        ensures { IsTrue result ↔ (self.now.entries ≡ other.now.entries) }
+    {
+        self.entries == other.entries
     }
 
     /// Takes the entries of another one.

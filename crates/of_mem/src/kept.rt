@@ -134,11 +134,7 @@ impl Kept {
         requires { self.now.room ≡ length part.old.known }
         ensures { part.new ≡ record part.old { script = self.now.writes } }
     {
-        part.undo();
-        for i in 0..self.writes.len() {
-            let (addr, value) = self.writes.entry(i);
-            part.write(addr, value);
-        }
+        part.set_script(&self.writes);
     }
 }
 

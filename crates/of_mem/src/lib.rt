@@ -3,6 +3,7 @@
 
 mod cell_map;
 mod kept;
+mod layers;
 pub mod laws;
 mod part;
 mod plot;

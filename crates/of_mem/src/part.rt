@@ -4,7 +4,7 @@ ghost use Rattle.std.specs.Prelude.{◌≡◌, ◌<◌, ◌≤◌, [], length, s
 ghost use Rattle.of_mem.specs.Pad.{unknown, learnt, wrote, kept, ReadsAt};
 
 use crate::cell_map::CellMap;
-use crate::slots::Slots;
+use crate::layers::Layers;
 use std::alloc::{AllocError, Global};
 use std::marker::Model;
 
@@ -19,11 +19,10 @@ pub struct Need {
 /// script, each in order of first writing. Only `new` takes memory.
 #[derive(Drop)]
 pub struct Part {
-    known: Slots,
-    batch: CellMap,
-    script: CellMap,
-    /// What each cell holds, so that a read is one look-up.
-    newest: Slots,
+    layers: Layers,
+    /// Whether the script's writes are undone, though they still stand in the layers: a script that
+    /// goes on where it stopped has written the same.
+    undone: bool,
 }
 
 impl Model for Part {
@@ -31,31 +30,21 @@ impl Model for Part {
 
     ghost Value = { Pad };
 
-    ghost use Rattle.std.specs.Prelude.{◌≡◌, length};
-    ghost use Rattle.of_mem.specs.Newest.{HasNewest};
+    ghost use Rattle.of_mem.specs.Pad.{shown};
 
-    ghost view = { λ p. record { known = p.known; batch = p.batch.entries; script = p.script.entries } };
-
-    ghost invariant = { λ p. (p.batch.room ≡ length p.known) × (p.script.room ≡ length p.known)
-        × HasNewest (record { known = p.known; batch = p.batch.entries; script = p.script.entries }) p.newest };
+    ghost view = { λ p. shown p.undone p.layers };
 }
 
-#[tactic(auto, unfolding(crate::specs::Pad::newest, crate::specs::Pad::wrote))]
 impl Part {
     /// A memory of the cells below `cells` of which nothing is known. The error is that there is no
     /// memory.
     pub fn new(alloc: Global, cells: u32) -> Result<Self, AllocError>
         ensures { IfOk result (λ p. p ≡ unknown cells) }
     {
-        let known = Slots::new(alloc, cells)?;
-        let batch = CellMap::new(alloc, cells)?;
-        let script = CellMap::new(alloc, cells)?;
-        let newest = Slots::new(alloc, cells)?;
+        let layers = Layers::new(alloc, cells)?;
         Ok(Part {
-            known,
-            batch,
-            script,
-            newest,
+            layers,
+            undone: false,
         })
     }
 
@@ -64,9 +53,7 @@ impl Part {
         requires { addr < length self.old.known }
         ensures { self.new ≡ learnt self.old addr value }
     {
-        self.known.set(addr, Some(value));
-        let over = self.script.get(addr).or(self.batch.get(addr));
-        self.newest.set(addr, over.or(Some(value)));
+        self.layers.learn(addr, value);
     }
 
     /// What a cell holds: the script's number, else the batch's, else the known one. The error
@@ -75,9 +62,10 @@ impl Part {
         requires { addr < length self.now.known }
         ensures { ReadsAt self.now addr result }
     {
-        match self.newest.get(addr) {
-            Some(value) => Ok(value),
-            None => Err(Need { addr }),
+        if self.undone {
+            self.layers.read_under(addr)
+        } else {
+            self.layers.read(addr)
         }
     }
 
@@ -88,8 +76,11 @@ impl Part {
         ensures known { self.new.known ≡ self.old.known }
         ensures batch { self.new.batch ≡ self.old.batch }
     {
-        self.script.put(addr, value);
-        self.newest.set(addr, Some(value));
+        if self.undone {
+            self.layers.undo();
+            self.undone = false;
+        }
+        self.layers.write(addr, value);
     }
 
     /// How many cells the script wrote.
@@ -97,7 +88,11 @@ impl Part {
         ensures value { result ≡ length self.now.script }
         ensures few { length self.now.script ≤ length self.now.known }
     {
-        self.script.len()
+        if self.undone {
+            0
+        } else {
+            self.layers.pending_len()
+        }
     }
 
     /// A cell that the script wrote and its number, in order of first writing.
@@ -106,40 +101,33 @@ impl Part {
         ensures value { result ≡ slice_index_or self.now.script i (0, 0) }
         ensures below { result.0 < length self.now.known }
     {
-        self.script.entry(i)
+        self.layers.pending(i)
     }
 
     /// Hands what the script wrote to the batch.
     pub fn keep(&mut self)
         ensures { self.new ≡ kept self.old }
     {
-        for i in 0..self.script.len() {
-            let (addr, value) = self.script.entry(i);
-            self.batch.put(addr, value);
+        if self.undone {
+            self.layers.undo();
+            self.undone = false;
         }
-        self.script.clear();
+        self.layers.keep();
     }
 
     /// Forgets what the script wrote.
     pub fn undo(&mut self)
         ensures { self.new ≡ record self.old { script = [] } }
     {
-        for i in 0..self.script.len() {
-            let (addr, _) = self.script.entry(i);
-            let under = self.batch.get(addr).or(self.known.get(addr));
-            self.newest.set(addr, under);
-        }
-        self.script.clear();
+        self.undone = true;
     }
 
     /// Forgets everything.
     pub fn clear(&mut self)
         ensures { self.new ≡ unknown (length self.old.known) }
     {
-        self.known.clear();
-        self.newest.clear();
-        self.batch.clear();
-        self.script.clear();
+        self.layers.clear();
+        self.undone = false;
     }
 
     /// Copies what the script wrote.
@@ -148,7 +136,23 @@ impl Part {
         ensures entries { to.new.entries ≡ self.now.script }
         ensures room { to.new.room ≡ to.old.room }
     {
-        to.copy_from(&self.script);
+        if self.undone {
+            to.clear();
+        } else {
+            self.layers.copy_script(to);
+        }
+    }
+
+    /// Lets these be what the script wrote. It takes no time where the script wrote the same before
+    /// it was undone, but for a look.
+    pub(crate) fn set_script(&mut self, writes: &CellMap)
+        requires { writes.now.room ≡ length self.old.known }
+        ensures { self.new ≡ record self.old { script = writes.now.entries } }
+    {
+        if !self.layers.has_written(writes) {
+            self.layers.set_script(writes);
+        }
+        self.undone = false;
     }
 }
 

@@ -1,7 +1,7 @@
 use Rattle.std.proofs.Common.{◌≡◌, ◌<◌, length, Some, length-set, sym, ◌∙◌, rules}
 use Rattle.of_mem.specs.Pad.{Pad}
 use Rattle.of_mem.proofs.Newest.{newest_learnt}
-use Rattle.of_mem.proofs.part.Part.learn.Goals as goal
+use Rattle.of_mem.proofs.layers.Layers.learn.Goals as goal
 
 pub invariant_of-self : goal.invariant_of-self
 invariant_of-self c =

@@ -1,6 +1,6 @@
 use Rattle.std.proofs.Common.{◌≡◌, drop}
 use Rattle.of_mem.specs.Newest.{HasNewest}
-use Rattle.of_mem.proofs.part.Part.undo.Given as goal
+use Rattle.of_mem.proofs.layers.Layers.undo.Given as goal
 
 abbrev pub invariant-loop-i : goal.invariant-loop-i
 invariant-loop-i l = record {

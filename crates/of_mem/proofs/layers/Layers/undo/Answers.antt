@@ -3,7 +3,7 @@ use Rattle.std.specs.Option.{option_or}
 use Rattle.of_mem.specs.Pairs.{value_at, address}
 use Rattle.of_mem.specs.Pad.{Pad}
 use Rattle.of_mem.proofs.Newest.{newest_undone}
-use Rattle.of_mem.proofs.part.Part.undo.Goals as goal
+use Rattle.of_mem.proofs.layers.Layers.undo.Goals as goal
 
 pub loop-i-preserved : goal.loop-i-preserved
 loop-i-preserved c =

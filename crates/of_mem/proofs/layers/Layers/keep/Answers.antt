@@ -4,7 +4,7 @@ use Rattle.of_mem.specs.Pad.{Pad}
 use Rattle.of_mem.proofs.Cells.{put_all_take}
 use Rattle.std.proofs.lemmas.List.{take_all}
 use Rattle.of_mem.proofs.Newest.{newest_kept}
-use Rattle.of_mem.proofs.part.Part.keep.Goals as goal
+use Rattle.of_mem.proofs.layers.Layers.keep.Goals as goal
 
 pub loop-i-preserved : goal.loop-i-preserved
 loop-i-preserved c =

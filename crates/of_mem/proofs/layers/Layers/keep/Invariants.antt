@@ -1,6 +1,6 @@
 use Rattle.std.proofs.Common.{◌≡◌, length, take}
 use Rattle.of_mem.specs.Pairs.{put_all}
-use Rattle.of_mem.proofs.part.Part.keep.Given as goal
+use Rattle.of_mem.proofs.layers.Layers.keep.Given as goal
 
 abbrev pub invariant-loop-i : goal.invariant-loop-i
 invariant-loop-i l = record {

@@ -1,7 +1,7 @@
 use Rattle.std.proofs.Common.{◌<◌, length, ◌∙◌, rules}
 use Rattle.of_mem.specs.Pad.{Pad, wrote}
 use Rattle.of_mem.proofs.Newest.{newest_wrote}
-use Rattle.of_mem.proofs.part.Part.write.Goals as goal
+use Rattle.of_mem.proofs.layers.Layers.write.Goals as goal
 
 pub invariant_of-self : goal.invariant_of-self
 unfolding wrote

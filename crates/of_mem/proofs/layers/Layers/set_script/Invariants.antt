@@ -1,0 +1,8 @@
+use Rattle.std.proofs.Common.{◌≡◌, take}
+use Rattle.of_mem.proofs.layers.Layers.set_script.Given as goal
+
+abbrev pub invariant-loop-i : goal.invariant-loop-i
+invariant-loop-i l = record {
+  written : l.self ≡ record l.initial.self { script = take l.i l.writes.entries };
+  writes : l.writes ≡ l.initial.writes;
+}

@@ -1,0 +1,177 @@
+//! What is known of cells, and what batch and script wrote over it.
+
+ghost use Rattle.std.specs.Prelude.{◌≡◌, ◌<◌, ◌≤◌, ◌↔◌, IsTrue, [], length, slice_index_or, IfOk};
+ghost use Rattle.of_mem.specs.Pad.{unknown, learnt, wrote, kept, ReadsAt};
+
+use crate::cell_map::CellMap;
+use crate::part::Need;
+use crate::slots::Slots;
+use std::alloc::{AllocError, Global};
+use std::marker::Model;
+
+/// The cells that are known, what a batch of scripts wrote over them, and what a script wrote over
+/// both. A contract sees what `Part` shows of them.
+#[derive(Drop)]
+pub(crate) struct Layers {
+    known: Slots,
+    batch: CellMap,
+    script: CellMap,
+    /// What each cell holds, so that a read is one look-up.
+    newest: Slots,
+}
+
+impl Model for Layers {
+    ghost use Rattle.of_mem.specs.Pad.{Pad};
+
+    ghost Value = { Pad };
+
+    ghost use Rattle.std.specs.Prelude.{◌≡◌, length};
+    ghost use Rattle.of_mem.specs.Newest.{HasNewest};
+
+    ghost view = { λ p. record { known = p.known; batch = p.batch.entries; script = p.script.entries } };
+
+    ghost invariant = { λ p. (p.batch.room ≡ length p.known) × (p.script.room ≡ length p.known)
+        × HasNewest (record { known = p.known; batch = p.batch.entries; script = p.script.entries }) p.newest };
+}
+
+#[tactic(auto, unfolding(crate::specs::Pad::newest, crate::specs::Pad::wrote))]
+impl Layers {
+    /// A memory of the cells below `cells` of which nothing is known. The error is that there is no
+    /// memory.
+    pub fn new(alloc: Global, cells: u32) -> Result<Self, AllocError>
+        ensures { IfOk result (λ p. p ≡ unknown cells) }
+    {
+        let known = Slots::new(alloc, cells)?;
+        let batch = CellMap::new(alloc, cells)?;
+        let script = CellMap::new(alloc, cells)?;
+        let newest = Slots::new(alloc, cells)?;
+        Ok(Layers {
+            known,
+            batch,
+            script,
+            newest,
+        })
+    }
+
+    /// Makes a cell's number known.
+    pub fn learn(&mut self, addr: u32, value: u32)
+        requires { addr < length self.old.known }
+        ensures { self.new ≡ learnt self.old addr value }
+    {
+        self.known.set(addr, Some(value));
+        let over = self.script.get(addr).or(self.batch.get(addr));
+        self.newest.set(addr, over.or(Some(value)));
+    }
+
+    /// What a cell holds: the script's number, else the batch's, else the known one. The error
+    /// names the cell where there is none.
+    pub fn read(&self, addr: u32) -> Result<u32, Need>
+        requires { addr < length self.now.known }
+        ensures { ReadsAt self.now addr result }
+    {
+        match self.newest.get(addr) {
+            Some(value) => Ok(value),
+            None => Err(Need { addr }),
+        }
+    }
+
+    /// What a cell holds under what the script wrote.
+    pub fn read_under(&self, addr: u32) -> Result<u32, Need>
+        requires { addr < length self.now.known }
+        ensures { ReadsAt (record self.now { script = [] }) addr result }
+    {
+        match self.batch.get(addr).or(self.known.get(addr)) {
+            Some(value) => Ok(value),
+            None => Err(Need { addr }),
+        }
+    }
+
+    /// Writes a number for the script.
+    pub fn write(&mut self, addr: u32, value: u32)
+        requires { addr < length self.old.known }
+        ensures writes { self.new ≡ wrote self.old addr value }
+        ensures known { self.new.known ≡ self.old.known }
+        ensures batch { self.new.batch ≡ self.old.batch }
+    {
+        self.script.put(addr, value);
+        self.newest.set(addr, Some(value));
+    }
+
+    /// How many cells the script wrote.
+    pub fn pending_len(&self) -> u32
+        ensures value { result ≡ length self.now.script }
+        ensures few { length self.now.script ≤ length self.now.known }
+    {
+        self.script.len()
+    }
+
+    /// A cell that the script wrote and its number, in order of first writing.
+    pub fn pending(&self, i: u32) -> (u32, u32)
+        requires { i < length self.now.script }
+        ensures value { result ≡ slice_index_or self.now.script i (0, 0) }
+        ensures below { result.0 < length self.now.known }
+    {
+        self.script.entry(i)
+    }
+
+    /// Hands what the script wrote to the batch.
+    pub fn keep(&mut self)
+        ensures { self.new ≡ kept self.old }
+    {
+        for i in 0..self.script.len() {
+            let (addr, value) = self.script.entry(i);
+            self.batch.put(addr, value);
+        }
+        self.script.clear();
+    }
+
+    /// Forgets what the script wrote.
+    pub fn undo(&mut self)
+        ensures { self.new ≡ record self.old { script = [] } }
+    {
+        for i in 0..self.script.len() {
+            let (addr, _) = self.script.entry(i);
+            let under = self.batch.get(addr).or(self.known.get(addr));
+            self.newest.set(addr, under);
+        }
+        self.script.clear();
+    }
+
+    /// Forgets everything.
+    pub fn clear(&mut self)
+        ensures { self.new ≡ unknown (length self.old.known) }
+    {
+        self.known.clear();
+        self.newest.clear();
+        self.batch.clear();
+        self.script.clear();
+    }
+
+    /// Copies what the script wrote.
+    pub fn copy_script(&self, to: &mut CellMap)
+        requires { to.old.room ≡ length self.now.known }
+        ensures entries { to.new.entries ≡ self.now.script }
+        ensures room { to.new.room ≡ to.old.room }
+    {
+        to.copy_from(&self.script);
+    }
+
+    /// Whether the script wrote these, in this order.
+    pub fn has_written(&self, writes: &CellMap) -> bool
+        ensures { IsTrue result ↔ (self.now.script ≡ writes.now.entries) }
+    {
+        self.script.has_entries_of(writes)
+    }
+
+    /// Lets these be what the script wrote.
+    pub fn set_script(&mut self, writes: &CellMap)
+        requires { writes.now.room ≡ length self.old.known }
+        ensures { self.new ≡ record self.old { script = writes.now.entries } }
+    {
+        self.undo();
+        for i in 0..writes.len() {
+            let (addr, value) = writes.entry(i);
+            self.write(addr, value);
+        }
+    }
+}
