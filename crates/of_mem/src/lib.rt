@@ -3,8 +3,8 @@
 
 mod cell_map;
 mod kept;
-mod layers;
 pub mod laws;
+mod layers;
 mod part;
 mod plot;
 mod slots;

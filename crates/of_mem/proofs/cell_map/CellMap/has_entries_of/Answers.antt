@@ -11,10 +11,10 @@ both false y e = absurd (let q : ◌≡◌ {A = Bool} false true = e in cc)
 same_entry : (a b : ℕ × ℕ) → Decides ((a.0 == b.0) && (a.1 == b.1)) (a ≡ b)
 same_entry a b = (
   λ e.
-    let t = both (a.0 == b.0) (a.1 == b.1) e in
-    let first : a.0 ≡ b.0 = (Decides-eqb a.0 b.0).0 t.0 in
-    let second : a.1 ≡ b.1 = (Decides-eqb a.1 b.1).0 t.1 in
-    λ i. (first i, second i),
+      let t = both (a.0 == b.0) (a.1 == b.1) e in
+      let first : a.0 ≡ b.0 = (Decides-eqb a.0 b.0).0 t.0 in
+      let second : a.1 ≡ b.1 = (Decides-eqb a.1 b.1).0 t.1 in
+      λ i. (first i, second i),
   λ e. rw ((Decides-eqb a.0 b.0).1 (ap (λ (x : ℕ × ℕ). x.0) e), (Decides-eqb a.1 b.1).1 (ap (λ (x : ℕ × ℕ). x.1) e)) refl,
 )
 
