@@ -10,6 +10,8 @@ use Rattle.of_script.specs.Language.{IsScript}
 use Rattle.of_script.specs.Text.{script_words}
 use Rattle.of_script.specs.Reading.{ended}
 use Rattle.of_plan.specs.declared.line.Entry.TheVariants.{Script, Stop, Turns, Evict}
+use Rattle.of_plan.specs.declared.line.Plain.{Plain}
+use Rattle.of_plan.specs.declared.line.Plain.TheVariants.{Title as PlainTitle, Callers as PlainCallers, Blocks as PlainBlocks, Limit as PlainLimit, Stop as PlainStop, Turns as PlainTurns, Evict as PlainEvict, End as PlainEnd}
 use Rattle.of_plan.specs.declared.line.Line.{Line}
 use Rattle.of_plan.specs.declared.line.Line.TheVariants.{Title, Callers, Blocks, Limit, Body, End}
 use Rattle.of_plan.specs.Lines.{line_words}
@@ -30,6 +32,17 @@ LineInRange End = Unit {0}
 -- plans, as they are read
 abbrev pub plan_language : Language
 plan_language = record { Line = Line; words_of = line_words; InRange = LineInRange }
+
+-- the line that was read
+abbrev pub line_of : Plain → Line
+line_of PlainTitle = Title
+line_of (PlainCallers n) = Callers n
+line_of (PlainBlocks n) = Blocks n
+line_of (PlainLimit x) = Limit x
+line_of (PlainStop c x) = Body (Stop c x)
+line_of (PlainTurns c x) = Body (Turns c x)
+line_of (PlainEvict a) = Body (Evict a)
+line_of PlainEnd = End
 
 -- how the title is read
 abbrev pub title_of : List (List ℕ) → Option Line
