@@ -1,15 +1,13 @@
 -- What a line leads to, from what its parts lead to.
-use Rattle.std.proofs.Common.{◌≡◌, ◌⊎◌, inl, inr, ℕ, Bool, true, false, List, ◌∷◌, Some, None, Ok, Err, Result, sym, ap, subst, ◌∙◌}
+use Rattle.std.proofs.Common.{◌≡◌, inr, ℕ, Bool, true, false, List, Ok, Err, Result, ◌∙◌}
 use Rattle.std.specs.Bool.{MatchBool}
-use Rattle.std.specs.Prelude.{codes, IfOk}
+use Rattle.std.specs.Prelude.{IfOk}
 use Rattle.of_plan.specs.declared.line.Entry.{Entry}
 use Rattle.of_plan.specs.declared.line.Line.{Line}
 use Rattle.of_plan.specs.declared.line.Line.TheVariants.{Body}
-use Rattle.of_plan.specs.Lines.{is_skipped}
-use Rattle.of_plan.specs.LineReading.{plan_language, ScriptLine, NoScriptLine}
+use Rattle.of_plan.specs.LineReading.{plan_language, ScriptLine}
 use Rattle.of_plan.specs.Reader.{Spells, Fed, Stuck}
 use Rattle.of_plan.specs.Progress.{Progress, entered, next, Enters, Leads, ScriptFed, ScriptStuck, plan_reader}
-use Rattle.of_plan.proofs.LineLaws.{script_is}
 
 -- an entry, behind the look whether one may come next
 pub entry_leads : {E : Type 0} (r : Result Bool E) (p begun q : Progress) (e : Entry) → next p (Body e) ≡ entered begun e → IfOk r (λ b. Enters begun e b q) → IfOk r (λ b. Leads p (Body e) b q)
@@ -22,15 +20,6 @@ pub script_leads : {E : Type 0} (r : Result Bool E) (ws : List (List ℕ)) (l : 
 script_leads (Ok true) ws l p q is h = (l, is, h)
 script_leads (Ok false) ws l p q is h = inr (l, is, h)
 script_leads (Err x) ws l p q is h = tt
-
--- and with that word
-pub fed_script : {E : Type 0} (r : Result Bool E) (name : List ℕ) (ws : List (List ℕ)) (p q : Progress) → name ≡ codes "script" → is_skipped (name ∷ ws) ≡ false → IfOk r (λ b. MatchBool b (ScriptFed ws p q) (ScriptStuck ws p)) → IfOk r (λ b. MatchBool b (Fed plan_language plan_reader (name ∷ ws) p q) (Stuck plan_language plan_reader (name ∷ ws) p))
-fed_script (Ok true) name ws p q e kept h = inr (h.0, script_is (Some h.0) name ws h.1 e kept, h.2)
-fed_script (Ok false) name ws p q e kept h = elim h [
-  | inl none ↦ inl (script_is None name ws none e kept)
-  | inr k ↦ inr (k.0, script_is (Some k.0) name ws k.1 e kept, k.2)
-]
-fed_script (Err x) name ws p q e kept h = tt
 
 -- a line without a script
 pub fed_plain : {E : Type 0} (r : Result Bool E) (ws : List (List ℕ)) (l : Line) (p q : Progress) → Spells plan_language ws l → IfOk r (λ b. Leads p l b q) → IfOk r (λ b. MatchBool b (Fed plan_language plan_reader ws p q) (Stuck plan_language plan_reader ws p))

@@ -1,4 +1,4 @@
-use Rattle.std.proofs.Common.{◌*◌, ◌≤◌, ℕ, suc, List, Option, [], ◌∷◌, ◌++◌, map, replicate, None, sym, ap, subst, ◌∙◌, arith, refl}
+use Rattle.std.proofs.Common.{ℕ, List, Option, [], ◌∷◌, ◌++◌, map, None, sym, ap, subst, ◌∙◌, arith}
 use Rattle.std.specs.List.{range_with_len}
 use Rattle.std.proofs.lemmas.List.{replicate_more}
 use Rattle.std.proofs.lemmas.List.{map-append}
@@ -6,9 +6,8 @@ use Rattle.std.proofs.lemmas.List.FromFn.{map-range_with_len_more}
 use Rattle.of_script.specs.declared.instr.Instr.{Instr}
 use Rattle.std.specs.declared.vec.Vec.{Vec}
 use Rattle.std.proofs.Common.{Global}
-use Rattle.of_plan.specs.Plan.{Plan, IsPlan}
-use Rattle.of_plan.specs.Held.{held}
-use Rattle.of_plan.specs.Generated.{load_scripts, generated}
+use Rattle.of_plan.specs.Plan.{IsPlan}
+use Rattle.of_plan.specs.Generated.{load_scripts}
 use Rattle.of_plan.proofs.LoadPlans.{generated_is_plan, each_within, same_plan}
 use Rattle.of_plan.proofs.plan.load.generate.Goals as goal
 

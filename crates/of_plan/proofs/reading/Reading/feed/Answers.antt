@@ -1,7 +1,4 @@
-use Rattle.std.proofs.Common.{◌≡◌, inl, Some, None, List, ℕ, ◌∷◌, sym, ap, subst, ◌∙◌}
-use Rattle.std.specs.Prelude.{codes}
-use Rattle.std.specs.Str.{bytes_eq}
-use Rattle.of_script.specs.Text.{words}
+use Rattle.std.proofs.Common.{inl, Some, None, List, ℕ, sym, subst}
 use Rattle.of_plan.specs.Reader.{Spells, SpellsNone}
 use Rattle.of_plan.specs.LineReading.{plan_language, line_of}
 use Rattle.of_plan.proofs.LineLaws.{plain_is}

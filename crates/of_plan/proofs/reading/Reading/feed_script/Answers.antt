@@ -1,4 +1,4 @@
-use Rattle.std.proofs.Common.{◌≡◌, ◌∙◌, inl, inr, ap, sym, List, ℕ, ◌∷◌, false, true}
+use Rattle.std.proofs.Common.{◌≡◌, ◌∙◌, inl, inr, ap, List, ℕ, ◌∷◌}
 use Rattle.std.specs.Prelude.{decimal}
 use Rattle.of_script.specs.Text.{words, script_words}
 use Rattle.of_plan.specs.declared.line.Entry.TheVariants.{Script}
