@@ -1,8 +1,6 @@
-use Rattle.std.proofs.Common.{◌≡◌, ℕ, List, [], Bool, true, false, Option, Some, None, refl, sym, ap, subst, ◌∙◌, arith}
-use Rattle.std.specs.Str.{bytes_eq}
+use Rattle.std.proofs.Common.{◌≡◌, ℕ, List, [], true, false, Some, None, refl, sym, ap, subst, ◌∙◌, arith}
 use Rattle.std.proofs.lemmas.List.{nil_from_length}
 use Rattle.std.proofs.lemmas.Slice.Eq.{bytes_eq-Decides}
-use Rattle.of_script.specs.declared.instr.Instr.{Instr}
 use Rattle.of_script.specs.Table.{instr_name, form_named}
 use Rattle.of_script.proofs.Between.{between_named, none_named}
 use Rattle.of_script.proofs.table.form_named.Goals as goal
@@ -25,6 +23,6 @@ returns-then-eq c =
 pub returns : goal.returns
 returns c =
     none_named c.args.name.now (λ f e is.
-        let same : f ≡ c.in_ok-form.form = (let both : Some f ≡ Some c.in_ok-form.form = sym e ∙ sym c.form_between.ensures ∙ c.in_ok-form.was in cc) in
-        let eq = (bytes_eq-Decides c.args.name.now c.name.result.now).1 (is ∙ ap instr_name same ∙ sym c.name.ensures) in
-        let wrong : true ≡ false = sym eq ∙ sym c.eq.ensures ∙ c.if-eq.false in absurd cc)
+    let same : f ≡ c.in_ok-form.form = (let both : Some f ≡ Some c.in_ok-form.form = sym e ∙ sym c.form_between.ensures ∙ c.in_ok-form.was in cc) in
+    let eq = (bytes_eq-Decides c.args.name.now c.name.result.now).1 (is ∙ ap instr_name same ∙ sym c.name.ensures) in
+    let wrong : true ≡ false = sym eq ∙ sym c.eq.ensures ∙ c.if-eq.false in absurd cc)
