@@ -16,7 +16,8 @@ use Rattle.of_tool.specs.declared.command.Command.TheVariants.{Serial, Play, Tra
 use Rattle.of_tool.specs.declared.status.TheConstants.{DONE}
 use Rattle.of_tool.specs.declared.top.Answer.{Answer}
 use Rattle.of_tool.specs.Commands.{words_of, IsLoad, IsPlain, Are, IsNoCommand}
-use Rattle.of_tool.specs.Ran.{AllowedBy, KeepAllowances, AllTell, IsRunReport}
+use Rattle.of_caller.specs.Allowances.{AllowedBy, KeepAllowances}
+use Rattle.of_tool.specs.Ran.{AllTell, IsRunReport}
 use Rattle.of_report.specs.LoadText.{load_text}
 use Rattle.of_row.specs.Views.{Sight}
 use Rattle.of_tool.specs.Verdicts.{Loaded, SourceState, SinkState, IsAnswer, IsWritten}
@@ -101,7 +102,7 @@ plain_answers words c before after status text is h = subst (λ (ws : List (List
 -- ---- what the brakes tell of a load
 
 -- where all brakes tell, each caller keeps its stop as its allowance
-by_told : (o : Option (Option ℕ)) (p : Plan) (r : Report) (c : ℕ) → (o ≡ None → ⊥) → AllowedBy o p r c (stop_of p c) → KeepsAllowance p r c (stop_of p c)
+by_told : (o : Option (Option ℕ)) (p : Plan) (r : Report) (c : ℕ) → (o ≡ None → ⊥) → AllowedBy o p r c → KeepsAllowance p r c (stop_of p c)
 by_told None p r c told h = absurd (told refl)
 by_told (Some steps) p r c told h = h
 

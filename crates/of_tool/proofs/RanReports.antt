@@ -13,9 +13,10 @@ use Rattle.of_caller.specs.Starts.{StartsAt, ZerosAreEmpty}
 use Rattle.of_caller.specs.Tables.{setup_for}
 use Rattle.of_caller.specs.Stops.{KeepStop, CallerStops, KeepStops}
 use Rattle.of_caller.specs.Teams.{IsHandedBack, AnnouncesSeen, TeamsKeepAllowances}
-use Rattle.of_tool.specs.Ran.{AllowedBy, KeepAllowances, IsRunReport}
+use Rattle.of_caller.specs.Allowances.{AllowedBy, KeepAllowances}
+use Rattle.of_tool.specs.Ran.{IsRunReport}
 
-allowed_by : (p : Plan) (r : Report) (e : Run) (c : ℕ) → (KeepStop (stop_of p c) (answers_of e c) (ending_of e c) → KeepsAllowance p r c (stop_of p c)) → (o : Option (Option ℕ)) → CallerStops p e c o → AllowedBy o p r c (stop_of p c)
+allowed_by : (p : Plan) (r : Report) (e : Run) (c : ℕ) → (KeepStop (stop_of p c) (answers_of e c) (ending_of e c) → KeepsAllowance p r c (stop_of p c)) → (o : Option (Option ℕ)) → CallerStops p e c o → AllowedBy o p r c
 allowed_by p r e c keeps None h = tt
 allowed_by p r e c keeps (Some steps) h = keeps h
 

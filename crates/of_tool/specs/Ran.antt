@@ -1,26 +1,16 @@
 -- What is said of a run of all callers of a plan at once.
-use Rattle.std.specs.Prelude.{◌≡◌, ℕ, ◌+◌, ◌<◌, List, [], ◌∷◌, Option, Some, None}
-use Rattle.of_plan.specs.Plan.{Plan, stop_of}
+use Rattle.std.specs.Prelude.{◌≡◌, ℕ, ◌+◌, ◌<◌, List, [], ◌∷◌, Option, None}
+use Rattle.of_plan.specs.Plan.{Plan}
 use Rattle.of_plan.specs.Report.{Report, empty_start}
 use Rattle.of_plan.specs.Legal.{IsLegal}
 use Rattle.of_plan.specs.Ended.{Run}
-use Rattle.of_plan.specs.Allowance.{KeepsAllowance}
 use Rattle.of_eval.specs.Reported.{ReportsRun}
 use Rattle.of_core.specs.Events.{zeros}
 use Rattle.of_row.specs.Views.{Sight}
 use Rattle.of_row.specs.Turned.{memo}
+use Rattle.of_caller.specs.Allowances.{KeepAllowances}
 use Rattle.of_caller.specs.Tables.{setup_for}
 use Rattle.of_caller.specs.Teams.{IsTeamOf, AnnouncesSeen}
-
--- a caller whose brake tells its steps left keeps this allowance
-abbrev pub AllowedBy : (left : Option (Option ℕ)) → Plan → Report → (caller : ℕ) → (allowance : Option ℕ) → Type 0
-AllowedBy None p r c allowance = Unit {0}
-AllowedBy (Some steps) p r c allowance = KeepsAllowance p r c allowance
-
--- each caller from c on keeps the plan's stop as its allowance, by the brake at its place
-abbrev pub KeepAllowances : {A : Type 0} → (A → Option (Option ℕ)) → Plan → Report → (c : ℕ) → List A → Type 0
-KeepAllowances left p r c [] = Unit {0}
-KeepAllowances left p r c (b ∷ bs) = (c < p.callers → AllowedBy (left b) p r c (stop_of p c)) × KeepAllowances left p r (c + 1) bs
 
 -- each brake of a caller from c on tells its steps left
 abbrev pub AllTell : {A : Type 0} → (A → Option (Option ℕ)) → Plan → (c : ℕ) → List A → Type 0
