@@ -1,13 +1,12 @@
 //! The plain bank: the words of a table, and a machine for each caller, whose steps come one after the other.
 
 ghost use Rattle.std.specs.Prelude.{◌≡◌, ◌<◌, ◌≤◌, ◌+◌, ◌*◌, [], ◌∷◌, length, IfOk, IsTrue, ◌↔◌};
-ghost use Rattle.std.proofs.Common.{get_or, set};
+ghost use Rattle.std.proofs.Common.{get_or};
 ghost use Rattle.of_mem.specs.declared.work.TheConstants.{MOST_INSTRS};
 ghost use Rattle.of_cell.specs.Words.{pay};
 ghost use Rattle.of_cell.specs.Cells.{durable_cells, table_words as cell_words};
 ghost use Rattle.of_cell.specs.declared.word.TheConstants.{PAYLOADS};
 ghost use Rattle.of_core.specs.Table.{size, setup_of};
-ghost use Rattle.of_core.specs.Steps.{word_of, left};
 ghost use Rattle.of_core.specs.Events.{Begins, Turns, Raises, zeros, idles, opening};
 ghost use Rattle.of_core.specs.Starts.{IsStartRow, closed_at, first_cells, first_words, start_of};
 ghost use Rattle.of_core.specs.Moment.{Reached, after, machine_of, table, table_words};

@@ -247,8 +247,8 @@ impl<W: Work> Machine<W> {
         self.want_by(self.place, &mut Naming)
     }
 
-    /// Has the next atomic step taken: that of the place.
-    // in line each place goes straight on from its step where it is taken too, so that there is one jump by the place
+    /// Has the next atomic step performed: that of `place`, where the machine stands.
+    // in line each place performs its own form of step and goes straight on from there, so that there is one jump by the place
     #[inline(always)]
     pub(crate) fn want_by<P: Performer>(&self, place: Place, by: &mut P) -> P::Given
         requires here { place ≡ self.now.call.place }
@@ -367,7 +367,7 @@ impl<W: Work> Machine<W> {
         self.take_at(self.place, found)
     }
 
-    /// The same at the place where it stands.
+    /// Goes on from `place`, where the machine stands, with the word that its step found.
     #[inline(always)]
     pub(crate) fn take_at(&mut self, place: Place, found: u64)
         requires here { place ≡ self.old.call.place }

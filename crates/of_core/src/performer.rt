@@ -1,25 +1,26 @@
-//! How a wanted step is taken: it is named, or it is made on the words of a table.
+//! What becomes of a step that a machine wants: it is named, or it is made on the words of a table.
 
 ghost use Rattle.std.specs.Prelude.{◌≡◌, ◌<◌, length};
-ghost use Rattle.std.proofs.Common.{get_or, set};
+ghost use Rattle.std.proofs.Common.{get_or};
 ghost use Rattle.std.specs.Vec.{with_items};
 ghost use Rattle.of_core.specs.declared.place.Op.{Op};
-ghost use Rattle.of_core.specs.Steps.{word_of, left, words_after};
+ghost use Rattle.of_core.specs.Steps.{word_of, words_after};
 
 use crate::place::Op;
 
-/// Who takes the steps that a machine wants.
+/// Performs the steps that a machine wants, so that one table of them serves whoever asks.
 pub(crate) trait Performer {
-    /// What is had for a step.
+    /// What it gives for a step.
     type Given;
 
+    // which steps it takes, what it gives for one, and what one leaves of it
     ghost takes: { Self → Op → Type 0 };
 
     ghost gives: { Self → Op → Self.Given };
 
     ghost leaves: { Self → Op → Self };
 
-    /// Takes a step.
+    /// Performs a step.
     fn perform(&mut self, op: Op) -> Self::Given
         requires { takes self.old op }
         ensures given { result ≡ gives self.old op }
