@@ -248,7 +248,7 @@ impl<W: Work> Machine<W> {
     }
 
     /// Has the next atomic step performed: that of `place`, where the machine stands.
-    // in line each place performs its own form of step and goes straight on from there, so that there is one jump by the place
+    // in line, and with an arm for each place: it performs its own form of step and goes straight on from there, with one jump by the place
     #[inline(always)]
     pub(crate) fn want_by<P: Performer>(&self, place: Place, by: &mut P) -> P::Given
         requires here { place ≡ self.now.call.place }
@@ -258,13 +258,22 @@ impl<W: Work> Machine<W> {
         ensures range { word_of (want_at (setup W.meaning self.now) self.now.call place) < table_size (setup W.meaning self.now) }
     {
         match place {
-            Place::Idle | Place::TryCurrent | Place::LoadCurrent => by.perform(Op::Load {
-                word: 0,
-            }),
-            Place::TryRequest | Place::LoadRequest | Place::LookAgain => by.perform(Op::Load {
+            Place::Idle => by.perform(Op::Load { word: 0 }),
+            Place::TryCurrent => by.perform(Op::Load { word: 0 }),
+            Place::LoadCurrent => by.perform(Op::Load { word: 0 }),
+            Place::TryRequest => by.perform(Op::Load {
                 word: self.shape.request(self.owner),
             }),
-            Place::TryCell(addr) | Place::LoadCell(addr) => by.perform(Op::Load {
+            Place::LoadRequest => by.perform(Op::Load {
+                word: self.shape.request(self.owner),
+            }),
+            Place::LookAgain => by.perform(Op::Load {
+                word: self.shape.request(self.owner),
+            }),
+            Place::TryCell(addr) => by.perform(Op::Load {
+                word: self.shape.data_cell(addr),
+            }),
+            Place::LoadCell(addr) => by.perform(Op::Load {
                 word: self.shape.data_cell(addr),
             }),
             Place::StoreScript(at) => by.perform(Op::Store {
@@ -327,7 +336,10 @@ impl<W: Work> Machine<W> {
                 word: self.shape.durable_word(0),
                 value: pack(self.seq, self.owner),
             }),
-            Place::LoadTarget(entry) | Place::ReloadTarget(entry) => by.perform(Op::Load {
+            Place::LoadTarget(entry) => by.perform(Op::Load {
+                word: self.shape.data_cell(self.log.entry(entry).0),
+            }),
+            Place::ReloadTarget(entry) => by.perform(Op::Load {
                 word: self.shape.data_cell(self.log.entry(entry).0),
             }),
             Place::ExchangeTarget(entry, found) => {
