@@ -139,6 +139,15 @@ at_end i n l u = omega arith
 pub same_read : {X : Type 0} (xs : List X) (i : ℕ) (s t : X) → i < length xs → s ≡ get_or xs i s → t ≡ get_or xs i t → t ≡ s
 same_read xs i s t l p q = q ∙ get_or_default xs i t s l ∙ sym p
 
+-- what a machine asks for at its place, and how it goes on there
+pub asks_here : (S : Setup) (m : Data) (p : Place) → p ≡ m.place → want_at S m p ≡ want S m
+unfolding want
+asks_here S m p e = rw e refl
+
+pub goes_on : (S : Setup) (m : Data) (n : ℕ) (p : Place) → p ≡ m.place → took_at S (counted_at p m) n p ≡ took S m n
+unfolding took
+goes_on S m n p e = rw e refl
+
 -- a turn of an idle machine leaves words and machines as they are
 pub rests : (S : Setup) (ws : List ℕ) (ms : List Data) (i : ℕ) (m : Data) → get_or ms i no_machine ≡ m → m.place ≡ Idle → (words_after (want S m) ws ≡ ws) × (set ms i (took S m (finds S ws m)) ≡ ms)
 unfolding want took

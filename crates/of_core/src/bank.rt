@@ -1,20 +1,19 @@
 //! The plain bank: the words of a table, and a machine for each caller, whose steps come one after the other.
 
 ghost use Rattle.std.specs.Prelude.{◌≡◌, ◌<◌, ◌≤◌, ◌+◌, ◌*◌, [], ◌∷◌, length, IfOk, IsTrue, ◌↔◌};
-ghost use Rattle.std.proofs.Common.{get_or, set};
+ghost use Rattle.std.proofs.Common.{get_or};
 ghost use Rattle.of_mem.specs.declared.work.TheConstants.{MOST_INSTRS};
 ghost use Rattle.of_cell.specs.Words.{pay};
 ghost use Rattle.of_cell.specs.Cells.{durable_cells, table_words as cell_words};
 ghost use Rattle.of_cell.specs.declared.word.TheConstants.{PAYLOADS};
 ghost use Rattle.of_core.specs.Table.{size, setup_of};
-ghost use Rattle.of_core.specs.Steps.{word_of, left};
 ghost use Rattle.of_core.specs.Events.{Begins, Turns, Raises, zeros, idles, opening};
 ghost use Rattle.of_core.specs.Starts.{IsStartRow, closed_at, first_cells, first_words, start_of};
 ghost use Rattle.of_core.specs.Moment.{Reached, after, machine_of, table, table_words};
 ghost use Rattle.of_core.specs.Turn.{turn_of, told, IsIdle};
 
 use crate::machine::{GREATEST_LIMIT, Machine};
-use crate::place::{Op, Outcome};
+use crate::place::Outcome;
 use of_cell::{Shape, pack, payload_of, seq_of};
 use of_mem::{MOST_INSTRS, Work};
 use std::alloc::{AllocError, Global};
@@ -66,34 +65,6 @@ fn turn_to(answer: Option<Outcome>) -> Turn
     match answer {
         Some(outcome) => Turn::Ended(outcome),
         None => Turn::Open,
-    }
-}
-
-/// Makes an atomic step, and gives the word that it found.
-fn perform(words: &mut [u64], op: Op) -> u64
-    requires { word_of op < length words.old }
-    ensures found { result ≡ get_or words.old (word_of op) 0 }
-    ensures after { words.new ≡ set words.old (word_of op) (left op (get_or words.old (word_of op) 0)) }
-{
-    match op {
-        Op::Load { word } => words[word as usize],
-        Op::Store { word, value } => {
-            let found = words[word as usize];
-            words[word as usize] = value;
-            found
-        }
-        Op::Exchange { word, old, new } => {
-            let found = words[word as usize];
-            if found == old {
-                words[word as usize] = new;
-            }
-            found
-        }
-        Op::Raise { word, value } => {
-            let found = words[word as usize];
-            words[word as usize] = found.max(value);
-            found
-        }
     }
 }
 
@@ -217,6 +188,7 @@ impl<W: Work> Bank<W> {
     }
 
     /// Whether no call of a caller is open.
+    #[inline(always)]
     pub fn is_idle(&self, caller: u32) -> bool
         requires { caller < self.now.callers }
         ensures { IsTrue result ↔ IsIdle (machine_of self.now caller) }
@@ -252,13 +224,13 @@ impl<W: Work> Bank<W> {
         ensures after { self.new ≡ after W.meaning (Turns caller ∷ []) self.old }
         ensures turn { result ≡ turn_of (machine_of self.old caller) (machine_of self.new caller) }
     {
-        let machine = &self.machines[caller as usize];
-        if machine.is_idle() {
+        if self.is_idle(caller) {
             return Turn::Idle;
         }
-        let found = perform(self.words.as_mut_slice(), machine.want());
         let machine = &mut self.machines[caller as usize];
-        machine.take(found);
+        let place = machine.place();
+        let found = machine.want_by(place, &mut self.words);
+        machine.take_at(place, found);
         turn_to(machine.answer())
     }
 

@@ -7,7 +7,8 @@ ghost use Rattle.of_cell.specs.declared.word.TheConstants.{PAYLOADS};
 ghost use Rattle.of_core.specs.Table.{size, table_size, data_at, ticket_cell, shape_cell, reply_cell};
 ghost use Rattle.of_core.specs.Seen.{setup, ended};
 ghost use Rattle.of_core.specs.Machine.{idle, opened, log_words};
-ghost use Rattle.of_core.specs.Steps.{want, took, word_of};
+ghost use Rattle.of_core.specs.Steps.{want, want_at, took, took_at, counted_at, word_of};
+ghost use Rattle.of_core.specs.declared.place.Op.{Op};
 ghost use Rattle.of_core.specs.Meets.{Meets};
 
 mod announcing;
@@ -20,6 +21,7 @@ mod scanning;
 mod showing;
 mod trying;
 
+use crate::performer::{Naming, Performer};
 use crate::place::{Op, Outcome, Place};
 use crate::ran::RanCall;
 use of_cell::{Shape, pack};
@@ -235,7 +237,6 @@ impl<W: Work> Machine<W> {
     }
 
     /// The next atomic step.
-    // in line the step's own form is known where it is made, and there is one jump by the place
     #[inline(always)]
     #[tactic(auto, unfolding(crate::specs::Steps::want))]
     pub fn want(&self) -> Op
@@ -243,97 +244,127 @@ impl<W: Work> Machine<W> {
         ensures value { result ≡ want (setup W.meaning self.now) self.now.call }
         ensures range { word_of result < table_size (setup W.meaning self.now) }
     {
-        let shape = self.shape;
-        match self.place {
-            Place::Idle | Place::TryCurrent | Place::LoadCurrent => Op::Load { word: 0 },
-            Place::TryRequest | Place::LoadRequest | Place::LookAgain => Op::Load {
-                word: shape.request(self.owner),
-            },
-            Place::TryCell(addr) | Place::LoadCell(addr) => Op::Load {
-                word: shape.data_cell(addr),
-            },
-            Place::StoreScript(at) => Op::Store {
-                word: shape.script_word(self.caller, at),
+        self.want_by(self.place, &mut Naming)
+    }
+
+    /// Has the next atomic step performed: that of `place`, where the machine stands.
+    // in line, and with an arm for each place: it performs its own form of step and goes straight on from there, with one jump by the place
+    #[inline(always)]
+    pub(crate) fn want_by<P: Performer>(&self, place: Place, by: &mut P) -> P::Given
+        requires here { place ≡ self.now.call.place }
+        requires takes { (op : Op) → word_of op < table_size (setup W.meaning self.now) → P.takes by.old op }
+        ensures given { result ≡ P.gives by.old (want_at (setup W.meaning self.now) self.now.call place) }
+        ensures left { by.new ≡ P.leaves by.old (want_at (setup W.meaning self.now) self.now.call place) }
+        ensures range { word_of (want_at (setup W.meaning self.now) self.now.call place) < table_size (setup W.meaning self.now) }
+    {
+        match place {
+            Place::Idle => by.perform(Op::Load { word: 0 }),
+            Place::TryCurrent => by.perform(Op::Load { word: 0 }),
+            Place::LoadCurrent => by.perform(Op::Load { word: 0 }),
+            Place::TryRequest => by.perform(Op::Load {
+                word: self.shape.request(self.owner),
+            }),
+            Place::LoadRequest => by.perform(Op::Load {
+                word: self.shape.request(self.owner),
+            }),
+            Place::LookAgain => by.perform(Op::Load {
+                word: self.shape.request(self.owner),
+            }),
+            Place::TryCell(addr) => by.perform(Op::Load {
+                word: self.shape.data_cell(addr),
+            }),
+            Place::LoadCell(addr) => by.perform(Op::Load {
+                word: self.shape.data_cell(addr),
+            }),
+            Place::StoreScript(at) => by.perform(Op::Store {
+                word: self.shape.script_word(self.caller, at),
                 value: self.op[at as usize],
-            },
-            Place::StoreAnnouncement => Op::Store {
-                word: shape.announce_word(self.caller),
+            }),
+            Place::StoreAnnouncement => by.perform(Op::Store {
+                word: self.shape.announce_word(self.caller),
                 value: pack(self.made, self.op.len() as u32),
-            },
-            Place::CopyLog(at) => Op::Load {
-                word: shape.log_word(self.owner, at),
-            },
-            Place::LoadOwnTicket => Op::Load {
+            }),
+            Place::CopyLog(at) => by.perform(Op::Load {
+                word: self.shape.log_word(self.owner, at),
+            }),
+            Place::LoadOwnTicket => by.perform(Op::Load {
                 word: self.ticket_word(self.caller),
-            },
-            Place::LoadShape => Op::Load {
+            }),
+            Place::LoadShape => by.perform(Op::Load {
                 word: self.shape_word(),
-            },
-            Place::LoadReply(at) => Op::Load {
+            }),
+            Place::LoadReply(at) => by.perform(Op::Load {
                 word: self.reply_word(at),
-            },
-            Place::LoadAnnouncement => Op::Load {
-                word: shape.announce_word(self.scan),
-            },
-            Place::LoadTicket => Op::Load {
+            }),
+            Place::LoadAnnouncement => by.perform(Op::Load {
+                word: self.shape.announce_word(self.scan),
+            }),
+            Place::LoadTicket => by.perform(Op::Load {
                 word: self.ticket_word(self.scan),
-            },
-            Place::LoadScript(at) => Op::Load {
-                word: shape.script_word(self.scan, at),
-            },
-            Place::RaiseOld => Op::Raise {
-                word: shape.durable_word(shape.request(self.caller)),
+            }),
+            Place::LoadScript(at) => by.perform(Op::Load {
+                word: self.shape.script_word(self.scan, at),
+            }),
+            Place::RaiseOld => by.perform(Op::Raise {
+                word: self.shape.durable_word(self.shape.request(self.caller)),
                 value: self.kept,
-            },
-            Place::StoreLog(at) => Op::Store {
-                word: shape.log_word(self.caller, at),
+            }),
+            Place::StoreLog(at) => by.perform(Op::Store {
+                word: self.shape.log_word(self.caller, at),
                 value: pack(self.seq + 1, self.log_word(at)),
-            },
-            Place::RaiseLog(at) => Op::Raise {
-                word: shape.durable_word(shape.log_word(self.caller, at)),
+            }),
+            Place::RaiseLog(at) => by.perform(Op::Raise {
+                word: self
+                    .shape
+                    .durable_word(self.shape.log_word(self.caller, at)),
                 value: pack(self.seq + 1, self.log_word(at)),
-            },
-            Place::StoreRequest => Op::Store {
-                word: shape.request(self.caller),
+            }),
+            Place::StoreRequest => by.perform(Op::Store {
+                word: self.shape.request(self.caller),
                 value: pack(self.seq + 1, 0),
-            },
-            Place::RaiseRequest => Op::Raise {
-                word: shape.durable_word(shape.request(self.caller)),
+            }),
+            Place::RaiseRequest => by.perform(Op::Raise {
+                word: self.shape.durable_word(self.shape.request(self.caller)),
                 value: pack(self.seq + 1, 0),
-            },
-            Place::ExchangeCurrent => Op::Exchange {
+            }),
+            Place::ExchangeCurrent => by.perform(Op::Exchange {
                 word: 0,
                 old: pack(self.seq, self.owner),
                 new: pack(self.seq + 1, self.caller),
-            },
-            Place::RaiseCurrent => Op::Raise {
-                word: shape.durable_word(0),
+            }),
+            Place::RaiseCurrent => by.perform(Op::Raise {
+                word: self.shape.durable_word(0),
                 value: pack(self.seq, self.owner),
-            },
-            Place::LoadTarget(entry) | Place::ReloadTarget(entry) => Op::Load {
-                word: shape.data_cell(self.log.entry(entry).0),
-            },
+            }),
+            Place::LoadTarget(entry) => by.perform(Op::Load {
+                word: self.shape.data_cell(self.log.entry(entry).0),
+            }),
+            Place::ReloadTarget(entry) => by.perform(Op::Load {
+                word: self.shape.data_cell(self.log.entry(entry).0),
+            }),
             Place::ExchangeTarget(entry, found) => {
                 let (addr, value) = self.log.entry(entry);
-                Op::Exchange {
-                    word: shape.data_cell(addr),
+                by.perform(Op::Exchange {
+                    word: self.shape.data_cell(addr),
                     old: found,
                     new: pack(self.seq, value),
-                }
+                })
             }
-            Place::RaiseTarget(entry, found) => Op::Raise {
-                word: shape.durable_word(shape.data_cell(self.log.entry(entry).0)),
+            Place::RaiseTarget(entry, found) => by.perform(Op::Raise {
+                word: self
+                    .shape
+                    .durable_word(self.shape.data_cell(self.log.entry(entry).0)),
                 value: found,
-            },
-            Place::CloseRequest => Op::Exchange {
-                word: shape.request(self.owner),
+            }),
+            Place::CloseRequest => by.perform(Op::Exchange {
+                word: self.shape.request(self.owner),
                 old: pack(self.seq, 0),
                 new: pack(self.seq, 1),
-            },
-            Place::RaiseClosed => Op::Raise {
-                word: shape.durable_word(shape.request(self.owner)),
+            }),
+            Place::RaiseClosed => by.perform(Op::Raise {
+                word: self.shape.durable_word(self.shape.request(self.owner)),
                 value: pack(self.seq, 1),
-            },
+            }),
         }
     }
 
@@ -345,9 +376,20 @@ impl<W: Work> Machine<W> {
         requires good { Meets (setup W.meaning self.old) (W.lawful self.old.work) self.old.call found }
         ensures { self.new ≡ record self.old { call = took (setup W.meaning self.old) self.old.call found } }
     {
+        self.take_at(self.place, found)
+    }
+
+    /// Goes on from `place`, where the machine stands, with the word that its step found.
+    #[inline(always)]
+    pub(crate) fn take_at(&mut self, place: Place, found: u64)
+        requires here { place ≡ self.old.call.place }
+        requires open { place ≢ Place.Idle }
+        requires good { Meets (setup W.meaning self.old) (W.lawful self.old.work) self.old.call found }
+        ensures { self.new ≡ record self.old { call = took_at (setup W.meaning self.old) (counted_at place self.old.call) found place } }
+    {
         // the step bound keeps the count within its type
         self.steps += 1;
-        match self.place {
+        match place {
             Place::Idle => unreachable!(),
             Place::TryCurrent => self.after_try_current(found),
             Place::TryRequest => self.after_try_request(found),

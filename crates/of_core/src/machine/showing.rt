@@ -8,6 +8,7 @@ use of_mem::Work;
 
 impl<W: Work> Machine<W> {
     /// Where the call stands: the place has the name of the step that comes next.
+    #[inline(always)]
     pub fn place(&self) -> Place
         ensures { result ≡ self.now.call.place }
     {

@@ -1,67 +1,31 @@
-use Rattle.std.proofs.Common.{◌≡◌, ℕ, ◌<◌, ◌≤◌, List, [], ◌∷◌, length, set, arith, ap, subst, ◌∙◌, sym, refl, length-set}
+use Rattle.std.proofs.Common.{◌≡◌, ℕ, ◌<◌, ◌≤◌, List, [], ◌∷◌, length, get_or, set, arith, ap, subst, ◌∙◌, sym, refl, length-set}
 use Rattle.of_core.specs.Table.{Setup, setup_of, base, table_size}
 use Rattle.of_core.specs.Seen.{Seen, setup}
 use Rattle.of_core.specs.Machine.{Data}
 use Rattle.of_core.specs.Bank.{bench}
 use Rattle.of_core.specs.Moment.{Bench, held}
 use Rattle.of_core.specs.Events.{Turns}
+use Rattle.of_core.specs.declared.place.Op.{Op}
+use Rattle.of_core.specs.declared.place.Place.{Place}
 use Rattle.of_core.specs.declared.place.Place.TheVariants.{Idle}
-use Rattle.std.specs.Vec.{with_items}
 use Rattle.std.proofs.lemmas.List.{with_items_is}
 use Rattle.of_mem.specs.Meaning.{Sound}
-use Rattle.of_core.specs.Steps.{want, took, word_of, words_after, finds}
+use Rattle.of_core.specs.Steps.{want, want_at, took, took_at, counted_at, word_of, words_after, finds}
 use Rattle.of_core.proofs.Puts.{sound_at}
-use Rattle.of_core.proofs.Benches.{turns, meets, seen_at, alike_set, alike_call, held_put, held_now, held_length, same_read, rests_after, turned_after, turn_is, carry}
+use Rattle.of_core.proofs.Benches.{turns, meets, seen_at, alike_set, alike_call, held_put, held_now, held_length, rests_after, turned_after, turn_is, asks_here, goes_on, carry}
 use Rattle.of_core.proofs.bank.Bank.turn.Goals as goal
 
 pub returns-then-is_idle-clause-after : goal.returns-then-is_idle-clause-after
 returns-then-is_idle-clause-after g c =
-    let b = c.self.inside in
-    let inv = c.self.invariant in
     let M = g.W.Work.meaning in
-    let S : Setup = setup_of b.shape.callers b.shape.cells b.limit (M b.work) in
     let i : ℕ = c.args.caller in
-    let inside : i < b.shape.callers = rw (← c.self.view_is) at c.requires in
-    let here : i < length b.machines.items = omega (arith, inv.members) in
-    let s = c.index-machine.result.now in
-    let seen = seen_at b.work b.shape.callers b.shape.cells b.limit b.machines.items i s inv.alike here c.index-machine.ensures in
-    let same : setup M s ≡ S = ap (setup M) seen.0 in
-    let old : Bench _ = bench b in
-    let is_idle : s.call.place ≡ Idle = c.if-is_idle.ensures.0 refl in
-    sym c.self.view_is ∙ carry M _ old _ (Turns i ∷ []) c.self.view_is (rests_after M old i s.call seen.1 is_idle)
+    rests_after M c.args.self.now i _ refl (c.if-is_idle.ensures.0 refl)
 
 pub returns-then-is_idle-clause-turn : goal.returns-then-is_idle-clause-turn
-returns-then-is_idle-clause-turn g c =
-    let b = c.self.inside in
-    let inv = c.self.invariant in
-    let M = g.W.Work.meaning in
-    let S : Setup = setup_of b.shape.callers b.shape.cells b.limit (M b.work) in
-    let i : ℕ = c.args.caller in
-    let inside : i < b.shape.callers = rw (← c.self.view_is) at c.requires in
-    let here : i < length b.machines.items = omega (arith, inv.members) in
-    let s = c.index-machine.result.now in
-    let seen = seen_at b.work b.shape.callers b.shape.cells b.limit b.machines.items i s inv.alike here c.index-machine.ensures in
-    let same : setup M s ≡ S = ap (setup M) seen.0 in
-    let is_idle : s.call.place ≡ Idle = c.if-is_idle.ensures.0 refl in
-    rw (← c.self.view_is, seen.1, is_idle) refl
+returns-then-is_idle-clause-turn g c = rw (c.if-is_idle.ensures.0 refl) refl
 
-pub perform-found-requires : goal.perform-found-requires
-perform-found-requires g c =
-    let b = c.self.inside in
-    let inv = c.self.invariant in
-    let M = g.W.Work.meaning in
-    let S : Setup = setup_of b.shape.callers b.shape.cells b.limit (M b.work) in
-    let i : ℕ = c.args.caller in
-    let inside : i < b.shape.callers = rw (← c.self.view_is) at c.requires in
-    let here : i < length b.machines.items = omega (arith, inv.members) in
-    let s = c.index-machine.result.now in
-    let seen = seen_at b.work b.shape.callers b.shape.cells b.limit b.machines.items i s inv.alike here c.index-machine.ensures in
-    let same : setup M s ≡ S = ap (setup M) seen.0 in
-    let range : word_of c.want.result < table_size S = subst (λ (T : Setup). word_of c.want.result < table_size T) same c.want.ensures.range in
-    rw c.as_mut_slice.ensures.value (omega (arith, range, inv.room))
-
-pub take-requires-clause-open : goal.take-requires-clause-open
-take-requires-clause-open g c =
+pub want_by-found-requires-clause-takes : goal.want_by-found-requires-clause-takes
+want_by-found-requires-clause-takes g c κs within =
     let b = c.self.inside in
     let inv = c.self.invariant in
     let M = g.W.Work.meaning in
@@ -72,15 +36,10 @@ take-requires-clause-open g c =
     let s = c.index_mut-machine.result.now in
     let seen = seen_at b.work b.shape.callers b.shape.cells b.limit b.machines.items i s inv.alike here c.index_mut-machine.ensures.value in
     let same : setup M s ≡ S = ap (setup M) seen.0 in
-    let read = same_read b.machines.items i c.index-machine.result.now s here c.index-machine.ensures c.index_mut-machine.ensures.value in
-    let ws : List ℕ = b.words.items in
-    let slice : c.as_mut_slice.result.now ≡ ws = c.as_mut_slice.ensures.value in
-    let op : c.want.result ≡ want S s.call = rw (← same, read) c.want.ensures.value in
-    let found : c.perform-found.result ≡ finds S ws s.call = rw (← op, ← slice) c.perform-found.ensures.found in
-    λ κs within. rw read (λ q. let e = c.if-is_idle.ensures.1 q in cc)
+    λ op small. let range : word_of op < table_size S = subst (λ (T : Setup). word_of op < table_size T) same small in omega (arith, range, inv.room)
 
-pub take-requires-clause-good : goal.take-requires-clause-good
-take-requires-clause-good g c =
+pub take_at-requires-clause-open : goal.take_at-requires-clause-open
+take_at-requires-clause-open g c =
     let b = c.self.inside in
     let inv = c.self.invariant in
     let M = g.W.Work.meaning in
@@ -91,11 +50,26 @@ take-requires-clause-good g c =
     let s = c.index_mut-machine.result.now in
     let seen = seen_at b.work b.shape.callers b.shape.cells b.limit b.machines.items i s inv.alike here c.index_mut-machine.ensures.value in
     let same : setup M s ≡ S = ap (setup M) seen.0 in
-    let read = same_read b.machines.items i c.index-machine.result.now s here c.index-machine.ensures c.index_mut-machine.ensures.value in
+    λ κs within q. let e = c.if-is_idle.ensures.1 (rw (← c.self.view_is, seen.1) (sym c.place-place.ensures ∙ q)) in cc
+
+pub take_at-requires-clause-good : goal.take_at-requires-clause-good
+take_at-requires-clause-good g c =
+    let b = c.self.inside in
+    let inv = c.self.invariant in
+    let M = g.W.Work.meaning in
+    let S : Setup = setup_of b.shape.callers b.shape.cells b.limit (M b.work) in
+    let i : ℕ = c.args.caller in
+    let inside : i < b.shape.callers = rw (← c.self.view_is) at c.requires in
+    let here : i < length b.machines.items = omega (arith, inv.members) in
+    let s = c.index_mut-machine.result.now in
+    let seen = seen_at b.work b.shape.callers b.shape.cells b.limit b.machines.items i s inv.alike here c.index_mut-machine.ensures.value in
+    let same : setup M s ≡ S = ap (setup M) seen.0 in
+    let p : Place = c.place-place.result in
+    let at : p ≡ s.call.place = c.place-place.ensures in
     let ws : List ℕ = b.words.items in
-    let slice : c.as_mut_slice.result.now ≡ ws = c.as_mut_slice.ensures.value in
-    let op : c.want.result ≡ want S s.call = rw (← same, read) c.want.ensures.value in
-    let found : c.perform-found.result ≡ finds S ws s.call = rw (← op, ← slice) c.perform-found.ensures.found in
+    let n : ℕ = c.want_by-found.result in
+    let op : want_at (setup M s) s.call p ≡ want S s.call = rw same (asks_here S s.call p at) in
+    let found : n ≡ finds S ws s.call = c.want_by-found.ensures.given ∙ ap (λ (o : Op). get_or ws (word_of o) 0) op in
     let laws = g.met.W.Work g.world.𝓛 g.world.𝓜 g.world.𝓡 ((λ s x. x), (λ x. x), (λ x. x), λ x. x) in
     let fits = laws.fits b.work in
     let sound : Sound (M b.work) (g.W.Work.lawful b.work) (base S) S.cells = sound_at S (M b.work) (g.W.Work.lawful b.work) _ _ inv.callers inv.cells refl (laws.sound b.work) in
@@ -116,17 +90,18 @@ invariant_of-self g c =
     let s = c.index_mut-machine.result.now in
     let seen = seen_at b.work b.shape.callers b.shape.cells b.limit b.machines.items i s inv.alike here c.index_mut-machine.ensures.value in
     let same : setup M s ≡ S = ap (setup M) seen.0 in
-    let read = same_read b.machines.items i c.index-machine.result.now s here c.index-machine.ensures c.index_mut-machine.ensures.value in
+    let p : Place = c.place-place.result in
+    let at : p ≡ s.call.place = c.place-place.ensures in
     let ws : List ℕ = b.words.items in
-    let slice : c.as_mut_slice.result.now ≡ ws = c.as_mut_slice.ensures.value in
-    let op : c.want.result ≡ want S s.call = rw (← same, read) c.want.ensures.value in
-    let found : c.perform-found.result ≡ finds S ws s.call = rw (← op, ← slice) c.perform-found.ensures.found in
-    let words : c.perform-found.new.words ≡ words_after (want S s.call) ws = rw (← op, ← slice) c.perform-found.ensures.after in
-    let count : length c.perform-found.new.words ≡ b.words.len = (ap length words ∙ length-set ws _ _) ∙ sym b.words.ok.0 in
-    let table : (with_items b.words c.perform-found.new.words).items ≡ words_after (want S s.call) ws = with_items_is b.words c.perform-found.new.words count ∙ words in
-    let t = c.take.new.self in
+    let n : ℕ = c.want_by-found.result in
+    let op : want_at (setup M s) s.call p ≡ want S s.call = rw same (asks_here S s.call p at) in
+    let found : n ≡ finds S ws s.call = c.want_by-found.ensures.given ∙ ap (λ (o : Op). get_or ws (word_of o) 0) op in
+    let count : length (words_after (want_at (setup M s) s.call p) ws) ≡ b.words.len = length-set ws _ _ ∙ sym b.words.ok.0 in
+    let table : c.want_by-found.new.by.items ≡ words_after (want S s.call) ws = rw c.want_by-found.ensures.left (with_items_is b.words (words_after (want_at (setup M s) s.call p) ws) count ∙ ap (λ (o : Op). words_after o ws) op) in
+    let t = c.take_at.new.self in
     let d : Data = took S s.call (finds S ws s.call) in
-    let put : t ≡ record s { call = d } = c.take.ensures ∙ ap (λ (T : Setup). record s { call = took T s.call c.perform-found.result }) same ∙ ap (λ (n : ℕ). record s { call = took S s.call n }) found in
+    let went : took_at (setup M s) (counted_at p s.call) n p ≡ d = rw (same, goes_on S s.call n p at) (ap (took S s.call) found) in
+    let put : t ≡ record s { call = d } = c.take_at.ensures ∙ ap (λ (x : Data). record s { call = x }) went in
     let machines : held (set b.machines.items i t) ≡ set (held b.machines.items) i d = held_put b.work b.shape.callers b.shape.cells b.limit b.machines.items i t d (ap (λ (x : Seen _). x.call) put) in
     record {
       callers = inv.callers;
@@ -151,17 +126,18 @@ returns-clause-after g c =
     let s = c.index_mut-machine.result.now in
     let seen = seen_at b.work b.shape.callers b.shape.cells b.limit b.machines.items i s inv.alike here c.index_mut-machine.ensures.value in
     let same : setup M s ≡ S = ap (setup M) seen.0 in
-    let read = same_read b.machines.items i c.index-machine.result.now s here c.index-machine.ensures c.index_mut-machine.ensures.value in
+    let p : Place = c.place-place.result in
+    let at : p ≡ s.call.place = c.place-place.ensures in
     let ws : List ℕ = b.words.items in
-    let slice : c.as_mut_slice.result.now ≡ ws = c.as_mut_slice.ensures.value in
-    let op : c.want.result ≡ want S s.call = rw (← same, read) c.want.ensures.value in
-    let found : c.perform-found.result ≡ finds S ws s.call = rw (← op, ← slice) c.perform-found.ensures.found in
-    let words : c.perform-found.new.words ≡ words_after (want S s.call) ws = rw (← op, ← slice) c.perform-found.ensures.after in
-    let count : length c.perform-found.new.words ≡ b.words.len = (ap length words ∙ length-set ws _ _) ∙ sym b.words.ok.0 in
-    let table : (with_items b.words c.perform-found.new.words).items ≡ words_after (want S s.call) ws = with_items_is b.words c.perform-found.new.words count ∙ words in
-    let t = c.take.new.self in
+    let n : ℕ = c.want_by-found.result in
+    let op : want_at (setup M s) s.call p ≡ want S s.call = rw same (asks_here S s.call p at) in
+    let found : n ≡ finds S ws s.call = c.want_by-found.ensures.given ∙ ap (λ (o : Op). get_or ws (word_of o) 0) op in
+    let count : length (words_after (want_at (setup M s) s.call p) ws) ≡ b.words.len = length-set ws _ _ ∙ sym b.words.ok.0 in
+    let table : c.want_by-found.new.by.items ≡ words_after (want S s.call) ws = rw c.want_by-found.ensures.left (with_items_is b.words (words_after (want_at (setup M s) s.call p) ws) count ∙ ap (λ (o : Op). words_after o ws) op) in
+    let t = c.take_at.new.self in
     let d : Data = took S s.call (finds S ws s.call) in
-    let put : t ≡ record s { call = d } = c.take.ensures ∙ ap (λ (T : Setup). record s { call = took T s.call c.perform-found.result }) same ∙ ap (λ (n : ℕ). record s { call = took S s.call n }) found in
+    let went : took_at (setup M s) (counted_at p s.call) n p ≡ d = rw (same, goes_on S s.call n p at) (ap (took S s.call) found) in
+    let put : t ≡ record s { call = d } = c.take_at.ensures ∙ ap (λ (x : Data). record s { call = x }) went in
     let machines : held (set b.machines.items i t) ≡ set (held b.machines.items) i d = held_put b.work b.shape.callers b.shape.cells b.limit b.machines.items i t d (ap (λ (x : Seen _). x.call) put) in
     let old : Bench _ = bench b in
     carry M _ old _ (Turns i ∷ []) c.self.view_is (turned_after M old i s.call seen.1 _ _ table machines)
@@ -178,11 +154,9 @@ returns-clause-turn g c =
     let s = c.index_mut-machine.result.now in
     let seen = seen_at b.work b.shape.callers b.shape.cells b.limit b.machines.items i s inv.alike here c.index_mut-machine.ensures.value in
     let same : setup M s ≡ S = ap (setup M) seen.0 in
-    let read = same_read b.machines.items i c.index-machine.result.now s here c.index-machine.ensures c.index_mut-machine.ensures.value in
-    let ws : List ℕ = b.words.items in
-    let slice : c.as_mut_slice.result.now ≡ ws = c.as_mut_slice.ensures.value in
-    let op : c.want.result ≡ want S s.call = rw (← same, read) c.want.ensures.value in
-    let found : c.perform-found.result ≡ finds S ws s.call = rw (← op, ← slice) c.perform-found.ensures.found in
-    let t = c.take.new.self in
+    let p : Place = c.place-place.result in
+    let at : p ≡ s.call.place = c.place-place.ensures in
+    let t = c.take_at.new.self in
     let now = held_now b.work b.shape.callers b.shape.cells b.limit b.machines.items i t here in
-    rw (← c.self.view_is, seen.1, now) (turn_is s.call.place t.call c.answer.result c.turn_to.result (rw read (λ q. let e = c.if-is_idle.ensures.1 q in cc)) c.turn_to.ensures c.answer.ensures)
+    let was_open : s.call.place ≡ Idle → ⊥ = λ q. let e = c.if-is_idle.ensures.1 (rw (← c.self.view_is, seen.1) q) in cc in
+    rw (← c.self.view_is, seen.1, now) (turn_is s.call.place t.call c.answer.result c.turn_to.result was_open c.turn_to.ensures c.answer.ensures)
