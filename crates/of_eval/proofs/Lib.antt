@@ -2,9 +2,9 @@ pub mod Masks
 pub mod Unpacked
 pub mod Meanings
 pub mod Walks
+pub mod ReadsOnly
 pub mod Resumed
 pub mod Overlay
-pub mod ReadsOnly
 pub mod Starts
 pub mod OneStore
 pub mod Paths
@@ -22,5 +22,6 @@ pub mod ChainFaults
 pub mod FaultLaws
 pub mod Zeros
 pub mod Asked
+pub mod Noted
 pub mod OneFault
 pub mod Exact

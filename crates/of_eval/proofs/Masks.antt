@@ -1,10 +1,10 @@
 -- What a mask says of the numbers that it marks, both ways.
-use Rattle.std.proofs.Common.{◌≡◌, ℕ, zero, suc, ◌+◌, ◌*◌, ◌<◌, ◌≤◌, ◌≢◌, ◌/◌, ◌%◌, ◌^◌, ◌==◌, true, false, Bool, List, [], ◌∷◌, ◌++◌, length, get_or, take, drop, Option, Some, None, is_some, set, refl, sym, ◌∙◌, ap, arith}
+use Rattle.std.proofs.Common.{◌≡◌, ℕ, zero, suc, ◌+◌, ◌*◌, ◌<◌, ◌≤◌, ◌≢◌, ◌/◌, ◌%◌, ◌^◌, ◌==◌, true, false, Bool, List, [], ◌∷◌, ◌++◌, length, get_or, take, drop, Option, Some, None, is_some, refl, sym, ◌∙◌, ap, subst, arith, ◌-◌, length-drop, take-append-drop}
 use Rattle.std.proofs.lemmas.Bool.Decides.{nat_tests}
 use Rattle.std.proofs.Math.Pow.{pow_mono}
-use Rattle.std.proofs.Math.Seq.{take-length, drop-length}
+use Rattle.std.proofs.Math.Seq.{get_or-append_seam}
 use Rattle.std.proofs.lemmas.Bool.{false≢true}
-use Rattle.std.proofs.lemmas.List.{append_assoc, append-nil, take_more_set, take_more, drop_more, length-take-le}
+use Rattle.std.proofs.lemmas.List.{append_assoc, take_more, drop_more, get_or-drop, length-take-le}
 use Rattle.std.specs.Bool.{then_some}
 use Rattle.of_script.specs.declared.instr.TheConstants.{MOST_INSTRS}
 use Rattle.of_eval.specs.Shapes.{mark, mask_of}
@@ -89,22 +89,46 @@ mask_taken vs i = mask_below (take i vs) i (past vs i)
     past (v ∷ vs) (suc n) zero l = absurd (omega arith)
     past (v ∷ vs) (suc n) (suc i) l = past vs n i (omega arith)
 
--- one place more is filled
-pub marked_step : (mask rest : ℕ) (cs : List ℕ) (vs : List (Option ℕ)) (i : ℕ) (x : Option ℕ) → length cs ≡ MOST_INSTRS → length vs ≡ MOST_INSTRS → i < MOST_INSTRS → x ≡ then_some (rest % 2 == 1) (get_or cs i 0)
-    → take i vs ++ marked_in rest (drop i cs) ≡ marked_in mask cs → take (i + 1) (set vs i x) ++ marked_in (rest / 2) (drop (i + 1) cs) ≡ marked_in mask cs
-marked_step mask rest cs vs i x c v l e h =
-    ap (λ (ws : List (Option ℕ)). ws ++ marked_in (rest / 2) (drop (i + 1) cs)) (take_more_set vs i x (omega arith))
+-- one mark more is read, and the value noted
+pub marked_step : (mask rest : ℕ) (cs : List ℕ) (vs ws : List (Option ℕ)) (i : ℕ) (x : Option ℕ) → i < length cs → take (i + 1) ws ≡ take i vs ++ x ∷ [] → x ≡ then_some (rest % 2 == 1) (get_or cs i 0)
+    → take i vs ++ marked_in rest (drop i cs) ≡ marked_in mask cs → take (i + 1) ws ++ marked_in (rest / 2) (drop (i + 1) cs) ≡ marked_in mask cs
+marked_step mask rest cs vs ws i x c w e h =
+    ap (λ (us : List (Option ℕ)). us ++ marked_in (rest / 2) (drop (i + 1) cs)) w
     ∙ append_assoc (take i vs) (x ∷ []) (marked_in (rest / 2) (drop (i + 1) cs))
     ∙ ap (λ (y : Option ℕ). take i vs ++ y ∷ marked_in (rest / 2) (drop (i + 1) cs)) e
-    ∙ sym (ap (λ (ws : List (Option ℕ)). take i vs ++ ws) (marked_more rest cs i (omega arith)))
+    ∙ sym (ap (λ (us : List (Option ℕ)). take i vs ++ us) (marked_more rest cs i c))
     ∙ h
 
--- the last place is filled
-pub marked_end : (mask rest : ℕ) (cs : List ℕ) (vs : List (Option ℕ)) (i : ℕ) → length cs ≡ MOST_INSTRS → length vs ≡ MOST_INSTRS → i ≡ MOST_INSTRS → take i vs ++ marked_in rest (drop i cs) ≡ marked_in mask cs → vs ≡ marked_in mask cs
-marked_end mask rest cs vs i c v e h =
-    let all : take i vs ≡ vs = ap (λ (n : ℕ). take n vs) (e ∙ sym v) ∙ take-length vs in
-    let none : drop i cs ≡ [] = ap (λ (n : ℕ). drop n cs) (e ∙ sym c) ∙ drop-length cs in
-    sym (append-nil vs) ∙ ap (λ (ws : List (Option ℕ)). ws ++ []) (sym all) ∙ sym (ap (λ (ws : List ℕ). take i vs ++ marked_in rest ws) none) ∙ h
+-- fewer marks are left
+pub marks_left : (rest n i : ℕ) → i < n → rest < 2 ^ (n - i) → rest / 2 < 2 ^ (n - (i + 1))
+marks_left rest n i l h = let one : n - i ≡ suc (n - (i + 1)) = omega arith in half_below rest (n - (i + 1)) (subst (λ (k : ℕ). rest < 2 ^ k) one h)
+
+pub no_marks : (rest n i : ℕ) → n ≤ i → rest < 2 ^ (n - i) → rest ≡ 0
+no_marks rest n i l h = let none : n - i ≡ 0 = omega arith in let small : rest < 2 ^ 0 = subst (λ (k : ℕ). rest < 2 ^ k) none h in omega (arith, small)
+
+unmarked : (vs : List (Option ℕ)) (cs : List ℕ) → length vs ≡ length cs → ((k : ℕ) → get_or vs k None ≡ None) → vs ≡ marked_in 0 cs
+unmarked [] [] e h = refl
+unmarked [] (c ∷ cs) e h = absurd (omega arith)
+unmarked (v ∷ vs) [] e h = absurd (omega arith)
+unmarked (v ∷ vs) (c ∷ cs) e h = let here : v ≡ None = h 0 in let rest : vs ≡ marked_in 0 cs = unmarked vs cs (omega arith) (λ k. h (suc k)) in λ j. here j ∷ rest j
+
+-- no mark is left, and no value is noted from there on
+pub marked_end : (mask rest : ℕ) (cs : List ℕ) (vs : List (Option ℕ)) (i : ℕ) → length vs ≡ length cs → rest ≡ 0 → ((k : ℕ) → i ≤ k → get_or vs k None ≡ None) → take i vs ++ marked_in rest (drop i cs) ≡ marked_in mask cs → vs ≡ marked_in mask cs
+marked_end mask rest cs vs i w none past h =
+    let many : length (drop i vs) ≡ length (drop i cs) = omega (arith, length-drop i vs, length-drop i cs, w) in
+    let last : drop i vs ≡ marked_in 0 (drop i cs) = unmarked (drop i vs) (drop i cs) many (λ k. get_or-drop i vs k None ∙ past (i + k) (omega arith)) in
+    sym (take-append-drop i vs) ∙ ap (λ (us : List (Option ℕ)). take i vs ++ us) (last ∙ ap (λ (m : ℕ). marked_in m (drop i cs)) (sym none)) ∙ h
+
+-- the number at a mark is among those that are marked
+pub marked_there : (mask rest : ℕ) (cs : List ℕ) (vs : List (Option ℕ)) (i : ℕ) → i < length cs → i < length vs → rest % 2 ≡ 1 → take i vs ++ marked_in rest (drop i cs) ≡ marked_in mask cs → get_or (marked_in mask cs) i None ≡ Some (get_or cs i 0)
+marked_there mask rest cs vs i c l odd h =
+    let test : (rest % 2 == 1) ≡ true = grind (arith, nat_tests) in
+    let at : length (take i vs) ≡ i = length-take-le i vs (omega arith) in
+    let all : take i vs ++ then_some (rest % 2 == 1) (get_or cs i 0) ∷ marked_in (rest / 2) (drop (i + 1) cs) ≡ marked_in mask cs = sym (ap (λ (us : List (Option ℕ)). take i vs ++ us) (marked_more rest cs i c)) ∙ h in
+    ap (λ (us : List (Option ℕ)). get_or us i None) (sym all)
+    ∙ ap (λ (k : ℕ). get_or (take i vs ++ then_some (rest % 2 == 1) (get_or cs i 0) ∷ marked_in (rest / 2) (drop (i + 1) cs)) k None) (sym at)
+    ∙ get_or-append_seam (take i vs) (then_some (rest % 2 == 1) (get_or cs i 0)) (marked_in (rest / 2) (drop (i + 1) cs)) None
+    ∙ ap (λ (t : Bool). then_some t (get_or cs i 0)) test
 
 pub bit_small : (i : ℕ) → i < MOST_INSTRS → 2 ^ i ≤ 32768
 bit_small i l = let k : 2 ^ i ≤ 2 ^ 15 = pow_mono {i = i} {j = 15} (omega arith) in omega (arith, k)
@@ -123,6 +147,16 @@ with_none vs i l e = go (get_or vs i None) refl
     go : (v : Option ℕ) → get_or vs i None ≡ v → mask_of (take i vs) ≡ mask_of (take (i + 1) vs)
     go (Some v) q = absurd (false≢true (sym e ∙ ap is_some q))
     go None q = let m = mask_more vs i l in let s : mark (get_or vs i None) ≡ 0 = ap mark q in rw (m, s) (omega arith)
+
+-- values with none from place n on have the mask of the first n
+pub mask_all : (vs : List (Option ℕ)) (n : ℕ) → ((i : ℕ) → n ≤ i → get_or vs i None ≡ None) → mask_of (take n vs) ≡ mask_of vs
+mask_all [] zero h = refl
+mask_all [] (suc n) h = refl
+mask_all (v ∷ vs) zero h =
+    let here : v ≡ None = h 0 (omega arith) in
+    let rest : 0 ≡ mask_of vs = mask_all vs 0 (λ i l. h (suc i) (omega arith)) in
+    rw here (omega (arith, rest))
+mask_all (v ∷ vs) (suc n) h = ap (λ (m : ℕ). mark v + 2 * m) (mask_all vs n (λ i l. h (suc i) (omega arith)))
 
 -- so many places of a word
 pub bit_is : (n : ℕ) → n ≤ MOST_INSTRS → 1 * 2 ^ n % 4294967296 ≡ 2 ^ n

@@ -19,10 +19,11 @@ use Rattle.of_eval.specs.Stored.{plain, HasState}
 use Rattle.of_eval.proofs.Walks.{script_is, ran_more, word_leaves}
 
 -- nothing has run yet
-pub begun_goes : (o blocks room callers n : ℕ) (words : List ℕ) (p : Pad) → GoesOn o blocks (begun room callers n words) p
-begun_goes o blocks room callers n words p = record {
+pub begun_goes : (o blocks room callers n : ℕ) (words : List ℕ) (p : Pad) → 1 ≤ length words → GoesOn o blocks (begun room callers n words) p
+begun_goes o blocks room callers n words p some = record {
   runs = λ more e. refl;
   stands = λ more e h. h;
+  left = some;
   width = length-replicate {A = Option ℕ} MOST_INSTRS None;
   past = λ i l. none_there MOST_INSTRS i;
   small = λ i. subst IsSmall (sym (none_there MOST_INSTRS i)) tt;
@@ -39,15 +40,20 @@ module _ (o blocks : ℕ) (few : blocks ≤ MOST_BLOCKS) (k : Remains) (p : Pad)
     word_again : (more : List (Option ℕ)) → Extends more p.known → run (word_program o blocks (get_or k.words k.done 0)) (pad more p.batch k.writes) ≡ Ends (Ok v) (pad more p.batch q.script)
     word_again more h = ends_again more (word_program o blocks (get_or k.words k.done 0)) (pad p.known p.batch k.writes) q (Ok v) h e ∙ ap (λ (es : List (ℕ × ℕ)). Ends (Ok v) (pad more es q.script)) same
 
-    -- one word more has run
-    pub goes_more : IsOfStore o blocks (pad p.known p.batch []) → k.done < length k.words → length k.words ≤ MOST_INSTRS
+    -- what it leaves stands for a store, and its value is small
+    pub after_word : (more : List (Option ℕ)) → Extends more p.known → IsOfStore o blocks (pad more p.batch []) → IsOfStore o blocks (pad more p.batch q.script) × IsSmall v
+    after_word more x y = word_leaves o blocks few (get_or k.words k.done 0) (pad more p.batch k.writes) (pad more p.batch q.script) v (g.stands more x y) (word_again more x)
+
+    -- one word more has run, and another one is left
+    pub goes_more : IsOfStore o blocks (pad p.known p.batch []) → k.done + 1 < length k.words → length k.words ≤ MOST_INSTRS
         → GoesOn o blocks (record k { done = k.done + 1; values = set k.values k.done v; writes = q.script }) p
     goes_more h l most = record {
-      runs = λ more x. g.runs more x ∙ ran_more o blocks (length k.words) k.words k.done l k.values (pad more p.batch k.writes) (pad more p.batch q.script) v (omega (arith, g.width, most, l)) (word_again more x);
-      stands = λ more x y. (word_leaves o blocks few (get_or k.words k.done 0) (pad more p.batch k.writes) (pad more p.batch q.script) v (g.stands more x y) (word_again more x)).0;
+      runs = λ more x. g.runs more x ∙ ran_more o blocks (length k.words) k.words k.done g.left k.values (pad more p.batch k.writes) (pad more p.batch q.script) v (omega (arith, g.width, most, l)) (word_again more x);
+      stands = λ more x y. (after_word more x y).0;
+      left = l;
       width = length-set k.values k.done v ∙ g.width;
       past = none_left k.values k.done v g.past;
-      small = small_values k.values k.done v g.small (word_leaves o blocks few (get_or k.words k.done 0) (pad p.known p.batch k.writes) (pad p.known p.batch q.script) v (g.stands p.known (λ a w x. x) h) (word_again p.known (λ a w x. x))).1;
+      small = small_values k.values k.done v g.small (after_word p.known (λ a w x. x) h).1;
     }
 
   -- the script from its first word, in the memory in which the words have run

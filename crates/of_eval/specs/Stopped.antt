@@ -1,5 +1,5 @@
 -- What is kept of a script whose run lacked a cell.
-use Rattle.std.specs.Prelude.{◌≡◌, ℕ, ◌≤◌, List, [], length, take, drop, Option, None}
+use Rattle.std.specs.Prelude.{◌≡◌, ℕ, ◌≤◌, ◌<◌, List, [], length, take, drop, Option, None}
 use Rattle.std.proofs.Common.{get_or, arith, ap}
 use Rattle.of_mem.specs.declared.work.TheConstants.{MOST_INSTRS}
 use Rattle.of_mem.specs.Pad.{Pad, Extends, learnt}
@@ -24,6 +24,8 @@ pub record GoesOn (o blocks : ℕ) (k : Remains) (p : Pad) : Type 0 where
   pub runs : (more : List (Option ℕ)) → Extends more p.known → run (words_program o blocks (length k.words) [] k.words) (pad more p.batch [])
       ≡ run (words_program o blocks (length k.words) (take k.done k.values) (drop k.done k.words)) (pad more p.batch k.writes)
   pub stands : (more : List (Option ℕ)) → Extends more p.known → IsOfStore o blocks (pad more p.batch []) → IsOfStore o blocks (pad more p.batch k.writes)
+  -- a word is left to run
+  pub left : k.done < length k.words
   pub width : length k.values ≡ MOST_INSTRS
   pub past : (i : ℕ) → k.done ≤ i → get_or k.values i None ≡ None
   pub small : (i : ℕ) → IsSmall (get_or k.values i None)
@@ -41,6 +43,7 @@ holds_learnt k p a v none h l =
     record {
       runs = λ more e. g.runs more (extends_learnt more p.known a v none e);
       stands = λ more e. g.stands more (extends_learnt more p.known a v none e);
+      left = g.left;
       width = g.width;
       past = g.past;
       small = g.small;

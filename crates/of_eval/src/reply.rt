@@ -1,11 +1,10 @@
 //! Replies as cells hold them.
 
-ghost use Rattle.std.specs.Option.{unwrap_or};
-ghost use Rattle.std.specs.Prelude.{map, ◌≡◌, ◌≢◌, ◌≤◌, ◌<◌, ◌+◌, ◌*◌, ◌/◌, ◌%◌, ◌↔◌, length, IfSome, MatchOption, Some, None, IsTrue, All, ◌^◌};
+ghost use Rattle.std.specs.Prelude.{◌≡◌, ◌≢◌, ◌≤◌, ◌<◌, ◌+◌, ◌*◌, ◌/◌, ◌%◌, IfSome, MatchOption, Some, All, ◌^◌};
 ghost use Rattle.of_script.specs.declared.instr.Reply.{Reply as TheReply};
 ghost use Rattle.of_script.specs.declared.instr.Cause.{Cause as TheCause};
 ghost use Rattle.of_store.specs.Replies.{IsSmall};
-ghost use Rattle.of_eval.specs.Shapes.{IsWhole, IsHeldBy, cells_of, mask_of, code_of, abort_part as the_abort_part};
+ghost use Rattle.of_eval.specs.Shapes.{IsWhole, IsHeldBy, cells_of, code_of, abort_part as the_abort_part};
 ghost use Rattle.of_eval.specs.Reading.{marked_in};
 
 use of_mem::RawReply;
@@ -39,54 +38,6 @@ fn cause(code: u32) -> Option<Cause>
     }
 }
 
-/// The marks of these values.
-fn mask(values: &[Option<u32>; MOST_INSTRS]) -> u32
-    ensures value { result ≡ mask_of values.now }
-    ensures small { result < 2 ^ MOST_INSTRS }
-{
-    let mut mask = 0;
-    for i in 0..MOST_INSTRS {
-        if values[i].is_some() {
-            mask += 1 << i;
-        }
-    }
-    mask
-}
-
-/// The numbers that a mask marks.
-fn marked(mask: u32, cells: &[u32; MOST_INSTRS]) -> [Option<u32>; MOST_INSTRS]
-    ensures value { result ≡ marked_in mask cells.now }
-    ensures width { length cells.now ≡ MOST_INSTRS }
-{
-    let mut values = [None; MOST_INSTRS];
-    let mut rest = mask;
-    for i in 0..MOST_INSTRS {
-        values[i] = (rest % 2 == 1).then_some(cells[i]);
-        rest /= 2;
-    }
-    values
-}
-
-/// The number at each place, 0 for none.
-fn numbers(values: &[Option<u32>; MOST_INSTRS]) -> [u32; MOST_INSTRS]
-    ensures { result ≡ map (λ v. unwrap_or v 0) values.now }
-{
-    let mut numbers = [0; MOST_INSTRS];
-    for i in 0..MOST_INSTRS {
-        numbers[i] = values[i].unwrap_or(0);
-    }
-    numbers
-}
-
-/// Whether no number is above `GREATEST`.
-fn are_small(values: &[Option<u32>; MOST_INSTRS]) -> bool
-    ensures { IsTrue result ↔ All IsSmall values.now }
-{
-    values
-        .iter()
-        .all(|value| value.is_none_or(|number| number <= GREATEST))
-}
-
 /// What an abort adds to the shape.
 fn abort_part(abort: Option<Abort>) -> u32
     requires { IfSome abort (λ a. a.place < MOST_INSTRS) }
@@ -104,10 +55,15 @@ pub fn reply_cells(reply: &Reply) -> RawReply
     requires { IsWhole reply.now }
     ensures { result ≡ cells_of reply.now }
 {
-    RawReply {
-        shape: mask(&reply.values) + u32::from(reply.len) * (1 << 16) + abort_part(reply.abort),
-        values: numbers(&reply.values),
+    let mut shape = u32::from(reply.len) * (1 << 16) + abort_part(reply.abort);
+    let mut values = [0; MOST_INSTRS];
+    for i in 0..reply.len as usize {
+        if let Some(value) = reply.values[i] {
+            shape += 1 << i;
+            values[i] = value;
+        }
     }
+    RawReply { shape, values }
 }
 
 /// The reply that these cells hold. None comes exactly where they hold none: their shape is that of no reply, or a number that it
@@ -129,6 +85,27 @@ pub fn reply_of(raw: &RawReply) -> Option<Reply>
     aborted(raw, len)
 }
 
+/// The numbers that a mask marks. None where one of them is above `GREATEST`.
+fn marked(mask: u32, cells: &[u32; MOST_INSTRS], len: usize) -> Option<[Option<u32>; MOST_INSTRS]>
+    requires few { len ≤ MOST_INSTRS }
+    requires below { mask < 2 ^ len }
+    ensures { MatchOption result (All IsSmall (marked_in mask cells.now) → ⊥)
+        (λ values. (values ≡ marked_in mask cells.now) × All IsSmall values) }
+{
+    let mut values = [None; MOST_INSTRS];
+    let mut rest = mask;
+    for i in 0..len {
+        if rest % 2 == 1 {
+            if cells[i] > GREATEST {
+                return None;
+            }
+            values[i] = Some(cells[i]);
+        }
+        rest /= 2;
+    }
+    Some(values)
+}
+
 /// The reply of a script that ran to its end.
 fn answered(raw: &RawReply, len: u32) -> Option<Reply>
     requires len { len ≡ raw.now.shape / 2 ^ 16 % 32 }
@@ -142,10 +119,7 @@ fn answered(raw: &RawReply, len: u32) -> Option<Reply>
     if marks >= 1 << len {
         return None;
     }
-    let values = marked(marks, &raw.values);
-    if !are_small(&values) {
-        return None;
-    }
+    let values = marked(marks, &raw.values, len as usize)?;
     Some(Reply {
         len: len as u8,
         values,

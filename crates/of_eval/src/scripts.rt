@@ -5,9 +5,9 @@ ghost use Rattle.of_mem.specs.declared.work.TheConstants.{MOST_CALLERS};
 ghost use Rattle.of_mem.specs.declared.plot.TheConstants.{MOST_BLOCKS};
 
 use crate::reply::reply_cells;
+use crate::step::word_reads;
 use crate::walk::run_words;
 use of_mem::{Keeps, Kept, MOST_INSTRS, Need, Part, Plot, RawReply, Work};
-use of_script::from_words;
 
 /// What runs scripts on cells: so many callers, 1 to `MOST_CALLERS`, and room for so
 /// many keys and items, at most `MOST_BLOCKS`. An operation is the words of a script; a
@@ -89,10 +89,15 @@ impl Work for Scripts {
     }
 
     fn reads_only(&self, op: &[u64]) -> bool {
-        match from_words(op) {
-            None => false,
-            Some(script) => script.reads_only(),
+        if op.is_empty() || op.len() > MOST_INSTRS {
+            return false;
         }
+        for i in 0..op.len() {
+            if !word_reads(op[i]) {
+                return false;
+            }
+        }
+        true
     }
 
     ghost fits = { scripts_fit };

@@ -6,7 +6,9 @@ ghost use Rattle.of_mem.specs.Programs.{Done};
 ghost use Rattle.of_script.specs.Language.{InRange};
 ghost use Rattle.of_script.specs.declared.instr.Instr.TheVariants.{Load, Store, Add, Sub, Get, Put as PutAt, Del, Need as Needs, Push, Pop, Len, Count, First, Next, DropBelow};
 ghost use Rattle.of_eval.specs.ScriptPrograms.{need_answers};
+ghost use Rattle.of_script.specs.Reading.{instr_at};
 ghost use Rattle.of_eval.specs.Calls.{step, run_word};
+ghost use Rattle.of_eval.specs.Scripts.{instr_reads};
 
 use of_map::Put;
 use of_mem::{Need, Part, Plot};
@@ -24,6 +26,16 @@ pub(crate) fn run_word(plot: &Plot, part: &mut Part, word: u64) -> Result<Answer
     match from_word(word) {
         None => Ok(Err(Cause::BadOp)),
         Some(instr) => step(plot, part, instr),
+    }
+}
+
+/// Whether a word is that of an instruction that leaves every store as it is.
+pub(crate) fn word_reads(word: u64) -> bool
+    ensures { result ≡ instr_reads (instr_at word) }
+{
+    match from_word(word) {
+        None => false,
+        Some(instr) => instr.reads_only(),
     }
 }
 

@@ -1,17 +1,19 @@
 //! The words of an operation in order.
 
-ghost use Rattle.std.specs.Prelude.{◌≡◌, [], length, IfOk};
+ghost use Rattle.std.proofs.Common.{set};
+ghost use Rattle.std.specs.Prelude.{◌-◌, ◌≡◌, ◌≤◌, ◌<◌, [], length, IfOk, None};
 ghost use Rattle.of_mem.specs.declared.work.TheConstants.{MOST_INSTRS};
 ghost use Rattle.of_mem.specs.Calls.{RunsOn};
 ghost use Rattle.of_eval.specs.Calls.{script, in_cells};
 ghost use Rattle.of_eval.specs.Shapes.{IsWhole};
 ghost use Rattle.of_eval.specs.Stopped.{HoldsScript};
 ghost use Rattle.of_eval.specs.Stored.{HasState};
-ghost use Rattle.of_eval.specs.Words.{IsOperation};
+ghost use Rattle.of_eval.specs.Words.{IsOperation, reply_to};
+ghost use Rattle.of_store.specs.State.{Aborted};
 
 use crate::step::run_word;
 use of_mem::{Kept, Need, Part, Plot};
-use of_script::{Abort, MOST_INSTRS, Reply};
+use of_script::{Abort, Cause, MOST_INSTRS, Reply};
 
 /// Runs the words in order, to their end or to the first abort, from the first that hasn't run where
 /// `kept` is of them. The error names a cell that is read and isn't known.
@@ -32,30 +34,51 @@ pub(crate) fn run_words(
     ensures holds { HoldsScript kept.new part.old }
     ensures room { kept.new.room ≡ kept.old.room }
 {
-    let len = op.len();
+    let last = op.len() - 1;
     if kept.is_of(plot.callers, plot.blocks, op) {
         kept.restore(part);
     } else {
         kept.begin(plot.callers, plot.blocks, op);
     }
-    for i in kept.done()..len {
+    for i in kept.done()..op.len() {
         match run_word(plot, part, op[i])? {
+            Err(cause) => return Ok(aborted(op.len(), i, cause)),
+            // no word goes on behind the last one, so what it answers and writes need not be kept
+            Ok(value) if i == last => return Ok(answered(op.len(), kept.values(), value)),
             Ok(value) => kept.advance(value, part),
-            Err(cause) => {
-                return Ok(Reply {
-                    len: len as u8,
-                    values: [None; MOST_INSTRS],
-                    abort: Some(Abort {
-                        place: i as u8,
-                        cause,
-                    }),
-                });
-            }
         }
     }
-    Ok(Reply {
+    // the last word ends the run
+    unreachable!()
+}
+
+/// The reply of a script of `len` words that answers these values, and this one for its last word.
+fn answered(len: usize, values: [Option<u32>; MOST_INSTRS], last: Option<u32>) -> Reply
+    requires some { 1 ≤ len }
+    requires few { len ≤ MOST_INSTRS }
+    ensures { result ≡ record { len = len; values = set values (len - 1) last; abort = None } }
+{
+    let mut values = values;
+    values[len - 1] = last;
+    Reply {
         len: len as u8,
-        values: kept.values(),
+        values,
         abort: None,
-    })
+    }
+}
+
+/// The reply of a script of `len` words that aborts at a place.
+fn aborted(len: usize, place: usize, cause: Cause) -> Reply
+    requires few { len ≤ MOST_INSTRS }
+    requires place { place < len }
+    ensures { result ≡ reply_to len (Aborted place cause) }
+{
+    Reply {
+        len: len as u8,
+        values: [None; MOST_INSTRS],
+        abort: Some(Abort {
+            place: place as u8,
+            cause,
+        }),
+    }
 }

@@ -1,5 +1,5 @@
 -- What the place that is noted at an address says of the pairs.
-use Rattle.std.proofs.Common.{◌≡◌, ◌≢◌, ℕ, zero, suc, ◌+◌, ◌<◌, ◌≤◌, ◌==◌, eqb, Bool, true, false, List, [], ◌∷◌, ◌++◌, length, map, Some, None, get_or, set, refl, sym, ◌∙◌, ap, arith, length-append, length-set, ◌⊎◌, inl, inr, if◌then◌else◌}
+use Rattle.std.proofs.Common.{◌≡◌, ◌≢◌, ℕ, zero, suc, ◌+◌, ◌<◌, ◌≤◌, ◌==◌, eqb, Bool, true, false, List, [], ◌∷◌, ◌++◌, length, map, Some, None, get_or, set, take, refl, sym, ◌∙◌, ap, arith, length-append, length-set, ◌⊎◌, inl, inr, if◌then◌else◌}
 use Rattle.std.specs.List.{list_any}
 use Rattle.std.specs.List.{Any, AllPairs}
 use Rattle.std.proofs.lemmas.Map.Steps.{length-le_from_distinct_below}
@@ -7,8 +7,9 @@ use Rattle.std.proofs.lemmas.Map.Made.{IsDistinct-from_AllPairs}
 use Rattle.std.proofs.lemmas.List.Folds.{Any-from_list_any}
 use Rattle.std.proofs.lemmas.Bool.Decides.{Decides-eqb, nat_tests}
 use Rattle.std.proofs.lemmas.Bool.{cases_eq}
-use Rattle.std.proofs.lemmas.List.{get_or-map, length-map, get_or-set_same, get_or-set_other, get_or_append_left, get_or_push, get_or_default}
-use Rattle.of_mem.specs.Pairs.{value_at, put, address, IsAbsent, IsMap}
+use Rattle.std.proofs.lemmas.List.{get_or-map, length-map, get_or-set_same, get_or-set_other, get_or_append_left, get_or_push, get_or_default, get_or-take, length-take-le}
+use Rattle.std.proofs.Math.Seq.{take-set-lt}
+use Rattle.of_mem.specs.Pairs.{Pairs, value_at, put, address, IsAbsent, IsMap}
 use Rattle.of_mem.specs.Indexed.{IsIndexed, Finds, Misses}
 
 equals : (a b : ℕ) → a ≡ b → (a == b) ≡ true
@@ -122,6 +123,19 @@ absent_else es ps n h a k e l m j i q = let p : get_or ps a 0 ≡ k = get_or_def
 
 pub absent_other : (es : List (ℕ × ℕ)) (ps : List ℕ) (n : ℕ) (h : IsIndexed es ps n) (a k : ℕ) → get_or ps a k ≡ k → a < length ps → (address es k ≡ a → ⊥) → IsAbsent es a
 absent_other es ps n h a k e l m j i q = let p : get_or ps a 0 ≡ k = get_or_default ps a 0 k l ∙ e in let r : get_or ps a 0 ≡ j = rw (← q) (h.found j i) in let s : j ≡ k = sym r ∙ p in m (ap (λ (x : ℕ). address es x) (sym s) ∙ q)
+
+-- a number that is written in its place
+pub put_there : (es : List (ℕ × ℕ)) (n : ℕ) (p : Pairs) (a v k : ℕ) (e : ℕ × ℕ) → take n es ≡ p.entries → n ≤ length es → Finds p a k → e ≡ get_or es k e → take n (set es k (e.0, v)) ≡ put p.entries a v
+put_there es n p a v k e view l f is =
+    let below : k < n = omega (arith, f.below, ap length view, length-take-le n es l) in
+    let same : e.0 ≡ a =
+    ap (λ (x : ℕ × ℕ). x.0) (is ∙ get_or_default es k e (0, 0) (omega arith) ∙ sym (get_or-take n es k (0, 0) below))
+    ∙ ap (λ (xs : List (ℕ × ℕ)). address xs k) view
+    ∙ f.here in
+    take-set-lt n es k (e.0, v) below
+    ∙ ap (λ (xs : List (ℕ × ℕ)). set xs k (e.0, v)) view
+    ∙ ap (λ (x : ℕ). set p.entries k (x, v)) same
+    ∙ sym (f.put v)
 
 -- what is found after a write
 pub value_at_put : (es : List (ℕ × ℕ)) (a v b : ℕ) → value_at (put es a v) b ≡ (if a == b then Some v else value_at es b)

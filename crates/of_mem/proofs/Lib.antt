@@ -16,3 +16,4 @@ pub mod Sounds
 pub mod Counts
 pub mod Calls
 pub mod Extended
+pub mod Filled

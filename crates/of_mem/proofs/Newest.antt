@@ -43,6 +43,16 @@ pub newest_unknown : (n : ℕ) → HasNewest (unknown n) (replicate n None)
 unfolding newest
 newest_unknown n = record { size = refl; at = λ a l. refl }
 
+-- a cell that holds no number was not written
+pub none_written : (p : Pad) (cells : List (Option ℕ)) (a : ℕ) → a < length p.known → HasNewest p cells → get_or cells a None ≡ None → option_or (value_at p.script a) (value_at p.batch a) ≡ None
+unfolding newest
+none_written p cells a l h e = none (value_at p.script a) (value_at p.batch a) (get_or p.known a None) (sym (h.at a l) ∙ e)
+  where
+    none : (x y z : Option ℕ) → newer x (newer y z) ≡ None → option_or x y ≡ None
+    none None None z q = refl
+    none None (Some v) z q = q
+    none (Some v) y z q = q
+
 -- what is learnt shows where neither batch nor script has a number
 pub newest_learnt : (p : Pad) (cells : List (Option ℕ)) (a v : ℕ) → a < length p.known → HasNewest p cells
     → HasNewest (learnt p a v) (set cells a (option_or (option_or (value_at p.script a) (value_at p.batch a)) (Some v)))

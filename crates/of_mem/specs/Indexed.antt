@@ -4,7 +4,7 @@ use Rattle.std.proofs.Common.{get_or, set}
 use Rattle.of_mem.specs.Numbers.{FitsCell}
 use Rattle.of_mem.specs.Pairs.{Pairs, value_at, put, address, IsAbsent}
 
--- the places fit the entries, and the entries' capacity is enough for each address once
+-- the places fit the entries, of which there is room for one at each address
 pub record IsIndexed (entries : List (ℕ × ℕ)) (places : List ℕ) (capacity : ℕ) : Type 0 where
   pub room : FitsCell (length places)
   pub spare : length places ≤ capacity

@@ -11,7 +11,9 @@ use std::marker::Model;
 /// however many cells there are.
 #[derive(Drop)]
 pub struct CellMap {
+    /// As many places as there are addresses. The first `count` are the entries.
     entries: Vec<(u32, u32)>,
+    count: u32,
     /// At each address that is there, the place of its entry. What stands at another address is
     /// left over from earlier.
     places: Vec<u32>,
@@ -22,13 +24,13 @@ impl Model for CellMap {
 
     ghost Value = { Pairs };
 
-    ghost use Rattle.std.specs.Prelude.{length};
-    ghost use Rattle.std.specs.Vec.{vec_capacity};
+    ghost use Rattle.std.specs.Prelude.{◌≤◌, length, take};
     ghost use Rattle.of_mem.specs.Indexed.{IsIndexed};
 
-    ghost view = { λ w. record { room = length w.places.items; entries = w.entries.items } };
+    ghost view = { λ w. record { room = length w.places.items; entries = take w.count w.entries.items } };
 
-    ghost invariant = { λ w. IsIndexed w.entries.items w.places.items (vec_capacity w.entries) };
+    ghost invariant = { λ w. (w.count ≤ length w.entries.items)
+        × IsIndexed (take w.count w.entries.items) w.places.items (length w.entries.items) };
 }
 
 impl CellMap {
@@ -37,9 +39,13 @@ impl CellMap {
         ensures entries { IfOk result (λ w. w.entries ≡ []) }
         ensures room { IfOk result (λ w. w.room ≡ room) }
     {
-        let entries = Vec::with_capacity(alloc, room as usize)?;
+        let entries = vec![in alloc; (0, 0); room as usize]?;
         let places = vec![in alloc; 0; room as usize]?;
-        Ok(CellMap { entries, places })
+        Ok(CellMap {
+            entries,
+            count: 0,
+            places,
+        })
     }
 
     /// The number of entries.
@@ -47,7 +53,7 @@ impl CellMap {
         ensures value { result ≡ length self.now.entries }
         ensures map { IsMap self.now }
     {
-        self.entries.len() as u32
+        self.count
     }
 
     /// The place of an address among the entries.
@@ -55,9 +61,16 @@ impl CellMap {
         ensures place { MatchOption result (Misses self.now addr) (Finds self.now addr) }
         ensures map { IsMap self.now }
     {
-        let place = *self.places.get(addr as usize)? as usize;
-        let (at, _) = *self.entries.get(place)?;
-        if at == addr { Some(place) } else { None }
+        let place = *self.places.get(addr as usize)?;
+        if place >= self.count {
+            return None;
+        }
+        let (at, _) = self.entries[place as usize];
+        if at == addr {
+            Some(place as usize)
+        } else {
+            None
+        }
     }
 
     /// The number at an address.
@@ -77,12 +90,9 @@ impl CellMap {
         match self.find(addr) {
             Some(place) => self.entries[place].1 = value,
             None => {
-                self.places[addr as usize] = self.entries.len() as u32;
-                match self.entries.push((addr, value)) {
-                    Ok(()) => {}
-                    // there is room for each address once
-                    Err(_) => unreachable!(),
-                }
+                self.places[addr as usize] = self.count;
+                self.entries[self.count as usize] = (addr, value);
+                self.count += 1;
             }
         }
     }
@@ -101,14 +111,14 @@ impl CellMap {
         ensures entries { self.new.entries ≡ [] }
         ensures room { self.new.room ≡ self.old.room }
     {
-        self.entries.clear();
+        self.count = 0;
     }
 
     /// Whether its entries are those of another one, in the same order.
     pub fn has_entries_of(&self, other: &CellMap) -> bool
         ensures { IsTrue result ↔ (self.now.entries ≡ other.now.entries) }
     {
-        self.entries == other.entries
+        self.entries[..self.count as usize] == other.entries[..other.count as usize]
     }
 
     /// Takes the entries of another one.

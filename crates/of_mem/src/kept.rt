@@ -30,8 +30,8 @@ impl Model for Kept {
 
     ghost Value = { Remains };
 
-    ghost use Rattle.std.specs.Prelude.{◌≡◌, ◌≤◌, length};
-    ghost use Rattle.std.proofs.Common.{take};
+    ghost use Rattle.std.specs.Prelude.{◌≡◌, ◌≤◌, ◌-◌, ◌++◌, length, None};
+    ghost use Rattle.std.proofs.Common.{take, replicate};
     ghost use Rattle.of_mem.specs.declared.work.TheConstants.{MOST_INSTRS};
 
     ghost view = { λ k. record {
@@ -39,12 +39,13 @@ impl Model for Kept {
       blocks = k.blocks;
       words = take k.count k.words;
       done = k.done;
-      values = k.values;
+      values = take k.done k.values ++ replicate (MOST_INSTRS - k.done) None;
       writes = k.writes.entries;
       room = k.writes.room;
     } };
 
-    ghost invariant = { λ k. (k.done ≤ k.count) × (k.count ≤ MOST_INSTRS) × (length k.words ≡ MOST_INSTRS) };
+    ghost invariant = { λ k. (k.done ≤ k.count) × (k.count ≤ MOST_INSTRS) × (length k.words ≡ MOST_INSTRS)
+        × (length k.values ≡ MOST_INSTRS) };
 }
 
 impl Kept {
@@ -73,7 +74,6 @@ impl Kept {
         self.blocks = 0;
         self.count = 0;
         self.done = 0;
-        self.values = [None; MOST_INSTRS];
         self.writes.clear();
     }
 
@@ -87,7 +87,6 @@ impl Kept {
         self.count = words.len();
         self.words[..words.len()].copy_from_slice(words);
         self.done = 0;
-        self.values = [None; MOST_INSTRS];
         self.writes.clear();
     }
 
@@ -107,11 +106,15 @@ impl Kept {
         self.done as usize
     }
 
-    /// What the words answered that have run, each at its place.
+    /// What the words answered that have run, each at its place, and none past them.
     pub fn values(&self) -> [Option<u32>; MOST_INSTRS]
         ensures { result ≡ self.now.values }
     {
-        self.values
+        let mut values = [None; MOST_INSTRS];
+        for i in 0..self.done as usize {
+            values[i] = self.values[i];
+        }
+        values
     }
 
     /// One word more has run: it answered `value`, and the script has written what `part` says.

@@ -1,6 +1,9 @@
 //! What is known of cells, and what batch and script wrote over it.
 
-ghost use Rattle.std.specs.Prelude.{◌≡◌, ◌<◌, ◌≤◌, ◌↔◌, IsTrue, [], length, slice_index_or, IfOk};
+ghost use Rattle.std.specs.Prelude.{◌≡◌, ◌<◌, ◌≤◌, ◌↔◌, IsTrue, [], length, slice_index_or, IfOk, None};
+ghost use Rattle.std.proofs.Common.{get_or, is_some};
+ghost use Rattle.std.specs.Option.{option_or};
+ghost use Rattle.of_mem.specs.Pairs.{value_at};
 ghost use Rattle.of_mem.specs.Pad.{unknown, learnt, wrote, kept, ReadsAt};
 
 use crate::cell_map::CellMap;
@@ -58,9 +61,27 @@ impl Layers {
         requires { addr < length self.old.known }
         ensures { self.new ≡ learnt self.old addr value }
     {
+        let over = self.written(addr);
         self.known.set(addr, Some(value));
-        let over = self.script.get(addr).or(self.batch.get(addr));
         self.newest.set(addr, over.or(Some(value)));
+    }
+
+    /// What the script or else the batch wrote into a cell.
+    fn written(&self, addr: u32) -> Option<u32>
+        requires { addr < length self.now.known }
+        ensures { result ≡ option_or (value_at self.now.script addr) (value_at self.now.batch addr) }
+    {
+        // a cell that was written holds a number
+        self.newest.get(addr)?;
+        self.script.get(addr).or(self.batch.get(addr))
+    }
+
+    /// Whether a cell's number is known.
+    pub fn knows(&self, addr: u32) -> bool
+        requires { addr < length self.now.known }
+        ensures { result ≡ is_some (get_or self.now.known addr None) }
+    {
+        self.known.get(addr).is_some()
     }
 
     /// What a cell holds: the script's number, else the batch's, else the known one. The error

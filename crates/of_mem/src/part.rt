@@ -1,6 +1,7 @@
 //! Partial memory.
 
-ghost use Rattle.std.specs.Prelude.{◌≡◌, ◌<◌, ◌≤◌, [], length, slice_index_or, IfOk};
+ghost use Rattle.std.specs.Prelude.{◌≡◌, ◌<◌, ◌≤◌, [], length, slice_index_or, IfOk, None};
+ghost use Rattle.std.proofs.Common.{get_or, is_some};
 ghost use Rattle.of_mem.specs.Pad.{unknown, learnt, wrote, kept, ReadsAt};
 
 use crate::cell_map::CellMap;
@@ -54,6 +55,14 @@ impl Part {
         ensures { self.new ≡ learnt self.old addr value }
     {
         self.layers.learn(addr, value);
+    }
+
+    /// Whether a cell's number is known.
+    pub(crate) fn knows(&self, addr: u32) -> bool
+        requires { addr < length self.now.known }
+        ensures { result ≡ is_some (get_or self.now.known addr None) }
+    {
+        self.layers.knows(addr)
     }
 
     /// What a cell holds: the script's number, else the batch's, else the known one. The error

@@ -44,12 +44,12 @@ impl<W: Keeps> Workspace<W> {
         })
     }
 
-    /// Makes a cell's number known. What was kept is forgotten where the cell had a number.
+    /// Makes a cell's number known. What was kept is forgotten where it was known already.
     pub fn learn(&mut self, addr: u32, value: u32)
         requires { addr < length self.old.known }
         ensures { self.new ≡ learnt self.old addr value }
     {
-        if self.part.read(addr).is_ok() {
+        if self.part.knows(addr) {
             self.kept.forget();
         }
         self.part.learn(addr, value);

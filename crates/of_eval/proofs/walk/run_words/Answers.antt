@@ -1,4 +1,4 @@
-use Rattle.std.proofs.Common.{◌≡◌, ℕ, ◌<◌, ◌≤◌, arith, ap, sym, refl, ◌∙◌, ◌+◌, length, get_or, Ok}
+use Rattle.std.proofs.Common.{◌≡◌, ℕ, ◌<◌, ◌≤◌, arith, ap, sym, refl, ◌∙◌, ◌+◌, length, get_or, set, length-set, Ok}
 use Rattle.std.proofs.lemmas.Result.{err_from_is_err_and}
 use Rattle.of_mem.specs.Pad.{Pad}
 use Rattle.of_mem.specs.Plots.{base}
@@ -6,11 +6,12 @@ use Rattle.of_mem.specs.Programs.{Ends, run}
 use Rattle.of_mem.specs.Calls.{RunsOn}
 use Rattle.of_mem.specs.Remains.{IsOf, begun}
 use Rattle.of_script.specs.declared.instr.TheConstants.{MOST_INSTRS}
+use Rattle.of_store.proofs.Values.{small_values, none_left}
 use Rattle.of_eval.specs.ScriptPrograms.{Answer}
 use Rattle.of_eval.specs.Calls.{run_word}
-use Rattle.of_eval.specs.Stopped.{pad}
-use Rattle.of_eval.proofs.Walks.{ran_aborts, ran_lacks, ran_ends}
-use Rattle.of_eval.proofs.Resumed.{begun_goes, goes_more, ran_so, of_store, has_store, goes_there, holds_so}
+use Rattle.of_eval.specs.Stopped.{pad, GoesOn}
+use Rattle.of_eval.proofs.Walks.{ran_aborts, ran_lacks, ran_more, ran_ends}
+use Rattle.of_eval.proofs.Resumed.{begun_goes, after_word, goes_more, ran_so, of_store, has_store, goes_there, holds_so}
 use Rattle.of_eval.proofs.walk.run_words.Goals as goal
 use Rattle.of_eval.proofs.walk.run_words.Goals.{then-is_of, else-is_of}
 
@@ -19,22 +20,24 @@ loop-i-init c = elim c.if-is_of.branch [
   | then-is_of w ↦ (
       let was = c.is_of.ensures.0 w.if-is_of.true in
       let of : IsOf c.if-is_of.kept c.args.plot.now.callers c.args.plot.now.blocks c.args.op.now = rw w.kept-is was in
+      let goes : GoesOn (base c.args.plot.now) c.args.plot.now.blocks c.if-is_of.kept c.args.part.now = rw w.kept-is (goes_there c.args.plot.now c.args.kept.now c.args.part.now c.args.op.now was c.requires.instrs c.requires.words.some c.requires.holds) in
       record {
         of = of;
         done = sym c.done-i.ensures.value;
-        below = omega (arith, c.done-i.ensures.value, c.done-i.ensures.few, ap length of.words);
-        goes = rw w.kept-is (goes_there c.args.plot.now c.args.kept.now c.args.part.now c.args.op.now was c.requires.instrs c.requires.words.some c.requires.holds);
+        below = omega (arith, c.done-i.ensures.value, goes.left, ap length of.words);
+        goes = goes;
         part = rw (w.part-is, w.kept-is) w.restore.ensures;
         room = ap (λ k. k.room) w.kept-is;
       })
   | else-is_of w ↦ (
       let new : c.if-is_of.kept ≡ begun c.args.kept.now.room c.args.plot.now.callers c.args.plot.now.blocks c.args.op.now = w.kept-is ∙ w.begin.ensures in
       let of : IsOf c.if-is_of.kept c.args.plot.now.callers c.args.plot.now.blocks c.args.op.now = rw new (record { callers = refl; blocks = refl; words = refl }) in
+      let goes : GoesOn (base c.args.plot.now) c.args.plot.now.blocks c.if-is_of.kept c.args.part.now = rw new (begun_goes (base c.args.plot.now) c.args.plot.now.blocks c.args.kept.now.room c.args.plot.now.callers c.args.plot.now.blocks c.args.op.now c.args.part.now c.requires.words.some) in
       record {
         of = of;
         done = sym c.done-i.ensures.value;
-        below = omega (arith, c.done-i.ensures.value, c.done-i.ensures.few, ap length of.words);
-        goes = rw new (begun_goes (base c.args.plot.now) c.args.plot.now.blocks c.args.kept.now.room c.args.plot.now.callers c.args.plot.now.blocks c.args.op.now c.args.part.now);
+        below = omega (arith, c.done-i.ensures.value, goes.left, ap length of.words);
+        goes = goes;
         part = rw (w.part-is, new) (ap (pad c.args.part.now.known c.args.part.now.batch) c.requires.empty);
         room = ap (λ k. k.room) new;
       })
@@ -43,24 +46,24 @@ loop-i-init c = elim c.if-is_of.branch [
 pub run_word-requires : goal.run_word-requires
 run_word-requires c = has_store c.args.plot.now c.loop-i.kept c.args.part.now c.loop-i.part c.loop-i.invariant.goes c.requires.stands c.requires.empty c.loop-i.invariant.part
 
-pub returns-in_err-value-clause-runs : goal.returns-in_err-value-clause-runs
-returns-in_err-value-clause-runs c =
+pub returns-in_err-cause-clause-runs : goal.returns-in_err-cause-clause-runs
+returns-in_err-cause-clause-runs c =
     let p = err_from_is_err_and c.from_residual.result c.from_residual.ensures.1 in
     rw (p.1, p.2) (record {
       walk = ran_so (base c.args.plot.now) c.args.plot.now.blocks c.args.plot.now.few_blocks c.loop-i.kept c.args.part.now c.loop-i.invariant.goes c.requires.empty c.args.op.now c.loop-i.invariant.of.words c.requires.words.few c.loop-i.i c.loop-i.invariant.done c.loop-i.part c.loop-i.invariant.part
-          ∙ ran_lacks (base c.args.plot.now) c.args.plot.now.blocks (length c.args.op.now) c.args.op.now c.loop-i.i c.loop-i-test.true c.loop-i.kept.values c.loop-i.part c.run_word.new.part _ c.in_err-value.ensures.walk;
-      known = c.in_err-value.ensures.known ∙ ap (λ (x : Pad). x.known) c.loop-i.invariant.part;
-      batch = c.in_err-value.ensures.batch ∙ ap (λ (x : Pad). x.batch) c.loop-i.invariant.part;
+          ∙ ran_lacks (base c.args.plot.now) c.args.plot.now.blocks (length c.args.op.now) c.args.op.now c.loop-i.i c.loop-i-test.true c.loop-i.kept.values c.loop-i.part c.run_word.new.part _ c.in_err-cause.ensures.walk;
+      known = c.in_err-cause.ensures.known ∙ ap (λ (x : Pad). x.known) c.loop-i.invariant.part;
+      batch = c.in_err-cause.ensures.batch ∙ ap (λ (x : Pad). x.batch) c.loop-i.invariant.part;
     })
 
 pub returns-in-Err-clause-runs : goal.returns-in-Err-clause-runs
-returns-in-Err-clause-runs c = record {
+returns-in-Err-clause-runs c = rw c.aborted.ensures (record {
   walk = ran_so (base c.args.plot.now) c.args.plot.now.blocks c.args.plot.now.few_blocks c.loop-i.kept c.args.part.now c.loop-i.invariant.goes c.requires.empty c.args.op.now c.loop-i.invariant.of.words c.requires.words.few c.loop-i.i c.loop-i.invariant.done c.loop-i.part c.loop-i.invariant.part
       ∙ ran_aborts (base c.args.plot.now) c.args.plot.now.blocks (length c.args.op.now) c.args.op.now c.loop-i.i c.loop-i-test.true c.loop-i.kept.values c.loop-i.part c.run_word.new.part c.in-Err.cause
-      (omega (arith, c.loop-i.invariant.goes.width, c.requires.words.few, c.loop-i-test.true)) (c.in_ok-value.ensures.walk ∙ ap (λ (x : Answer). Ends x c.run_word.new.part) c.in-Err.is);
-  known = c.in_ok-value.ensures.known ∙ ap (λ (x : Pad). x.known) c.loop-i.invariant.part;
-  batch = c.in_ok-value.ensures.batch ∙ ap (λ (x : Pad). x.batch) c.loop-i.invariant.part;
-}
+      (omega (arith, c.loop-i.invariant.goes.width, c.requires.words.few, c.loop-i-test.true)) (c.in_ok-cause.ensures.walk ∙ ap (λ (x : Answer). Ends x c.run_word.new.part) c.in-Err.is);
+  known = c.in_ok-cause.ensures.known ∙ ap (λ (x : Pad). x.known) c.loop-i.invariant.part;
+  batch = c.in_ok-cause.ensures.batch ∙ ap (λ (x : Pad). x.batch) c.loop-i.invariant.part;
+})
 
 pub returns-in-Err-clause-holds : goal.returns-in-Err-clause-holds
 returns-in-Err-clause-holds c = holds_so c.args.plot.now c.loop-i.kept c.args.part.now c.args.op.now c.loop-i.invariant.of c.requires.instrs c.loop-i.invariant.goes
@@ -71,26 +74,60 @@ loop-i-preserved c =
     let words : c.loop-i.kept.words ≡ c.args.op.now = h.of.words in
     let done : c.loop-i.kept.done ≡ c.loop-i.i = h.done in
     let here : c.loop-i.part ≡ pad c.args.part.now.known c.args.part.now.batch c.loop-i.kept.writes = h.part in
-    let runs : RunsOn (run_word c.args.plot.now (get_or c.args.op.now c.loop-i.i 0)) c.loop-i.part c.run_word.new.part (Ok (Ok c.in-Ok.value)) = rw (← c.in-Ok.is) c.in_ok-value.ensures in
+    let runs : RunsOn (run_word c.args.plot.now (get_or c.args.op.now c.loop-i.i 0)) c.loop-i.part c.run_word.new.part (Ok (Ok c.in-Ok.value)) = rw (← c.in-Ok.is) c.in_ok-cause.ensures in
     let known : c.run_word.new.part.known ≡ c.args.part.now.known = runs.known ∙ ap (λ (x : Pad). x.known) here in
     let batch : c.run_word.new.part.batch ≡ c.args.part.now.batch = runs.batch ∙ ap (λ (x : Pad). x.batch) here in
     let walk : run (run_word c.args.plot.now (get_or c.loop-i.kept.words c.loop-i.kept.done 0)) (pad c.args.part.now.known c.args.part.now.batch c.loop-i.kept.writes) ≡ Ends (Ok c.in-Ok.value) c.run_word.new.part = rw (words, done, ← here) runs.walk in
-    let less : c.loop-i.kept.done < length c.loop-i.kept.words = omega (arith, ap length words, done, c.loop-i-test.true) in
+    let more : c.loop-i.i + 1 < length c.args.op.now = omega (arith, h.below, c.if-i-last.false, c.requires.words.some) in
+    let less : c.loop-i.kept.done + 1 < length c.loop-i.kept.words = omega (arith, ap length words, done, more) in
     let few : length c.loop-i.kept.words ≤ MOST_INSTRS = omega (arith, ap length words, c.requires.words.few) in
     record {
       of = rw c.advance.ensures (record { callers = h.of.callers; blocks = h.of.blocks; words = words });
       done = rw c.advance.ensures (ap (λ (n : ℕ). n + 1) done);
-      below = omega (arith, c.loop-i-test.true);
+      below = more;
       goes = rw c.advance.ensures (goes_more (base c.args.plot.now) c.args.plot.now.blocks c.args.plot.now.few_blocks c.loop-i.kept c.args.part.now h.goes c.run_word.new.part c.in-Ok.value walk batch (of_store c.args.plot.now c.args.part.now c.requires.stands c.requires.empty) less few);
       part = rw c.advance.ensures (λ i. pad (known i) (batch i) c.run_word.new.part.script);
       room = rw c.advance.ensures h.room;
     }
 
-pub returns-clause-runs : goal.returns-clause-runs
-returns-clause-runs c = rw c.values.ensures (record {
-  walk = ran_so (base c.args.plot.now) c.args.plot.now.blocks c.args.plot.now.few_blocks c.loop-i.kept c.args.part.now c.loop-i.invariant.goes c.requires.empty c.args.op.now c.loop-i.invariant.of.words c.requires.words.few c.loop-i.i c.loop-i.invariant.done c.loop-i.part c.loop-i.invariant.part
-      ∙ ran_ends (base c.args.plot.now) c.args.plot.now.blocks (length c.args.op.now) c.args.op.now c.loop-i.i c.loop-i.kept.values c.loop-i.part
-      (omega (arith, c.loop-i.invariant.below, c.loop-i-test.false)) c.loop-i-test.false c.loop-i.invariant.goes.width c.requires.words.few (λ k l. c.loop-i.invariant.goes.past k (omega (arith, l, c.loop-i.invariant.done)));
-  known = ap (λ (x : Pad). x.known) c.loop-i.invariant.part;
-  batch = ap (λ (x : Pad). x.batch) c.loop-i.invariant.part;
-})
+pub returns-in-Ok-clause-runs : goal.returns-in-Ok-clause-runs
+returns-in-Ok-clause-runs c =
+    let h = c.loop-i.invariant in
+    let end : length c.args.op.now ≡ c.loop-i.i + 1 = omega (arith, h.below, c.if-i-last.true) in
+    let room : c.loop-i.i < length c.loop-i.kept.values = omega (arith, h.goes.width, h.below, c.requires.words.few) in
+    let runs : RunsOn (run_word c.args.plot.now (get_or c.args.op.now c.loop-i.i 0)) c.loop-i.part c.run_word.new.part (Ok (Ok c.in-Ok.value)) = rw (← c.in-Ok.is) c.in_ok-cause.ensures in
+    rw (c.answered.ensures, c.values.ensures, ← c.if-i-last.true) (record {
+      walk = ran_so (base c.args.plot.now) c.args.plot.now.blocks c.args.plot.now.few_blocks c.loop-i.kept c.args.part.now h.goes c.requires.empty c.args.op.now h.of.words c.requires.words.few c.loop-i.i h.done c.loop-i.part h.part
+          ∙ ran_more (base c.args.plot.now) c.args.plot.now.blocks (length c.args.op.now) c.args.op.now c.loop-i.i h.below c.loop-i.kept.values c.loop-i.part c.run_word.new.part c.in-Ok.value room runs.walk
+          ∙ ran_ends (base c.args.plot.now) c.args.plot.now.blocks (length c.args.op.now) c.args.op.now (c.loop-i.i + 1) (set c.loop-i.kept.values c.loop-i.i c.in-Ok.value) c.run_word.new.part
+          end (omega (arith, end)) (length-set c.loop-i.kept.values c.loop-i.i c.in-Ok.value ∙ h.goes.width) c.requires.words.few
+          (none_left c.loop-i.kept.values c.loop-i.i c.in-Ok.value (λ k l. h.goes.past k (omega (arith, l, h.done))));
+      known = runs.known ∙ ap (λ (x : Pad). x.known) h.part;
+      batch = runs.batch ∙ ap (λ (x : Pad). x.batch) h.part;
+    })
+
+pub returns-in-Ok-clause-whole : goal.returns-in-Ok-clause-whole
+returns-in-Ok-clause-whole c =
+    let h = c.loop-i.invariant in
+    let end : length c.args.op.now ≡ c.loop-i.i + 1 = omega (arith, h.below, c.if-i-last.true) in
+    let words : c.loop-i.kept.words ≡ c.args.op.now = h.of.words in
+    let done : c.loop-i.kept.done ≡ c.loop-i.i = h.done in
+    let here : c.loop-i.part ≡ pad c.args.part.now.known c.args.part.now.batch c.loop-i.kept.writes = h.part in
+    let runs : RunsOn (run_word c.args.plot.now (get_or c.args.op.now c.loop-i.i 0)) c.loop-i.part c.run_word.new.part (Ok (Ok c.in-Ok.value)) = rw (← c.in-Ok.is) c.in_ok-cause.ensures in
+    let batch : c.run_word.new.part.batch ≡ c.args.part.now.batch = runs.batch ∙ ap (λ (x : Pad). x.batch) here in
+    let walk : run (run_word c.args.plot.now (get_or c.loop-i.kept.words c.loop-i.kept.done 0)) (pad c.args.part.now.known c.args.part.now.batch c.loop-i.kept.writes) ≡ Ends (Ok c.in-Ok.value) c.run_word.new.part = rw (words, done, ← here) runs.walk in
+    let small = after_word (base c.args.plot.now) c.args.plot.now.blocks c.args.plot.now.few_blocks c.loop-i.kept c.args.part.now h.goes c.run_word.new.part c.in-Ok.value walk batch c.args.part.now.known (λ a w x. x) (of_store c.args.plot.now c.args.part.now c.requires.stands c.requires.empty) in
+    rw (c.answered.ensures, c.values.ensures, ← c.if-i-last.true) (record {
+      some = c.requires.words.some;
+      few = c.requires.words.few;
+      width = length-set c.loop-i.kept.values c.loop-i.i c.in-Ok.value ∙ h.goes.width;
+      fits = record {
+        len = refl;
+        small = small_values c.loop-i.kept.values c.loop-i.i c.in-Ok.value h.goes.small small.1;
+        past = λ k l. none_left c.loop-i.kept.values c.loop-i.i c.in-Ok.value (λ j m. h.goes.past j (omega (arith, m, h.done))) k (omega (arith, l, end));
+        aborted = tt;
+      };
+    })
+
+pub returns-in-Ok-clause-holds : goal.returns-in-Ok-clause-holds
+returns-in-Ok-clause-holds c = holds_so c.args.plot.now c.loop-i.kept c.args.part.now c.args.op.now c.loop-i.invariant.of c.requires.instrs c.loop-i.invariant.goes

@@ -1,4 +1,4 @@
-use Rattle.std.proofs.Common.{◌≡◌, ◌≤◌, length}
+use Rattle.std.proofs.Common.{◌≡◌, ◌<◌, length}
 use Rattle.of_mem.specs.Plots.{base}
 use Rattle.of_mem.specs.Remains.{IsOf}
 use Rattle.of_eval.specs.Stopped.{pad, GoesOn}
@@ -8,7 +8,7 @@ abbrev pub invariant-loop-i : goal.invariant-loop-i
 invariant-loop-i l = record {
   of : IsOf l.kept l.fn.plot.callers l.fn.plot.blocks l.fn.op;
   done : l.kept.done ≡ l.i;
-  below : l.i ≤ length l.fn.op;
+  below : l.i < length l.fn.op;
   goes : GoesOn (base l.fn.plot) l.fn.plot.blocks l.kept l.fn.part;
   part : l.part ≡ pad l.fn.part.known l.fn.part.batch l.kept.writes;
   room : l.kept.room ≡ l.fn.kept.room;

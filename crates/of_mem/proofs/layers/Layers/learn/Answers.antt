@@ -10,5 +10,5 @@ invariant_of-self c =
     let size : length c.set.new.self ≡ length p.known = rw c.set.ensures (length-set p.known c.args.addr (Some c.args.value)) in (
       c.self.invariant.0 ∙ sym size,
       c.self.invariant.1 ∙ sym size,
-      rw (c.set.ensures, c.set-2.ensures, c.or.ensures, c.or-over.ensures, c.get.ensures, c.get-2.ensures) (newest_learnt p c.self.inside.newest c.args.addr c.args.value below c.self.invariant.2),
+      rw (c.set.ensures, c.set-2.ensures, c.or.ensures, c.written-over.ensures, ← c.self.view_is) (newest_learnt p c.self.inside.newest c.args.addr c.args.value below c.self.invariant.2),
     )
