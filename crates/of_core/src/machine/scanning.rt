@@ -149,7 +149,8 @@ impl<W: Work> Machine<W> {
                     words as u32,
                     &raw,
                 );
-                collect(&mut self.part, &mut self.log);
+                let more = self.scan + 1 < self.shape.callers;
+                collect(&mut self.part, &mut self.log, more);
                 let ran = RanCall {
                     caller: self.scan,
                     ticket,
@@ -163,7 +164,7 @@ impl<W: Work> Machine<W> {
                 }
                 renew(&mut self.raw, &raw, self.scan == self.caller);
                 self.scan += 1;
-                self.place = place_behind(self.scan < self.shape.callers);
+                self.place = place_behind(more);
             }
             Err(need) => {
                 self.place = Place::LoadCell(need.addr);
