@@ -102,3 +102,13 @@ pub fn first_mark(shape: u32, from: u32, many: u32) -> Option<u32>
     }
     None
 }
+
+/// A script's words in room for the most.
+pub fn words_of(script: &[u64]) -> [u64; MOST_INSTRS]
+    requires { length script.now ≤ MOST_INSTRS }
+    ensures { take (length script.now) result ≡ script.now }
+{
+    let mut words = [0; MOST_INSTRS];
+    words[..script.len()].copy_from_slice(script);
+    words
+}
