@@ -146,8 +146,7 @@ impl<W: Work> Machine<W> {
                     words as u32,
                     &raw,
                 );
-                let more = self.scan + 1 < self.shape.callers;
-                collect(&mut self.part, &mut self.log, more);
+                collect(&mut self.part, &mut self.log);
                 let ran = RanCall {
                     caller: self.scan,
                     ticket,
@@ -162,7 +161,7 @@ impl<W: Work> Machine<W> {
                 }
                 self.raw = newer_raw(self.scan == self.caller, &raw, &self.raw);
                 self.scan += 1;
-                self.place = place_behind(more);
+                self.place = place_behind(self.scan < self.shape.callers);
             }
             Err(need) => {
                 self.place = Place::LoadCell(need.addr);

@@ -88,7 +88,7 @@ returns-in-Ok-push g c =
     ∙ own_behind S L sound (over known log) script a.0 a.1 a.2 a.3 scan ticket es r s.scan i.fit.script small i.fit.own_in walked
     in
     let entries : c.collect.new.log.entries ≡ put_all log (es ++ own_cells (ticket_cell S scan) ticket (length script) r) = ap (λ (p : Pairs). p.entries) c.collect.ensures.log ∙ ap (put_all log) own in
-    let same : c.collect.new.part.known ≡ known = c.collect.ensures.known ∙ c.put_own.ensures.known ∙ ap (λ (p : Pad). p.known) c.run.ensures.part in
+    let same : c.collect.new.part.known ≡ known = ap (λ (p : Pad). p.known) c.collect.ensures.part ∙ c.put_own.ensures.known ∙ ap (λ (p : Pad). p.known) c.run.ensures.part in
     let op : take c.len-words.result c.words_of.result ≡ script = rw (words, ← c.as_slice-in-Ok.ensures.value) c.words_of.ensures in
     let call : call_of (record { caller = scan; ticket = c.seq_of-ticket.result; words = c.len-words.result; op = c.words_of.result; raw = r }) ≡ record { caller = scan; ticket = ticket; op = script; raw = r } = rw (op, number) refl in
     let calls : map call_of c.push.new.self.items ≡ map call_of c.self.inside.calls.items ++ record { caller = scan; ticket = ticket; op = script; raw = r } ∷ [] =
