@@ -1,5 +1,6 @@
 -- What contracts see of a machine's fields, and what it keeps of them.
 use Rattle.std.specs.Prelude.{◌≡◌, ℕ, map}
+use Rattle.std.proofs.Common.{take}
 use Rattle.std.specs.Vec.{vec_capacity}
 use Rattle.of_mem.specs.Meaning.{Meaning}
 use Rattle.of_mem.specs.declared.work.TheConstants.{MOST_INSTRS}
@@ -10,7 +11,7 @@ use Rattle.of_core.specs.Seen.{Seen, setup}
 use Rattle.of_core.specs.Fit.{Fit, Room}
 
 abbrev pub call_of : RanCall → Call
-call_of c = record { caller = c.caller; ticket = c.ticket; op = c.op.value.items; raw = c.raw.value }
+call_of c = record { caller = c.caller; ticket = c.ticket; op = take c.words c.op; raw = c.raw }
 
 abbrev pub seen : {W : Type 0} → Inside W → Seen W
 seen m = record {

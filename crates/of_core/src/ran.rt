@@ -1,13 +1,13 @@
 //! A call that a scan has run.
 
-use of_mem::RawReply;
-use std::snapshot::Snapshot;
+use of_mem::{MOST_INSTRS, RawReply};
 
-/// A call as it was run: whose and the how manieth it is, and its words and its reply, of which only proofs know.
-#[derive(Drop)]
+/// A call as it was run: whose and the how manieth it is, the first `words` of `op`, and its reply.
+#[derive(Clone, Copy)]
 pub struct RanCall {
     pub caller: u32,
     pub ticket: u32,
-    pub op: Snapshot<Vec<u64>>,
-    pub raw: Snapshot<RawReply>,
+    pub words: usize,
+    pub op: [u64; MOST_INSTRS],
+    pub raw: RawReply,
 }

@@ -1,6 +1,6 @@
 //! Filling a log and what lies over the known cells.
 
-ghost use Rattle.std.specs.Prelude.{◌≡◌, ◌<◌, ◌≤◌, ◌+◌, ◌-◌, ◌%◌, length, ℕ, List, [], IfSome, IsTrue};
+ghost use Rattle.std.specs.Prelude.{◌≡◌, ◌<◌, ◌≤◌, ◌+◌, ◌-◌, ◌%◌, length, ℕ, List, [], IfSome};
 ghost use Rattle.std.specs.List.{All};
 ghost use Rattle.std.proofs.Common.{take, drop};
 ghost use Rattle.of_cell.specs.declared.shape.TheConstants.{MOST_DATA_CELLS};
@@ -12,23 +12,17 @@ ghost use Rattle.of_core.specs.Steps.{first_mark};
 use of_mem::{Keeps, LEAST_ABORT, MOST_INSTRS, RawReply, Workspace};
 use of_wset::WriteSet;
 
-/// Hands what the script wrote to the log, and to the batch where the scan goes on.
-pub fn collect<W: Keeps>(part: &mut Workspace<W>, log: &mut WriteSet, more: bool)
+/// Hands what the script wrote to the log and to the batch.
+pub fn collect<W: Keeps>(part: &mut Workspace<W>, log: &mut WriteSet)
     requires { length part.old.known ≡ log.old.room }
     ensures log { log.new ≡ record log.old { entries = put_all log.old.entries part.old.script } }
-    ensures known { part.new.known ≡ part.old.known }
-    ensures batch { IsTrue more → part.new.batch ≡ put_all part.old.batch part.old.script }
-    ensures script { part.new.script ≡ [] }
+    ensures part { part.new ≡ record part.old { batch = put_all part.old.batch part.old.script; script = [] } }
 {
     for i in 0..part.pending_len() {
         let (addr, value) = part.pending(i);
         log.put(addr, value);
     }
-    if more {
-        part.keep();
-    } else {
-        part.undo();
-    }
+    part.keep();
 }
 
 /// Writes the reply cells of the caller whose ticket cell is `row`.
@@ -101,4 +95,14 @@ pub fn first_mark(shape: u32, from: u32, many: u32) -> Option<u32>
         }
     }
     None
+}
+
+/// A script's words in room for the most.
+pub fn words_of(script: &[u64]) -> [u64; MOST_INSTRS]
+    requires { length script.now ≤ MOST_INSTRS }
+    ensures { take (length script.now) result ≡ script.now }
+{
+    let mut words = [0; MOST_INSTRS];
+    words[..script.len()].copy_from_slice(script);
+    words
 }

@@ -13,13 +13,12 @@ ghost use Rattle.of_core.specs.Fit.{Scanning, is_scanning};
 ghost use Rattle.of_core.specs.Seen.{setup, step_from};
 ghost use Rattle.of_core.specs.declared.place.Place.TheVariants.{LoadScript, LoadCell};
 
-use crate::machine::fill::{collect, put_own};
+use crate::machine::fill::{collect, put_own, words_of};
 use crate::machine::{Machine, OWN_CELLS};
 use crate::place::Place;
 use crate::ran::RanCall;
 use of_cell::{payload_of, seq_of};
 use of_mem::{MOST_INSTRS, RawReply, Work};
-use std::snapshot::Snapshot;
 
 /// Where a scan goes on that has passed a caller: at the next one, or at the log.
 fn place_behind(more: bool) -> Place
@@ -32,13 +31,11 @@ fn place_behind(more: bool) -> Place
     }
 }
 
-/// The reply of one's own call becomes the new one where the call that was run is one's own.
-fn renew(raw: &mut RawReply, new: &RawReply, own: bool)
-    ensures { raw.new ≡ newer_raw new.now raw.old own }
+/// The reply of one's own call: the new one where the call that was run is one's own.
+fn newer_raw(own: bool, new: &RawReply, old: &RawReply) -> RawReply
+    ensures { result ≡ newer_raw new.now old.now own }
 {
-    if own {
-        *raw = *new;
-    }
+    if own { *new } else { *old }
 }
 
 impl<W: Work> Machine<W> {
@@ -149,22 +146,22 @@ impl<W: Work> Machine<W> {
                     words as u32,
                     &raw,
                 );
-                let more = self.scan + 1 < self.shape.callers;
-                collect(&mut self.part, &mut self.log, more);
+                collect(&mut self.part, &mut self.log);
                 let ran = RanCall {
                     caller: self.scan,
                     ticket,
-                    op: Snapshot::of(&self.script),
-                    raw: Snapshot::of(&raw),
+                    words,
+                    op: words_of(self.script.as_slice()),
+                    raw,
                 };
                 match self.calls.push(ran) {
                     Ok(()) => {}
                     // there is room for a call of each caller
                     Err(_) => unreachable!(),
                 }
-                renew(&mut self.raw, &raw, self.scan == self.caller);
+                self.raw = newer_raw(self.scan == self.caller, &raw, &self.raw);
                 self.scan += 1;
-                self.place = place_behind(more);
+                self.place = place_behind(self.scan < self.shape.callers);
             }
             Err(need) => {
                 self.place = Place::LoadCell(need.addr);

@@ -1,4 +1,4 @@
-use Rattle.std.proofs.Common.{◌+◌, ◌≡◌, ℕ, ◌<◌, ◌*◌, List, [], ◌∷◌, ◌++◌, length, map, Option, ap, ◌∙◌, sym, refl, arith}
+use Rattle.std.proofs.Common.{◌+◌, ◌≡◌, ℕ, ◌<◌, ◌*◌, List, [], ◌∷◌, ◌++◌, length, map, take, Option, ap, ◌∙◌, sym, refl, arith}
 use Rattle.std.proofs.lemmas.List.{map-append}
 use Rattle.of_cell.specs.declared.word.TheConstants.{PAYLOADS}
 use Rattle.of_cell.specs.Words.{seq}
@@ -88,13 +88,13 @@ returns-in-Ok-push g c =
     ∙ own_behind S L sound (over known log) script a.0 a.1 a.2 a.3 scan ticket es r s.scan i.fit.script small i.fit.own_in walked
     in
     let entries : c.collect.new.log.entries ≡ put_all log (es ++ own_cells (ticket_cell S scan) ticket (length script) r) = ap (λ (p : Pairs). p.entries) c.collect.ensures.log ∙ ap (put_all log) own in
-    let same : c.collect.new.part.known ≡ known = c.collect.ensures.known ∙ c.put_own.ensures.known ∙ ap (λ (p : Pad). p.known) c.run.ensures.part in
-    let op : c.of.result.value.items ≡ script = rw c.of.ensures refl in
-    let call : call_of (record { caller = scan; ticket = c.seq_of-ticket.result; op = c.of.result; raw = c.of-in-Ok.result }) ≡ record { caller = scan; ticket = ticket; op = script; raw = r } = rw (op, c.of-in-Ok.ensures, number) refl in
+    let same : c.collect.new.part.known ≡ known = ap (λ (p : Pad). p.known) c.collect.ensures.part ∙ c.put_own.ensures.known ∙ ap (λ (p : Pad). p.known) c.run.ensures.part in
+    let op : take c.len-words.result c.words_of.result ≡ script = rw (words, ← c.as_slice-in-Ok.ensures.value) c.words_of.ensures in
+    let call : call_of (record { caller = scan; ticket = c.seq_of-ticket.result; words = c.len-words.result; op = c.words_of.result; raw = r }) ≡ record { caller = scan; ticket = ticket; op = script; raw = r } = rw (op, number) refl in
     let calls : map call_of c.push.new.self.items ≡ map call_of c.self.inside.calls.items ++ record { caller = scan; ticket = ticket; op = script; raw = r } ∷ [] =
     ap (map call_of) c.in-Ok-push.ensures.items ∙ map-append call_of c.self.inside.calls.items _ ∙ ap (λ (x : Call). map call_of c.self.inside.calls.items ++ x ∷ []) call
     in
-    rw (← c.self.view_is, walked) (rw (c.place_behind-self-inside.ensures, c.renew.ensures, same, entries, calls) refl)
+    rw (← c.self.view_is, walked) (rw (c.place_behind-self-inside.ensures, c.newer_raw-self-inside.ensures, same, entries, calls) refl)
 
 pub returns-in-Err : goal.returns-in-Err
 returns-in-Err g c =
