@@ -258,113 +258,73 @@ impl<W: Work> Machine<W> {
         ensures range { word_of (want_at (setup W.meaning self.now) self.now.call place) < table_size (setup W.meaning self.now) }
     {
         match place {
-            Place::Idle => by.perform(Op::Load { word: 0 }),
-            Place::TryCurrent => by.perform(Op::Load { word: 0 }),
-            Place::LoadCurrent => by.perform(Op::Load { word: 0 }),
-            Place::TryRequest => by.perform(Op::Load {
-                word: self.shape.request(self.owner),
-            }),
-            Place::LoadRequest => by.perform(Op::Load {
-                word: self.shape.request(self.owner),
-            }),
-            Place::LookAgain => by.perform(Op::Load {
-                word: self.shape.request(self.owner),
-            }),
-            Place::TryCell(addr) => by.perform(Op::Load {
-                word: self.shape.data_cell(addr),
-            }),
-            Place::LoadCell(addr) => by.perform(Op::Load {
-                word: self.shape.data_cell(addr),
-            }),
-            Place::StoreScript(at) => by.perform(Op::Store {
-                word: self.shape.script_word(self.caller, at),
-                value: self.op[at as usize],
-            }),
-            Place::StoreAnnouncement => by.perform(Op::Store {
-                word: self.shape.announce_word(self.caller),
-                value: pack(self.made, self.op.len() as u32),
-            }),
-            Place::CopyLog(at) => by.perform(Op::Load {
-                word: self.shape.log_word(self.owner, at),
-            }),
-            Place::LoadOwnTicket => by.perform(Op::Load {
-                word: self.ticket_word(self.caller),
-            }),
-            Place::LoadShape => by.perform(Op::Load {
-                word: self.shape_word(),
-            }),
-            Place::LoadReply(at) => by.perform(Op::Load {
-                word: self.reply_word(at),
-            }),
-            Place::LoadAnnouncement => by.perform(Op::Load {
-                word: self.shape.announce_word(self.scan),
-            }),
-            Place::LoadTicket => by.perform(Op::Load {
-                word: self.ticket_word(self.scan),
-            }),
-            Place::LoadScript(at) => by.perform(Op::Load {
-                word: self.shape.script_word(self.scan, at),
-            }),
-            Place::RaiseOld => by.perform(Op::Raise {
-                word: self.shape.durable_word(self.shape.request(self.caller)),
-                value: self.kept,
-            }),
-            Place::StoreLog(at) => by.perform(Op::Store {
-                word: self.shape.log_word(self.caller, at),
-                value: pack(self.seq + 1, self.log_word(at)),
-            }),
-            Place::RaiseLog(at) => by.perform(Op::Raise {
-                word: self
-                    .shape
+            Place::Idle => by.load(0),
+            Place::TryCurrent => by.load(0),
+            Place::LoadCurrent => by.load(0),
+            Place::TryRequest => by.load(self.shape.request(self.owner)),
+            Place::LoadRequest => by.load(self.shape.request(self.owner)),
+            Place::LookAgain => by.load(self.shape.request(self.owner)),
+            Place::TryCell(addr) => by.load(self.shape.data_cell(addr)),
+            Place::LoadCell(addr) => by.load(self.shape.data_cell(addr)),
+            Place::StoreScript(at) => by.store(
+                self.shape.script_word(self.caller, at),
+                self.op[at as usize],
+            ),
+            Place::StoreAnnouncement => by.store(
+                self.shape.announce_word(self.caller),
+                pack(self.made, self.op.len() as u32),
+            ),
+            Place::CopyLog(at) => by.load(self.shape.log_word(self.owner, at)),
+            Place::LoadOwnTicket => by.load(self.ticket_word(self.caller)),
+            Place::LoadShape => by.load(self.shape_word()),
+            Place::LoadReply(at) => by.load(self.reply_word(at)),
+            Place::LoadAnnouncement => by.load(self.shape.announce_word(self.scan)),
+            Place::LoadTicket => by.load(self.ticket_word(self.scan)),
+            Place::LoadScript(at) => by.load(self.shape.script_word(self.scan, at)),
+            Place::RaiseOld => by.raise(
+                self.shape.durable_word(self.shape.request(self.caller)),
+                self.kept,
+            ),
+            Place::StoreLog(at) => by.store(
+                self.shape.log_word(self.caller, at),
+                pack(self.seq + 1, self.log_word(at)),
+            ),
+            Place::RaiseLog(at) => by.raise(
+                self.shape
                     .durable_word(self.shape.log_word(self.caller, at)),
-                value: pack(self.seq + 1, self.log_word(at)),
-            }),
-            Place::StoreRequest => by.perform(Op::Store {
-                word: self.shape.request(self.caller),
-                value: pack(self.seq + 1, 0),
-            }),
-            Place::RaiseRequest => by.perform(Op::Raise {
-                word: self.shape.durable_word(self.shape.request(self.caller)),
-                value: pack(self.seq + 1, 0),
-            }),
-            Place::ExchangeCurrent => by.perform(Op::Exchange {
-                word: 0,
-                old: pack(self.seq, self.owner),
-                new: pack(self.seq + 1, self.caller),
-            }),
-            Place::RaiseCurrent => by.perform(Op::Raise {
-                word: self.shape.durable_word(0),
-                value: pack(self.seq, self.owner),
-            }),
-            Place::LoadTarget(entry) => by.perform(Op::Load {
-                word: self.shape.data_cell(self.log.entry(entry).0),
-            }),
-            Place::ReloadTarget(entry) => by.perform(Op::Load {
-                word: self.shape.data_cell(self.log.entry(entry).0),
-            }),
+                pack(self.seq + 1, self.log_word(at)),
+            ),
+            Place::StoreRequest => by.store(self.shape.request(self.caller), pack(self.seq + 1, 0)),
+            Place::RaiseRequest => by.raise(
+                self.shape.durable_word(self.shape.request(self.caller)),
+                pack(self.seq + 1, 0),
+            ),
+            Place::ExchangeCurrent => by.exchange(
+                0,
+                pack(self.seq, self.owner),
+                pack(self.seq + 1, self.caller),
+            ),
+            Place::RaiseCurrent => by.raise(self.shape.durable_word(0), pack(self.seq, self.owner)),
+            Place::LoadTarget(entry) => by.load(self.shape.data_cell(self.log.entry(entry).0)),
+            Place::ReloadTarget(entry) => by.load(self.shape.data_cell(self.log.entry(entry).0)),
             Place::ExchangeTarget(entry, found) => {
                 let (addr, value) = self.log.entry(entry);
-                by.perform(Op::Exchange {
-                    word: self.shape.data_cell(addr),
-                    old: found,
-                    new: pack(self.seq, value),
-                })
+                by.exchange(self.shape.data_cell(addr), found, pack(self.seq, value))
             }
-            Place::RaiseTarget(entry, found) => by.perform(Op::Raise {
-                word: self
-                    .shape
+            Place::RaiseTarget(entry, found) => by.raise(
+                self.shape
                     .durable_word(self.shape.data_cell(self.log.entry(entry).0)),
-                value: found,
-            }),
-            Place::CloseRequest => by.perform(Op::Exchange {
-                word: self.shape.request(self.owner),
-                old: pack(self.seq, 0),
-                new: pack(self.seq, 1),
-            }),
-            Place::RaiseClosed => by.perform(Op::Raise {
-                word: self.shape.durable_word(self.shape.request(self.owner)),
-                value: pack(self.seq, 1),
-            }),
+                found,
+            ),
+            Place::CloseRequest => by.exchange(
+                self.shape.request(self.owner),
+                pack(self.seq, 0),
+                pack(self.seq, 1),
+            ),
+            Place::RaiseClosed => by.raise(
+                self.shape.durable_word(self.shape.request(self.owner)),
+                pack(self.seq, 1),
+            ),
         }
     }
 

@@ -4,6 +4,7 @@ ghost use Rattle.std.specs.Prelude.{◌≡◌, ◌<◌, length};
 ghost use Rattle.std.proofs.Common.{get_or};
 ghost use Rattle.std.specs.Vec.{with_items};
 ghost use Rattle.of_core.specs.declared.place.Op.{Op};
+ghost use Rattle.of_core.specs.declared.place.Op.TheVariants.{Load, Store, Exchange, Raise};
 ghost use Rattle.of_core.specs.Steps.{word_of, words_after};
 
 use crate::place::Op;
@@ -20,11 +21,29 @@ pub(crate) trait Performer {
 
     ghost leaves: { Self → Op → Self };
 
-    /// Performs a step.
-    fn perform(&mut self, op: Op) -> Self::Given
-        requires { takes self.old op }
-        ensures given { result ≡ gives self.old op }
-        ensures left { self.new ≡ leaves self.old op };
+    /// A load.
+    fn load(&mut self, word: u32) -> Self::Given
+        requires { takes self.old (Load word) }
+        ensures given { result ≡ gives self.old (Load word) }
+        ensures left { self.new ≡ leaves self.old (Load word) };
+
+    /// A store.
+    fn store(&mut self, word: u32, value: u64) -> Self::Given
+        requires { takes self.old (Store word value) }
+        ensures given { result ≡ gives self.old (Store word value) }
+        ensures left { self.new ≡ leaves self.old (Store word value) };
+
+    /// An exchange.
+    fn exchange(&mut self, word: u32, old: u64, new: u64) -> Self::Given
+        requires { takes self.old (Exchange word old new) }
+        ensures given { result ≡ gives self.old (Exchange word old new) }
+        ensures left { self.new ≡ leaves self.old (Exchange word old new) };
+
+    /// A raise.
+    fn raise(&mut self, word: u32, value: u64) -> Self::Given
+        requires { takes self.old (Raise word value) }
+        ensures given { result ≡ gives self.old (Raise word value) }
+        ensures left { self.new ≡ leaves self.old (Raise word value) };
 }
 
 /// Makes no step, and gives the step itself.
@@ -41,8 +60,23 @@ impl Performer for Naming {
     ghost leaves = { λ s op. s };
 
     #[inline(always)]
-    fn perform(&mut self, op: Op) -> Op {
-        op
+    fn load(&mut self, word: u32) -> Op {
+        Op::Load { word }
+    }
+
+    #[inline(always)]
+    fn store(&mut self, word: u32, value: u64) -> Op {
+        Op::Store { word, value }
+    }
+
+    #[inline(always)]
+    fn exchange(&mut self, word: u32, old: u64, new: u64) -> Op {
+        Op::Exchange { word, old, new }
+    }
+
+    #[inline(always)]
+    fn raise(&mut self, word: u32, value: u64) -> Op {
+        Op::Raise { word, value }
     }
 }
 
@@ -57,36 +91,70 @@ impl Performer for Vec<u64> {
     ghost leaves = { λ words op. with_items words (words_after op words.items) };
 
     #[inline(always)]
-    fn perform(&mut self, op: Op) -> u64 {
-        make(self.as_mut_slice(), op)
+    fn load(&mut self, word: u32) -> u64 {
+        load_on(self.as_mut_slice(), word)
+    }
+
+    #[inline(always)]
+    fn store(&mut self, word: u32, value: u64) -> u64 {
+        store_on(self.as_mut_slice(), word, value)
+    }
+
+    #[inline(always)]
+    fn exchange(&mut self, word: u32, old: u64, new: u64) -> u64 {
+        exchange_on(self.as_mut_slice(), word, old, new)
+    }
+
+    #[inline(always)]
+    fn raise(&mut self, word: u32, value: u64) -> u64 {
+        raise_on(self.as_mut_slice(), word, value)
     }
 }
 
-/// Makes an atomic step, and gives the word that it found.
+/// Makes a load, which leaves the words as they are.
 #[inline(always)]
-fn make(words: &mut [u64], op: Op) -> u64
-    requires { word_of op < length words.old }
-    ensures found { result ≡ get_or words.old (word_of op) 0 }
-    ensures after { words.new ≡ words_after op words.old }
+fn load_on(words: &mut [u64], word: u32) -> u64
+    requires { word < length words.old }
+    ensures found { result ≡ get_or words.old word 0 }
+    ensures after { words.new ≡ words_after (Load word) words.old }
 {
-    match op {
-        Op::Load { word } => words[word as usize],
-        Op::Store { word, value } => {
-            let found = words[word as usize];
-            words[word as usize] = value;
-            found
-        }
-        Op::Exchange { word, old, new } => {
-            let found = words[word as usize];
-            if found == old {
-                words[word as usize] = new;
-            }
-            found
-        }
-        Op::Raise { word, value } => {
-            let found = words[word as usize];
-            words[word as usize] = found.max(value);
-            found
-        }
+    words[word as usize]
+}
+
+/// Makes a store, and gives the word that it found.
+#[inline(always)]
+fn store_on(words: &mut [u64], word: u32, value: u64) -> u64
+    requires { word < length words.old }
+    ensures found { result ≡ get_or words.old word 0 }
+    ensures after { words.new ≡ words_after (Store word value) words.old }
+{
+    let found = words[word as usize];
+    words[word as usize] = value;
+    found
+}
+
+/// Makes an exchange, and gives the word that it found.
+#[inline(always)]
+fn exchange_on(words: &mut [u64], word: u32, old: u64, new: u64) -> u64
+    requires { word < length words.old }
+    ensures found { result ≡ get_or words.old word 0 }
+    ensures after { words.new ≡ words_after (Exchange word old new) words.old }
+{
+    let found = words[word as usize];
+    if found == old {
+        words[word as usize] = new;
     }
+    found
+}
+
+/// Makes a raise, and gives the word that it found.
+#[inline(always)]
+fn raise_on(words: &mut [u64], word: u32, value: u64) -> u64
+    requires { word < length words.old }
+    ensures found { result ≡ get_or words.old word 0 }
+    ensures after { words.new ≡ words_after (Raise word value) words.old }
+{
+    let found = words[word as usize];
+    words[word as usize] = found.max(value);
+    found
 }
