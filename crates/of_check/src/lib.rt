@@ -4,8 +4,6 @@
 mod claims;
 mod endings;
 mod replay;
-#[cfg(test)]
-mod tests;
 mod verdict;
 
 pub use verdict::{Verdict, check};

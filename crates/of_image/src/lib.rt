@@ -11,8 +11,6 @@ mod printing;
 mod reading;
 mod renumbering;
 mod restoring;
-#[cfg(test)]
-mod tests;
 mod version;
 
 pub use error::ImageErr;
