@@ -3,11 +3,15 @@
 
 #![tactic(auto)]
 
+#[cfg(test)]
 mod calls;
+#[cfg(test)]
 mod doors;
 #[cfg(test)]
 mod team_tests;
+#[cfg(test)]
 mod teams;
 #[cfg(test)]
 mod tests;
+#[cfg(test)]
 mod threads;

@@ -1,4 +1,4 @@
-//! Worked cases of the program, through the top call.
+//! Worked cases of the program, through the top call, and through the calls that make its reports.
 #![tactic(auto)]
 
 #[cfg(test)]
@@ -14,4 +14,10 @@ mod plays;
 #[cfg(test)]
 mod runs;
 #[cfg(test)]
+mod schedules;
+#[cfg(test)]
+mod stores;
+#[cfg(test)]
 mod tests;
+#[cfg(test)]
+mod traces;

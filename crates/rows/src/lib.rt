@@ -3,7 +3,9 @@
 #![tactic(auto)]
 
 mod caller;
+#[cfg(test)]
 mod scene;
 #[cfg(test)]
 mod tests;
+#[cfg(test)]
 mod threads;

@@ -11,9 +11,6 @@ use of_core::Op;
 use of_plan::{Item, Plan};
 use std::alloc::{AllocError, Global};
 
-#[cfg(test)]
-mod tests;
-
 /// An event of a schedule.
 #[derive(Clone, Copy)]
 enum Event {

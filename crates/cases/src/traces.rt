@@ -1,11 +1,11 @@
 //! Traces of worked schedules.
 
-use crate::play::tracing::trace;
 use of_plan::parse;
+use of_tool::trace;
 use std::alloc::Global;
 use std::test::Fail;
 
-/// The trace of these lines of a plan of two callers, from an event on, of so many.
+// The trace of these lines of a plan of two callers, from an event on, of so many.
 fn traced(alloc: Global, lines: &str, first: u16, count: u16) -> Result<String, Fail> {
     let text = format!(in alloc; "onefile plan 1\ncallers 2\nblocks 1\nlimit 2\n{lines}end\n")?;
     let plan = parse(alloc, text.as_bytes())?;
