@@ -5,7 +5,6 @@ pub mod Walks
 pub mod ReadsOnly
 pub mod Resumed
 pub mod Overlay
-pub mod Starts
 pub mod OneStore
 pub mod Paths
 pub mod Paintings
@@ -20,8 +19,6 @@ pub mod Endings
 pub mod OwnFaults
 pub mod ChainFaults
 pub mod FaultLaws
-pub mod Zeros
-pub mod Asked
 pub mod Noted
 pub mod OneFault
 pub mod Exact

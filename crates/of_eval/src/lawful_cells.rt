@@ -8,8 +8,6 @@ ghost use Rattle.of_eval.specs.declared.lawful_cells.LawErr.TheVariants.{Memory}
 
 mod fill;
 mod own;
-#[cfg(test)]
-mod tests;
 mod walk;
 
 use crate::lawful_cells::fill::begun_store;

@@ -6,8 +6,6 @@ pub mod laws;
 mod reply;
 mod scripts;
 mod step;
-#[cfg(test)]
-mod tests;
 mod walk;
 
 pub use lawful_cells::{LawErr, lawful};

@@ -1,3 +1,6 @@
 pub mod Blocks
 pub mod Stores
 pub mod Keeps
+pub mod Zeros
+pub mod Asked
+pub mod Starts

@@ -6,7 +6,7 @@ use Rattle.of_mem.specs.Pad.{Pad, over}
 use Rattle.of_eval.specs.declared.scripts.Scripts.{Scripts}
 use Rattle.of_eval.specs.Scripts.{store_at, cells_in, scripts_meaning}
 use Rattle.of_eval.specs.SoundScripts.{scripts_sound}
-use Rattle.of_eval.proofs.Zeros.{KnowsZeros, zeros_agree}
+use Rattle.structures.proofs.Zeros.{KnowsZeros, zeros_agree}
 
 module _ (w : Scripts) (n : ℕ) (p : Pad) (h : KnowsZeros n p) where
   pub asks_unknown : (op : List ℕ) (a : ℕ) → (scripts_meaning w).walk (over p.known p.batch) op ≡ Needs a → (a < cells_in w) × (get_or p.known a None ≡ None)

@@ -1,6 +1,6 @@
 use Rattle.std.proofs.Common.{arith}
-use Rattle.of_eval.proofs.Zeros.{zeros_none, zeros_agree}
-use Rattle.of_eval.proofs.lawful_cells.tests.a_run_leaves_a_store.Goals as goal
+use Rattle.structures.proofs.Zeros.{zeros_none, zeros_agree}
+use Rattle.structures.proofs.lawful.a_run_leaves_a_store.Goals as goal
 
 pub loop-cell-init : goal.loop-cell-init
 loop-cell-init g c = zeros_none 87 c.in_ok-space.space c.in_ok-space.ensures

@@ -3,8 +3,7 @@
 ghost use Rattle.std.specs.Prelude.{◌≤◌};
 ghost use Rattle.of_eval.specs.Words.{IsOperation};
 
-use crate::reply::{reply_cells, reply_of};
-use crate::scripts::Scripts;
+use of_eval::{Scripts, reply_cells, reply_of};
 use of_mem::{Kept, Need, Part, RawReply, Work, Workspace};
 use of_script::{Abort, Cause, MOST_INSTRS, Reply, parse, to_words};
 use std::alloc::Global;

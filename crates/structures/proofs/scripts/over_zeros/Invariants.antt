@@ -1,5 +1,5 @@
-use Rattle.of_eval.proofs.Zeros.{KnowsZeros}
-use Rattle.of_eval.proofs.tests.over_zeros.Given as goal
+use Rattle.structures.proofs.Zeros.{KnowsZeros}
+use Rattle.structures.proofs.scripts.over_zeros.Given as goal
 
 abbrev pub invariant-loop-cell : goal.invariant-loop-cell
 invariant-loop-cell l = KnowsZeros 87 l.space

@@ -3,8 +3,7 @@
 //! the buckets' fronts begin at 37, the queues' heads, tails and lengths at 69, and the blocks at
 //! 81.
 
-use crate::lawful_cells::{LawErr, lawful};
-use crate::scripts::Scripts;
+use of_eval::{LawErr, Scripts, lawful};
 use of_mem::{MOST_INSTRS, Plot, RawReply, Work, Workspace};
 use of_script::REGISTERS;
 use std::test::Fail;

@@ -2,9 +2,9 @@ use Rattle.std.proofs.Common.{◌≡◌, ℕ, List, arith, ap, sym, subst, ◌�
 use Rattle.of_mem.specs.Pad.{Pad, learnt}
 use Rattle.of_mem.specs.Remains.{Remains}
 use Rattle.of_eval.specs.Stopped.{HoldsScript, holds_nothing, holds_learnt}
-use Rattle.of_eval.proofs.Zeros.{zeros_none, zeros_agree, zeros_learn}
-use Rattle.of_eval.proofs.Asked.{asks_unknown, some_scripts}
-use Rattle.of_eval.proofs.tests.asked.Goals as goal
+use Rattle.structures.proofs.Zeros.{zeros_none, zeros_agree, zeros_learn}
+use Rattle.structures.proofs.Asked.{asks_unknown, some_scripts}
+use Rattle.structures.proofs.scripts.asked.Goals as goal
 
 pub loop-asked-init : goal.loop-asked-init
 loop-asked-init c = record {

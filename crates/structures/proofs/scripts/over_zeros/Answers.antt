@@ -1,8 +1,8 @@
 use Rattle.std.proofs.Common.{◌≡◌, arith, ap, length, ◌<◌}
 use Rattle.of_mem.specs.Pad.{Pad}
-use Rattle.of_eval.proofs.Zeros.{zeros_none, zeros_agree, zeros_learn}
-use Rattle.of_eval.proofs.Asked.{asks_unknown, zeros_left, some_scripts}
-use Rattle.of_eval.proofs.tests.over_zeros.Goals as goal
+use Rattle.structures.proofs.Zeros.{zeros_none, zeros_agree, zeros_learn}
+use Rattle.structures.proofs.Asked.{asks_unknown, zeros_left, some_scripts}
+use Rattle.structures.proofs.scripts.over_zeros.Goals as goal
 
 pub loop-cell-init : goal.loop-cell-init
 loop-cell-init c = zeros_none 87 c.in_ok-space.space c.in_ok-space.ensures

@@ -1,7 +1,7 @@
 use Rattle.std.proofs.Common.{◌≡◌}
 use Rattle.of_eval.specs.Stopped.{HoldsScript}
-use Rattle.of_eval.proofs.Zeros.{KnowsZeros}
-use Rattle.of_eval.proofs.tests.asked.Given as goal
+use Rattle.structures.proofs.Zeros.{KnowsZeros}
+use Rattle.structures.proofs.scripts.asked.Given as goal
 
 abbrev pub invariant-loop-asked : goal.invariant-loop-asked
 invariant-loop-asked l = record {
