@@ -9,6 +9,5 @@ pub mod Recovery
 pub mod Cells
 pub mod OpenCalls
 pub mod Records
-pub mod Worked
 pub mod EqualTexts
 pub mod OneReport

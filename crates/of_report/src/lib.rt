@@ -9,8 +9,6 @@ mod make;
 mod printing;
 mod report;
 pub mod store;
-#[cfg(test)]
-mod tests;
 
 pub use image::Image;
 pub use report::{EndState, Entry, Line, Report};

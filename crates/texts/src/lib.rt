@@ -1,4 +1,4 @@
-//! The tests of what is read and printed: scripts, plans, images and checks, and of the plain store. There is nothing to call here.
+//! The tests of what is read and printed: scripts, plans, reports, images and checks, and of the plain store. There is nothing to call here.
 #![tactic(auto)]
 
 #[cfg(test)]
@@ -7,6 +7,8 @@ mod checks;
 mod images;
 #[cfg(test)]
 mod plans;
+#[cfg(test)]
+mod reports;
 #[cfg(test)]
 mod scripts;
 #[cfg(test)]
