@@ -161,8 +161,33 @@ fn beside<R: Threads + Sync>(
     [one, other]
 }
 
-/// On a row of two callers, number 0 leaves after a call, and then its newcomer and caller 1 call in
-/// threads of their own.
+/// Number 0 leaves through its door after a call, and then its newcomer and a caller that stays call in threads of their own.
+fn left_beside<R: Threads + Sync>(
+    rt: &R,
+    alloc: Global,
+    row: &Row<Scripts>,
+    door: &Door<Scripts>,
+    mut hand: Hand,
+    leaves: (Caller<Scripts>, u64),
+    stays: (Caller<Scripts>, u64),
+) -> Result<[End; 2], AllocError>
+    requires row { row_at door.now ≡ row.now }
+    requires number { number_at door.now ≡ 0 }
+    requires hand { IsHandOf door.now hand }
+    requires leaves { IsCaller scripts_meaning row.now leaves.0 }
+    requires stays { IsCaller scripts_meaning row.now stays.0 }
+{
+    let theirs = door.split(&mut hand);
+    let (mut first, its) = leaves;
+    let (second, word) = stays;
+    let _ = free_call(alloc, row, &mut first, its);
+    match leave(row, door, &mut hand, first) {
+        Some(pass) => Ok(beside(rt, alloc, row, door, (theirs, pass), second, word)),
+        None => Err(AllocError),
+    }
+}
+
+/// The same on a row of two callers.
 pub fn relieved_beside<R: Threads + Sync>(
     rt: &R,
     alloc: Global,
@@ -173,14 +198,9 @@ pub fn relieved_beside<R: Threads + Sync>(
         blocks: 0,
     };
     let (row, pass) = row_of(alloc, scripts, LIMIT)?;
-    let (mut first, pass) = caller_of(alloc, &row, pass, 0)?;
+    let (first, pass) = caller_of(alloc, &row, pass, 0)?;
     let (second, _pass) = caller_of(alloc, &row, pass, 1)?;
-    let (door, mut hand) = Door::new(alloc, &row, 0)?;
-    let theirs = door.split(&mut hand);
-    let [its, word] = calls;
-    let _ = free_call(alloc, &row, &mut first, its);
-    let Some(pass) = leave(&row, &door, &mut hand, first) else {
-        return Err(AllocError);
-    };
-    Ok(beside(rt, alloc, &row, &door, (theirs, pass), second, word))
+    let (door, hand) = Door::new(alloc, &row, 0)?;
+    let [its, theirs] = calls;
+    left_beside(rt, alloc, &row, &door, hand, (first, its), (second, theirs))
 }

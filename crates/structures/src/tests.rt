@@ -1,3 +1,5 @@
+//! Blocks, the map and the queues over cells, beside the plain store.
+
 ghost use Rattle.std.specs.Prelude.{◌≡◌, ℕ, List, [], length, IfOk};
 ghost use Rattle.of_mem.specs.Plots.{base, size};
 ghost use Rattle.of_mem.specs.Meaning.{Once};
