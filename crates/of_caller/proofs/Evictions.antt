@@ -20,6 +20,7 @@ module _ (items : List Item) (i : ℕ) (d : Item) (lt : i < length items) where
     first = h.first;
     asked = h.asked;
     kept = h.kept;
+    loaded = h.loaded;
     evicted = h.evicted ∙ ap (λ (l : List ℕ). v.evicted ++ l) (sym (more ∙ ap (λ (t : Item). filter_map evicted_by (take i items) ++ filter_map evicted_by (t ∷ [])) is ∙ append-nil (filter_map evicted_by (take i items))));
   }
 
@@ -29,10 +30,11 @@ module _ (items : List Item) (i : ℕ) (d : Item) (lt : i < length items) where
     first = ap (λ (z : Sight). z.first) led ∙ h.first;
     asked = ap (λ (z : Sight). z.asked) led ∙ h.asked;
     kept = ap (λ (z : Sight). z.kept) led ∙ h.kept;
+    loaded = λ none. ap (λ (z : Sight). z.loaded) led;
     evicted = ap (λ (z : Sight). z.evicted) led ∙ ap (λ (l : List ℕ). l ++ a ∷ []) h.evicted ∙ append_assoc v.evicted (filter_map evicted_by (take i items)) (a ∷ [])
         ∙ ap (λ (l : List ℕ). v.evicted ++ l) (sym (more ∙ ap (λ (t : Item). filter_map evicted_by (take i items) ++ filter_map evicted_by (t ∷ [])) is));
   }
 
 -- before the first item
 pub evicts_nothing : (v : Sight) → Evicts [] v v
-evicts_nothing v = record { first = refl; asked = refl; kept = refl; evicted = sym (append-nil v.evicted) }
+evicts_nothing v = record { first = refl; asked = refl; kept = refl; loaded = λ none. none; evicted = sym (append-nil v.evicted) }

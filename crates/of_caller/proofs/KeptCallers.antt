@@ -62,7 +62,7 @@ told_steps (Spent s ∷ outs) answers told = omega (arith, told_steps outs answe
 ops_of : List Ended → List (List ℕ)
 ops_of es = map (λ (e : Ended). e.op) es
 
-begun_idle : (x : Kept) → IsIdle x.machine → begun_of x ≡ map (λ (e : Ended). e.op) x.ended
+pub begun_idle : (x : Kept) → IsIdle x.machine → begun_of x ≡ map (λ (e : Ended). e.op) x.ended
 begun_idle x idle = ap (λ (b : Bool). map (λ (e : Ended). e.op) x.ended ++ open_op x.machine b) (ap is_idle idle) ∙ append-nil (map (λ (e : Ended). e.op) x.ended)
 
 begun_open : (x : Kept) → IsOpen x.machine.place → begun_of x ≡ map (λ (e : Ended). e.op) x.ended ++ x.machine.op ∷ []

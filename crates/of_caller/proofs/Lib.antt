@@ -35,3 +35,5 @@ pub mod Seated
 pub mod Evictions
 pub mod TeamEnds
 pub mod Restarting
+pub mod Behind
+pub mod Scheduled

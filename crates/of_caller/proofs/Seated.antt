@@ -84,6 +84,7 @@ seated_more n r v w s e = record {
   first = ap (λ (z : Sight). z.first) e ∙ s.first;
   kept = ap (λ (z : Sight). z.kept) e ∙ s.kept;
   evicted = ap (λ (z : Sight). z.evicted) e ∙ s.evicted;
+  loaded = ap (λ (z : Sight). z.loaded) e ∙ s.loaded;
   below = λ m a. ⊎_elim (λ t. let b = s.below m t in omega (arith, b)) (λ t. omega (arith, t)) (asked_or_last m r n v.asked (subst (λ (z : Sight). IsAsked m z.asked) e a));
 }
 
@@ -117,9 +118,9 @@ module _ {X : Type 0} {Y : X → Type 0} where
   kept_in [] = []
   kept_in (a ∷ others) = (sight_of a.caller).kept ++ kept_in others
 
-  pub gathered_is : (v : Sight) (xs : List (Lane X Y)) → ((gathered v xs).kept ≡ v.kept ++ kept_in xs) × ((gathered v xs).first ≡ v.first) × ((gathered v xs).asked ≡ v.asked) × ((gathered v xs).evicted ≡ v.evicted)
-  gathered_is v [] = (sym (append-nil v.kept), refl, refl, refl)
-  gathered_is v (a ∷ xs) = let h = gathered_is (joined v (sight_of a.caller)) xs in (h.0 ∙ append_assoc v.kept (sight_of a.caller).kept (kept_in xs), h.1, h.2, h.3)
+  pub gathered_is : (v : Sight) (xs : List (Lane X Y)) → ((gathered v xs).kept ≡ v.kept ++ kept_in xs) × ((gathered v xs).first ≡ v.first) × ((gathered v xs).asked ≡ v.asked) × ((gathered v xs).evicted ≡ v.evicted) × ((gathered v xs).loaded ≡ v.loaded)
+  gathered_is v [] = (sym (append-nil v.kept), refl, refl, refl, refl)
+  gathered_is v (a ∷ xs) = let h = gathered_is (joined v (sight_of a.caller)) xs in (h.0 ∙ append_assoc v.kept (sight_of a.caller).kept (kept_in xs), h.1, h.2, h.3, h.4)
 
   -- each caller is kept, with what its lane leaves
   pub kept_so : (p : Plan) (r : Row Scripts) (n : ℕ) (xs ys : List (Lane X Y)) → Seated p r n xs → Both (HasRun p r) xs ys → (c i : ℕ) → c ≡ n + i → i < length ys

@@ -67,6 +67,8 @@ module _ {X : Type 0} {Y : X → Type 0} (p : Plan) (r : Row Scripts) (row : IsP
     meets = meets;
     live = live;
     keeps_all = keeps_all;
+    first = ap (λ (z : Sight). z.first) is ∙ (gathered_is v1 ys).1 ∙ evicts.first ∙ seated.first;
+    loaded = ap (λ (z : Sight). z.loaded) is ∙ (gathered_is v1 ys).4 ∙ evicts.loaded seated.loaded;
     evicted = ap (λ (z : Sight). z.evicted) is ∙ (gathered_is v1 ys).3 ∙ evicts.evicted ∙ ap (λ (l : List ℕ). l ++ evictions_of p) seated.evicted;
     answers = ap length answers ∙ length-map ys (λ (a : Lane X Y). a.answers.items) ∙ many;
     endings = ap length endings ∙ length-map ys (λ (a : Lane X Y). a.ending) ∙ many;

@@ -61,7 +61,7 @@ module _ (p : Plan) (laws : KeepsLaws p) (sees : SeesWhole (lawful_for p)) (s : 
   sound = laws.sound B w t.meets.rule.good
 
   -- what is told of a caller has its answers and its ending, and shows its machine
-  keeps : (c : ℕ) → c < p.callers → KeepsCaller p (finished_of s c) c (answers_of e c) (ending_of e c) (told c)
+  pub keeps : (c : ℕ) → c < p.callers → KeepsCaller p (finished_of s c) c (answers_of e c) (ending_of e c) (told c)
       × (get_or w.machines (told c).machine.caller (told c).machine ≡ (told c).machine) × ((told c).machine.caller ≡ c)
   keeps c lt =
       let q = numbered c v.kept (t.each c lt) in
@@ -74,13 +74,13 @@ module _ (p : Plan) (laws : KeepsLaws p) (sees : SeesWhole (lawful_for p)) (s : 
       numbered c (x ∷ xs) (inl q) = inl (q.0, (q.1, q.0))
       numbered c (x ∷ xs) (inr q) = inr (numbered c xs q)
 
-  machine_is : (c : ℕ) → c < p.callers → machine w c ≡ (told c).machine
+  pub machine_is : (c : ℕ) → c < p.callers → machine w c ≡ (told c).machine
   machine_is c lt =
       let k = keeps c lt in
       get_or_default w.machines c no_machine (told c).machine (omega (arith, sound.members, lt))
       ∙ ap (λ (i : ℕ). get_or w.machines i (told c).machine) (sym k.2) ∙ k.1
 
-  tells : (c : ℕ) → c < p.callers → TellsRecord p (finished_of s c) c (answers_of e c) (ending_of e c) (told c)
+  pub tells : (c : ℕ) → c < p.callers → TellsRecord p (finished_of s c) c (answers_of e c) (ending_of e c) (told c)
   tells c lt =
       let is = machine_is c lt in
       tells_record p (finished_of s c) c (answers_of e c) (ending_of e c) (told c) (keeps c lt).0

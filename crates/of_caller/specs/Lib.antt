@@ -17,3 +17,6 @@ pub mod Trees
 pub mod Seating
 pub mod Restarts
 pub mod Allowances
+pub mod Behind
+pub mod InTime
+pub mod Scheduled

@@ -14,11 +14,12 @@ use Rattle.of_caller.specs.declared.lane.Lane.{Lane}
 use Rattle.of_caller.specs.Callers.{sight_of}
 use Rattle.of_caller.specs.Lanes.{IsReady}
 
--- a first pass that has asked for numbers below n alone, keeps no caller and has evicted nothing
+-- a first pass that has asked for numbers below n alone, keeps no caller, and has evicted nothing and loaded nothing for it
 pub record HasSeated (n : ℕ) (v : Sight) : Type 0 where
   pub first : v.first ≡ true
   pub kept : v.kept ≡ []
   pub evicted : v.evicted ≡ []
+  pub loaded : v.loaded ≡ []
   pub below : (m : ℕ) → IsAsked m v.asked → m < n
 
 -- a pass has evicted these cells, in order
@@ -27,6 +28,7 @@ pub record Evicts (cells : List ℕ) (v w : Sight) : Type 0 where
   pub asked : w.asked ≡ v.asked
   pub kept : w.kept ≡ v.kept
   pub evicted : w.evicted ≡ v.evicted ++ cells
+  pub loaded : v.loaded ≡ [] → w.loaded ≡ []
 
 -- how many scripts of a caller the row has behind it
 abbrev pub done_at : Row Scripts → ℕ → ℕ

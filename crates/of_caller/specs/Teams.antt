@@ -1,5 +1,5 @@
 -- What a team hands back: the record of a run, and a pass that has the run's calls.
-use Rattle.std.specs.Prelude.{◌≡◌, ℕ, ◌+◌, ◌-◌, ◌≤◌, ◌<◌, ◌⊎◌, List, [], ◌∷◌, ◌++◌, length, map, filter_map, take, drop, slice_index_or, false, Option, Some, None, IsTrue, All, Any}
+use Rattle.std.specs.Prelude.{◌≡◌, ℕ, ◌+◌, ◌-◌, ◌≤◌, ◌<◌, ◌⊎◌, List, [], ◌∷◌, ◌++◌, length, map, filter_map, take, drop, slice_index_or, false, true, Option, Some, None, IsTrue, All, Any}
 use Rattle.of_eval.specs.declared.scripts.Scripts.{Scripts}
 use Rattle.of_eval.specs.Record.{IsLawful}
 use Rattle.of_eval.specs.Reported.{ReportsRun}
@@ -27,6 +27,8 @@ use Rattle.of_caller.specs.Starts.{StartsAt}
 use Rattle.of_caller.specs.Ends.{AreAnswers}
 use Rattle.of_caller.specs.PlanRows.{start_of_row}
 use Rattle.of_caller.specs.Stops.{KeepStop}
+pub use Rattle.of_caller.specs.Scheduled.{evicted_by, evictions_of}
+use Rattle.of_caller.specs.Scheduled.{IsScheduled}
 
 -- ---- what is kept of one caller
 
@@ -76,14 +78,6 @@ KeepsSo c P (x ∷ xs) = ((x.machine.caller ≡ c) × P x) ⊎ KeepsSo c P xs
 
 -- ---- a team's record and its pass
 
--- the cells that a plan evicts, in order
-abbrev pub evicted_by : Item → Option ℕ
-evicted_by (Turns c x) = None
-evicted_by (Evict a) = Some a
-
-abbrev pub evictions_of : Plan → List ℕ
-evictions_of p = filter_map evicted_by p.schedule
-
 -- a team of the plan's callers has left this record from the start, and its pass has this view
 pub record IsTeamOf (p : Plan) (s : Start) (B : TableStart) (e : Run) (v : Sight) : Type 0 where
   pub plan : IsPlan p
@@ -92,7 +86,9 @@ pub record IsTeamOf (p : Plan) (s : Start) (B : TableStart) (e : Run) (v : Sight
   pub meets : Meets (setup_for p) (lawful_for p) B e.words v
   pub live : v.spent ≡ false
   pub keeps_all : KeepsAll (setup_for p) e.words v
-  -- it has evicted the plan's cells in their order
+  -- it is the row's first pass; it has evicted the plan's cells in their order
+  pub first : v.first ≡ true
+  pub loaded : v.loaded ≡ []
   pub evicted : v.evicted ≡ evictions_of p
   -- and keeps of each caller its answered calls, the open call of a stopped one, and the spent call
   pub answers : length e.answers ≡ p.callers
@@ -123,6 +119,8 @@ pub record IsHandedBack (p : Plan) (s : Start) (B : TableStart) (e : Run) (w : S
   pub report : Report
   pub reported : ReportsRun p s e report
   pub announced : AnnouncesSeen B sight.seen report
+  -- and it is what some turns and the plan's evictions leave, one after the other
+  pub scheduled : (items : List Item) × IsScheduled p s B items e
 
 -- from whatever start of the plan that is the row's
 abbrev pub HandsBack : Plan → Row Scripts → Run → Sight → Type 0
@@ -144,3 +142,9 @@ TeamsKeepAllowances p =
     (s : Start) (B : TableStart) (e : Run) (v : Sight) → IsTeamOf p s B e v
     → (r : Report) → IsLawful p s e r → (c : ℕ) → c < p.callers
     → KeepStop (stop_of p c) (answers_of e c) (ending_of e c) → KeepsAllowance p r c (stop_of p c)
+
+-- each team leaves what some schedule of its plan's callers leaves
+abbrev pub TeamsAreScheduled : Plan → Type 0
+TeamsAreScheduled p =
+    (s : Start) (B : TableStart) (e : Run) (v : Sight) → IsTeamOf p s B e v
+    → (items : List Item) × IsScheduled p s B items e

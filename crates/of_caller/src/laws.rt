@@ -4,11 +4,14 @@ ghost use Rattle.of_plan.specs.Plan.{IsPlan};
 ghost use Rattle.of_caller.specs.PlanLaws.{KeepsLaws};
 ghost use Rattle.of_caller.specs.Starts.{ZerosAreEmpty};
 ghost use Rattle.of_caller.specs.Teams.{TeamsAreLawful, TeamsKeepAllowances};
+ghost use Rattle.of_caller.specs.Teams.{TeamsAreScheduled};
 ghost use Rattle.of_caller.specs.Runs.{SchedulesAreMoments, StartsAreRuns, RepliesAreHeld, RunsAreLawful, RunsAreReported, RunsKeepAllowances};
 ghost use Rattle.of_caller.specs.Restarts.{RunsRestart, TeamsRestart};
+ghost use Rattle.of_caller.specs.Behind.{ComesBehind};
 
 use of_core::laws::{every_call, every_moment, machines, starts, step_kept};
 use of_eval::Scripts;
+use of_mem::Work;
 use of_plan::Plan;
 use of_row::laws::sees_whole;
 
@@ -51,6 +54,7 @@ pub fn teams_are_lawful(plan: &Plan)
     ensures lawful { TeamsAreLawful plan.now }
     ensures allowances { TeamsKeepAllowances plan.now }
     ensures restarts { TeamsRestart plan.now }
+    ensures scheduled { TeamsAreScheduled plan.now }
 {
     let scripts = Scripts {
         callers: plan.callers(),
@@ -65,4 +69,10 @@ pub fn teams_are_lawful(plan: &Plan)
 /// entry.
 pub fn runs_restart()
     ensures { RunsRestart }
+{}
+
+/// A call comes behind each answer that its caller had heard of when it began: an announced one at a
+/// higher sequence, a read at no lower one.
+pub fn answers_are_behind<W: Work>()
+    ensures { ComesBehind W.meaning W.lawful }
 {}

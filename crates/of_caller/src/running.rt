@@ -1,6 +1,6 @@
 //! All callers of a plan at once, on one row.
 
-ghost use Rattle.std.specs.Prelude.{◌≡◌, ◌+◌, ◌≤◌, ◌++◌, IfOk, map, vec_len, vec_capacity};
+ghost use Rattle.std.specs.Prelude.{◌≡◌, ◌+◌, ◌≤◌, ◌++◌, [], true, IfOk, map, vec_len, vec_capacity};
 ghost use Rattle.std.specs.Thread.{IsSync};
 ghost use Rattle.of_plan.specs.Ended.{run_of};
 ghost use Rattle.of_row.specs.Views.{Each};
@@ -28,6 +28,8 @@ use std::thread::{Threads, join_mut};
 fn evict_all(row: &Row<Scripts>, plan: &Plan, pass: &mut Pass)
     requires row { IsPlanRow plan.now row.now }
     requires pass { IsOf row.now pass.old.seat }
+    requires first { pass.old.seat.me.0.first ≡ true }
+    requires none { pass.old.seat.me.0.loaded ≡ [] }
     ensures pass { IsOf row.now pass.new.seat }
     ensures view { Evicts (evictions_of plan.now) pass.old.seat.me.0 pass.new.seat.me.0 }
 {
@@ -66,6 +68,8 @@ fn at_once<R: Threads + Sync>(
 )
     requires row { IsPlanRow plan.now row.now }
     requires pass { IsOf row.now pass.old.seat }
+    requires first { pass.old.seat.me.0.first ≡ true }
+    requires none { pass.old.seat.me.0.loaded ≡ [] }
     requires ready { Each (IsReady plan.now row.now) lanes.old }
     ensures pass { IsOf row.now pass.new.seat }
     ensures view { Evicts (evictions_of plan.now) pass.old.seat.me.0 pass.new.seat.me.0 }
@@ -79,7 +83,8 @@ fn at_once<R: Threads + Sync>(
             × KeepsLeft (left a.brake) b.answers.items b.ending) lanes.entry.now lanes.exit.now }
     { run_lanes(rt, row, plan, lanes) };
     let mut evictions = ||
-        requires { IsPlanRow plan.now row.now × IsOf row.now pass.now.seat }
+        requires { IsPlanRow plan.now row.now × IsOf row.now pass.now.seat
+            × (pass.now.seat.me.0.first ≡ true) × (pass.now.seat.me.0.loaded ≡ []) }
         ensures { IsOf row.entry.now pass.exit.now.seat × Evicts (evictions_of plan.entry.now)
             pass.entry.now.seat.me.0 pass.exit.now.seat.me.0 }
     { evict_all(row, plan, pass) };

@@ -59,6 +59,10 @@ module _ (S : Setup) (Lawful : List ℕ → Type 0) (sound : Sound S.meaning Law
           old = old_words;
           owner = owner_in (cases_lt (risen S w.words) (B.seq + 1));
           limit = omega (arith, g.shared.counted.count, g.shared.counted.limit);
+          met = λ k i l u q e. g.shared.heard.met k i l (omega (arith, u, g.shared.counted.count)) q e;
+          owners = λ k l u. g.shared.counted.owners k l (omega (arith, u, g.shared.counted.count));
+          count = g.shared.counted.count;
+          data_cells = g.shared.data_cells;
           low = g.shared.durable.low;
           held = λ c l. held c;
           some = g.shared.stands.some;

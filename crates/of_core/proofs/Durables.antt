@@ -101,18 +101,18 @@ module _ (S : Setup) (Lawful : List ℕ → Type 0) (B : Start) (w : World) (g :
           own (inl e) = omega (arith, floor, above_open k n.seq (open_above k n.seq (omega (arith, r, e))))
           own (inr e) = omega (arith, floor, above_open k n.seq (closed_above k n.seq (omega (arith, r, e))))
 
-  upto_last : risen S w.words ≤ last w.words
+  pub upto_last : risen S w.words ≤ last w.words
   upto_last = go g.shared.durable.step
     where
       go : (last w.words ≡ risen S w.words) ⊎ ((last w.words ≡ risen S w.words + 1) × Opened B w.words) → risen S w.words ≤ last w.words
       go (inl q) = omega (arith, q)
       go (inr q) = omega (arith, q.0)
 
-  count : last w.words ≡ B.seq + length w.batches
+  pub count : last w.words ≡ B.seq + length w.batches
   count = g.shared.counted.count
 
   -- a cell's words rise from state to state
-  at_up : (k n a : ℕ) → B.seq ≤ k → k ≤ n → n ≤ last w.words → a < S.cells → at B w.batches k a ≤ at B w.batches n a
+  pub at_up : (k n a : ℕ) → B.seq ≤ k → k ≤ n → n ≤ last w.words → a < S.cells → at B w.batches k a ≤ at B w.batches n a
   at_up k n a l u t a_in = go (rw e at (later_by S B w.batches g.shared.start (logs_of S Lawful B w g) (n - k) k a l (omega (arith, u, t, count)) a_in))
     where
       e : k + (n - k) ≡ n
@@ -195,10 +195,10 @@ module _ (S : Setup) (Lawful : List ℕ → Type 0) (B : Start) (w : World) (g :
         go (inl e) (inl q) = inl (omega (arith, now e, q, ap (durable_word S w.words) e))
         go (inl e) (inr q) = inr (omega (arith, now e, q, g.shared.durable.low c l, ap (λ (x : ℕ). get_or w.words x 0) e))
 
-    owner_in : (x : ℕ) → Applies S B w.words w.batches i m x → m.owner < S.callers
+    pub owner_in : (x : ℕ) → Applies S B w.words w.batches i m x → m.owner < S.callers
     owner_in x a = rw (← a.committed) (g.shared.counted.owners m.seq a.after a.upto)
 
-    entry_in : (x y : ℕ) → Applies S B w.words w.batches i m x → y < length m.log → (entry m y).0 < S.cells
+    pub entry_in : (x y : ℕ) → Applies S B w.words w.batches i m x → y < length m.log → (entry m y).0 < S.cells
     entry_in x y a l = let t = a.log.each y l in (subst (λ (e : ℕ × ℕ). e.0 < S.cells) t.2 ((g.shared.counted.logs m.seq a.after a.upto).entries t.0 (0, 0) t.1).0)
 
     -- the current-transaction word of the batch that is applied

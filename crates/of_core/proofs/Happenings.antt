@@ -51,7 +51,7 @@ module _ (S : Setup) (Lawful : List ℕ → Type 0) (B : Start) (w : World) (g :
     fresh p =
         let r = at_rest in
         let a = alike takes in
-        record { caller = a.caller; ticket = ticket; words = few; some = some; kept = a.kept; above = omega (arith, r.upto, a.made); quieted = r.quieted; newer = omega (arith, r.older, a.made); rounds = refl }
+        record { caller = a.caller; ticket = ticket; words = few; some = some; kept = (omega arith, λ l. absurd (omega (arith, l, seq_zero))); above = omega (arith, r.upto, a.made); quieted = r.quieted; newer = omega (arith, r.older, a.made); rounds = refl }
 
     at_first : (b : Bool) → S.meaning.reads_only op ≡ b → At S B w.words w.batches i (record (opened S d op) { place = first_place b }) (first_place b)
     at_first true e = (fresh TryCurrent, at_rest.calm, e, omega arith)

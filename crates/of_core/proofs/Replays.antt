@@ -13,11 +13,11 @@ use Rattle.of_core.proofs.Assembling.{logs_of}
 use Rattle.of_core.proofs.Overlays.{calls_length}
 
 module _ (S : Setup) (Lawful : List ℕ → Type 0) (sound : Sound S.meaning Lawful (base S) S.cells) (B : Start) where
-  calls_from : (xs ys : List ℕ) (cs : List Call) → length xs ≡ S.cells → length ys ≡ S.cells → SameFrom (base S) xs ys → SameFrom (base S) (after_calls S.meaning xs cs) (after_calls S.meaning ys cs)
+  pub calls_from : (xs ys : List ℕ) (cs : List Call) → length xs ≡ S.cells → length ys ≡ S.cells → SameFrom (base S) xs ys → SameFrom (base S) (after_calls S.meaning xs cs) (after_calls S.meaning ys cs)
   calls_from xs ys [] h l s = s
   calls_from xs ys (c ∷ cs) h l s = calls_from (S.meaning.cells xs c.op) (S.meaning.cells ys c.op) cs (sound.keeps_length xs c.op h) (sound.keeps_length ys c.op l) (sound.cells_from xs ys c.op h l s)
 
-  replies_from : (xs ys : List ℕ) (cs : List Call) → length xs ≡ S.cells → length ys ≡ S.cells → SameFrom (base S) xs ys → Replies S.meaning xs cs → Replies S.meaning ys cs
+  pub replies_from : (xs ys : List ℕ) (cs : List Call) → length xs ≡ S.cells → length ys ≡ S.cells → SameFrom (base S) xs ys → Replies S.meaning xs cs → Replies S.meaning ys cs
   replies_from xs ys [] h l s r = tt
   replies_from xs ys (c ∷ cs) h l s r = (sym (sound.reply_from xs ys c.op h l s) ∙ r.0, replies_from (S.meaning.cells xs c.op) (S.meaning.cells ys c.op) cs (sound.keeps_length xs c.op h) (sound.keeps_length ys c.op l) (sound.cells_from xs ys c.op h l s) r.1)
 

@@ -67,7 +67,7 @@ pub opened_reads : (S : Setup) (m : Data) (op : List ℕ) (low : ℕ) → ReadsF
 unfolding ReadsFrom
 opened_reads S m op low = go (S.meaning.reads_only op)
   where
-    go : (b : Bool) → IsTrying (opened S m op) (first_place b) → low ≤ m.seq
+    go : (b : Bool) → IsTrying (opened S m op) (first_place b) → low ≤ 0
     go true t = absurd t
     go false t = absurd t
 

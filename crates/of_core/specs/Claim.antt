@@ -10,11 +10,11 @@ use Rattle.of_core.specs.declared.place.Place.TheVariants.{Idle, TryCell, LoadOw
 use Rattle.of_core.specs.declared.place.Outcome.{Outcome}
 use Rattle.of_core.specs.declared.place.Outcome.TheVariants.{Answered, Spent}
 use Rattle.std.specs.List.{All}
-use Rattle.of_core.specs.Table.{Setup, base, size, request_at, data_at, log_at, durable_word, risen}
+use Rattle.of_core.specs.Table.{Setup, base, size, request_at, data_at, log_at, durable_word, announcement_of, last, risen}
 use Rattle.of_core.specs.Machine.{Call, Data, IsOpen}
 use Rattle.of_core.specs.World.{World, Start, Batch, Read}
 use Rattle.of_core.specs.Order.{Ordered}
-use Rattle.of_core.specs.Shared.{Held, IsRequest, IsLogWord}
+use Rattle.of_core.specs.Shared.{Held, IsRequest, IsLogWord, DataCells}
 use Rattle.of_core.specs.Rounds.{Finds, ReadUpto}
 use Rattle.of_core.specs.Invariant.{HeldAsCurrent}
 use Rattle.of_core.specs.History.{state, batch, EachBatch, EachCall, IsOlderCall, at, numbers, replay, ticket_in, Legal, Last, Rising, HasCall}
@@ -132,6 +132,18 @@ pub record IsSound (S : Setup) (B : Start) (w : World) : Type 0 where
   pub owner : pay (durable_word S w.words 0) < S.callers
   -- no batch is above the limit
   pub limit : B.seq + length w.batches ≤ S.limit
+  -- an announcement that stood when a batch was committed is run by the next batch at the latest:
+  -- a call is in a batch after at most two commits that follow its announcement
+  pub met : (k i : ℕ) → B.seq < k → k < B.seq + length w.batches → i < S.callers
+      → (batch B w.batches k).announcements i ≡ announcement_of S w.words i
+      → seq (announcement_of S w.words i) ≤ ticket_in S B w.batches (k + 1) i
+  -- batches are the callers'
+  pub owners : (k : ℕ) → B.seq < k → k ≤ B.seq + length w.batches
+      → (batch B w.batches k).owner < S.callers
+  -- the current-transaction word counts the batches, and the table's data cells are those of the
+  -- last state, or, while its transaction is open, of the one before
+  pub count : last w.words ≡ B.seq + length w.batches
+  pub data_cells : DataCells S B w.words w.batches
   -- no durable word is above its cell's, and each is one that its cell has held
   pub low : (c : ℕ) → c < size S → durable_word S w.words c ≤ get_or w.words c 0
   pub held : (c : ℕ) → c < size S → HasHeld S B w.words w.batches c (durable_word S w.words c)

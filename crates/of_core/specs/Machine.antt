@@ -109,8 +109,9 @@ abbrev pub first_place : (reads : Bool) → Place
 first_place true = TryCurrent
 first_place false = StoreScript 0
 
+-- it begins anew: of the calls before it the machine keeps their number alone
 abbrev pub opened : Setup → Data → List ℕ → Data
-opened S m op = record m { made = m.made + 1; op = op; place = first_place (S.meaning.reads_only op); answer = None; steps = 0; rounds = 0; tries = 0 }
+opened S m op = record (idle S m.caller m.made) { made = m.made + 1; op = op; place = first_place (S.meaning.reads_only op) }
 
 -- The words of a log: the number of its entries, and then cell and number of each.
 abbrev pub flat : List (ℕ × ℕ) → List ℕ

@@ -2,12 +2,16 @@
 //! theorems.
 
 ghost use Rattle.of_core.specs.Laws.{setup_for};
+ghost use Rattle.of_core.specs.Laws.{StepBlind};
 ghost use Rattle.of_core.specs.Laws.{StepKept, StepMoves, StepTaken, StepDurables, NewCalls};
 ghost use Rattle.of_core.specs.Laws.{BeginKept, LoadKept, LoadedStays, RaiseKept, RaiseRises};
 ghost use Rattle.of_core.specs.Laws.{BesideKept, StartKept, GoodIsSound};
 ghost use Rattle.of_core.specs.Laws.{StartCalls, StepCalls, BeginCalls, RaiseCalls, BesideCalls};
 ghost use Rattle.of_core.specs.Laws.{EventKept, ScheduleKept, EveryDurable, EveryMoment};
-ghost use Rattle.of_core.specs.Laws.{EveryCall, EveryTurn, CallsKept, EndsInTime};
+ghost use Rattle.of_core.specs.Laws.{EveryCall, EveryTurn, CallsKept, EndsInTime, GivenUp};
+ghost use Rattle.of_core.specs.Raised.{RaisesHeld, RaisesAreShort, EvictionsAreShort};
+ghost use Rattle.of_core.specs.Raised.{CellsLevel, RaisesUndisturbed, EvictionsUndisturbed, RaisesStand};
+ghost use Rattle.of_core.specs.Laws.{EveryOrder, RealTime, LateCalls, OwnTime, EveryLife};
 ghost use Rattle.of_core.specs.Laws.{FirstWords, FirstMachines, ZerosMayStart};
 ghost use Rattle.of_core.specs.Laws.{ZeroWords, ZeroTickets, Restarts};
 ghost use Rattle.of_core.specs.Laws.{IdleOrOpen, IdleIs, IdleStays, IdleRests, FindsWord, TurnIsStep};
@@ -25,6 +29,7 @@ pub fn step_kept<W: Work>(limit: u32, work: W)
     ensures moves { StepMoves (setup_for W.many W.size W.meaning limit work) (W.lawful work) }
     ensures taken { StepTaken (setup_for W.many W.size W.meaning limit work) (W.lawful work) }
     ensures durables { StepDurables (setup_for W.many W.size W.meaning limit work) (W.lawful work) }
+    ensures blind { StepBlind (setup_for W.many W.size W.meaning limit work) (W.lawful work) }
     ensures new_calls { NewCalls (setup_for W.many W.size W.meaning limit work) (W.lawful work) }
     ensures begins { BeginKept (setup_for W.many W.size W.meaning limit work) (W.lawful work) }
     ensures loads { LoadKept (setup_for W.many W.size W.meaning limit work) (W.lawful work) }
@@ -65,9 +70,36 @@ pub fn every_call<W: Work>(limit: u32, work: W)
     ensures kept { CallsKept (setup_for W.many W.size W.meaning limit work) (W.lawful work) }
 {}
 
+/// Every schedule is durably linearizable: one serial run of all calls that were answered, and of
+/// some of the open ones, has all replies, each call behind those that had ended when it began; and
+/// recovery at any moment finds what that run leads to, and tells each caller its last call there.
+/// Lives that go on one from the other have such runs, which together are one from the first start.
+pub fn every_order<W: Work>(limit: u32, work: W)
+    ensures order { EveryOrder (setup_for W.many W.size W.meaning limit work) (W.lawful work) }
+    ensures real_time { RealTime (setup_for W.many W.size W.meaning limit work) (W.lawful work) }
+    ensures late { LateCalls (setup_for W.many W.size W.meaning limit work) (W.lawful work) }
+    ensures own_time { OwnTime (setup_for W.many W.size W.meaning limit work) (W.lawful work) }
+    ensures lives { EveryLife (setup_for W.many W.size W.meaning limit work) (W.lawful work) }
+{}
+
 /// Every call is answered or spent within the step bound of its own steps, in three rounds at most.
 pub fn ends_in_time<W: Work>(limit: u32, work: W)
     ensures in_time { EndsInTime (setup_for W.many W.size W.meaning limit work) (W.lawful work) }
+    ensures given_up { GivenUp (setup_for W.many W.size W.meaning limit work) (W.lawful work) }
+{}
+
+/// A raise is a loop of a load and an exchange. While a caller is about to raise a durable word, no
+/// call changes that word to one below what it raises it to; only an eviction may, by a word that it
+/// has loaded before, once. In schedules from a start none does: a cell changes only where its durable
+/// word is at least its word.
+pub fn raises_are_short<W: Work>(limit: u32, work: W)
+    ensures held { RaisesHeld (setup_for W.many W.size W.meaning limit work) (W.lawful work) }
+    ensures calls { RaisesAreShort (setup_for W.many W.size W.meaning limit work) (W.lawful work) }
+    ensures evictions { EvictionsAreShort (setup_for W.many W.size W.meaning limit work) (W.lawful work) }
+    ensures level { CellsLevel (setup_for W.many W.size W.meaning limit work) (W.lawful work) }
+    ensures undisturbed { RaisesUndisturbed (setup_for W.many W.size W.meaning limit work) (W.lawful work) }
+    ensures stand { RaisesStand (setup_for W.many W.size W.meaning limit work) (W.lawful work) }
+    ensures loads { EvictionsUndisturbed (setup_for W.many W.size W.meaning limit work) (W.lawful work) }
 {}
 
 /// A table's first words hold its start, and its machines are idle. Zeros are a start that may be,

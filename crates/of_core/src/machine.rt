@@ -155,15 +155,39 @@ impl<W: Work> Machine<W> {
             Err(_) => unreachable!(),
         }
         self.made += 1;
-        self.answer = None;
-        self.steps = 0;
-        self.rounds = 0;
-        self.tries = 0;
+        self.forget();
         self.place = if self.work.reads_only(op) {
             Place::TryCurrent
         } else {
             Place::StoreScript(0)
         };
+    }
+
+    /// Nothing of the calls before is kept but their number: a call begins as that of a fresh machine does.
+    fn forget(&mut self)
+        ensures { self.new ≡ record self.old { call = record (idle (setup W.meaning self.old) self.old.call.caller self.old.call.made) { op = self.old.call.op } } }
+    {
+        self.place = Place::Idle;
+        self.seq = 0;
+        self.owner = 0;
+        self.part.clear();
+        self.log.clear();
+        self.copy.clear();
+        self.helps = false;
+        self.raw = RawReply {
+            shape: 0,
+            values: [0; MOST_INSTRS],
+        };
+        self.answer = None;
+        self.kept = 0;
+        self.steps = 0;
+        self.rounds = 0;
+        self.first = 0;
+        self.tries = 0;
+        self.scan = 0;
+        self.heard = 0;
+        self.script.clear();
+        self.calls.clear();
     }
 
     /// How many calls were begun, with those before the machine was made.

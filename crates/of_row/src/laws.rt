@@ -1,8 +1,11 @@
 //! What follows from the rule of a row: functions that do nothing, whose contracts are theorems.
 
 ghost use Rattle.of_row.specs.Laws.{SeesWhole, SeesOwn, NewRuns, StillRuns};
+ghost use Rattle.of_core.specs.Laws.{setup_for};
+ghost use Rattle.of_row.specs.Runs.{RunsAreSchedules, RunsAreLinearizable};
 ghost use Rattle.of_row.specs.Laws.{FreshMember, IdleMember, MemberInRange, NewMember, BegunMember};
 
+use of_core::laws::{every_moment, every_order};
 use of_mem::Work;
 
 /// Whoever keeps every number that is taken has seen the whole history.
@@ -36,3 +39,18 @@ pub fn machines<W: Work>(work: W)
     ensures first { NewRuns work }
     ensures begun { StillRuns work }
 {}
+
+/// A run of threads is a schedule: what the words of a closed row hold, and what a pass keeps that has
+/// everybody, is what the events of some schedule leave.
+pub fn runs_are_schedules<W: Work>(work: W)
+    ensures { RunsAreSchedules (W.lawful work) }
+{}
+
+/// So all that holds of every schedule holds of a run.
+pub fn runs_are_linearizable<W: Work>(limit: u32, work: W)
+    ensures { RunsAreLinearizable (W.lawful work)
+        (setup_for W.many W.size W.meaning limit work) }
+{
+    every_moment(limit, work);
+    every_order(limit, work);
+}

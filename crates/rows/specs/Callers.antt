@@ -1,5 +1,5 @@
 -- Rows of scripts, and their callers.
-use Rattle.std.specs.Prelude.{◌≡◌, ℕ, List, []}
+use Rattle.std.specs.Prelude.{◌≡◌, ℕ, List, [], true}
 use Rattle.of_eval.specs.declared.scripts.Scripts.{Scripts}
 use Rattle.of_eval.specs.Scripts.{cells_in, scripts_meaning, LawfulCells}
 use Rattle.of_core.specs.Table.{setup_of}
@@ -25,9 +25,9 @@ IsAtZeros r = start_at scripts_meaning r ≡ zeros (setup_at scripts_meaning r)
 abbrev pub IsCallerOf : Row Scripts → Caller → Type 0
 IsCallerOf r c = IsOf r c.member.seat × RunsOn r c.machine × IsMemberOf scripts_meaning c.member c.machine
 
--- the pass is of this row, and keeps nobody
-abbrev pub IsOnlooker : Row Scripts → Pass → Type 0
-IsOnlooker r p = IsOf r p.seat × (p.seat.me.0.kept ≡ [])
+-- the pass is the row's first one, with no eviction begun: it may enrol, and evict
+abbrev pub MayEvict : Row Scripts → Pass → Type 0
+MayEvict r p = IsOf r p.seat × (p.seat.me.0.first ≡ true) × (p.seat.me.0.loaded ≡ [])
 
 -- words and view meet the rule of a row of zeros for these scripts
 abbrev pub MeetsRule : Scripts → (limit : ℕ) → List ℕ → Sight → Type 0

@@ -1,9 +1,9 @@
 //! A caller of a row of scripts: a member with its machine.
 
-ghost use Rattle.std.specs.Prelude.{◌≡◌, ◌<◌, ◌≤◌, true, IfOk, length};
+ghost use Rattle.std.specs.Prelude.{◌≡◌, ◌<◌, ◌≤◌, IfOk, length};
 ghost use Rattle.of_mem.specs.Plots.{size};
 ghost use Rattle.of_mem.specs.declared.work.TheConstants.{MOST_INSTRS};
-ghost use Rattle.of_row.specs.Rows.{key_of, IsOf};
+ghost use Rattle.of_row.specs.Rows.{key_of};
 ghost use Rattle.of_row.specs.Passes.{IsFirst};
 
 use of_brake::Brake;
@@ -38,7 +38,7 @@ pub fn shape_for(plot: &Plot) -> Shape
     }
 }
 
-ghost use Rattle.rows.specs.Callers.{IsRowOf, IsAtZeros, IsCallerOf};
+ghost use Rattle.rows.specs.Callers.{IsRowOf, IsAtZeros, IsCallerOf, MayEvict};
 ghost use Rattle.schedules.specs.Rows.{MayStartFrom};
 
 /// A row of zeros for scripts, with its first pass.
@@ -84,12 +84,10 @@ pub fn enrolled(
 ) -> Result<(Caller, Pass), AllocError>
     requires row { IsRowOf row.now scripts limit }
     requires limit { limit ≤ 4294967294 }
-    requires pass { IsOf row.now pass.seat }
-    requires first { pass.seat.me.0.first ≡ true }
+    requires pass { MayEvict row.now pass }
     requires number { number < scripts.callers }
     ensures caller { IfOk result (λ r. IsCallerOf row.now r.0) }
-    ensures pass { IfOk result (λ r. IsOf row.now r.1.seat) }
-    ensures first { IfOk result (λ r. r.1.seat.me.0.first ≡ true) }
+    ensures pass { IfOk result (λ r. MayEvict row.now r.1) }
 {
     members(scripts);
     machines(scripts);

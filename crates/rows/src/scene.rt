@@ -1,9 +1,8 @@
 //! A row on one thread, with one caller or two, on which the events of a schedule are made; and a bank under the same events.
 
-ghost use Rattle.std.specs.Prelude.{◌≡◌, ◌≤◌, ◌<◌, true, IfSome, IfOk};
+ghost use Rattle.std.specs.Prelude.{◌≡◌, ◌≤◌, ◌<◌, IfSome, IfOk};
 ghost use Rattle.of_mem.specs.Plots.{size};
-ghost use Rattle.of_row.specs.Rows.{IsOf};
-ghost use Rattle.rows.specs.Callers.{IsRowOf, IsCallerOf};
+ghost use Rattle.rows.specs.Callers.{IsRowOf, IsCallerOf, MayEvict};
 ghost use Rattle.schedules.specs.Rows.{alone, MayStartFrom};
 
 use crate::caller::{Caller, enrolled, row_from, row_of, shape_for, turns};
@@ -37,10 +36,10 @@ fn happen(
     calls: [&[u64]; 2],
     event: Event,
 ) -> Option<Outcome>
-    requires pass { IsOf row.now pass.old.seat }
+    requires pass { MayEvict row.now pass.old }
     requires first { IsCallerOf row.now first.old }
     requires second { IfSome second.old (IsCallerOf row.now) }
-    ensures pass { IsOf row.now pass.new.seat }
+    ensures pass { MayEvict row.now pass.new }
     ensures first { IsCallerOf row.now first.new }
     ensures second { IfSome second.new (IsCallerOf row.now) }
 {
@@ -126,10 +125,9 @@ fn another(
 ) -> Result<(Option<Caller>, Pass), AllocError>
     requires row { IsRowOf row.now scripts limit }
     requires limit { limit ≤ 4294967294 }
-    requires pass { IsOf row.now pass.seat }
-    requires first { pass.seat.me.0.first ≡ true }
+    requires pass { MayEvict row.now pass }
     ensures caller { IfOk result (λ r. IfSome r.0 (IsCallerOf row.now)) }
-    ensures pass { IfOk result (λ r. IsOf row.now r.1.seat) }
+    ensures pass { IfOk result (λ r. MayEvict row.now r.1) }
 {
     if scripts.callers < 2 {
         return Ok((None, pass));

@@ -4,7 +4,7 @@ ghost use Rattle.std.specs.Prelude.{◌≡◌, ◌≤◌, IfOk};
 ghost use Rattle.std.specs.Thread.{IsSync};
 ghost use Rattle.of_row.specs.Views.{Sight};
 ghost use Rattle.of_row.specs.Turned.{memo};
-ghost use Rattle.rows.specs.Callers.{IsCallerOf, IsOnlooker, MeetsRule};
+ghost use Rattle.rows.specs.Callers.{IsCallerOf, MayEvict, MeetsRule};
 
 use crate::caller::{Caller, enrolled, row_of, turns};
 use of_brake::{Brake, Fuel};
@@ -38,9 +38,9 @@ fn driven_evicting(
     calls: &[u64],
 ) -> (Caller, Pass)
     requires caller { IsCallerOf row.now caller }
-    requires pass { IsOnlooker row.now pass }
+    requires pass { MayEvict row.now pass }
     ensures caller { IsCallerOf row.now result.0 }
-    ensures pass { IsOnlooker row.now result.1 }
+    ensures pass { MayEvict row.now result.1 }
 {
     let Ok(fuel) = Box::new(alloc, Fuel::new()) else {
         return (caller, pass);
@@ -65,10 +65,10 @@ fn both<R: Threads + Sync>(
 ) -> (Caller, Caller, Pass)
     requires first { IsCallerOf row.now first }
     requires second { IsCallerOf row.now second.0 }
-    requires pass { IsOnlooker row.now second.1 }
+    requires pass { MayEvict row.now second.1 }
     ensures first { IsCallerOf row.now result.0 }
     ensures second { IsCallerOf row.now result.1 }
-    ensures pass { IsOnlooker row.now result.2 }
+    ensures pass { MayEvict row.now result.2 }
 {
     let (other, pass) = second;
     let [own, theirs] = calls;
@@ -79,8 +79,8 @@ fn both<R: Threads + Sync>(
             ensures { IsCallerOf row.entry.now result }
         { driven(alloc, row, first, own) },
         || -> (Caller, Pass)
-            requires { IsCallerOf row.now other × IsOnlooker row.now pass }
-            ensures { IsCallerOf row.entry.now result.0 × IsOnlooker row.entry.now result.1 }
+            requires { IsCallerOf row.now other × MayEvict row.now pass }
+            ensures { IsCallerOf row.entry.now result.0 × MayEvict row.entry.now result.1 }
         { driven_evicting(alloc, row, other, pass, theirs) },
     );
     (one, other, pass)
@@ -102,11 +102,11 @@ pub fn run_two<R: Threads + Sync>(
     let (first, pass) = enrolled(alloc, &row, pass, 0, scripts, limit)?;
     let (second, pass) = enrolled(alloc, &row, pass, 1, scripts, limit)?;
     let Caller { member, machine } = second;
-    let (member, evicting) = row.part(member);
+    let (member, onlooker) = row.part(member);
     let second = Caller { member, machine };
-    let (first, second, evicting) = both(rt, alloc, &row, first, (second, evicting), calls);
+    let (first, second, pass) = both(rt, alloc, &row, first, (second, pass), calls);
     let pass = row.join(pass, first.member);
-    let pass = row.join(pass, row.meet(second.member, evicting));
+    let pass = row.join(pass, row.meet(second.member, onlooker));
     let (words, pass) = row.close(pass);
     Ok((words, pass))
 }

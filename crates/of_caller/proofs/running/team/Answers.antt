@@ -46,7 +46,7 @@ returns-clause-handed g c = λ s starts.
     let team = team_ends p row (record { plan = c.callers-callers.ensures.plan; row = c.requires.row; start = c.requires.start }) e c.in_ok-pass.pass.seat.me.0 v1 v xs ys c.in_ok-pass.ensures.seated c.at_once.ensures.view
     (c.gather-pass.ensures.view ∙ ap (gathered v1) same) c.in_ok-pass.ensures.lanes c.in_ok-pass.ensures.all ran answers endings c.close-words.ensures.words c.gather-pass.ensures.pass.2 s starts in
     let law = c.teams_are_lawful.ensures.lawful s (start_of_row row) e v team in
-    record { sight = v; copy = c.close-words.ensures.view; team = team; report = law.0; reported = law.1; announced = law.2 }
+    record { sight = v; copy = c.close-words.ensures.view; team = team; report = law.0; reported = law.1; announced = law.2; scheduled = c.teams_are_lawful.ensures.scheduled s (start_of_row row) e v team }
 
 pub returns-clause-stops : goal.returns-clause-stops
 returns-clause-stops g c =

@@ -6,6 +6,7 @@ use Rattle.of_core.proofs.Raises.{rises}
 use Rattle.of_core.proofs.StepTaken.{step_taken, opened_reads}
 use Rattle.of_core.proofs.NewCalls.{new_calls}
 use Rattle.of_core.proofs.Durables.{step_durables}
+use Rattle.of_core.proofs.Blind.{step_blind}
 use Rattle.of_core.proofs.Happenings.{begin_kept, rests_not, load_kept, evict_kept, evict_stays}
 use Rattle.of_core.proofs.Beside.{beside_kept, beside_stays}
 use Rattle.of_core.proofs.Openings.{start_good, idle_rests}
@@ -23,6 +24,7 @@ returns g c =
       moves = step_moves S L sound;
       taken = λ B w h i m l e o n f. step_taken S L B w h i m l e o n f;
       durables = λ B w h i m l e n f. step_durables S L B w h.core i m l e n f;
+      blind = λ B w h i m l e. step_blind S L B w h.core i m l e;
       new_calls = λ B w h i m l e n f. new_calls S L sound B w h i m l e n f;
       begins = λ B w h i m l e r d p op s f t. (begin_kept S L B w h i m l e r d p op s f t, rests_not S L B w h i m l e r d p op s f t, opened_reads S d op);
       loads = load_kept S L;

@@ -1,0 +1,156 @@
+-- Lives are durably linearizable together.
+use Rattle.std.proofs.Common.{◌≡◌, ℕ, ◌+◌, ◌*◌, ◌<◌, ◌≤◌, ◌⊎◌, inl, inr, List, [], ◌∷◌, length, get_or, drop, refl, sym, ◌∙◌, ap, arith, false, map}
+use Rattle.std.specs.List.{All}
+use Rattle.std.proofs.lemmas.List.{length-map}
+use Rattle.std.proofs.lemmas.List.Elements.{All-append}
+use Rattle.of_mem.specs.declared.work.TheConstants.{MOST_INSTRS}
+use Rattle.of_cell.specs.declared.word.TheConstants.{PAYLOADS}
+use Rattle.of_cell.specs.Words.{pay}
+use Rattle.of_mem.specs.Meaning.{Sound, SameFrom}
+use Rattle.of_core.specs.Table.{Setup, base, size, ticket_cell}
+use Rattle.of_core.specs.Machine.{Call, no_call}
+use Rattle.of_core.specs.World.{World, Start}
+use Rattle.of_core.specs.History.{after_calls}
+use Rattle.of_core.specs.Shared.{MayStart}
+use Rattle.of_core.specs.Invariant.{Good}
+use Rattle.of_core.specs.Events.{Event, run, IsSchedule, opening, start_ticket}
+use Rattle.of_core.specs.Claim.{IsNewer, IsSound}
+use Rattle.of_core.specs.Calls.{Calls}
+use Rattle.of_core.specs.Linear.{found, FindsCall, IsDurablyLinearizable, start_behind, AreLives, joined, AreDurablyLinearizable}
+use Rattle.of_core.proofs.Logs.{room_for}
+use Rattle.of_core.proofs.Overlays.{calls_length}
+use Rattle.of_core.proofs.Replays.{calls_from, replies_from}
+use Rattle.of_core.proofs.Openings.{start_good}
+use Rattle.of_core.proofs.Moments.{run_good}
+use Rattle.of_core.proofs.Claims.{is_sound}
+use Rattle.of_core.proofs.RecoveredRow.{may_restart}
+use Rattle.of_core.proofs.EveryCall.{no_calls}
+use Rattle.of_core.proofs.InOrder.{after_append, replies_append, pairs_append}
+use Rattle.of_core.proofs.Linear.{durably_linearizable}
+
+module _ (S : Setup) (Lawful : List ℕ → Type 0) (sound : Sound S.meaning Lawful (base S) S.cells) (some : 0 < S.callers) (few : S.callers < PAYLOADS) (own_in : base S ≤ S.cells) (n : ℕ) (room : size S + size S + S.callers * (S.instrs + 1) ≤ n) (narrow : S.instrs ≤ MOST_INSTRS) (little : S.cells < PAYLOADS) where
+  -- a call that may write is older than each later one of its caller
+  abbrev Once : Call → Call → Type 0
+  Once c d = S.meaning.reads_only c.op ≡ false → IsNewer c d
+
+  abbrev IsNew : Start → Call → Type 0
+  IsNew B c = start_ticket S B c.caller < c.ticket
+
+  -- One life.
+  module _ (B : Start) (may : MayStart S Lawful B) (es : List Event) (schedule : IsSchedule S (opening S B n) es) where
+    abbrev w : World
+    w = run S (opening S B n) es
+
+    good_start : Good S Lawful B (opening S B n)
+    good_start = start_good S Lawful sound B may some few own_in n room narrow little
+
+    none : (i : ℕ) → i < S.callers → Calls S B (start_ticket S B i) (opening S B n) i [] []
+    none i member = no_calls S Lawful sound B i member may some few own_in n room narrow little
+
+    linear : IsDurablyLinearizable S B (opening S B n) es
+    linear = (durably_linearizable S Lawful sound B (opening S B n) good_start none es schedule).0
+
+    -- the next life starts where the order leads
+    same : SameFrom (base S) (map pay (start_behind S n B es).cells) (after_calls S.meaning (map pay B.cells) linear.order)
+    unfolding linear
+    same = (durably_linearizable S Lawful sound B (opening S B n) good_start none es schedule).1
+
+    good : Good S Lawful B w
+    good = run_good S Lawful sound B es (opening S B n) good_start schedule
+
+    claim : IsSound S B w
+    claim = is_sound S Lawful sound B w good.core good.within good.late good.order
+
+    next_start : MayStart S Lawful (start_behind S n B es)
+    next_start = may_restart S Lawful B w good claim
+
+    next_ticket : (i : ℕ) → i < S.callers → start_ticket S (start_behind S n B es) i ≡ found S w (ticket_cell S i)
+    next_ticket i member = sym (ap pay (claim.recovers (ticket_cell S i) (omega (arith, room_for i S.callers (S.instrs + 2) member, own_in))))
+
+    first_long : length (map pay B.cells) ≡ S.cells
+    first_long = length-map B.cells pay ∙ may.start.size
+
+    next_long : length (map pay (start_behind S n B es).cells) ≡ S.cells
+    next_long = length-map (start_behind S n B es).cells pay ∙ next_start.start.size
+
+    -- no ticket falls
+    ticket_rises : (i : ℕ) → i < S.callers → start_ticket S B i ≤ start_ticket S (start_behind S n B es) i
+    ticket_rises i member = go (linear.recovered.own i member).last
+      where
+        go : (found S w (ticket_cell S i) ≡ start_ticket S B i) ⊎ ((p : ℕ) × (p < length linear.order) × ((get_or linear.order p no_call).caller ≡ i) × FindsCall S w (get_or linear.order p no_call)) → start_ticket S B i ≤ start_ticket S (start_behind S n B es) i
+        go (inl e) = omega (arith, e, next_ticket i member)
+        go (inr h) =
+            let begun = (linear.linearizes.begun h.0 no_call h.1).1 refl in
+            omega (arith, begun.0, h.3.ticket, next_ticket i member, ap (start_ticket S B) h.2, ap (λ (x : ℕ). found S w (ticket_cell S x)) h.2)
+
+  -- a list of lives is durably linearizable, by calls of the table's callers
+  pub Lives : Start → List (List Event) → Type 0
+  Lives B lives = (l : AreDurablyLinearizable S n B lives) × All (λ (c : Call). c.caller < S.callers) (joined l.orders)
+
+  no_lives : (B : Start) → Lives B []
+  unfolding Lives
+  no_lives B = (
+    record {
+      orders = [];
+      each = tt;
+      legal = tt;
+      leads = refl;
+      once = λ p q l u. absurd (omega (arith, u));
+      newer = λ k d l. absurd (omega (arith, l));
+    },
+    λ k d l. absurd (omega (arith, l)),
+  )
+
+  -- one life more in front
+  one_more : (B : Start) (may : MayStart S Lawful B) (es : List Event) (schedule : IsSchedule S (opening S B n) es) (lives : List (List Event)) → Lives (start_behind S n B es) lives → Lives B (es ∷ lives)
+  unfolding Lives
+  one_more B may es schedule lives more = (
+    record {
+      orders = first.order ∷ rest.orders;
+      each = (first.linearizes, first.recovered, rest.each);
+      legal = replies_append S.meaning start first.order (joined rest.orders) first.linearizes.legal (replies_from S Lawful sound B next there (joined rest.orders) next_is there_is meets rest.legal);
+      leads = rest.leads ∙ calls_from S Lawful sound B next there (joined rest.orders) next_is there_is meets ∙ ap (λ (xs : List ℕ). drop (base S) xs) (sym (after_append S.meaning start first.order (joined rest.orders)));
+      once = pairs_append Once first.order (joined rest.orders) (λ p q l u writes. first.linearizes.rising p q l u) rest.once across;
+      newer = All-append (IsNew B) first.order (joined rest.orders) (λ p d l. ((first.linearizes.begun p d l).1 refl).0) (λ p d l. let t = rest.newer p d l in omega (arith, t, ticket_rises B may es schedule (get_or (joined rest.orders) p d).caller (more.1 p d l)));
+    },
+    All-append (λ (c : Call). c.caller < S.callers) first.order (joined rest.orders) (λ p d l. (first.linearizes.begun p d l).0) more.1,
+  )
+    where
+      first : IsDurablyLinearizable S B (opening S B n) es
+      first = linear B may es schedule
+
+      rest : AreDurablyLinearizable S n (start_behind S n B es) lives
+      rest = more.0
+
+      start : List ℕ
+      start = map pay B.cells
+
+      next : List ℕ
+      next = map pay (start_behind S n B es).cells
+
+      there : List ℕ
+      there = after_calls S.meaning start first.order
+
+      next_is : length next ≡ S.cells
+      next_is = next_long B may es schedule
+
+      there_is : length there ≡ S.cells
+      there_is = calls_length S Lawful sound start first.order (first_long B may es schedule)
+
+      meets : SameFrom (base S) next there
+      meets = same B may es schedule
+
+      across : All (λ (c : Call). All (Once c) (joined rest.orders)) first.order
+      across p d l q e u writes own =
+          let member = (first.linearizes.begun p d l).0 in
+          let old = (first.recovered.own (get_or first.order p d).caller member).upto p d l refl writes in
+          let new = rest.newer q e u in
+          omega (arith, old, new, next_ticket B may es schedule (get_or first.order p d).caller member, ap (start_ticket S (start_behind S n B es)) own)
+
+  pub lives_linear : (lives : List (List Event)) (B : Start) → MayStart S Lawful B → AreLives S n B lives → Lives B lives
+  lives_linear [] B may s = no_lives B
+  lives_linear (es ∷ lives) B may s = one_more B may es s.0 lives (lives_linear lives (start_behind S n B es) (next_start B may es s.0) s.1)
+
+  pub any_lives : (B : Start) → MayStart S Lawful B → (lives : List (List Event)) → AreLives S n B lives → AreDurablyLinearizable S n B lives
+  unfolding Lives
+  any_lives B may lives s = (lives_linear lives B may s).0

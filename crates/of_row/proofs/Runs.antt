@@ -1,0 +1,61 @@
+-- A run of threads is a schedule.
+use Rattle.std.proofs.Common.{◌≡◌, ℕ, ◌+◌, ◌<◌, ◌≤◌, List, [], ◌∷◌, ◌++◌, length, map, get_or, true, false, refl, sym, ◌∙◌, ap, subst, arith}
+use Rattle.std.specs.Int.{bit_at}
+use Rattle.std.proofs.lemmas.List.{get_or_default, append-nil}
+use Rattle.of_core.specs.Table.{Setup, table_size}
+use Rattle.of_core.specs.Machine.{Data, no_machine}
+use Rattle.of_core.specs.World.{World, Start}
+use Rattle.of_core.specs.Events.{Event, machine}
+use Rattle.of_core.specs.Claim.{IsSound}
+use Rattle.of_core.specs.Laws.{EveryMoment, EveryOrder}
+use Rattle.of_core.specs.Linear.{IsDurablyLinearizable}
+use Rattle.of_row.specs.Views.{Kept, Sight, bare, Each}
+use Rattle.of_row.specs.Rule.{members_of, Stays, Fits, Meets, KeepsAll, world}
+use Rattle.of_row.specs.Told.{IsAsTold}
+use Rattle.of_row.specs.Trail.{first_of, moment, Leaves, IsToldBy, EvictsSo}
+use Rattle.of_row.specs.Runs.{IsRunBy, HasRun}
+use Rattle.of_row.proofs.Fronts.{each_both}
+use Rattle.of_row.proofs.Wholes.{sees_whole}
+
+pub runs_are_schedules : (S : Setup) (L : List ℕ → Type 0) (B : Start) (ws : List ℕ) (v : Sight) → Meets S L B ws v → v.spent ≡ false → v.first ≡ true → v.loaded ≡ [] → KeepsAll S ws v → (es : List Event) × HasRun S L B ws v es
+runs_are_schedules S L B ws v m live first none all = (
+  es,
+  record {
+    from = m.rule.from;
+    schedule = l.schedule;
+    prompt = l.prompt;
+    words = λ c low. ap (λ (z : List ℕ). get_or z c 0) (sym m.words) ∙ l.agrees.words c low;
+    batches = sees_whole S L B ws v m live all ∙ l.agrees.batches;
+    callers = each_both (Stays S m.rule.machines m.rule.home (members_of S m.state.words) m.seat) (IsAsTold m.rule.told) (IsRunBy S B es) v.kept (λ x s t. run_by x s t) f.kept (m.rule.mine m.seat v m.view live);
+    others = λ n b off.
+        let t = m.rule.trail.tells n b in
+        let u = m.rule.untold n b (ap (λ (z : List ℕ). bit_at (members_of S z) n) m.words ∙ off) in
+        (sym t.begun ∙ u.0, sym t.turned ∙ u.2);
+    evicted = sym (append-nil v.evicted) ∙ ((λ k. v.evicted ++ map (λ (e : ℕ × ℕ). e.0) (sym empty k)) ∙ mine.evicted first);
+  },
+)
+  where
+    es : List Event
+    es = m.rule.trail.events
+
+    mine : EvictsSo es m.rule.trail.pending v
+    mine = m.rule.trail.views m.seat v m.view live
+
+    empty : m.rule.trail.pending ≡ []
+    empty = sym (mine.loaded first) ∙ none
+
+    l : Leaves S B es [] (world m.state.words m.rule.machines m.rule.batches m.rule.reads)
+    l = subst (λ (z : List (ℕ × ℕ)). Leaves S B es z (world m.state.words m.rule.machines m.rule.batches m.rule.reads)) empty m.rule.trail.leaves
+
+    f : Fits S B m.state.words m.rule.machines m.rule.batches m.rule.home m.rule.chief m.seat v
+    f = m.rule.each m.seat v m.view live
+
+    run_by : (x : Kept) → Stays S m.rule.machines m.rule.home (members_of S m.state.words) m.seat x → IsAsTold m.rule.told x → IsRunBy S B es x
+    run_by x s t = record {
+      told = subst (IsToldBy S B es x.machine.caller) t (m.rule.trail.tells x.machine.caller s.in_range);
+      machine_is = ap (λ (ms : List Data). get_or ms x.machine.caller no_machine) (sym l.agrees.machines) ∙ (get_or_default m.rule.machines x.machine.caller no_machine x.machine (omega (arith, m.rule.good.core.members, s.in_range)) ∙ s.machine_is);
+    }
+
+-- what holds of every schedule holds of it
+pub runs_are_linearizable : (S : Setup) (L : List ℕ → Type 0) → EveryMoment S L → EveryOrder S L → (B : Start) (ws : List ℕ) (v : Sight) (es : List Event) → HasRun S L B ws v es → IsSound S B (moment S B es) × IsDurablyLinearizable S B (first_of S B) es
+runs_are_linearizable S L moments orders B ws v es h = (moments B h.from (table_size S + 1) (omega arith) es h.schedule, orders B h.from (table_size S + 1) (omega arith) es h.schedule)
