@@ -1,0 +1,21 @@
+use Rattle.std.proofs.Common.{List, ℕ, ◌+◌, map, ap, ◌∙◌}
+use Rattle.std.specs.Prelude.{slice_range}
+use Rattle.of_cell.specs.Words.{pay}
+use Rattle.of_cell.specs.Cells.{data_cell}
+use Rattle.example_bank.proofs.Cells.{store_stands, store_holds}
+use Rattle.example_bank.proofs.books.Books.store.Goals as goal
+
+pub returns-clause-store : goal.returns-clause-store
+returns-clause-store c =
+    let b = c.args.self.now in
+    let shape = c.shape_of in
+    let n = shape.result.callers in
+    store_stands b.scripts c.plot.result b.row.items c.deref-3.result.now c.in_ok-store.store c.plot.ensures.callers c.plot.ensures.instrs c.plot.ensures.blocks
+    (c.deref-3.ensures.value ∙ c.in_ok-cells.ensures ∙ ap (map pay) (
+    c.deref-2.ensures.value ∙ c.in_ok-words.ensures
+    ∙ ap (λ (l : List ℕ). slice_range l (data_cell n 0) (data_cell n 0 + shape.result.cells)) c.deref.ensures.value
+    ∙ (λ i. slice_range b.row.items (data_cell (shape.ensures.callers i) 0) (data_cell (shape.ensures.callers i) 0 + shape.ensures.cells i))))
+    c.in_ok-store.ensures.ok
+
+pub returns-clause-money : goal.returns-clause-money
+returns-clause-money c = store_holds c.args.self.now.scripts c.args.self.now.row.items c.in_ok-store.store c.requires.long (returns-clause-store c)
