@@ -10,11 +10,11 @@ use Rattle.of_recover.specs.Renumbered.{renumbered_word, renumbered, BeginsAnew}
 use Rattle.of_recover.proofs.Rows.{left_alone}
 use Rattle.of_recover.proofs.Kept.{on_data, not_data}
 
-length-renumbered : (N M : ℕ) (ws : List ℕ) → length (renumbered N M ws) ≡ length ws
+pub length-renumbered : (N M : ℕ) (ws : List ℕ) → length (renumbered N M ws) ≡ length ws
 unfolding renumbered
 length-renumbered N M ws = length-map-range_with_len (renumbered_word N M (λ c. get_or ws c 0)) 0 (length ws)
 
-renumbered_at : (N M : ℕ) (ws : List ℕ) (c d : ℕ) → c < length ws → get_or (renumbered N M ws) c d ≡ renumbered_word N M (λ c. get_or ws c 0) c
+pub renumbered_at : (N M : ℕ) (ws : List ℕ) (c d : ℕ) → c < length ws → get_or (renumbered N M ws) c d ≡ renumbered_word N M (λ c. get_or ws c 0) c
 unfolding renumbered
 renumbered_at N M ws c d l = get_or-map-range_with_len (renumbered_word N M (λ c. get_or ws c 0)) 0 (length ws) c c d l (omega arith)
 

@@ -1,7 +1,9 @@
 ghost use Rattle.std.specs.Prelude.{◌≡◌, false, slice_index};
+ghost use Rattle.std.proofs.Common.{take};
 ghost use Rattle.of_recover.specs.Row.{IsDurableRow, is_open};
 ghost use Rattle.of_recover.specs.Recovered.{is_data};
-ghost use Rattle.of_recover.specs.Renumbered.{renumbered, renumbered_word};
+ghost use Rattle.of_recover.specs.Renumbered.{renumbered, renumbered_word, renumbering_writes};
+ghost use Rattle.of_recover.specs.Writes.{written};
 
 use of_cell::{Shape, pack, payload_of};
 
@@ -31,7 +33,20 @@ pub fn renumber(shape: &Shape, durable: &mut [u64])
     requires closed { is_open shape.now.callers (slice_index durable.old) ≡ false }
     ensures { durable.new ≡ renumbered shape.now.callers shape.now.cells durable.old }
 {
-    for cell in 0..durable.len() {
+    let cells = durable.len();
+    renumber_partly(shape, durable, cells);
+}
+
+/// Makes the writes of a renumbering, in their order, and stops where `most` of them are made. The
+/// current transaction comes last, since a data cell that is newer than it is at fault. So whatever is
+/// left out, what is left has the same numbers and may be renumbered again (`laws::renumbered_midway`).
+pub fn renumber_partly(shape: &Shape, durable: &mut [u64], most: usize)
+    requires { IsDurableRow shape.now.callers shape.now.cells durable.old }
+    ensures { durable.new ≡ written (take most (renumbering_writes shape.now.callers shape.now.cells durable.old)) durable.old }
+{
+    let cells = durable.len();
+    for made in 0..most.min(cells) {
+        let cell = cells - 1 - made;
         durable[cell] = renumbered_word(shape, cell, durable[cell]);
     }
 }
@@ -66,5 +81,40 @@ mod tests {
         recover(&shape, &mut durable);
         renumber(&shape, &mut durable);
         assert_eq!(rt; durable, [0, 0, 5, 7, 0, 0, 0, 0, 0]);
+    }
+
+    // A renumbering that stops at each of its writes, and the next one. The cells are the same.
+    #[test]
+    fn renumbers_midway(rt: HostRuntime) {
+        let shape = Shape::new(1, 8, 2).expect(&rt, "in range");
+        let recovered = [
+            pack(2, 0),
+            pack(2, 1),
+            pack(1, 5),
+            pack(2, 7),
+            pack(2, 1),
+            pack(2, 1),
+            pack(2, 7),
+            pack(1, 1),
+            pack(1, 6),
+        ];
+        let anew = [0, 0, 5, 7, 0, 0, 0, 0, 0];
+        let mut wanted = recovered;
+        for made in 0..10 {
+            let mut durable = recovered;
+            renumber_partly(&shape, &mut durable, made);
+            assert_eq!(rt; durable, wanted);
+            recovered_cells(&shape, &durable);
+            recovered_twice(&shape, &durable);
+            // recovery changes nothing in what is left
+            recover(&shape, &mut durable);
+            assert_eq!(rt; durable, wanted);
+            renumber(&shape, &mut durable);
+            assert_eq!(rt; durable, anew);
+            // the next write is that of the last cell that has its old word
+            if made < 9 {
+                wanted[8 - made] = anew[8 - made];
+            }
+        }
     }
 }
