@@ -1,0 +1,8 @@
+pub mod Blocks
+pub mod Stores
+pub mod Keeps
+pub mod Zeros
+pub mod Asked
+pub mod Starts
+pub mod Starting
+mod Walks
