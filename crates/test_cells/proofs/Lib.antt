@@ -3,6 +3,5 @@ pub mod Stores
 pub mod Keeps
 pub mod Zeros
 pub mod Asked
-pub mod Starts
 pub mod Starting
 mod Walks

@@ -13,8 +13,8 @@ use of_mem::{Keeps, Kept, MOST_INSTRS, Need, Part, RawReply, Work};
 /// How many cells belong to each caller.
 const OWN_CELLS: u32 = MOST_INSTRS as u32 + 2;
 
-/// One register: an operation whose first word has a sequence writes that word's payload, any other reads. The shape of a reply is
-/// that of an empty list, or 0 where a read has found 0.
+/// One register: an operation whose first word has a sequence writes that word's payload, any other
+/// reads. The shape of a reply is that of an empty list, or 0 where a read has found 0.
 #[derive(Clone, Copy)]
 pub struct Register {
     /// How many callers there are, 1 to 16.

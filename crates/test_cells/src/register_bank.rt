@@ -78,10 +78,12 @@ fn two_calls_in_one_batch(rt: HostRuntime) -> Result<(), Fail> {
     bank.begin(0, [pack(1, 7)].as_slice());
     bank.begin(1, [pack(1, 8)].as_slice());
     assert_eq!(rt; turns(&mut bank, 1, 2), Left::Open);
-    // 50 steps alone, one script word more in place of a ticket cell, and three entries more of eight steps each
+    // 50 steps alone, one script word more in place of a ticket cell, and three entries more of
+    // eight steps each
     let first = turns(&mut bank, 0, 90);
     assert_eq!(rt; first, Left::Idle);
-    // caller 1 finds its own ticket in the batch: its script, its announcement, current word, request, ticket and shape
+    // caller 1 finds its own ticket in the batch: its script, its announcement, current word,
+    // request, ticket and shape
     assert_eq!(rt; turns(&mut bank, 1, 4), Left::Answered(1, true, 65536, 6));
     let words = bank.words();
     assert_eq!(rt; words.get(0).copied(), Some(pack(1, 0)));
@@ -96,8 +98,8 @@ fn a_late_helper(rt: HostRuntime) -> Result<(), Fail> {
     bank.begin(1, [0].as_slice());
     // caller 0 has committed and applied nothing
     assert_eq!(rt; turns(&mut bank, 0, 31), Left::Open);
-    // caller 1 reads behind its help: current word, request, nine log words, a second look, current word raised, four entries of four
-    // steps, request closed and raised, and the register
+    // caller 1 reads behind its help: current word, request, nine log words, a second look, current
+    // word raised, four entries of four steps, request closed and raised, and the register
     assert_eq!(rt;
         turns(&mut bank, 1, 32),
         Left::Answered(1, false, 65536, 32)

@@ -124,7 +124,8 @@ fn a_first_key_is_written(rt: HostRuntime) -> Result<(), Fail> {
     Ok(())
 }
 
-/// Caller 1 stores a number in register 4, alone, and this is what its 50th turn leaves. Nothing is done where it has a call open.
+/// Caller 1 stores a number in register 4, alone, and this is what its 50th turn leaves. Nothing is
+/// done where it has a call open.
 fn stores(bank: &mut Bank<Scripts>, value: u32) -> Left
     requires { 1 < bank.old.callers }
     ensures { bank.new.callers ≡ bank.old.callers }
@@ -139,7 +140,8 @@ fn stores(bank: &mut Bank<Scripts>, value: u32) -> Left
     turns(bank, 1, 50)
 }
 
-/// Caller 0 reads two registers, and before it loads the second, in each of its four tries, caller 1 has stored there.
+/// Caller 0 reads two registers, and before it loads the second, in each of its four tries, caller
+/// 1 has stored there.
 fn overtaken(bank: &mut Bank<Scripts>) -> [(Left, Left); 4]
     requires callers { 1 < bank.old.callers }
     ensures { bank.new.callers ≡ bank.old.callers }
@@ -153,7 +155,8 @@ fn overtaken(bank: &mut Bank<Scripts>) -> [(Left, Left); 4]
 
 #[test]
 fn a_read_announced_after_four_tries(rt: HostRuntime) -> Result<(), Fail> {
-    // how many turns after the fourth store, the read's announcement and the current-transaction word then, and what the last turn left
+    // how many turns after the fourth store, the read's announcement and the current-transaction
+    // word then, and what the last turn left
     let rows = [
         (3, 0, pack(4, 1), Left::Open),
         (4, pack(1, 2), pack(4, 1), Left::Open),
@@ -236,7 +239,8 @@ fn helped_after_the_exchange(rt: HostRuntime) -> Result<(), Fail> {
     let mut bank = Bank::new(rt.alloc(), shape, 5, scripts)?;
     bank.begin(0, [STORE_3_7].as_slice());
     bank.begin(1, [ADD_3_1].as_slice());
-    // the first has exchanged the current-transaction word, and the second begins to help at another entry
+    // the first has exchanged the current-transaction word, and the second begins to help at
+    // another entry
     assert_eq!(rt; turns(&mut bank, 0, 31), Left::Open);
     assert_eq!(rt; turns(&mut bank, 1, 17), Left::Open);
     let words = bank.words();

@@ -33,7 +33,8 @@ zero_at (suc n) (suc a) = zero_at n a
 abbrev store_3_7 : List ℕ
 store_3_7 = 75161927687 ∷ []
 
--- what the script leaves of zeros stands for a store, and so do cells that are the same behind the caller's own
+-- what the script leaves of zeros stands for a store, and so do cells that are the same behind the
+-- caller's own
 lawful : (xs : List ℕ) → length xs ≡ 81 → drop 18 xs ≡ 0 ∷ 0 ∷ 0 ∷ 7 ∷ replicate 59 0 → LawfulCells alone xs
 unfolding instr_at form_at
 lawful xs l e =

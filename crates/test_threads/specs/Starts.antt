@@ -1,4 +1,5 @@
--- The durable words of one caller without blocks that has stored in a register, and tables that may start from them.
+-- The durable words of one caller without blocks that has stored in a register, and tables that may
+-- start from them.
 use Rattle.std.specs.Prelude.{ℕ, List, ◌∷◌, ◌++◌}
 use Rattle.std.proofs.Common.{replicate, lit≤}
 use Rattle.of_cell.specs.Words.{word}

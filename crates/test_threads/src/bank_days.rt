@@ -14,7 +14,8 @@ fn job(alloc: Global, to_do: &[Transfer], stop: Option<u64>) -> Result<Job, Allo
     })
 }
 
-/// A day on which clerk 0 places an order that clerk 1 fills in the evening, and clerk 2 is stopped.
+/// A day on which clerk 0 places an order that clerk 1 fills in the evening, and clerk 2 is
+/// stopped.
 fn first_jobs(alloc: Global) -> Result<Jobs, AllocError> {
     let order = [Transfer::order(7, 4)];
     let too_much = [Transfer::new(0, 1, 11)];

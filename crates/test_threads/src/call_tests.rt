@@ -52,7 +52,8 @@ fn a_number_is_taken_once(rt: HostRuntime) -> Result<(), Fail> {
     Ok(())
 }
 
-/// A call of `store 3 7` under fuel of 3 steps, another one while it is open, and its going on under fuel of 45.
+/// A call of `store 3 7` under fuel of 3 steps, another one while it is open, and its going on
+/// under fuel of 45.
 fn fueled(alloc: Global) -> Result<[End; 3], AllocError> {
     let (row, mut caller, _pass) = alone(alloc, 10)?;
     let mut brake = fuel(alloc, Some(3))?;
@@ -79,7 +80,8 @@ fn limited(alloc: Global) -> Result<[End; 3], AllocError> {
     Ok([first, second, call(&row, &mut caller, LOAD_3, &mut brake)])
 }
 
-// A read is answered at the limit: it loads the current-transaction word, its owner's request and one cell.
+// A read is answered at the limit: it loads the current-transaction word, its owner's request and
+// one cell.
 #[test]
 fn spent_at_the_limit(rt: HostRuntime) -> Result<(), Fail> {
     let read = End::Answered(1, NUMBER, 7, 3);
@@ -90,7 +92,8 @@ fn spent_at_the_limit(rt: HostRuntime) -> Result<(), Fail> {
     Ok(())
 }
 
-/// A call of `store 3 7` under a brake that denies its fourth ask, and its going on under another brake once that one is dropped.
+/// A call of `store 3 7` under a brake that denies its fourth ask, and its going on under another
+/// brake once that one is dropped.
 fn patterned(alloc: Global) -> Result<[End; 2], AllocError> {
     let (row, mut caller, _pass) = alone(alloc, 10)?;
     let mut denying = pattern(alloc, vec![in alloc; 3]?)?;
@@ -107,7 +110,8 @@ fn another_brake_lets_go_on(rt: HostRuntime) -> Result<(), Fail> {
     Ok(())
 }
 
-/// Calls of `store 3 7`, `add 3 1` and `load 3`, each of another caller of one member, and how many calls were begun.
+/// Calls of `store 3 7`, `add 3 1` and `load 3`, each of another caller of one member, and how many
+/// calls were begun.
 fn left(alloc: Global) -> Result<([End; 3], u32), AllocError> {
     let (row, mut caller, _pass) = alone(alloc, 10)?;
     let mut brake = fuel(alloc, None)?;

@@ -14,7 +14,8 @@ use of_row::Row;
 use std::alloc::{AllocError, Global};
 use std::thread::{Threads, join};
 
-/// The ask that the holder holds: the one behind its caller's exchange of the current-transaction word.
+/// The ask that the holder holds: the one behind its caller's exchange of the current-transaction
+/// word.
 const HELD: u64 = 32;
 
 /// The last sequence that may be committed.
@@ -115,8 +116,9 @@ fn one_held<R: Threads + Sync>(
     both(rt, alloc, row, (one, its, holder), (other, theirs, teller))
 }
 
-/// A row of zeros with two callers in threads of their own, each with one call, of which one is held until the other is answered.
-/// Gives both ends, caller 0's first, and the words that are left.
+/// A row of zeros with two callers in threads of their own, each with one call, of which one is
+/// held until the other is answered. Gives both ends, caller 0's first, and the words that are
+/// left.
 pub fn run_two<R: Threads + Sync>(
     rt: &R,
     alloc: Global,

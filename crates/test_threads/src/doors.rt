@@ -162,7 +162,8 @@ fn beside<R: Threads + Sync>(
     [one, other]
 }
 
-/// Number 0 leaves through its door after a call, and then its newcomer and a caller that stays call in threads of their own.
+/// Number 0 leaves through its door after a call, and then its newcomer and a caller that stays
+/// call in threads of their own.
 fn left_beside<R: Threads + Sync>(
     rt: &R,
     alloc: Global,

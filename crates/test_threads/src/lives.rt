@@ -110,7 +110,8 @@ fn last_call(alloc: Global, image: &[u8]) -> Result<Option<(u32, Option<u32>)>, 
 
 /// Stops of two lives, and what these report.
 const STOPS: [(&str, &str, &str, &str); 3] = [
-    // The first call is answered, and the second stopped right after its exchange: it isn't run again.
+    // The first call is answered, and the second stopped right after its exchange: it isn't run
+    // again.
     (
         "stop 0 79\n",
         "",
@@ -154,7 +155,8 @@ fn the_last_reply_is_in_the_image(rt: HostRuntime) -> Result<(), Fail> {
     Ok(())
 }
 
-/// Plans, each with one thing in which it doesn't fit an image of one caller at sequence 2 with ticket 2.
+/// Plans, each with one thing in which it doesn't fit an image of one caller at sequence 2 with
+/// ticket 2.
 const UNFIT: [&str; 4] = [
     "onefile plan 1\ncallers 2\nblocks 0\nscript 0 count\nscript 0 count\nend\n",
     "onefile plan 1\ncallers 1\nblocks 1\nscript 0 count\nscript 0 count\nend\n",

@@ -1,4 +1,5 @@
-//! A row on one thread, with one caller or two, on which the events of a schedule are made; and a bank under the same events.
+//! A row on one thread, with one caller or two, on which the events of a schedule are made; and a
+//! bank under the same events.
 
 ghost use Rattle.std.specs.Prelude.{◌≡◌, ◌≤◌, ◌<◌, IfSome, IfOk};
 ghost use Rattle.of_mem.specs.Plots.{size};
@@ -26,8 +27,8 @@ pub enum Event {
     Evict { cell: u32 },
 }
 
-/// Makes an event on a row. `calls` are the calls of caller 0 and of caller 1, each of one instruction. Tells how the last call of
-/// the event's caller ended.
+/// Makes an event on a row. `calls` are the calls of caller 0 and of caller 1, each of one
+/// instruction. Tells how the last call of the event's caller ended.
 fn happen(
     row: &Row<Scripts>,
     pass: &mut Pass,
@@ -59,7 +60,8 @@ fn happen(
     }
 }
 
-/// The words that events leave of a row of zeros for one caller or two, and what the last of them told.
+/// The words that events leave of a row of zeros for one caller or two, and what the last of them
+/// told.
 pub fn row_after(
     alloc: Global,
     scripts: Scripts,

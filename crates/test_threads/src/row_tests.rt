@@ -55,8 +55,9 @@ fn left_by(last: Option<Outcome>) -> Left {
     }
 }
 
-/// What the last event told on a row, where all its words but the members word are those that the same events leave of a bank.
-/// None where they differ, or the members word hasn't one bit for each caller.
+/// What the last event told on a row, where all its words but the members word are those that the
+/// same events leave of a bank. None where they differ, or the members word hasn't one bit for each
+/// caller.
 fn compared(
     alloc: Global,
     callers: u32,

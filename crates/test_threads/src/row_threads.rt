@@ -87,7 +87,8 @@ fn both<R: Threads + Sync>(
     (one, other, pass)
 }
 
-/// A row of zeros with two callers in threads of their own: the words that they leave, and the last pass.
+/// A row of zeros with two callers in threads of their own: the words that they leave, and the last
+/// pass.
 pub fn run_two<R: Threads + Sync>(
     rt: &R,
     alloc: Global,

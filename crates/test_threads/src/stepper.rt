@@ -79,7 +79,8 @@ fn turn(row: &Row<Scripts>, caller: &mut Stepper, brake: &mut Box<dyn Brake + Se
     let _ = row.step(&mut caller.member, &mut caller.machine, brake);
 }
 
-/// Makes so many turns of a caller, each in the call that is open or in its next one, and tells how the last call ended.
+/// Makes so many turns of a caller, each in the call that is open or in its next one, and tells how
+/// the last call ended.
 pub fn turns(
     row: &Row<Scripts>,
     caller: &mut Stepper,

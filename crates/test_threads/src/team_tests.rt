@@ -1,4 +1,5 @@
-//! Teams: one caller, two of which one waits for the other, sixteen in pairs, and a stop at each ask.
+//! Teams: one caller, two of which one waits for the other, sixteen in pairs, and a stop at each
+//! ask.
 
 use crate::teams::{run_fuels, run_pairs};
 use of_plan::{Ended, Ending};

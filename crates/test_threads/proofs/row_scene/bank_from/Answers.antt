@@ -10,9 +10,9 @@ start-requires-clause-row c κs =
     let M = scripts_meaning alone in
     let n = c.args.limit in
     let plot = c.plot.ensures in
-    let sizes = c.shape_for.ensures in
-    let callers : c.shape_for.result.callers ≡ 1 = sizes.callers ∙ plot.callers in
-    let cells : c.shape_for.result.cells ≡ 81 = sizes.cells ∙ rw (plot.callers, plot.instrs, plot.blocks) refl in
-    let same : setup_of 1 81 n M ≡ setup_of c.shape_for.result.callers c.shape_for.result.cells n M = λ i. setup_of (sym callers i) (sym cells i) n M in
+    let sizes = c.shape_for-shape.ensures in
+    let callers : c.shape_for-shape.result.callers ≡ 1 = sizes.callers ∙ plot.callers in
+    let cells : c.shape_for-shape.result.cells ≡ 81 = sizes.cells ∙ rw (plot.callers, plot.instrs, plot.blocks) refl in
+    let same : setup_of 1 81 n M ≡ setup_of c.shape_for-shape.result.callers c.shape_for-shape.result.cells n M = λ i. setup_of (sym callers i) (sym cells i) n M in
     subst (λ (S : Setup). IsStartRow S (LawfulCells alone) c.as_slice.result.now) same
     (subst (λ (row : List ℕ). MayStartFrom alone n row) (sym c.as_slice.ensures) c.requires.row)
