@@ -23,7 +23,7 @@ use Rattle.of_core.specs.Shared.{Opened, MayStart}
 use Rattle.of_core.specs.Invariant.{At, Core, Good, IsLoaded}
 use Rattle.of_core.specs.Moves.{Moves}
 use Rattle.of_core.specs.Events.{Event, Begins, Turns, Loads, Evicts, Raises, evicted, machine, happens, MayHappen, run, IsSchedule, opening}
-use Rattle.of_core.specs.Raised.{lower_changes, pending_of, pending}
+use Rattle.of_core.specs.Raised.{lower_changes, pending_among, pending}
 use Rattle.of_core.proofs.States.{later_by}
 use Rattle.of_core.proofs.Logs.{length-log_words}
 use Rattle.of_core.proofs.Stability.{log_in}
@@ -354,7 +354,7 @@ module _ (S : Setup) where
       event_settles (Raises x) may c l = inl (get_or-set_other w.words (durable_at S x) c _ 0 (λ e. omega (arith, e, l)))
 
       -- so nothing is pending below a word that the cell is at least
-      none_pending : (c v : ℕ) → v ≤ get_or w.words c 0 → (es : List (ℕ × ℕ)) → All (λ (e : ℕ × ℕ). (e.1 ≤ durable_word S w.words e.0) ⊎ (e.1 ≡ get_or w.words e.0 0)) es → pending_of (durable_word S w.words c) c v es ≡ 0
+      none_pending : (c v : ℕ) → v ≤ get_or w.words c 0 → (es : List (ℕ × ℕ)) → All (λ (e : ℕ × ℕ). (e.1 ≤ durable_word S w.words e.0) ⊎ (e.1 ≡ get_or w.words e.0 0)) es → pending_among (durable_word S w.words c) c v es ≡ 0
       none_pending c v t [] all = refl
       none_pending c v t (e ∷ es) all =
           let a = none_pending c v t es (λ k d l. all (suc k) d (omega (arith, l))) in
