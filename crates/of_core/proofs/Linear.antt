@@ -284,7 +284,7 @@ module _ (S : Setup) (Lawful : List ℕ → Type 0) (sound : Sound S.meaning Law
   found_is : (a : ℕ) → a < S.cells → recovered_number S w a ≡ pay (at B w.batches durable a)
   found_is a l = ap pay (claim.recovers a l)
 
-  -- the state behind the durable batches is where it leads
+  -- the state after the durable batches is where it leads
   pub leads_there : SameFrom (base S) (numbers B w.batches durable) (after_calls S.meaning start order)
   leads_there =
       let same : SameFrom (base S) (numbers B w.batches durable) (replay S.meaning start bs) = rw n_is at (claim.state n (omega (arith, n_is, claim.reaches))) in
@@ -353,7 +353,7 @@ module _ (S : Setup) (Lawful : List ℕ → Type 0) (sound : Sound S.meaning Law
             replies = λ y l m. found_is (reply_cell S c.caller y) (omega (arith, l, own_in c.caller (rw h.caller member))) ∙ h.shows.replies y l m;
           }
 
-  -- So it is durably linearizable, by an order that leads to the state behind the durable batches.
+  -- So it is durably linearizable, by an order that leads to the state after the durable batches.
   pub durably_linearizable : (l : IsDurablyLinearizable S B first es) × SameFrom (base S) (numbers B w.batches durable) (after_calls S.meaning start l.order)
   durably_linearizable = (
     record {

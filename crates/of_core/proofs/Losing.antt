@@ -1,7 +1,7 @@
 -- What one step does to the tries and rounds that its call has begun, by the place that it is made
 -- from: a try is begun by the load of TryCurrent, a round by that of LoadCurrent, and a try ends
 -- with an answer, goes on, or is lost.
-use Rattle.std.proofs.Common.{◌≡◌, ℕ, ◌+◌, ◌-◌, ◌*◌, ◌<◌, ◌≤◌, ◌⊎◌, ◌==◌, inl, inr, List, length, get_or, refl, sym, ◌∙◌, ap, arith, Option, Some, None, Bool, true, false, nat_lt}
+use Rattle.std.proofs.Common.{◌≡◌, ℕ, ◌+◌, ◌-◌, ◌*◌, ◌≤◌, ◌⊎◌, ◌==◌, inl, inr, length, get_or, refl, sym, ◌∙◌, arith, Option, Some, None, Bool, true, false, nat_lt}
 use Rattle.std.proofs.lemmas.Bool.Decides.{nat_tests}
 use Rattle.of_core.specs.declared.machine.trying.TheConstants.{MOST_TRIES}
 use Rattle.of_cell.specs.Words.{word, seq, pay}

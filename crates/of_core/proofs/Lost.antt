@@ -1,5 +1,5 @@
 -- What an open call has lost beside the commits since it began, and so how new its outcome is.
-use Rattle.std.proofs.Common.{◌≡◌, ℕ, ◌+◌, ◌-◌, ◌<◌, ◌≤◌, ◌⊎◌, ◌==◌, inl, inr, List, [], ◌∷◌, ◌++◌, length, get_or, refl, sym, ◌∙◌, ap, subst, arith, Option, Some, None, Bool, true, false}
+use Rattle.std.proofs.Common.{◌≡◌, ℕ, ◌+◌, ◌-◌, ◌<◌, ◌≤◌, ◌⊎◌, ◌==◌, inl, inr, List, [], ◌∷◌, ◌++◌, length, get_or, refl, sym, ◌∙◌, ap, subst, arith, Some, None, Bool, true, false}
 use Rattle.std.specs.List.{All}
 use Rattle.std.proofs.lemmas.Bool.{cases_eq, cases_lt}
 use Rattle.std.proofs.lemmas.Bool.Decides.{nat_tests}
@@ -11,13 +11,13 @@ use Rattle.of_core.specs.declared.place.Place.{Place}
 use Rattle.of_core.specs.declared.place.Place.TheVariants.{Idle, TryCurrent, TryRequest, LoadCurrent, LoadRequest}
 use Rattle.of_core.specs.declared.place.Outcome.{Outcome}
 use Rattle.of_core.specs.declared.place.Outcome.TheVariants.{Answered, Spent}
-use Rattle.of_core.specs.Table.{Setup, base, last, ticket_cell}
-use Rattle.of_core.specs.Machine.{Data, no_call, IsOpen, is_idle, no_machine, idle, opened, first_place}
+use Rattle.of_core.specs.Table.{Setup, base, ticket_cell}
+use Rattle.of_core.specs.Machine.{Data, no_call, IsOpen, is_idle, no_machine, opened, first_place}
 use Rattle.of_core.specs.Steps.{want, took, finds, first_of, FoundBy}
 use Rattle.of_core.specs.World.{World, Start, Batch, added, stepped}
-use Rattle.of_core.specs.History.{batch, at, ticket_in}
+use Rattle.of_core.specs.History.{ticket_in}
 use Rattle.of_core.specs.Order.{IsTrying}
-use Rattle.of_core.specs.Facts.{Step, Tells, loads, loads_at}
+use Rattle.of_core.specs.Facts.{Step, Tells, ReadsFrom, loads, loads_at}
 use Rattle.of_core.specs.Shared.{Stands}
 use Rattle.of_core.specs.Rounds.{Trying}
 use Rattle.of_core.specs.Invariant.{At, Good, Rests, Told}
@@ -32,6 +32,7 @@ use Rattle.of_core.proofs.Tests.{same_number, other_number}
 use Rattle.of_core.proofs.Idle.{idle_or_open}
 use Rattle.of_core.proofs.Ordering.{idle_is, tries_at}
 use Rattle.of_core.proofs.StepKept.{step_kept}
+use Rattle.of_core.proofs.StepTaken.{opened_reads}
 use Rattle.of_core.proofs.Found.{found_now}
 use Rattle.of_core.proofs.Happenings.{event_good}
 use Rattle.of_core.proofs.Moments.{run_good}
@@ -58,6 +59,8 @@ module _ (S : Setup) (B : Start) (low i : ℕ) where
     pub rounds : low + m.rounds ≤ B.seq + length bs + 1
     pub first : 1 ≤ m.rounds → low ≤ m.first
     pub stage : S.meaning.reads_only m.op ≡ true → Stage bs m
+    -- and a try of it reads no older state
+    pub reads_from : ReadsFrom low m
 
   same_ticket : (bs cs : List Batch) (k : ℕ) → k ≤ B.seq + length bs → ticket_in S B (bs ++ cs) k i ≡ ticket_in S B bs k i
   same_ticket bs cs k u = ap (λ (st : List ℕ). pay (get_or st (ticket_cell S i) 0)) (state_same B bs cs k u)
@@ -70,6 +73,7 @@ module _ (S : Setup) (B : Start) (low i : ℕ) where
     rounds = omega (arith, l.rounds, length-append bs cs);
     first = l.first;
     stage = λ r. go (l.stage r);
+    reads_from = l.reads_from;
   }
     where
       go : Stage bs m → Stage (bs ++ cs) m
@@ -77,7 +81,7 @@ module _ (S : Setup) (B : Start) (low i : ℕ) where
       go (inr (inl a)) = inr (inl a)
       go (inr (inr a)) = inr (inr (omega (arith, a.0, length-append bs cs), omega (arith, a.1, same_ticket bs cs (low + MOST_TRIES) a.0)))
 
--- a read that was announced is newer than the tries that it lost
+-- a call that was announced is newer than the tries that it lost
 abbrev pub IsLate : (low : ℕ) → Outcome → Type 0
 IsLate low (Answered s true raw steps) = low + MOST_TRIES < s
 IsLate low (Answered s false raw steps) = Unit {0}
@@ -87,6 +91,13 @@ late_if_read : (low : ℕ) (o : Outcome) → IsReadAnswer (Some o) → IsLate lo
 late_if_read low (Answered s true raw steps) q = absurd q
 late_if_read low (Answered s false raw steps) q = tt
 late_if_read low (Spent s) q = absurd q
+
+-- how a call ends that has begun since batch low: its answer is of no older state, and if it only
+-- reads, it was announced after the tries that it lost
+abbrev pub EndsLate : Setup → (low : ℕ) → (op : List ℕ) → Outcome → Type 0
+EndsLate S low op (Answered s true raw steps) = S.meaning.reads_only op ≡ true → low + MOST_TRIES < s
+EndsLate S low op (Answered s false raw steps) = low ≤ s
+EndsLate S low op (Spent s) = S.meaning.reads_only op ≡ true → low + MOST_TRIES ≤ s
 
 -- The turn of the caller's own machine, with a call open.
 module _ (S : Setup) (Lawful : List ℕ → Type 0) (sound : Sound S.meaning Lawful (base S) S.cells) (B : Start) (w : World) (g : Good S Lawful B w) (j : ℕ) (h : j < S.callers) (n : ℕ) (found : FoundBy (want S (machine w j)) w.words n)
@@ -130,6 +141,7 @@ module _ (S : Setup) (Lawful : List ℕ → Type 0) (sound : Sound S.meaning Law
         rounds = omega (arith, l.rounds, ap (λ (x : Data). x.rounds) q.1);
         first = λ u. omega (arith, l.first (omega (arith, u, ap (λ (x : Data). x.rounds) q.1)), ap (λ (x : Data). x.first) q.1);
         stage = λ r. inr (inl (subst (IsTrying d) (sym (ap (λ (x : Data). x.place) q.1)) tt, omega (arith, tries, below (l.stage reads), ap (λ (x : Data). x.seq) q.1, finds_last (ap loads_at q.0))));
+        reads_from = step.reads_from low l.from l.reads_from;
       }
         where
           there : At S B w.words w.batches j m TryCurrent
@@ -151,6 +163,7 @@ module _ (S : Setup) (Lawful : List ℕ → Type 0) (sound : Sound S.meaning Law
         rounds = rounds (cases_lt 0 m.rounds);
         first = λ u. rw (ap (λ (x : Data). x.first) q.1) (first (m.rounds == 0) refl);
         stage = λ r. stage (l.stage (ap S.meaning.reads_only (sym step.op) ∙ r));
+        reads_from = step.reads_from low l.from l.reads_from;
       }
         where
           there : At S B w.words w.batches j m LoadCurrent
@@ -184,6 +197,7 @@ module _ (S : Setup) (Lawful : List ℕ → Type 0) (sound : Sound S.meaning Law
         rounds = omega (arith, l.rounds, q.rounds);
         first = λ u. omega (arith, l.first (omega (arith, u, q.rounds)), q.first);
         stage = λ r. stage (l.stage (ap S.meaning.reads_only (sym step.op) ∙ r));
+        reads_from = step.reads_from low l.from l.reads_from;
       }
         where
           stage : Stage S B low j w.batches m → Stage S B low j w.batches d
@@ -218,8 +232,8 @@ module _ (S : Setup) (Lawful : List ℕ → Type 0) (sound : Sound S.meaning Law
                       ))
 
   -- a call that ends so was announced late, if it only reads
-  ends_late : d.place ≡ Idle → (o : Outcome) → d.answer ≡ Some o → S.meaning.reads_only m.op ≡ true → IsLate low o
-  ends_late rest o told reads = go leads
+  is_late : d.place ≡ Idle → (o : Outcome) → d.answer ≡ Some o → S.meaning.reads_only m.op ≡ true → IsLate low o
+  is_late rest o told reads = go leads
     where
       good_v : Good S Lawful B v
       good_v = step_kept S Lawful sound B w g j m h (own S Lawful B w g j h) n found
@@ -270,14 +284,15 @@ module _ (S : Setup) (Lawful : List ℕ → Type 0) (sound : Sound S.meaning Law
               tried (inr (inl c)) = absurd (subst (IsTrying d) rest c.0)
               tried (inr (inr c)) = absurd (let z : false ≡ true = sym (ap begins_at rest) ∙ c.0 in cc)
 
+  ends_late : d.place ≡ Idle → (o : Outcome) → d.answer ≡ Some o → Tells S m d o → EndsLate S low m.op o
+  ends_late rest (Answered s true raw steps) told t = is_late rest (Answered s true raw steps) told
+  ends_late rest (Answered s false raw steps) told t = t.3 low l.reads_from
+  ends_late rest (Spent s) told t = is_late rest (Spent s) told
+
 -- Events. The caller j is idle, or its open call has lost no more than this.
 module _ (S : Setup) (Lawful : List ℕ → Type 0) (sound : Sound S.meaning Lawful (base S) S.cells) (B : Start) (j : ℕ) (member : j < S.callers) (low : ℕ) (start : B.seq ≤ low) where
   abbrev pub LostAt : World → Type 0
   LostAt w = IsOpen (machine w j).place → Lost S B low j w.batches (machine w j)
-
-  -- how a call ends whose operation is this one
-  abbrev pub EndsLate : List ℕ → Outcome → Type 0
-  EndsLate op o = S.meaning.reads_only op ≡ true → IsLate low o
 
   -- an event leads from one world to the other, begins these calls of the caller and ends these
   record Leads (w v : World) (more : List (List ℕ)) (os : List Outcome) : Type 0 where
@@ -285,9 +300,9 @@ module _ (S : Setup) (Lawful : List ℕ → Type 0) (sound : Sound S.meaning Law
     pub open_before : 0 < length os → IsOpen (machine w j).place
     pub keeps : LostAt w → LostAt v
     pub begins : 0 < length more → LostAt v
-    pub late : LostAt w → All (EndsLate (machine w j).op) os
+    pub late : LostAt w → All (EndsLate S low (machine w j).op) os
 
-  none_late : (op : List ℕ) → All (EndsLate op) []
+  none_late : (op : List ℕ) → All (EndsLate S low op) []
   none_late op k d l = absurd (omega arith)
 
   -- the caller's machine stays
@@ -308,6 +323,7 @@ module _ (S : Setup) (Lawful : List ℕ → Type 0) (sound : Sound S.meaning Law
     rounds = omega (arith, l);
     first = λ u. absurd (omega (arith, u));
     stage = λ r. inl (ap first_place r, omega (arith, l));
+    reads_from = opened_reads S m op low;
   }
 
   -- a turn of the caller
@@ -347,7 +363,7 @@ module _ (S : Setup) (Lawful : List ℕ → Type 0) (sound : Sound S.meaning Law
                 open_before = λ u. live;
                 keeps = λ l o. absurd (let z : true ≡ false = sym e ∙ ap (λ (x : Data). is_idle x.place) (sym is_d) ∙ o in cc);
                 begins = λ u. absurd (omega arith);
-                late = λ l. all_one (EndsLate m.op) t.0 (ends_late S Lawful sound B w g j member n found live low start (l live) rest t.0 t.1);
+                late = λ l. all_one (EndsLate S low m.op) t.0 (ends_late S Lawful sound B w g j member n found live low start (l live) rest t.0 t.1 t.2);
               })
 
   leads_on : (w : World) → Good S Lawful B w → low ≤ B.seq + length w.batches → (e : Event) → MayHappen S w e → Leads w (happens S w e) (begun_by e j) (ended_by S w e j)
@@ -400,11 +416,11 @@ module _ (S : Setup) (Lawful : List ℕ → Type 0) (sound : Sound S.meaning Law
   lost_run [] w g s u l = l
   lost_run (e ∷ es) w g s u l = lost_run es (happens S w e) (event_good S Lawful B w g sound e s.0) s.1 (later w e u) ((leads_on w g u e s.0).keeps l)
 
-  -- and of the calls from the n-th on each that only reads ends late, if the n-th has lost no more
+  -- and each call from the n-th on ends late, if the n-th has lost no more
   pub ends_late_run : (es : List Event) (w : World) → Good S Lawful B w → IsSchedule S w es → low ≤ B.seq + length w.batches
       → (before : ℕ) (ops : List (List ℕ)) (outs : List Outcome) → Calls S B before w j ops outs
       → (n : ℕ) → (n < length ops → LostAt w)
-      → (y : ℕ) → n ≤ length outs + y → y < length (outcomes S w es j) → EndsLate (get_or (ops ++ operations es j) (length outs + y) []) (get_or (outcomes S w es j) y no_outcome)
+      → (y : ℕ) → n ≤ length outs + y → y < length (outcomes S w es j) → EndsLate S low (get_or (ops ++ operations es j) (length outs + y) []) (get_or (outcomes S w es j) y no_outcome)
   ends_late_run [] w g s u before ops outs c n l y a b = absurd (omega (arith, b))
   ends_late_run (e ∷ es) w g s u before ops outs c n l y a b = go (cases_lt y (length now_ended))
       (λ p q. ends_late_run es (happens S w e) (event_good S Lawful B w g sound e s.0) s.1 (later w e u) before (ops ++ begun_by e j) (outs ++ now_ended) next n lost_next (y - length now_ended) p q)
@@ -433,10 +449,10 @@ module _ (S : Setup) (Lawful : List ℕ → Type 0) (sound : Sound S.meaning Law
 
       -- the operation of call y, and how it ends
       Ends : Outcome → Type 0
-      Ends o = EndsLate (get_or all_ops (length outs + y) []) o
+      Ends o = EndsLate S low (get_or all_ops (length outs + y) []) o
 
       go : (y < length now_ended) ⊎ (length now_ended ≤ y)
-          → (n ≤ length (outs ++ now_ended) + (y - length now_ended) → y - length now_ended < length rest → EndsLate (get_or ((ops ++ begun_by e j) ++ operations es j) (length (outs ++ now_ended) + (y - length now_ended)) []) (get_or rest (y - length now_ended) no_outcome))
+          → (n ≤ length (outs ++ now_ended) + (y - length now_ended) → y - length now_ended < length rest → EndsLate S low (get_or ((ops ++ begun_by e j) ++ operations es j) (length (outs ++ now_ended) + (y - length now_ended)) []) (get_or rest (y - length now_ended) no_outcome))
           → Ends (get_or (now_ended ++ rest) y no_outcome)
       go (inl m) f =
           let o = c.open_call (led.open_before (omega (arith, m))) in
@@ -444,14 +460,14 @@ module _ (S : Setup) (Lawful : List ℕ → Type 0) (sound : Sound S.meaning Law
           let op : (machine w j).op ≡ get_or all_ops (length outs + y) [] =
           o.1 ∙ sym (get_or_append_left ops (begun_by e j ++ operations es j) [] (length outs) (omega (arith, o.0))) ∙ ap (λ (x : ℕ). get_or all_ops x []) this in
           subst Ends (sym (get_or_append_left now_ended rest no_outcome y m))
-          (subst (λ (p : List ℕ). EndsLate p (get_or now_ended y no_outcome)) op (led.late (l (omega (arith, o.0, a, m, led.few))) y no_outcome m))
+          (subst (λ (p : List ℕ). EndsLate S low p (get_or now_ended y no_outcome)) op (led.late (l (omega (arith, o.0, a, m, led.few))) y no_outcome m))
       go (inr m) f =
           let t = length-append now_ended rest in
           let k : length (outs ++ now_ended) + (y - length now_ended) ≡ length outs + y = omega (arith, m, length-append outs now_ended) in
           let op : get_or ((ops ++ begun_by e j) ++ operations es j) (length (outs ++ now_ended) + (y - length now_ended)) [] ≡ get_or all_ops (length outs + y) [] =
           ap (λ (xs : List (List ℕ)). get_or xs (length (outs ++ now_ended) + (y - length now_ended)) []) (append_assoc ops (begun_by e j) (operations es j)) ∙ ap (λ (x : ℕ). get_or all_ops x []) k in
           subst Ends (sym (get_or-append_right now_ended rest (length now_ended) y no_outcome refl m))
-          (subst (λ (p : List ℕ). EndsLate p (get_or rest (y - length now_ended) no_outcome)) op (f (omega (arith, a, m, length-append outs now_ended)) (omega (arith, b, m, t))))
+          (subst (λ (p : List ℕ). EndsLate S low p (get_or rest (y - length now_ended) no_outcome)) op (f (omega (arith, a, m, length-append outs now_ended)) (omega (arith, b, m, t))))
 
 -- What an open call has lost since a moment at which its caller was idle.
 pub has_lost : (S : Setup) (Lawful : List ℕ → Type 0) → Sound S.meaning Lawful (base S) S.cells → (B : Start) (w : World) → Good S Lawful B w → (es : List Event) → IsSchedule S w es

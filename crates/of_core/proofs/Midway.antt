@@ -1,6 +1,6 @@
 -- A recovery or a renumbering that has stopped between two of its writes: from what it leaves a
 -- table may start as if it had ended, or had not begun.
-use Rattle.std.proofs.Common.{◌≡◌, ℕ, ◌+◌, ◌<◌, ◌≤◌, ◌⊎◌, inl, inr, List, length, take, map, get_or, sym, ◌∙◌, ap, subst, arith, false}
+use Rattle.std.proofs.Common.{◌≡◌, ℕ, ◌<◌, ◌≤◌, ◌⊎◌, inl, inr, List, length, take, map, get_or, sym, ◌∙◌, ap, subst, arith, false}
 use Rattle.std.proofs.lemmas.Bool.{cases_lt}
 use Rattle.std.proofs.lemmas.List.{ext_get_or, get_or_past, get_or-map, length-map}
 use Rattle.of_cell.specs.Words.{seq, pay}
@@ -15,7 +15,6 @@ use Rattle.of_recover.proofs.Fronts.{fronts_recover}
 use Rattle.of_recover.proofs.AnewPartly.{fronts_begin}
 use Rattle.of_core.specs.Table.{Setup}
 use Rattle.of_core.specs.World.{World, Start}
-use Rattle.of_core.specs.Shared.{IsStart, MayStart}
 use Rattle.of_core.specs.Invariant.{Good}
 use Rattle.of_core.specs.Claim.{IsSound}
 use Rattle.of_core.specs.Starts.{start_of, IsStartRow, IsDurable, recovered_start}

@@ -20,7 +20,7 @@ use Rattle.of_core.proofs.StepKept.{step_kept, step_moves}
 use Rattle.of_core.proofs.Raises.{rises}
 use Rattle.of_core.proofs.Happenings.{event_good, load_kept}
 
--- a word that stays, or comes to v at least, sends nobody round
+-- a word that stays, or becomes at least v, ends the loop
 stays_not : (x y v : ℕ) → (y ≡ x) ⊎ (v ≤ y) → counted (goes_round x y v) ≡ 0
 stays_not x y v h = go (x == y) refl (nat_lt y v) refl h
   where
@@ -65,7 +65,7 @@ not_pending x c v e h = go (pending_tells x c v e)
     go (inl p) = p.0
     go (inr p) = absurd (h p.1 p.2 p.3)
 
--- behind a durable word that has risen no more are pending
+-- after a durable word has risen no more words are pending
 one_rises : (x y c v : ℕ) → x ≤ y → (e : ℕ × ℕ) → counted (is_pending y c v e) ≤ counted (is_pending x c v e)
 one_rises x y c v u e = go (pending_tells y c v e) (pending_tells x c v e)
   where
@@ -80,7 +80,7 @@ all_rise : (x y c v : ℕ) → x ≤ y → (es : List (ℕ × ℕ)) → pending_
 all_rise x y c v u [] = omega arith
 all_rise x y c v u (e ∷ es) = let p = one_rises x y c v u e in let q = all_rise x y c v u es in omega (arith, p, q)
 
--- and one fewer, where one of them is raised
+-- and one fewer, if one of them is raised
 one_raised : (x y c v : ℕ) → x ≤ y → (es : List (ℕ × ℕ)) (k : ℕ) → k < length es → (get_or es k (0, 0)).0 ≡ c → x < (get_or es k (0, 0)).1 → (get_or es k (0, 0)).1 < v → (get_or es k (0, 0)).1 ≤ y
     → 1 + pending_among y c v es ≤ pending_among x c v es
 one_raised x y c v u [] k l a b d f = absurd (omega (arith, l))
@@ -107,7 +107,7 @@ one_more x c v [] e h = go (pending_tells x c v e)
     go (inr p) = let z = h p.1 in absurd (omega (arith, z, p.3))
 one_more x c v (d ∷ es) e h = ap (λ (n : ℕ). counted (is_pending x c v d) + n) (one_more x c v es e h)
 
--- where no event changes a durable word to one below v, it stays as it is or comes to v at least
+-- if no event changes a durable word to one below v, it stays as it is or becomes at least v
 pub stands : (S : Setup) (es : List Event) (w : World) (c v : ℕ) → lower_changes S w es c v ≡ 0 → (durable_word S (run S w es).words c ≡ durable_word S w.words c) ⊎ (v ≤ durable_word S (run S w es).words c)
 stands S [] w c v h = inl refl
 stands S (e ∷ es) w c v h = go (round_tells (durable_word S w.words c) (durable_word S (happens S w e).words c) v) (stands S es (happens S w e) c v (omega (arith, h)))

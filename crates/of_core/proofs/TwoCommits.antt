@@ -1,16 +1,16 @@
 -- An announced call is done after at most two commits that follow its announcement.
-use Rattle.std.proofs.Common.{◌≡◌, ℕ, ◌+◌, ◌-◌, ◌<◌, ◌≤◌, ◌⊎◌, inl, inr, List, [], ◌∷◌, ◌++◌, length, take, drop, max, set, get_or, refl, sym, ◌∙◌, ap, subst, arith}
+use Rattle.std.proofs.Common.{◌≡◌, ℕ, ◌+◌, ◌<◌, ◌≤◌, ◌⊎◌, inl, inr, List, [], ◌∷◌, ◌++◌, length, take, drop, max, get_or, refl, sym, ◌∙◌, ap, subst, arith}
 use Rattle.std.proofs.lemmas.Bool.{cases_lt}
 use Rattle.std.proofs.lemmas.List.{take-append-drop, get_or-set_other}
 use Rattle.of_cell.specs.Words.{seq, pay}
 use Rattle.of_mem.specs.Meaning.{Sound}
-use Rattle.of_core.specs.Table.{Setup, base, size, durable_at, ticket_cell, announcement_of, script_at, script_word, last}
+use Rattle.of_core.specs.Table.{Setup, base, size, durable_at, ticket_cell, announcement_of, script_at, script_word}
 use Rattle.of_core.specs.Machine.{no_call}
 use Rattle.of_core.specs.Steps.{finds}
 use Rattle.of_core.specs.World.{World, Start, Batch, stepped}
-use Rattle.of_core.specs.History.{batch, at, ticket_in, Last, LastCall, InRow}
+use Rattle.of_core.specs.History.{batch, ticket_in, Last}
 use Rattle.of_core.specs.Rounds.{Quieted}
-use Rattle.of_core.specs.Invariant.{Good, IsLoaded}
+use Rattle.of_core.specs.Invariant.{Good}
 use Rattle.of_core.specs.Moves.{Moves}
 use Rattle.of_core.specs.Events.{Event, Begins, Turns, Loads, Evicts, Raises, happens, machine, run, evicted, MayHappen, IsSchedule, start_ticket}
 use Rattle.of_core.specs.Commits.{HasRun}

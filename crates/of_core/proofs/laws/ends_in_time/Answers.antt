@@ -1,9 +1,6 @@
-use Rattle.std.proofs.Common.{arith, refl, take, drop, ap, subst}
-use Rattle.std.proofs.Common.{List}
-use Rattle.std.proofs.lemmas.List.{take-append-drop}
+use Rattle.std.proofs.Common.{arith}
 use Rattle.of_core.proofs.laws.ends_in_time.Goals as goal
-use Rattle.of_core.specs.Table.{announcement_of}
-use Rattle.of_core.specs.Events.{Event, opening, run}
+use Rattle.of_core.specs.Events.{opening}
 use Rattle.of_core.specs.Laws.{setup_for}
 use Rattle.of_core.proofs.InTime.{ends_in_time}
 use Rattle.of_core.proofs.GivenUp.{given_up}
