@@ -5,3 +5,4 @@ pub mod Zeros
 pub mod Asked
 pub mod Starting
 mod Walks
+pub mod ThreeCallers

@@ -1,3 +1,4 @@
 pub mod Register
 pub mod Sound
 pub mod Rows
+pub mod ThreeCallers

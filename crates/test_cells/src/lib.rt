@@ -1,7 +1,8 @@
 //! Tests of cells: partial memory and the places of the data cells; blocks, the map and the queues
 //! beside the plain store; scripts that ask for cells and reply; the cells that stand for a store,
 //! and cells at fault; and worked schedules of the bank, on scripts and on a work of one's own,
-//! with the words, outcomes and step counts that they leave. There is nothing to call here.
+//! with the words, outcomes and step counts that they leave. Two schedules of three callers are a
+//! law; else there is nothing to call here.
 #![tactic(auto)]
 
 #[cfg(test)]
@@ -18,5 +19,6 @@ mod schedules;
 mod scripts;
 #[cfg(test)]
 mod structures;
+pub mod three_callers;
 #[cfg(test)]
 mod turns;

@@ -1,0 +1,54 @@
+-- Three callers on two registers, from zeros: two stores in turn, and two that overlap.
+use Rattle.std.specs.Prelude.{ℕ, List, [], ◌∷◌, ◌++◌, length, ◌≡◌, true, false}
+use Rattle.std.proofs.Common.{take, replicate}
+use Rattle.of_core.specs.declared.place.Outcome.{Outcome}
+use Rattle.of_core.specs.declared.place.Outcome.TheVariants.{Answered}
+use Rattle.of_core.specs.Table.{Setup, table_size}
+use Rattle.of_core.specs.World.{World}
+use Rattle.of_core.specs.Events.{Event, Begins, Turns, IsSchedule, opening, zeros}
+use Rattle.of_core.specs.Calls.{operations, outcomes}
+use Rattle.of_core.specs.Linear.{CallEndsBefore}
+use Rattle.of_core.specs.Worked.{registers, table_with, reply_with}
+
+abbrev pub three : Setup
+three = table_with 3 registers
+
+abbrev pub at_zeros : World
+at_zeros = opening three (zeros three) (table_size three)
+
+-- caller i stores v in the second register, from its begin to its answer
+abbrev pub whole_store : (i v : ℕ) → List Event
+whole_store i v = Begins i (v ∷ []) ∷ replicate 52 (Turns i)
+
+-- how such a store is answered, if it is in this batch
+abbrev pub stored_in : (batch : ℕ) → List Outcome
+stored_in s = Answered s true (reply_with (0 ∷ [])) 52 ∷ []
+
+-- caller 2 begins to read both registers and loads the first; caller 0 stores 7, then caller 1
+-- stores 8; and the read goes on
+abbrev pub in_turn : List Event
+in_turn =
+    (Begins 2 (0 ∷ 0 ∷ []) ∷ replicate 3 (Turns 2))
+    ++ (whole_store 0 7 ++ (whole_store 1 8 ++ replicate 5 (Turns 2)))
+
+-- caller 0 begins to store 7, caller 1 stores 8, and the store of caller 0 goes on
+abbrev pub overlapping : List Event
+overlapping = (Begins 0 (7 ∷ []) ∷ []) ++ (whole_store 1 8 ++ replicate 52 (Turns 0))
+
+-- the store of caller 0 has ended before that of caller 1 begins, so it is in an earlier batch; the
+-- read began before both, and reads what the later one has stored
+pub record IsOrderedByTime : Type 0 where
+  pub schedule : IsSchedule three at_zeros in_turn
+  pub ends_first : CallEndsBefore three at_zeros in_turn 0 0 1 0
+  pub first_store : outcomes three at_zeros in_turn 0 ≡ stored_in 1
+  pub second_store : outcomes three at_zeros in_turn 1 ≡ stored_in 2
+  pub read : outcomes three at_zeros in_turn 2 ≡ Answered 2 false (reply_with (0 ∷ 8 ∷ [])) 8 ∷ []
+
+-- the store of caller 0 begins first, but has not ended when caller 1 stores, and is in the later
+-- batch
+pub record IsOrderedOtherwise : Type 0 where
+  pub schedule : IsSchedule three at_zeros overlapping
+  pub begins_first : (length (operations (take 1 overlapping) 0) ≡ 1)
+      × (length (operations (take 1 overlapping) 1) ≡ 0)
+  pub first_store : outcomes three at_zeros overlapping 0 ≡ stored_in 2
+  pub second_store : outcomes three at_zeros overlapping 1 ≡ stored_in 1
