@@ -12,16 +12,17 @@ use Rattle.of_core.specs.declared.place.Outcome.{Outcome}
 use Rattle.of_core.specs.Table.{Setup, size, table_size, durable_at, durable_word, base, ticket_cell, shape_cell, reply_cell}
 use Rattle.of_core.specs.Machine.{Call, no_call}
 use Rattle.of_core.specs.World.{World, Start}
+use Rattle.of_core.specs.Starts.{IsDurable}
 use Rattle.of_core.specs.Events.{Event}
 use Rattle.of_core.specs.Calls.{operations, outcomes, no_outcome}
 use Rattle.of_core.specs.Laws.{EveryOrder, Restarts}
 use Rattle.of_core.specs.Linear.{Explains, Linearizes, found, FindsCall, Detects, IsRecovered, IsDurablyLinearizable}
 use Rattle.of_core.proofs.Logs.{room_for}
 use Rattle.of_row.specs.Views.{Committed, Ended, Kept, Sight, no_ended, bare, IsFront, Each}
-use Rattle.of_row.specs.Rule.{members_of, ticket_at, op_at, outcome_at, Stays, Fits, world, Ruled}
+use Rattle.of_row.specs.Rule.{members_of, ticket_at, op_at, outcome_at, Stays, Fits, world, Ruled, Meets}
 use Rattle.of_row.specs.Told.{IsAsTold, open_op}
 use Rattle.of_row.specs.Trail.{first_of, moment, Leaves, IsToldBy, EachView}
-use Rattle.of_row.specs.Moments.{IsReachedBy, ExplainsAll, words_alone, LosesNothing}
+use Rattle.of_row.specs.Moments.{IsReachedBy, ExplainsAll, words_alone, LosesNothing, HoldsCalls}
 use Rattle.of_row.proofs.Fronts.{each_map, each_both}
 use Rattle.of_row.proofs.Runs.{told_of, runs_by}
 
@@ -89,7 +90,7 @@ module _ (S : Setup) (L : List ℕ → Type 0) (B : Start) (s : State (Unit {0})
       own = λ i below. detects_same i below (h.own i below);
     }
 
-  -- ---- the calls of those whom a seat keeps
+    -- ---- the calls of those whom a seat keeps
 
     explained_by : Linearizes S B (first_of S B) es order → (x : Kept) → x.machine.caller < S.callers → IsToldBy S B es x.machine.caller x → ExplainsAll S B order x
     explained_by h x below t y low =
@@ -98,10 +99,10 @@ module _ (S : Setup) (L : List ℕ → Type 0) (B : Start) (s : State (Unit {0})
         let outs : outcomes S (first_of S B) es i ≡ map (λ (e : Ended). e.outcome) x.ended = sym t.ended in
         let many : y < length (outcomes S (first_of S B) es i) = omega (arith, low, ap length outs, length-map x.ended (λ (e : Ended). e.outcome)) in
         let op : get_or (operations es i) y [] ≡ op_at x.ended y =
-            ap (λ (z : List (List ℕ)). get_or z y []) (sym t.begun)
-            ∙ (get_or_append_left ops _ [] y (omega (arith, low, length-map x.ended (λ (e : Ended). e.op))) ∙ get_or-map (λ (e : Ended). e.op) x.ended y no_ended [] low) in
+        ap (λ (z : List (List ℕ)). get_or z y []) (sym t.begun)
+        ∙ (get_or_append_left ops _ [] y (omega (arith, low, length-map x.ended (λ (e : Ended). e.op))) ∙ get_or-map (λ (e : Ended). e.op) x.ended y no_ended [] low) in
         let out : get_or (outcomes S (first_of S B) es i) y no_outcome ≡ outcome_at x.ended y =
-            ap (λ (z : List Outcome). get_or z y no_outcome) outs ∙ get_or-map (λ (e : Ended). e.outcome) x.ended y no_ended no_outcome low in
+        ap (λ (z : List Outcome). get_or z y no_outcome) outs ∙ get_or-map (λ (e : Ended). e.outcome) x.ended y no_ended no_outcome low in
         subst (λ (z : List ℕ × Outcome). Explains S order i (ticket_at S B x y) z.0 z.1) (λ k. (op k, out k)) (h.ended i y below many)
 
     explained : Linearizes S B (first_of S B) es order → EachView (λ v. Each (ExplainsAll S B order) v.kept) s.views
@@ -109,7 +110,7 @@ module _ (S : Setup) (L : List ℕ → Type 0) (B : Start) (s : State (Unit {0})
         let m : ℕ = members_of S s.words in
         let f : Fits S B s.words r.machines r.batches r.home r.chief j v = r.each j v at live in
         each_both (Stays S r.machines r.home m j) (IsAsTold r.told) (ExplainsAll S B order) v.kept
-            (λ x q t. explained_by h x q.in_range (told_of S B r.told es r.trail.came.tells x q.in_range t)) f.kept (r.mine j v at live)
+        (λ x q t. explained_by h x q.in_range (told_of S B r.told es r.trail.came.tells x q.in_range t)) f.kept (r.mine j v at live)
 
   pub loses_nothing : EveryOrder S L → Restarts S L → LosesNothing S L B s
   loses_nothing orders restarts =
@@ -123,3 +124,14 @@ module _ (S : Setup) (L : List ℕ → Type 0) (B : Start) (s : State (Unit {0})
         recovered_so = recovered_same h.order h.recovered;
         restarts = λ row is. (restarts B w r.good row is).0;
       }
+
+-- a closed row stops at its last moment
+pub closed_holds : (S : Setup) (L : List ℕ → Type 0) → EveryOrder S L → Restarts S L → (B : Start) (ws : List ℕ) (v : Sight) → Meets S L B ws v → v.spent ≡ false → HoldsCalls S L B ws v
+closed_holds S L orders restarts B ws v m live =
+    let h : LosesNothing S L B m.state = loses_nothing S L B m.state m.rule orders restarts in
+    record {
+      order = h.order;
+      explained = h.explained m.seat v m.view live;
+      recovered_so = subst (λ (z : List ℕ). IsRecovered S B (words_alone z) h.order) m.words h.recovered_so;
+      restarts = λ row is. h.restarts row (subst (λ (z : List ℕ). IsDurable S z row) (sym m.words) is);
+    }

@@ -1,6 +1,6 @@
 -- Any moment of a row: a schedule has led to its words, and a row that stops there loses no call
 -- that was answered.
-use Rattle.std.specs.Prelude.{◌≡◌, ℕ, ◌<◌, List, [], length}
+use Rattle.std.specs.Prelude.{◌≡◌, ℕ, ◌<◌, List, [], length, false}
 use Rattle.std.proofs.Common.{get_or}
 use Rattle.atomic_table.specs.Table.{State}
 use Rattle.of_recover.specs.Recovered.{recovered}
@@ -11,7 +11,7 @@ use Rattle.of_core.specs.Starts.{IsDurable, IsStartRow}
 use Rattle.of_core.specs.Events.{Event, IsSchedule}
 use Rattle.of_core.specs.Linear.{Explains, Linearizes, IsRecovered}
 use Rattle.of_row.specs.Views.{Kept, Sight, IsFront, Each}
-use Rattle.of_row.specs.Rule.{Ruled, ticket_at, op_at, outcome_at}
+use Rattle.of_row.specs.Rule.{Ruled, Meets, ticket_at, op_at, outcome_at}
 use Rattle.of_row.specs.Trail.{first_of, moment, EachView}
 use Rattle.of_row.specs.Runs.{IsRunBy}
 
@@ -56,3 +56,20 @@ pub record LosesNothing (S : Setup) (Lawful : List ℕ → Type 0) (B : Start)
 abbrev pub StopsLoseNothing : (List ℕ → Type 0) → Setup → Type 0
 StopsLoseNothing Lawful S =
     (B : Start) (s : State (Unit {0}) Sight) → Ruled S Lawful B s → LosesNothing S Lawful B s
+
+-- What the words of a closed row hold of the calls of a pass with this view: one serial order has them
+-- as they ended, recovery of the words finds what that order leads to, and from the row that it makes
+-- a table may start.
+pub record HoldsCalls (S : Setup) (Lawful : List ℕ → Type 0) (B : Start) (ws : List ℕ) (v : Sight)
+    : Type 0 where
+  pub order : List Call
+  pub explained : Each (ExplainsAll S B order) v.kept
+  pub recovered_so : IsRecovered S B (words_alone ws) order
+  pub restarts : (row : List ℕ) → IsDurable S ws row
+      → IsStartRow S Lawful (recovered S.callers S.cells row)
+
+-- so it is of each pass with which words meet the rule, as after the close
+abbrev pub ClosedHoldsCalls : (List ℕ → Type 0) → Setup → Type 0
+ClosedHoldsCalls Lawful S =
+    (B : Start) (ws : List ℕ) (v : Sight) → Meets S Lawful B ws v → v.spent ≡ false
+    → HoldsCalls S Lawful B ws v

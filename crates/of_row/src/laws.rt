@@ -3,7 +3,7 @@
 ghost use Rattle.of_row.specs.Laws.{SeesWhole, SeesOwn, NewRuns, StillRuns};
 ghost use Rattle.of_core.specs.Laws.{setup_for};
 ghost use Rattle.of_row.specs.Runs.{RunsAreSchedules, RunsAreLinearizable};
-ghost use Rattle.of_row.specs.Moments.{StopsLoseNothing};
+ghost use Rattle.of_row.specs.Moments.{StopsLoseNothing, ClosedHoldsCalls};
 ghost use Rattle.of_row.specs.Laws.{FreshMember, IdleMember, MemberInRange, NewMember, BegunMember};
 
 use of_core::laws::{every_moment, every_order, starts};
@@ -59,9 +59,12 @@ pub fn runs_are_linearizable<W: Work>(limit: u32, work: W)
 
 /// A row that stops between any two steps loses no call that was answered: a schedule leaves its words
 /// as they are then, one serial order of calls explains how all calls have ended, and recovery of the
-/// words finds what that order leads to.
+/// words finds what that order leads to. So it is of the words of a closed row, for all calls that its
+/// pass keeps.
 pub fn stops_lose_nothing<W: Work>(limit: u32, work: W)
-    ensures { StopsLoseNothing (W.lawful work)
+    ensures stops { StopsLoseNothing (W.lawful work)
+        (setup_for W.many W.size W.meaning limit work) }
+    ensures closed { ClosedHoldsCalls (W.lawful work)
         (setup_for W.many W.size W.meaning limit work) }
 {
     every_order(limit, work);
