@@ -1,15 +1,12 @@
 -- Any moment of a row: the events that came lead to its words, and recovery of them finds all that was answered.
-use Rattle.std.proofs.Common.{◌≡◌, ℕ, ◌+◌, ◌*◌, ◌<◌, ◌≤◌, ◌⊎◌, inl, inr, ⊎_elim, List, [], ◌∷◌, ◌++◌, length, take, map, get_or, false, refl, sym, ◌∙◌, ap, subst, arith}
+use Rattle.std.proofs.Common.{◌≡◌, ℕ, ◌+◌, ◌<◌, ◌≤◌, ◌⊎◌, inl, inr, ⊎_elim, List, [], length, take, map, get_or, false, sym, ◌∙◌, ap, subst, arith}
 use Rattle.std.specs.List.{All}
 use Rattle.std.proofs.lemmas.List.{length-map, take-map, get_or-map, get_or_append_left}
-use mathlib.Core.Option.{some}
-use lib.ListN.{get_elem?}
 use Rattle.atomic_table.specs.Table.{State}
 use Rattle.of_cell.specs.Words.{pay}
-use Rattle.of_mem.specs.Meaning.{marked}
 use Rattle.of_recover.proofs.Agreeing.{recovered_data-same}
 use Rattle.of_core.specs.declared.place.Outcome.{Outcome}
-use Rattle.of_core.specs.Table.{Setup, size, table_size, durable_at, durable_word, base, ticket_cell, shape_cell, reply_cell}
+use Rattle.of_core.specs.Table.{Setup, size, table_size, durable_at, durable_word, ticket_cell, shape_cell, reply_cell}
 use Rattle.of_core.specs.Machine.{Call, no_call}
 use Rattle.of_core.specs.World.{World, Start}
 use Rattle.of_core.specs.Starts.{IsDurable}
@@ -18,12 +15,12 @@ use Rattle.of_core.specs.Calls.{operations, outcomes, no_outcome}
 use Rattle.of_core.specs.Laws.{EveryOrder, Restarts}
 use Rattle.of_core.specs.Linear.{Explains, Linearizes, found, FindsCall, Detects, IsRecovered, IsDurablyLinearizable}
 use Rattle.of_core.proofs.Logs.{room_for}
-use Rattle.of_row.specs.Views.{Committed, Ended, Kept, Sight, no_ended, bare, IsFront, Each}
+use Rattle.of_row.specs.Views.{Ended, Kept, Sight, no_ended, bare, IsFront, Each}
 use Rattle.of_row.specs.Rule.{members_of, ticket_at, op_at, outcome_at, Stays, Fits, world, Ruled, Meets}
-use Rattle.of_row.specs.Told.{IsAsTold, open_op}
+use Rattle.of_row.specs.Told.{IsAsTold}
 use Rattle.of_row.specs.Trail.{first_of, moment, Leaves, IsToldBy, EachView}
 use Rattle.of_row.specs.Moments.{IsReachedBy, ExplainsAll, words_alone, LosesNothing, HoldsCalls}
-use Rattle.of_row.proofs.Fronts.{each_map, each_both}
+use Rattle.of_row.proofs.Fronts.{each_both}
 use Rattle.of_row.proofs.Runs.{told_of, runs_by}
 
 module _ (S : Setup) (L : List ℕ → Type 0) (B : Start) (s : State (Unit {0}) Sight) (r : Ruled S L B s) where

@@ -1,5 +1,5 @@
 -- A run of threads is a schedule.
-use Rattle.std.proofs.Common.{◌≡◌, ℕ, ◌+◌, ◌<◌, ◌≤◌, List, [], ◌∷◌, ◌++◌, length, map, get_or, true, false, refl, sym, ◌∙◌, ap, subst, arith}
+use Rattle.std.proofs.Common.{◌≡◌, ℕ, ◌+◌, ◌<◌, List, [], ◌++◌, map, get_or, true, false, sym, ◌∙◌, ap, subst, arith}
 use Rattle.std.specs.Int.{bit_at}
 use Rattle.std.proofs.lemmas.List.{get_or_default, append-nil}
 use mathlib.Core.Option.{some}
@@ -7,12 +7,12 @@ use lib.ListN.{get_elem?}
 use Rattle.atomic_table.specs.Table.{State}
 use Rattle.of_core.specs.Table.{Setup, table_size}
 use Rattle.of_core.specs.Machine.{Data, no_machine}
-use Rattle.of_core.specs.World.{World, Start}
+use Rattle.of_core.specs.World.{Start}
 use Rattle.of_core.specs.Events.{Event, machine}
 use Rattle.of_core.specs.Claim.{IsSound}
 use Rattle.of_core.specs.Laws.{EveryMoment, EveryOrder}
 use Rattle.of_core.specs.Linear.{IsDurablyLinearizable}
-use Rattle.of_row.specs.Views.{Kept, Sight, bare, Each}
+use Rattle.of_row.specs.Views.{Kept, Sight, Each}
 use Rattle.of_row.specs.Rule.{members_of, Stays, Fits, Ruled, Meets, KeepsAll, world}
 use Rattle.of_row.specs.Told.{IsAsTold}
 use Rattle.of_row.specs.Trail.{first_of, moment, Leaves, IsToldBy, TellAll, EvictsSo}
