@@ -28,6 +28,7 @@ pub record Progress (S : Setup) (L : List ℕ → Type 0) (B : Start) (m : Data)
   pub kept_now : w.kept ≡ kept ∷ []
   pub none : n ≡ 0 → (w ≡ v) × (d ≡ m)
   pub some : 0 < n → StepsTold S B d w kept
+  pub turns : kept.turns ≡ before.turns + n
   pub since : 0 < n → kept.since ≡ since_after B v before
   pub still : IsOpen d.place → IsOpenStill S m before n d kept
   pub ended : IsIdle d → (o : Outcome) × HasClosed S L B m v before n d w kept o
@@ -62,6 +63,7 @@ starts_at S L B d v o within x one = record {
   kept_now = one;
   none = λ z. (refl, refl);
   some = λ h. absurd (omega (arith, h));
+  turns = omega arith;
   since = λ h. absurd (omega (arith, h));
   still = λ z. record { open_call = o; steps = omega arith; within = within; kept = refl };
   ended = λ idle. absurd (open_not_idle d o idle);
@@ -119,6 +121,7 @@ module _ (S : Setup) (L : List ℕ → Type 0) (B : Start) (d0 : Data) (v0 : Sig
               (subst (λ (op : List ℕ). HasEnded S B (shown w.seen) (reach B w.seen) d.caller d.made op q) p.op ends.stands));
           meant = subst (λ (op : List ℕ). Meant S B (shown w.seen) op q) p.op ends.meant;
           steps = subst (λ (k : ℕ). Tells k q) steps ends.steps;
+          within = omega (arith, (p.still o).steps, (p.still o).within);
           beyond = subst (λ (k : ℕ). Beyond k q) since_is ends.beyond;
           last = record { machine = d; found = found; meets = t.meets; open_call = o; leads = refl; spent = spent_exactly S d found o idle q ends.answer };
         },
@@ -135,7 +138,8 @@ module _ (S : Setup) (L : List ℕ → Type 0) (B : Start) (d0 : Data) (v0 : Sig
     kept_before = p.kept_before;
     kept_now = t.kept p.kept p.kept_now;
     none = λ z. absurd (omega (arith, z));
-    some = λ h. record { machine = refl; legal = t.legal; own = t.own p.kept p.kept_now };
+    some = λ h. record { machine = refl; legal = t.legal; own = t.own p.kept p.kept_now; once = t.once p.kept p.kept_now };
+    turns = omega (arith, p.turns);
     since = λ h. since_is;
     still = stays;
     ended = closes;

@@ -311,7 +311,7 @@ module _ (p : Plan) (laws : KeepsLaws p) (sees : SeesWhole (lawful_for p)) (s : 
 
   -- the events are those of the plan's callers with these items
   same : es ≡ scheduled p B items
-  same = same_events p O es schedule t.meets.rule.trail.leaves.prompt (λ i l. (tells_events i l).busy) (next_so [] es refl) ∙ ap (events_from p O) (sym (items_move es))
+  same = same_events p O es schedule t.meets.rule.trail.prompt (λ i l. (tells_events i l).busy) (next_so [] es refl) ∙ ap (events_from p O) (sym (items_move es))
 
   evicts : EvictsSo es t.meets.rule.trail.pending v
   evicts = t.meets.rule.trail.views t.meets.seat v t.meets.view t.live

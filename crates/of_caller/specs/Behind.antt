@@ -1,5 +1,7 @@
--- Calls of two callers: whoever has heard of an answer comes behind it.
-use Rattle.std.specs.Prelude.{ℕ, List, Ok}
+-- Real time between two callers, as far as they know of it: a call that begins when its caller has
+-- heard of an answer comes after that answer.
+use Rattle.std.specs.Prelude.{ℕ, List, Ok, Err}
+use Rattle.std.proofs.Common.{zero, suc}
 use mathlib.Core.List.{IsPrefix}
 use Rattle.of_mem.specs.Meaning.{Meaning}
 use Rattle.of_core.specs.declared.place.Outcome.{Outcome}
@@ -8,19 +10,32 @@ use Rattle.of_core.specs.Calls.{seq_of, Beyond}
 use Rattle.of_row.specs.declared.row.Row.{Row}
 use Rattle.of_row.specs.Rows.{HasNoCall}
 use Rattle.of_caller.specs.declared.caller.Caller.{Caller}
-use Rattle.of_caller.specs.Callers.{sight_of}
+use Rattle.of_caller.specs.declared.caller.CallErr.TheVariants.{Stopped}
+use Rattle.of_caller.specs.Callers.{call_of, sight_of}
 use Rattle.of_caller.specs.CallsTold.{CallTold}
 
--- the second has seen all that the first had: it has taken in a pass that knew it
+-- the second caller has seen all that the first had: it has taken in a pass that knew it
 abbrev pub HasHeard : {W : Type 0} → (told hearer : Caller W) → Type 0
 HasHeard a b = IsPrefix (sight_of a).seen (sight_of b).seen
 
--- A call of caller a has ended with o and left it as a'. Caller b has heard of that, and has then
--- begun a call that has ended with p: so p comes behind o
+-- The open call m of caller b is answered with p, and leaves the caller as b'. Before that it is
+-- stopped this often, and goes on each time.
+abbrev pub IsAnsweredAfter : {W : Type 0} → (W → Meaning) → (W → List ℕ → Type 0) → Row W
+    → (stops : ℕ) → (m : Data) → (b b' : Caller W) → Outcome → Type 0
+IsAnsweredAfter {W} meaning lawful row zero m b b' p =
+    (s : ℕ) × (t : ℕ) × CallTold meaning lawful row m b b' s t (Ok p)
+IsAnsweredAfter {W} meaning lawful row (suc stops) m b b' p =
+    (c : Caller W) × (s : ℕ) × (t : ℕ) × (asked : ℕ)
+    × CallTold meaning lawful row m b c s t (Err (Stopped asked))
+    × IsAnsweredAfter meaning lawful row stops (call_of c) c b' p
+
+-- A call of caller a was answered with o and left it as a'. Caller b has heard of that, and has then
+-- begun a call that is answered with p, at once or after stops. So p comes after o: an announced call
+-- at a higher sequence, and a read at no lower one.
 abbrev pub ComesBehind : {W : Type 0} → (W → Meaning) → (W → List ℕ → Type 0) → Type 0
 ComesBehind {W} meaning lawful =
-    (row : Row W) (m n : Data) (a a' b b' : Caller W) (s s' t t' : ℕ) (o p : Outcome)
-    → CallTold meaning lawful row m a a' s s' (Ok o)
+    (row : Row W) (m n : Data) (a a' b b' : Caller W) (s t stops : ℕ) (o p : Outcome)
+    → CallTold meaning lawful row m a a' s t (Ok o)
     → HasHeard a' b → HasNoCall b.member
-    → CallTold meaning lawful row n b b' t t' (Ok p)
+    → IsAnsweredAfter meaning lawful row stops n b b' p
     → Beyond (seq_of o) p

@@ -13,7 +13,7 @@ use Rattle.of_core.specs.Bound.{bound}
 use Rattle.of_core.specs.Turn.{IsIdle}
 use Rattle.of_core.specs.Calls.{Beyond, IsAnswered}
 use Rattle.of_row.specs.Views.{Kept, Sight, reach, shown}
-use Rattle.of_row.specs.Rule.{HasEnded, HasOwn}
+use Rattle.of_row.specs.Rule.{HasEnded, HasOwn, OwnOnce}
 use Rattle.of_row.specs.Turned.{Meant, Tells, since_after}
 use Rattle.of_row.specs.declared.row.Row.{Row}
 use Rattle.of_row.specs.Rows.{key_of, setup_at, start_at}
@@ -42,6 +42,8 @@ pub record HasClosed (S : Setup) (Lawful : List ℕ → Type 0) (B : Start)
   pub meant : Meant S B (shown w.seen) m.op o
   -- an answer tells the steps of the whole call
   pub steps : Tells (m.steps + n) o
+  -- and those of no call, a spent one neither, are more than the bound
+  pub within : m.steps + n ≤ bound S
   -- an announced call is above all that was seen when it began, and no read is below
   pub beyond : Beyond (since_after B v x) o
   -- it is spent exactly where a round that began at the limit looked for it in vain
@@ -66,11 +68,13 @@ ResultTold S L B m v x n d w y (Err (Stopped asked)) =
 ResultTold S L B m v x n d w y (Err (Spent seq)) = HasClosed S L B m v x n d w y (Over seq)
 
 -- what is told of steps that were made: the member keeps the machine; what was seen is a legal
--- history; and it has of the caller's calls just those that the caller made, as they have ended
+-- history; and it has of the caller's calls just those that the caller made, as they have ended,
+-- each announced one that was answered in one batch
 pub record StepsTold (S : Setup) (B : Start) (d : Data) (w : Sight) (y : Kept) : Type 0 where
   pub machine : y.machine ≡ d
   pub legal : Legal S.meaning (map pay B.cells) (shown w.seen)
   pub own : HasOwn S B w.seen y
+  pub once : OwnOnce S B w.seen y
 
 -- what a call tells with this result, where the count of steps went from a to b
 pub record HasTold (S : Setup) (Lawful : List ℕ → Type 0) (B : Start)
@@ -92,6 +96,10 @@ pub record HasTold (S : Setup) (Lawful : List ℕ → Type 0) (B : Start)
   pub kept_now : w.kept ≡ kept ∷ []
   pub none : steps ≡ 0 → w ≡ v
   pub some : 0 < steps → StepsTold S B d w kept
+  -- each step that is counted was made on the table
+  pub turns : kept.turns ≡ before.turns + steps
+  -- and the member keeps what was seen when the call began, also where it was stopped
+  pub since : 0 < steps → kept.since ≡ since_after B v before
   pub result : ResultTold S Lawful B m v before steps d w kept r
 
 -- what is told of the call m of a caller of the row

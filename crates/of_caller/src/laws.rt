@@ -47,9 +47,11 @@ pub fn runs_are_lawful()
     ensures allowances { RunsKeepAllowances }
 {}
 
-/// What a team of a plan leaves is a lawful record from the start of its row: the laws of runs hold of it, its announced entries are the
-/// calls of the batches that its pass has seen, and a caller that keeps to its stop keeps it as its allowance. A table may start from
-/// its durable words, where that record's report ends.
+/// What a team of a plan leaves is a lawful record from the start of its row: the laws of runs hold
+/// of it, its announced entries are the calls of the batches that its pass has seen, and a caller
+/// that keeps to its stop keeps it as its allowance. A table may start from its durable words, where
+/// that record's report ends. And some schedule of the plan's callers, with the plan's evictions in
+/// their order, leaves the same.
 pub fn teams_are_lawful(plan: &Plan)
     ensures lawful { TeamsAreLawful plan.now }
     ensures allowances { TeamsKeepAllowances plan.now }
@@ -71,8 +73,8 @@ pub fn runs_restart()
     ensures { RunsRestart }
 {}
 
-/// A call comes behind each answer that its caller had heard of when it began: an announced one at a
-/// higher sequence, a read at no lower one.
+/// A call comes after each answer that its caller had heard of when it began, also if it was stopped
+/// and went on: an announced one at a higher sequence, a read at no lower one.
 pub fn answers_are_behind<W: Work>()
     ensures { ComesBehind W.meaning W.lawful }
 {}

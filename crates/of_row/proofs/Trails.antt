@@ -1,7 +1,7 @@
 -- What leads from one moment of a row to the next: each kind of step is some events.
 use Rattle.std.proofs.Common.{◌≡◌, ◌≢◌, ◌==◌, ℕ, zero, suc, ◌+◌, ◌<◌, ◌≤◌, ◌⊎◌, inl, inr, ⊎_elim, max, Bool, true, false, Option, Some, List, [], ◌∷◌, ◌++◌, length, get_or, set, map, refl, sym, ◌∙◌, ap, subst, arith, length-set}
 use Rattle.std.proofs.lemmas.Bool.{cases_eq}
-use Rattle.std.proofs.lemmas.List.{append_assoc, append-nil, length-append, map-append, get_or_append_left, get_or-set_same, get_or-set_other, get_or_default, set-set, set_comm}
+use Rattle.std.proofs.lemmas.List.{append_assoc, append-nil, length-append, map-append, get_or_append_left, get_or-set_same, get_or-set_other, get_or_default, get_or_push, set-set, set_comm}
 use mathlib.Core.Option.{some}
 use lib.ListN.{get_elem?}
 use Rattle.atomic_table.proofs.Lists.{at_set}
@@ -24,7 +24,7 @@ use Rattle.of_core.proofs.Parts.{run_append, operations_append, outcomes_append}
 use Rattle.of_row.specs.Views.{Committed, Ended, Kept, Sight, bare, Each}
 use Rattle.of_row.specs.Turned.{Opens, StandsFor, kept_after}
 use Rattle.of_row.specs.Told.{begun_of, outcomes_of, put}
-use Rattle.of_row.specs.Trail.{first_of, moment, lifted, Agrees, TurnIsNext, IsPrompt, Leaves, IsToldBy, evicted_by, evictions, EvictsSo, EachView, Trail}
+use Rattle.of_row.specs.Trail.{first_of, moment, lifted, Agrees, TurnIsNext, IsPrompt, Leaves, IsToldBy, TellAll, IsAmong, Came, eviction_in, evictions, EvictsSo, EachView, Trail}
 use Rattle.of_row.proofs.Tellings.{put_at, put_else, at_last, begun_idle, begun_open, begun_after, outcomes_after}
 
 -- ---- schedules in two parts
@@ -43,7 +43,7 @@ busy_append S w (e ∷ es) ds i a b = (a.0, busy_append S (happens S w e) es ds 
 
 evictions_append : (es ds : List Event) → evictions (es ++ ds) ≡ evictions es ++ evictions ds
 evictions_append [] ds = refl
-evictions_append (e ∷ es) ds = ap (λ (cs : List ℕ). evicted_by e ++ cs) (evictions_append es ds) ∙ sym (append_assoc (evicted_by e) (evictions es) (evictions ds))
+evictions_append (e ∷ es) ds = ap (λ (cs : List ℕ). eviction_in e ++ cs) (evictions_append es ds) ∙ sym (append_assoc (eviction_in e) (evictions es) (evictions ds))
 
 next_append : (i : ℕ) (es ds : List Event) → TurnIsNext i es → TurnIsNext i (es ++ ds)
 next_append i [] ds t = absurd t
@@ -221,6 +221,7 @@ module _ (S : Setup) (B : Start) (es : List Event) (pending : List (ℕ × ℕ))
     pub outcomes : (j : ℕ) → outcomes S W before j ≡ []
     pub turns : (j : ℕ) → turns j before ≡ 0
     pub busy : (j : ℕ) → NeverIdle S W before j
+    pub loaded : (run S W before).loaded ≡ W.loaded
     pub evictions : evictions before ≡ []
     pub prompt : IsPrompt (before ++ Turns i ∷ [])
 
@@ -242,6 +243,7 @@ module _ (S : Setup) (B : Start) (es : List Event) (pending : List (ℕ × ℕ))
         outcomes = λ j. refl;
         turns = λ j. refl;
         busy = λ j. tt;
+        loaded = refl;
         evictions = refl;
         prompt = tt;
       }
@@ -264,6 +266,7 @@ module _ (S : Setup) (B : Start) (es : List Event) (pending : List (ℕ × ℕ))
         outcomes = λ j. refl;
         turns = λ j. refl;
         busy = λ j. (tt, tt);
+        loaded = refl;
         evictions = refl;
         prompt = (refl, tt);
       }
@@ -344,10 +347,17 @@ module _ (S : Setup) (B : Start) (es : List Event) (pending : List (ℕ × ℕ))
     pub step_leaves : Leaves S B after pending (stepped S i d n w1)
     step_leaves = record {
       schedule = schedule_append S (first_of S B) es more l.schedule (schedule_append S W p.before (Turns i ∷ []) p.may (below, tt));
-      prompt = prompt_append es more l.prompt p.prompt;
       agrees = subst (Agrees S (record (stepped S i d n w1) { words = lifted S pending (words_after (want S d) w.words) })) (sym to) agrees_now;
       inside = l.inside;
     }
+
+    -- begins and turns are where they come by themselves
+    pub step_prompt : IsPrompt es → IsPrompt after
+    step_prompt before = prompt_append es more before p.prompt
+
+    -- nothing is loaded for an eviction
+    pub step_loaded : (moment S B after).loaded ≡ W.loaded
+    step_loaded = ap (λ (z : World). z.loaded) to ∙ p.loaded
 
     abbrev y : Kept
     y = kept_after B v x (took S d n)
@@ -371,7 +381,7 @@ module _ (S : Setup) (B : Start) (es : List Event) (pending : List (ℕ × ℕ))
     busy_now : (j : ℕ) → NeverIdle S (first_of S B) es j → NeverIdle S (first_of S B) after j
     busy_now j b = busy_append S (first_of S B) es more j b (busy_append S W p.before (Turns i ∷ []) j (p.busy j) (λ (q : j ≡ i). subst (λ (k : ℕ). IsOpen (machine V k).place) (sym q) (subst (λ (m : Data). IsOpen m.place) (sym p.here) o), tt))
 
-    module _ (tells : ℕ → Kept) (is : tells i ≡ x) (all : (j : ℕ) → j < S.callers → IsToldBy S B es j (tells j)) where
+    module _ (tells : ℕ → Kept) (is : tells i ≡ x) (all : TellAll S B es tells) where
       mine : IsToldBy S B es i x
       mine = subst (IsToldBy S B es i) is (all i below)
 
@@ -394,7 +404,7 @@ module _ (S : Setup) (B : Start) (es : List Event) (pending : List (ℕ × ℕ))
             busy = busy_now j t.busy;
           }
 
-      pub step_tells : (j : ℕ) → j < S.callers → IsToldBy S B after j (put tells i y j)
+      pub step_tells : TellAll S B after (put tells i y)
       step_tells j in_range = go (cases_eq i j)
         where
           go : (i ≡ j) ⊎ (i ≡ j → ⊥) → IsToldBy S B after j (put tells i y j)
@@ -432,7 +442,108 @@ evicts_still es ds pending v b e = record { loaded = e.loaded; evicted = λ f. e
 pub evicts_none : (es : List Event) (pending : List (ℕ × ℕ)) (v : Sight) → (v.first ≡ true → ⊥) → EvictsSo es pending v
 evicts_none es pending v ne = record { loaded = λ f. absurd (ne f); evicted = λ f. absurd (ne f) }
 
+-- the same events have led to other views
+pub other_views : (S : Setup) (B : Start) (w : World) (told : ℕ → Kept) (vs us : List Sight) (t : Trail S B w told vs) → EachView (EvictsSo t.events t.pending) us → Trail S B w told us
+other_views S B w told vs us t views = record { pending = t.pending; made = t.made; came = t.came; events = t.events; leaves = t.leaves; prompt = t.prompt; tells = t.tells; views = views }
+
 -- ---- evictions
+
+-- an event of an eviction tells of nobody's calls
+abbrev OfEviction : Event → Type 0
+OfEviction (Begins i op) = ⊥
+OfEviction (Turns i) = ⊥
+OfEviction (Loads c) = Unit {0}
+OfEviction (Evicts k) = Unit {0}
+OfEviction (Raises c) = Unit {0}
+
+pub eviction_tells : (S : Setup) (B : Start) (es : List Event) (e : Event) (told : ℕ → Kept) → OfEviction e → TellAll S B es told → TellAll S B (es ++ e ∷ []) told
+eviction_tells S B es e told is all j below =
+    let t = all j below in
+    record {
+      begun = t.begun ∙ (sym (append-nil (operations es j)) ∙ ((λ k. operations es j ++ sym (begins e is) k) ∙ sym (operations_append es (e ∷ []) j)));
+      ended = t.ended ∙ (sym (append-nil (outcomes S (first_of S B) es j)) ∙ ((λ k. outcomes S (first_of S B) es j ++ sym (ends e is) k) ∙ sym (outcomes_append S (first_of S B) es (e ∷ []) j)));
+      turned = omega (arith, t.turned, turns_append j es (e ∷ []), turned e is);
+      busy = busy_append S (first_of S B) es (e ∷ []) j t.busy (busy e is);
+    }
+  where
+    begins : (e : Event) → OfEviction e → operations (e ∷ []) j ≡ []
+    begins (Loads c) o = refl
+    begins (Evicts k) o = refl
+    begins (Raises c) o = refl
+    begins (Begins i op) o = absurd o
+    begins (Turns i) o = absurd o
+
+    ends : (e : Event) → OfEviction e → outcomes S (moment S B es) (e ∷ []) j ≡ []
+    ends (Loads c) o = refl
+    ends (Evicts k) o = refl
+    ends (Raises c) o = refl
+    ends (Begins i op) o = absurd o
+    ends (Turns i) o = absurd o
+
+    turned : (e : Event) → OfEviction e → turns j (e ∷ []) ≡ 0
+    turned (Loads c) o = refl
+    turned (Evicts k) o = refl
+    turned (Raises c) o = refl
+    turned (Begins i op) o = absurd o
+    turned (Turns i) o = absurd o
+
+    busy : (e : Event) → OfEviction e → NeverIdle S (moment S B es) (e ∷ []) j
+    busy (Loads c) o = (tt, tt)
+    busy (Evicts k) o = (tt, tt)
+    busy (Raises c) o = (tt, tt)
+    busy (Begins i op) o = absurd o
+    busy (Turns i) o = absurd o
+
+-- as it came, a cell is loaded first: that changes no word
+pub came_load : (S : Setup) (B : Start) (es : List Event) (w : World) (told : ℕ → Kept) (c : ℕ) → c < size S → Came S B es [] w told → Came S B (es ++ Loads c ∷ []) ((c, get_or w.words c 0) ∷ []) w told
+came_load S B es w told c inside f =
+    let U : World = moment S B es in
+    let l = f.leaves in
+    let to : moment S B (es ++ Loads c ∷ []) ≡ happens S U (Loads c) = run_append S (first_of S B) es (Loads c ∷ []) in
+    let n : ℕ = get_or U.words c 0 in
+    let same : n ≡ get_or w.words c 0 = sym (l.agrees.words c (omega (arith, inside))) in
+    record {
+      leaves = record {
+        schedule = schedule_append S (first_of S B) es (Loads c ∷ []) l.schedule (inside, tt);
+        agrees = subst (Agrees S (record w { words = w.words })) (sym to) record { words = l.agrees.words; room = l.agrees.room; behind = l.agrees.behind; machines = l.agrees.machines; batches = l.agrees.batches; reads = l.agrees.reads };
+        inside = tt;
+      };
+      tells = eviction_tells S B es (Loads c) told tt f.tells;
+      waits = (
+        subst (λ (z : World). IsAmong z.loaded (c, get_or w.words c 0)) (sym to)
+            (length U.loaded, omega (arith, length-append U.loaded ((c, n) ∷ [])), get_or_push U.loaded (c, n) (0, 0) (length U.loaded) refl ∙ ap (λ (z : ℕ). (c, z)) same),
+        tt,
+      );
+    }
+
+-- and what was loaded is raised later
+pub came_raise : (S : Setup) (B : Start) (es : List Event) (w : World) (told : ℕ → Kept) (c x : ℕ) → c < size S → length w.words ≡ table_size S + 1 → Came S B es ((c, x) ∷ []) w told
+    → (ds : List Event) × Came S B ds [] (record w { words = set w.words (durable_at S c) (max (get_or w.words (durable_at S c) 0) x) }) told
+came_raise S B es w told c x inside long f =
+    let U : World = moment S B es in
+    let l = f.leaves in
+    let k : ℕ = f.waits.0.0 in
+    let a = l.agrees in
+    let at : ℕ = durable_at S c in
+    let to : moment S B (es ++ Evicts k ∷ []) ≡ evicted S U (c, x) = run_append S (first_of S B) es (Evicts k ∷ []) ∙ ap (evicted S U) f.waits.0.2 in (
+      es ++ Evicts k ∷ [],
+      record {
+        leaves = record {
+          schedule = schedule_append S (first_of S B) es (Evicts k ∷ []) l.schedule (f.waits.0.1, tt);
+          agrees = subst (Agrees S (record w { words = set w.words at (max (get_or w.words at 0) x) })) (sym to) record {
+            words = words_set (table_size S) w.words U.words at (max (get_or w.words at 0) x) (max (get_or U.words at 0) x) (omega (arith, long, inside)) (omega (arith, a.room, inside)) (λ i. max (a.words at (omega (arith, inside)) i) x) a.words;
+            room = length-set U.words at (max (get_or U.words at 0) x) ∙ a.room;
+            behind = get_or-set_other U.words at (table_size S) (max (get_or U.words at 0) x) 0 (λ e. omega (arith, e, inside)) ∙ a.behind;
+            machines = a.machines;
+            batches = a.batches;
+            reads = a.reads;
+          };
+          inside = tt;
+        };
+        tells = eviction_tells S B es (Evicts k) told tt f.tells;
+        waits = tt;
+      },
+    )
 
 -- a cell is loaded: its durable word is raised to what is found
 module _ (S : Setup) (B : Start) (es : List Event) (w : World) (l : Leaves S B es [] w) (long : length w.words ≡ table_size S + 1) (c : ℕ) (inside : c < size S) where
@@ -454,7 +565,6 @@ module _ (S : Setup) (B : Start) (es : List Event) (w : World) (l : Leaves S B e
       let same : n ≡ get_or U.words c 0 = a.words c (omega arith) in
       record {
         schedule = schedule_append S (first_of S B) es (Raises c ∷ []) l.schedule (inside, tt);
-        prompt = prompt_append es (Raises c ∷ []) l.prompt tt;
         agrees = subst (Agrees S (record w { words = lifted S ((c, n) ∷ []) w.words })) (sym (run_append S (first_of S B) es (Raises c ∷ []))) record {
           words = words_set (table_size S) w.words U.words at (max (get_or w.words at 0) n) (max (get_or U.words at 0) (get_or U.words c 0)) (omega (arith, long)) (omega (arith, a.room)) (λ k. max (a.words at (omega arith) k) (same k)) a.words;
           room = length-set U.words at (max (get_or U.words at 0) (get_or U.words c 0)) ∙ a.room;
@@ -466,13 +576,8 @@ module _ (S : Setup) (B : Start) (es : List Event) (w : World) (l : Leaves S B e
         inside = (inside, tt);
       }
 
-  pub load_told : (j : ℕ) (x : Kept) → IsToldBy S B es j x → IsToldBy S B loaded j x
-  load_told j x t = record {
-    begun = t.begun ∙ (sym (append-nil (operations es j)) ∙ sym (operations_append es (Raises c ∷ []) j));
-    ended = t.ended ∙ (sym (append-nil (outcomes S (first_of S B) es j)) ∙ sym (outcomes_append S (first_of S B) es (Raises c ∷ []) j));
-    turned = omega (arith, t.turned, turns_append j es (Raises c ∷ []));
-    busy = busy_append S (first_of S B) es (Raises c ∷ []) j t.busy (tt, tt);
-  }
+  pub load_prompt : IsPrompt es → IsPrompt loaded
+  load_prompt before = prompt_append es (Raises c ∷ []) before tt
 
   -- the first pass has begun that eviction
   pub load_mine : (v u : Sight) → v.first ≡ true → u.loaded ≡ (c, n) ∷ [] → u.evicted ≡ v.evicted → EvictsSo es [] v → EvictsSo loaded ((c, n) ∷ []) u
@@ -483,7 +588,7 @@ module _ (S : Setup) (B : Start) (es : List Event) (w : World) (l : Leaves S B e
 
 -- what was loaded is raised: nothing is left to be
 pub raise_leaves : (S : Setup) (B : Start) (es : List Event) (w : World) (c x : ℕ) → Leaves S B es ((c, x) ∷ []) w → Leaves S B es [] (record w { words = set w.words (durable_at S c) (max (get_or w.words (durable_at S c) 0) x) })
-raise_leaves S B es w c x l = record { schedule = l.schedule; prompt = l.prompt; agrees = record { words = l.agrees.words; room = l.agrees.room; behind = l.agrees.behind; machines = l.agrees.machines; batches = l.agrees.batches; reads = l.agrees.reads }; inside = tt }
+raise_leaves S B es w c x l = record { schedule = l.schedule; agrees = record { words = l.agrees.words; room = l.agrees.room; behind = l.agrees.behind; machines = l.agrees.machines; batches = l.agrees.batches; reads = l.agrees.reads }; inside = tt }
 
 pub raise_mine : (es : List Event) (c x : ℕ) (v u : Sight) → v.first ≡ true → u.loaded ≡ [] → u.evicted ≡ v.evicted ++ c ∷ [] → EvictsSo es ((c, x) ∷ []) v → EvictsSo es [] u
 raise_mine es c x v u first none more e = record { loaded = λ f. none; evicted = λ f. append-nil u.evicted ∙ (more ∙ e.evicted first) }
@@ -495,7 +600,6 @@ beside_leaves S B es pending w c x long far l =
     let a = l.agrees in
     record {
       schedule = l.schedule;
-      prompt = l.prompt;
       agrees = record {
         words = λ k low. lifted_agree S pending (set w.words c x) w.words l.inside (omega (arith, long, length-set w.words c x)) (omega (arith, long)) (λ j below. get_or-set_other w.words c j x 0 (λ e. omega (arith, far, e, below))) k low ∙ a.words k low;
         room = a.room;

@@ -3,9 +3,10 @@
 ghost use Rattle.of_row.specs.Laws.{SeesWhole, SeesOwn, NewRuns, StillRuns};
 ghost use Rattle.of_core.specs.Laws.{setup_for};
 ghost use Rattle.of_row.specs.Runs.{RunsAreSchedules, RunsAreLinearizable};
+ghost use Rattle.of_row.specs.Moments.{StopsLoseNothing, ClosedHoldsCalls};
 ghost use Rattle.of_row.specs.Laws.{FreshMember, IdleMember, MemberInRange, NewMember, BegunMember};
 
-use of_core::laws::{every_moment, every_order};
+use of_core::laws::{every_moment, every_order, starts};
 use of_mem::Work;
 
 /// Whoever keeps every number that is taken has seen the whole history.
@@ -40,17 +41,32 @@ pub fn machines<W: Work>(work: W)
     ensures begun { StillRuns work }
 {}
 
-/// A run of threads is a schedule: what the words of a closed row hold, and what a pass keeps that has
-/// everybody, is what the events of some schedule leave.
+/// A run of threads is a schedule: the words of a closed row, and what its first pass keeps if it keeps
+/// every number that is taken, are what the events of some schedule leave.
 pub fn runs_are_schedules<W: Work>(work: W)
     ensures { RunsAreSchedules (W.lawful work) }
 {}
 
-/// So all that holds of every schedule holds of a run.
+/// What holds of every schedule holds of a run: it is durably linearizable, and what it leaves is
+/// sound.
 pub fn runs_are_linearizable<W: Work>(limit: u32, work: W)
     ensures { RunsAreLinearizable (W.lawful work)
         (setup_for W.many W.size W.meaning limit work) }
 {
     every_moment(limit, work);
     every_order(limit, work);
+}
+
+/// A row that stops between any two steps loses no call that was answered: a schedule leaves its words
+/// as they are then, one serial order of calls explains how all calls have ended, and recovery of the
+/// words finds what that order leads to. So it is of the words of a closed row, for all calls that its
+/// pass keeps.
+pub fn stops_lose_nothing<W: Work>(limit: u32, work: W)
+    ensures stops { StopsLoseNothing (W.lawful work)
+        (setup_for W.many W.size W.meaning limit work) }
+    ensures closed { ClosedHoldsCalls (W.lawful work)
+        (setup_for W.many W.size W.meaning limit work) }
+{
+    every_order(limit, work);
+    starts(limit, work);
 }
