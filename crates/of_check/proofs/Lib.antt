@@ -7,3 +7,5 @@ pub mod Bounds
 pub mod Texts
 pub mod Readings
 pub mod Verdicts
+pub mod Causes
+pub mod Differences

@@ -11,7 +11,7 @@ use of_report::{EndState, Line};
 use std::alloc::{AllocError, Global};
 
 // The steps that a call of a plan takes at most.
-fn step_bound(plan: &Plan) -> u32
+pub(crate) fn step_bound(plan: &Plan) -> u32
     ensures { result ≡ bound_of plan.now }
 {
     let shape = plan.shape();
@@ -22,7 +22,7 @@ fn step_bound(plan: &Plan) -> u32
 }
 
 // Whether the longest call is within the bound.
-fn is_within(bound: u32, end: EndClaim) -> bool
+pub(crate) fn is_within(bound: u32, end: EndClaim) -> bool
     ensures { IsTrue result ↔ ((end.longest ≤ bound) × (end.answered ≡ 0 → end.longest ≡ 0)) }
 {
     end.longest <= bound && (end.answered != 0 || end.longest == 0)

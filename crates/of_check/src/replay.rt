@@ -21,7 +21,7 @@ pub(crate) struct Replay {
 }
 
 // Whether a call may stand behind the last one.
-fn follows(last: CallClaim, next: CallClaim) -> bool
+pub(crate) fn follows(last: CallClaim, next: CallClaim) -> bool
     ensures { IsTrue result ↔ FollowsWithin last.announced next.announced last next }
 {
     let same = next.seq == last.seq;
@@ -36,7 +36,7 @@ fn follows(last: CallClaim, next: CallClaim) -> bool
 
 impl Replay {
     // No call has run. The error is want of memory.
-    fn new(alloc: Global, plan: &Plan) -> Result<Replay, AllocError>
+    pub(crate) fn new(alloc: Global, plan: &Plan) -> Result<Replay, AllocError>
         ensures course { IfOk result (λ replay. course_of replay ≡ begun plan.now) }
         ensures entries { IfOk result (λ replay. entries_so_far replay ≡ []) }
     {
@@ -55,7 +55,7 @@ impl Replay {
 
     // Runs a claimed call and answers true, where it may come next; else false. The error is want
     // of memory.
-    fn take(&mut self, plan: &Plan, call: CallClaim) -> Result<bool, AllocError>
+    pub(crate) fn take(&mut self, plan: &Plan, call: CallClaim) -> Result<bool, AllocError>
         requires { length self.old.counts.items ≡ plan.now.callers }
         ensures { IfOk result (λ taken. MatchBool taken
             (Took plan.now self.old self.new call)

@@ -1,0 +1,41 @@
+-- What the lines above a line say.
+use Rattle.std.specs.Prelude.{◌≡◌, ℕ, ◌-◌, ◌<◌, List, [], ◌∷◌, slice_index_or, slice_index, if◌then◌else◌, ◌==◌, codes, Option, Some, None}
+use Rattle.std.specs.Str.{bytes_eq}
+use Rattle.of_cell.specs.declared.shape.TheConstants.{MOST_CALLERS}
+use Rattle.of_store.specs.declared.store.TheConstants.{MOST_BLOCKS}
+use Rattle.of_script.specs.Text.{words}
+use Rattle.of_script.specs.Reading.{◌>>=◌, number_at, ended}
+use Rattle.of_plan.specs.declared.above.Wanted.{Wanted}
+use Rattle.of_plan.specs.declared.above.Wanted.TheVariants.{Kept, Callers, Blocks, End, Stop}
+
+-- the number behind the name of a line, where the line has this name and a number up to the most
+abbrev pub number_behind : (name wanted : List ℕ) → List (List ℕ) → (most : ℕ) → Option ℕ
+number_behind name wanted ws most = if bytes_eq name wanted then (do
+  x ← number_at most ws
+  Some x.0) else None
+
+-- the number, where it is that one
+abbrev pub only : ℕ → ℕ → Option ℕ
+only wanted n = if n == wanted then Some n else None
+
+-- the number that the words of a line say, where it is a line that is wanted; 0 where it says none
+abbrev pub said : Wanted → List (List ℕ) → Option ℕ
+said wanted [] = None
+said Kept (name ∷ ws) = if slice_index name 0 == 35 then None else Some 0
+said Callers (name ∷ ws) = number_behind name (codes "callers") ws MOST_CALLERS
+said Blocks (name ∷ ws) = number_behind name (codes "blocks") ws MOST_BLOCKS
+said End (name ∷ ws) = if bytes_eq name (codes "end") then ended 0 ws else None
+said (Stop c) (name ∷ ws) = number_behind name (codes "stop") ws (MOST_CALLERS - 1) >>= only c
+
+-- the line with so many lines above it, and nothing where there is none
+abbrev pub line_at : List (List ℕ) → ℕ → List ℕ
+line_at ls above = slice_index_or ls above []
+
+-- one of the first lines says it: the one with so many lines above it
+pub record Says (ls : List (List ℕ)) (above : ℕ) (wanted : Wanted) (at number : ℕ) : Type 0 where
+  pub there : at < above
+  pub says : said wanted (words (line_at ls at)) ≡ Some number
+
+-- none of the first lines says it
+abbrev pub NoneSays : List (List ℕ) → (above : ℕ) → Wanted → Type 0
+NoneSays ls above wanted = (at : ℕ) → at < above → said wanted (words (line_at ls at)) ≡ None

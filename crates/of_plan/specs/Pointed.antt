@@ -1,0 +1,25 @@
+-- What is printed of a piece of a line.
+use Rattle.std.specs.Prelude.{ℕ, ◌+◌, ◌-◌, min, max, nat_lt, List, ◌++◌, length, map, replicate, slice_range, if◌then◌else◌, codes, decimal}
+
+-- the byte as it is shown: a question mark for one that has no sign of its own
+abbrev pub sign : ℕ → ℕ
+sign b = if nat_lt b 32 then 63 else if nat_lt 126 b then 63 else b
+
+-- the first byte of a line that is shown, at most 60 before the piece
+abbrev pub first : ℕ → ℕ
+first start = start - 60
+
+-- and the end of what is shown, at most 100 bytes on
+abbrev pub last : (start size : ℕ) → ℕ
+last start size = min size (first start + 100)
+
+-- how many carets there are, at least one
+abbrev pub width : (start end size : ℕ) → ℕ
+width start end size = max (min end (last start size) - start) 1
+
+-- the line's number, the column and the reason, the line, and carets below the piece
+abbrev pub message : (number : ℕ) (line : List ℕ) (start end : ℕ) (reason : List ℕ) → List ℕ
+message number line start end reason =
+    ((((((codes "line " ++ (decimal number ++ (codes ", column " ++ (decimal (start + 1) ++ (codes ": " ++ (reason ++ codes "\n    "))))))
+    ++ map sign (slice_range line (first start) (last start (length line))))
+    ++ codes "\n    ") ++ replicate (start - first start) 32) ++ replicate (width start end (length line)) 94) ++ codes "\n")

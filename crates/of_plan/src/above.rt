@@ -1,0 +1,106 @@
+//! The lines of a text by their numbers, and what the lines above one say.
+
+ghost use Rattle.std.specs.Prelude.{◌≡◌, ◌<◌, ◌+◌, ℕ, length, IsTrue, MatchOption, Some, None};
+ghost use Rattle.of_script.specs.Text.{words};
+ghost use Rattle.of_plan.specs.Lines.{lines};
+ghost use Rattle.of_plan.specs.Above as lines_above;
+
+use of_cell::MOST_CALLERS;
+use of_script::text::{cut, next_number, word};
+use of_store::MOST_BLOCKS;
+
+/// What a line is asked for.
+#[derive(Clone, Copy, Debug, PartialEq, Eq)]
+pub(crate) enum Wanted {
+    /// Any line that isn't skipped.
+    Kept,
+    /// The number of callers.
+    Callers,
+    /// The number of blocks.
+    Blocks,
+    /// The end line.
+    End,
+    /// The stop of this caller.
+    Stop { caller: u32 },
+}
+
+// The number behind the name of a line.
+fn number_behind(name: &[u8], wanted: &[u8], rest: &[u8], most: u32) -> Option<u32>
+    ensures { result ≡ lines_above.number_behind name.now wanted.now (words rest.now) most }
+{
+    if name != wanted {
+        return None;
+    }
+    let (number, _) = next_number(rest, most)?;
+    Some(number)
+}
+
+/// The number that a line says, where it is one that is wanted; 0 where it says none.
+pub(crate) fn said(wanted: Wanted, line: &[u8]) -> Option<u32>
+    ensures { result ≡ lines_above.said wanted (words line.now) }
+{
+    let (name, rest) = word(line)?;
+    match wanted {
+        Wanted::Kept => match name[0] {
+            b'#' => None,
+            _ => Some(0),
+        },
+        Wanted::Callers => number_behind(name, b"callers".as_slice(), rest, MOST_CALLERS),
+        Wanted::Blocks => number_behind(name, b"blocks".as_slice(), rest, MOST_BLOCKS),
+        Wanted::End => {
+            if name != b"end".as_slice() || word(rest).is_some() {
+                return None;
+            }
+            Some(0)
+        }
+        Wanted::Stop { caller } => {
+            let found = number_behind(name, b"stop".as_slice(), rest, MOST_CALLERS - 1)?;
+            if found != caller {
+                return None;
+            }
+            Some(found)
+        }
+    }
+}
+
+/// The line with so many lines above it, nothing where there is none, and whether it is the last.
+pub(crate) fn line_at(text: &[u8], above: u64) -> (&[u8], bool)
+    ensures line { result.0.now ≡ lines_above.line_at (lines text.now) above }
+    ensures last { IsTrue result.1 → length (lines text.now) ≡ above + 1 }
+{
+    let mut rest = text;
+    let mut at: u64 = 0;
+    loop {
+        let (line, after) = cut(rest, b'\n');
+        if at == above {
+            return (line, after.is_none());
+        }
+        match after {
+            Some(more) => rest = more,
+            None => return (b"".as_slice(), false),
+        }
+        at += 1;
+    }
+}
+
+/// The first of so many lines that says what is wanted, by the number of lines above it, and the
+/// number that it says.
+pub(crate) fn find(text: &[u8], above: u64, wanted: Wanted) -> Option<(u64, u32)>
+    ensures { MatchOption result (lines_above.NoneSays (lines text.now) above wanted)
+        (λ x. lines_above.Says (lines text.now) above wanted x.0 x.1) }
+{
+    let mut rest = text;
+    let mut at: u64 = 0;
+    while at < above {
+        let (line, after) = cut(rest, b'\n');
+        if let Some(number) = said(wanted, line) {
+            return Some((at, number));
+        }
+        match after {
+            Some(more) => rest = more,
+            None => return None,
+        }
+        at += 1;
+    }
+    None
+}

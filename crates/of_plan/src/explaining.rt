@@ -1,0 +1,424 @@
+//! Why a line is the bad line of its text.
+
+ghost use Rattle.std.specs.Prelude.{◌≡◌, ◌≤◌, ◌-◌, ℕ, length, List, IfSome, MatchResult};
+ghost use Rattle.of_plan.specs.Lines.{lines};
+ghost use Rattle.of_plan.specs.Above.{line_at as the_line};
+ghost use Rattle.of_plan.specs.Reasons.{IsFinding, SaidAbove};
+ghost use Rattle.of_plan.specs.Sizes.{AreSizes};
+ghost use Rattle.of_plan.specs.declared.above.Wanted.TheVariants.{Callers as TheCallers};
+
+use crate::above::{Wanted, find, line_at};
+use crate::line::{Form, GREATEST_CELL, first_most, form_named, second_most};
+use crate::numerals::mosts;
+use crate::pieces::{Finding, is_no_word, past_numbers, word_from};
+use crate::reason::Reason;
+use crate::taking::cells;
+use of_cell::MOST_CALLERS;
+use of_script::text::number;
+use of_script::{MOST_INSTRS, ScriptErr};
+use of_store::MOST_BLOCKS;
+
+/// What the heading of a plan says.
+#[derive(Clone, Copy, Debug, PartialEq, Eq)]
+pub(crate) struct Sizes {
+    callers: u32,
+    blocks: u32,
+}
+
+// A byte that looks like nothing: a byte order mark, a carriage return at the end, a tab.
+fn hidden(line: &[u8], above: u64) -> Option<Finding>
+    ensures { IfSome result (λ f. (ls : List (List ℕ)) → IsFinding ls above line.now f) }
+{
+    if above == 0 && line.len() >= 3 && &line[0..3] == [239, 187, 191].as_slice() {
+        return Some(Finding {
+            start: 0,
+            end: 3,
+            reason: Reason::ByteOrderMark,
+        });
+    }
+    if !line.is_empty() && line[line.len() - 1] == b'\r' {
+        return Some(Finding {
+            start: line.len() - 1,
+            end: line.len(),
+            reason: Reason::CarriageReturn,
+        });
+    }
+    for at in 0..line.len() {
+        if line[at] == b'\t' {
+            return Some(Finding {
+                start: at,
+                end: at + 1,
+                reason: Reason::Tab,
+            });
+        }
+    }
+    None
+}
+
+// A word where the line should end.
+fn word_too_many(line: &[u8], from: usize) -> Option<Finding>
+    requires { from ≤ length line.now }
+    ensures { IfSome result (λ f. (ls : List (List ℕ)) (above : ℕ) → IsFinding ls above line.now f) }
+{
+    let (start, end) = word_from(line, from);
+    if line[start..end].is_empty() {
+        return None;
+    }
+    Some(Finding {
+        start,
+        end,
+        reason: Reason::WordTooMany,
+    })
+}
+
+// A number that is 0.
+fn zero(line: &[u8], from: usize) -> Option<Finding>
+    requires { from ≤ length line.now }
+    ensures { IfSome result (λ f. (ls : List (List ℕ)) (above : ℕ) → IsFinding ls above line.now f) }
+{
+    let (start, end) = word_from(line, from);
+    let found = number(&line[start..end], GREATEST_CELL)?;
+    if found != 0 {
+        return None;
+    }
+    Some(Finding {
+        start,
+        end,
+        reason: Reason::Zero,
+    })
+}
+
+// Why a line with one number is none.
+fn counted(line: &[u8], from: usize, most: u32) -> Option<Finding>
+    requires { from ≤ length line.now }
+    ensures { IfSome result (λ f. (ls : List (List ℕ)) (above : ℕ) → IsFinding ls above line.now f) }
+{
+    match past_numbers(line, from, most, 0) {
+        Err(finding) => Some(finding),
+        Ok(at) => match word_too_many(line, at) {
+            Some(finding) => Some(finding),
+            None => zero(line, from),
+        },
+    }
+}
+
+// Where the instruction that comes next ends: behind its semicolon, nowhere where the line is at
+// its end, or why there is none.
+fn past_instruction(line: &[u8], from: usize) -> Result<Option<usize>, Finding>
+    requires { from ≤ length line.now }
+    ensures { MatchResult result (λ o. IfSome o (λ end. end ≤ length line.now))
+        (λ f. (ls : List (List ℕ)) (above : ℕ) → IsFinding ls above line.now f) }
+{
+    let (start, end) = word_from(line, from);
+    let name = &line[start..end];
+    if is_no_word(name) {
+        return Err(Finding {
+            start,
+            end,
+            reason: Reason::InstructionMissing,
+        });
+    }
+    let Some((first, second)) = mosts(name) else {
+        return Err(Finding {
+            start,
+            end,
+            reason: Reason::UnknownInstruction,
+        });
+    };
+    let at = match past_numbers(line, end, first, second) {
+        Ok(at) => at,
+        Err(finding) => return Err(finding),
+    };
+    let (start, end) = word_from(line, at);
+    let next = &line[start..end];
+    if next.is_empty() {
+        return Ok(None);
+    }
+    if next == b";".as_slice() {
+        return Ok(Some(end));
+    }
+    Err(Finding {
+        start,
+        end,
+        reason: Reason::WordTooMany,
+    })
+}
+
+// Why the rest of a line is no script.
+fn no_script(line: &[u8], from: usize) -> Option<Finding>
+    requires { from ≤ length line.now }
+    ensures { IfSome result (λ f. (ls : List (List ℕ)) (above : ℕ) → IsFinding ls above line.now f) }
+{
+    let mut at = from;
+    for _ in 0..MOST_INSTRS {
+        match past_instruction(line, at) {
+            Ok(Some(end)) => at = end,
+            Ok(None) => return None,
+            Err(finding) => return Some(finding),
+        }
+    }
+    let end = line.len();
+    match of_script::parse(&line[from..end]) {
+        Err(ScriptErr::Bad { at: 16 }) => Some(Finding {
+            start: from,
+            end,
+            reason: Reason::TooManyInstructions,
+        }),
+        _ => None,
+    }
+}
+
+// A caller that the plan hasn't.
+fn no_caller(text: &[u8], above: u64, line: &[u8], from: usize, callers: u32) -> Option<Finding>
+    requires from { from ≤ length line.now }
+    requires said { SaidAbove (lines text.now) above TheCallers callers }
+    ensures { IfSome result (IsFinding (lines text.now) above line.now) }
+{
+    let (start, end) = word_from(line, from);
+    let caller = number(&line[start..end], GREATEST_CELL)?;
+    if caller < callers {
+        return None;
+    }
+    Some(Finding {
+        start,
+        end,
+        reason: Reason::NoCaller { caller, callers },
+    })
+}
+
+// A cell that the plan hasn't.
+fn no_cell(text: &[u8], above: u64, line: &[u8], from: usize, sizes: Sizes) -> Option<Finding>
+    requires from { from ≤ length line.now }
+    requires sizes { AreSizes (lines text.now) above sizes }
+    ensures { IfSome result (IsFinding (lines text.now) above line.now) }
+{
+    let (start, end) = word_from(line, from);
+    let cell = number(&line[start..end], GREATEST_CELL)?;
+    let cells = cells(sizes.callers, sizes.blocks);
+    if cell < cells {
+        return None;
+    }
+    Some(Finding {
+        start,
+        end,
+        reason: Reason::NoCell { cell, cells },
+    })
+}
+
+// A second stop of a caller.
+fn second_stop(text: &[u8], above: u64, line: &[u8], from: usize) -> Option<Finding>
+    requires { from ≤ length line.now }
+    ensures { IfSome result (IsFinding (lines text.now) above line.now) }
+{
+    let (start, end) = word_from(line, from);
+    let caller = number(&line[start..end], GREATEST_CELL)?;
+    let (at, _) = find(text, above, Wanted::Stop { caller })?;
+    Some(Finding {
+        start,
+        end,
+        reason: Reason::SecondStop { line: at + 1 },
+    })
+}
+
+// Why a script line is none.
+fn in_script(text: &[u8], above: u64, line: &[u8], from: usize, sizes: Sizes) -> Option<Finding>
+    requires from { from ≤ length line.now }
+    requires sizes { AreSizes (lines text.now) above sizes }
+    ensures { IfSome result (IsFinding (lines text.now) above line.now) }
+{
+    if let Some(finding) = no_caller(text, above, line, from, sizes.callers) {
+        return Some(finding);
+    }
+    match past_numbers(line, from, MOST_CALLERS - 1, 0) {
+        Err(finding) => Some(finding),
+        Ok(at) => no_script(line, at),
+    }
+}
+
+// Why a line with numbers alone is none, by its words.
+fn in_numbers(line: &[u8], from: usize, form: Form) -> Option<Finding>
+    requires { from ≤ length line.now }
+    ensures { IfSome result (λ f. (ls : List (List ℕ)) (above : ℕ) → IsFinding ls above line.now f) }
+{
+    match past_numbers(line, from, first_most(form), second_most(form)) {
+        Err(finding) => Some(finding),
+        Ok(at) => match word_too_many(line, at) {
+            Some(finding) => Some(finding),
+            None => match form {
+                Form::Limit => zero(line, from),
+                Form::Turns => {
+                    let (_, end) = word_from(line, from);
+                    zero(line, end)
+                }
+                _ => None,
+            },
+        },
+    }
+}
+
+// Why a line with numbers alone may not stand below the lines above it.
+fn in_body(
+    text: &[u8],
+    above: u64,
+    line: &[u8],
+    from: usize,
+    form: Form,
+    sizes: Sizes,
+) -> Option<Finding>
+    requires from { from ≤ length line.now }
+    requires sizes { AreSizes (lines text.now) above sizes }
+    ensures { IfSome result (IsFinding (lines text.now) above line.now) }
+{
+    match form {
+        Form::Callers | Form::Blocks | Form::Limit => {
+            let (start, end) = word_from(line, 0);
+            Some(Finding {
+                start,
+                end,
+                reason: Reason::HeadingOver,
+            })
+        }
+        Form::Stop => second_stop(text, above, line, from),
+        Form::Evict => no_cell(text, above, line, from, sizes),
+        Form::Turns | Form::End => None,
+    }
+}
+
+// Why a line with numbers alone is none.
+fn formed(
+    text: &[u8],
+    above: u64,
+    line: &[u8],
+    from: usize,
+    form: Form,
+    sizes: Sizes,
+) -> Option<Finding>
+    requires from { from ≤ length line.now }
+    requires sizes { AreSizes (lines text.now) above sizes }
+    ensures { IfSome result (IsFinding (lines text.now) above line.now) }
+{
+    match form {
+        Form::Stop | Form::Turns => {
+            if let Some(finding) = no_caller(text, above, line, from, sizes.callers) {
+                return Some(finding);
+            }
+        }
+        _ => {}
+    }
+    match in_numbers(line, from, form) {
+        Some(finding) => Some(finding),
+        None => in_body(text, above, line, from, form, sizes),
+    }
+}
+
+// Why a line below the heading is none.
+fn below_heading(text: &[u8], above: u64, line: &[u8], sizes: Sizes) -> Option<Finding>
+    requires sizes { AreSizes (lines text.now) above sizes }
+    ensures { IfSome result (IsFinding (lines text.now) above line.now) }
+{
+    let (start, end) = word_from(line, 0);
+    let name = &line[start..end];
+    if name == b"script".as_slice() {
+        return in_script(text, above, line, end, sizes);
+    }
+    if name == b"onefile".as_slice() {
+        return Some(Finding {
+            start,
+            end,
+            reason: Reason::HeadingOver,
+        });
+    }
+    match form_named(name) {
+        Some(form) => formed(text, above, line, end, form, sizes),
+        None => Some(Finding {
+            start,
+            end,
+            reason: Reason::UnknownLine,
+        }),
+    }
+}
+
+// Why a line of the heading is none, or one below it.
+fn in_heading(text: &[u8], above: u64, line: &[u8]) -> Option<Finding>
+    ensures { IfSome result (IsFinding (lines text.now) above line.now) }
+{
+    let (start, end) = word_from(line, 0);
+    let name = &line[start..end];
+    if find(text, above, Wanted::Kept).is_none() {
+        return Some(Finding {
+            start,
+            end,
+            reason: Reason::TitleExpected,
+        });
+    }
+    let Some((_, callers)) = find(text, above, Wanted::Callers) else {
+        if name == b"callers".as_slice() {
+            return counted(line, end, MOST_CALLERS);
+        }
+        return Some(Finding {
+            start,
+            end,
+            reason: Reason::CallersExpected,
+        });
+    };
+    let Some((_, blocks)) = find(text, above, Wanted::Blocks) else {
+        if name == b"blocks".as_slice() {
+            return in_numbers(line, end, Form::Blocks);
+        }
+        return Some(Finding {
+            start,
+            end,
+            reason: Reason::BlocksExpected,
+        });
+    };
+    if callers > MOST_CALLERS || blocks > MOST_BLOCKS {
+        return None;
+    }
+    below_heading(text, above, line, Sizes { callers, blocks })
+}
+
+// Why a line is none that a plan can have there.
+fn in_line(text: &[u8], above: u64, line: &[u8]) -> Option<Finding>
+    ensures { IfSome result (IsFinding (lines text.now) above line.now) }
+{
+    if let Some(finding) = hidden(line, above) {
+        return Some(finding);
+    }
+    let (start, end) = word_from(line, 0);
+    if find(text, above, Wanted::End).is_some() {
+        return Some(Finding {
+            start,
+            end,
+            reason: Reason::AfterEnd,
+        });
+    }
+    let name = &line[start..end];
+    if name.is_empty() || name[0] == b'#' {
+        return None;
+    }
+    in_heading(text, above, line)
+}
+
+/// Why this line of the text is its bad line.
+pub(crate) fn explain(text: &[u8], number: u64) -> Finding
+    requires { 1 ≤ number }
+    ensures { IsFinding (lines text.now) (number - 1) (the_line (lines text.now) (number - 1)) result }
+{
+    let above = number - 1;
+    let (line, last) = line_at(text, above);
+    if let Some(finding) = in_line(text, above, line) {
+        return finding;
+    }
+    if last && find(text, number, Wanted::End).is_none() {
+        return Finding {
+            start: line.len(),
+            end: line.len(),
+            reason: Reason::EndMissing,
+        };
+    }
+    Finding {
+        start: 0,
+        end: line.len(),
+        reason: Reason::NotHere,
+    }
+}

@@ -1,0 +1,113 @@
+//! What is said of a report that is not a legal one.
+
+use of_check::{Cause, EndRule, EntryRule};
+use of_script::text::cut;
+use std::alloc::{AllocError, Global};
+
+// The rule that an entry breaks, by its number in the list of docs/TEXTS.md, and what is wrong.
+fn entry_rule(rule: EntryRule) -> (u32, &'static str) {
+    match rule {
+        EntryRule::NoCaller => (1, "the plan has no such caller"),
+        EntryRule::NoScript => (1, "its caller has no script left"),
+        EntryRule::Place => (
+            3,
+            "its sequence or caller cannot come after the entry before it",
+        ),
+        EntryRule::Writes => (3, "it is a `read`, and its script writes"),
+    }
+}
+
+// The same of the line of a caller.
+fn end_rule(rule: EndRule) -> (u32, &'static str) {
+    match rule {
+        EndRule::Answered => (
+            2,
+            "its entries are not its answered calls and at most one open call",
+        ),
+        EndRule::Ending => (
+            6,
+            "it cannot have ended so with this number of answered calls",
+        ),
+        EndRule::Steps => (
+            7,
+            "its longest call has too many steps, or none was answered",
+        ),
+    }
+}
+
+// The line with so many lines above it, and nothing where there is none.
+fn line_at(text: &[u8], above: u64) -> &[u8] {
+    let mut rest = text;
+    for _ in 0..above {
+        match cut(rest, b'\n').1 {
+            Some(more) => rest = more,
+            None => return b"".as_slice(),
+        }
+    }
+    cut(rest, b'\n').0
+}
+
+// The rule that a line breaks which is not the expected one.
+fn line_rule(wanted: &[u8]) -> &'static str {
+    if wanted.starts_with(b"entry".as_slice()) {
+        return "rule 4, the reply of the script";
+    }
+    if wanted.starts_with(b"register".as_slice())
+        || wanted.starts_with(b"key".as_slice())
+        || wanted.starts_with(b"queue".as_slice())
+    {
+        return "rule 5, the store that the scripts leave";
+    }
+    "the text of a report"
+}
+
+// What is said of a line that is not the expected one.
+fn print_line(
+    alloc: Global,
+    report: &[u8],
+    above: u64,
+    text: &[u8],
+) -> Result<Vec<u8>, AllocError> {
+    let wanted = line_at(text, above);
+    let number = u128::from(above) + 1;
+    let head = format!(in alloc;
+        "line {number} of the report is wrong by {}\n    ",
+        line_rule(wanted)
+    )?;
+    let mut out = Vec::new(alloc);
+    out.extend_from_slice(head.as_bytes())?;
+    out.extend_from_slice(line_at(report, above))?;
+    out.extend_from_slice(b"\nexpected\n    ".as_slice())?;
+    out.extend_from_slice(wanted)?;
+    out.push(b'\n')?;
+    Ok(out)
+}
+
+/// What is said of a cause.
+pub(crate) fn print_cause(
+    alloc: Global,
+    report: &[u8],
+    cause: &Cause,
+) -> Result<Vec<u8>, AllocError> {
+    let text = match cause {
+        Cause::Callers { lines } => {
+            format!(in alloc; "rule 2: {lines} lines of callers, and not one for each caller\n")?
+        }
+        Cause::Entry { index, rule } => {
+            let (number, words) = entry_rule(*rule);
+            let entry = *index as u128 + 1;
+            format!(in alloc; "rule {number}, entry {entry} of the report: {words}\n")?
+        }
+        Cause::Caller { caller, rule } => {
+            let (number, words) = end_rule(*rule);
+            format!(in alloc; "rule {number}, the line of caller {caller}: {words}\n")?
+        }
+        Cause::Line { above, wanted } => return print_line(
+            alloc,
+            report,
+            *above,
+            wanted.as_slice(),
+        ),
+    };
+    Ok(text.into_bytes())
+}
