@@ -50,15 +50,15 @@ fn line_at(text: &[u8], above: u64) -> &[u8] {
 // The rule that a line breaks which is not the expected one.
 fn line_rule(wanted: &[u8]) -> &'static str {
     if wanted.starts_with(b"entry".as_slice()) {
-        return "rule 4, the reply of the script";
+        return "rule 4: another reply than the script gives";
     }
     if wanted.starts_with(b"register".as_slice())
         || wanted.starts_with(b"key".as_slice())
         || wanted.starts_with(b"queue".as_slice())
     {
-        return "rule 5, the store that the scripts leave";
+        return "rule 5: another store than the scripts leave";
     }
-    "the text of a report"
+    "not as a report prints it"
 }
 
 // What is said of a line that is not the expected one.
@@ -70,10 +70,7 @@ fn print_line(
 ) -> Result<Vec<u8>, AllocError> {
     let wanted = line_at(text, above);
     let number = u128::from(above) + 1;
-    let head = format!(in alloc;
-        "line {number} of the report is wrong by {}\n    ",
-        line_rule(wanted)
-    )?;
+    let head = format!(in alloc; "line {number} of the report, {}\n    ", line_rule(wanted))?;
     let mut out = Vec::new(alloc);
     out.extend_from_slice(head.as_bytes())?;
     out.extend_from_slice(line_at(report, above))?;
