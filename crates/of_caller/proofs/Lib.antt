@@ -37,3 +37,5 @@ pub mod TeamEnds
 pub mod Restarting
 pub mod Behind
 pub mod Scheduled
+pub mod InTime
+pub mod TeamsInTime

@@ -1,6 +1,6 @@
 -- A team's run is a schedule.
 use Rattle.std.proofs.Common.{◌≡◌, ◌==◌, ◌&&◌, not, nat_lt, ℕ, zero, suc, ◌+◌, ◌-◌, ◌<◌, ◌≤◌, ◌⊎◌, inl, inr, Bool, true, false, if◌then◌else◌, List, [], ◌∷◌, ◌++◌, length, map, take, drop, get_or, set, length-set, Option, Some, None, refl, sym, ap, ◌∙◌, subst, arith}
-use Rattle.std.specs.List.{filter_map, flat_map, slice_index_or}
+use Rattle.std.specs.List.{filter_map, flat_map, slice_index_or, AllByRecursion as Each}
 use Rattle.std.proofs.lemmas.Bool.{cases_lt}
 use Rattle.std.proofs.lemmas.Bool.Decides.{nat_tests}
 use Rattle.std.proofs.lemmas.List.{append_assoc, append-nil, length-append, length-map, map-append, get_or-take, get_or-drop, get_or-set_same, get_or-set_other, ext_get_or}
@@ -25,7 +25,7 @@ use Rattle.of_core.specs.Events.{Event, Begins, Turns, Loads, Evicts, Raises, ha
 use Rattle.of_core.specs.Calls.{Calls, NeverIdle, NoneSpent, only, last_from, last_of, operations, outcomes}
 use Rattle.of_core.proofs.Parts.{run_append, operations_append, outcomes_append, first_part, second_part}
 use Rattle.of_core.proofs.Tests.{same_number}
-use Rattle.of_row.specs.Views.{Ended, Kept, Sight, Each}
+use Rattle.of_row.specs.Views.{Ended, Kept, Sight}
 use Rattle.of_row.specs.Told.{begun_of, outcomes_of}
 use Rattle.of_row.specs.Laws.{SeesWhole}
 use Rattle.of_row.specs.Rule.{world}
@@ -316,7 +316,8 @@ module _ (p : Plan) (laws : KeepsLaws p) (sees : SeesWhole (lawful_for p)) (s : 
   evicts : EvictsSo es t.meets.rule.trail.pending v
   evicts = t.meets.rule.trail.views t.meets.seat v t.meets.view t.live
 
-  pub team_scheduled : (xs : List Item) × IsScheduled p s B xs e
+  -- what the team has left, and the events that have led there
+  pub team_scheduled : (xs : List Item) × IsScheduled p s B xs e × (t.meets.rule.trail.events ≡ scheduled p B xs)
   team_scheduled = (
     items,
     record {
@@ -331,6 +332,7 @@ module _ (p : Plan) (laws : KeepsLaws p) (sees : SeesWhole (lawful_for p)) (s : 
           ((tells p laws sees s B e v t c l).ended
           ∙ (ap (λ (o : Ending). if length (answers_of e c) == to_do p s c then Done else o) (halted_so c l (idle_or_open (told c).machine.place)) ∙ ap (λ (m : Data). ending_at m (to_do p s c) (length (answers_of e c))) (machine_now c l)));
     },
+    same,
   )
     where
       agrees : Agrees T (record (world t.meets.state.words t.meets.rule.machines t.meets.rule.batches t.meets.rule.reads) { words = lifted T t.meets.rule.trail.pending t.meets.state.words }) (run T O es)
@@ -365,4 +367,4 @@ module _ (p : Plan) (laws : KeepsLaws p) (sees : SeesWhole (lawful_for p)) (s : 
           ∙ ap (λ (a : Option Outcome). halted a (told c).machine.steps) (sym none)
 
 pub teams_are_scheduled : (p : Plan) → KeepsLaws p → SeesWhole (lawful_for p) → TeamsAreScheduled p
-teams_are_scheduled = team_scheduled
+teams_are_scheduled p laws sees s B e v t = let q = team_scheduled p laws sees s B e v t in (q.0, q.1)

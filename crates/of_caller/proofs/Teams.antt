@@ -48,7 +48,7 @@ both_of c P Q (x ∷ xs) (inl q) a = inl (q.0, (q.1, a.0))
 both_of c P Q (x ∷ xs) (inr q) a = inr (both_of c P Q xs q a.1)
 
 module _ (p : Plan) (laws : KeepsLaws p) (sees : SeesWhole (lawful_for p)) (s : Start) (B : TableStart) (e : Run) (v : Sight) (t : IsTeamOf p s B e v) where
-  abbrev w : World
+  abbrev pub w : World
   w = world t.meets.state.words t.meets.rule.machines t.meets.rule.batches t.meets.rule.reads
 
   abbrev told : ℕ → Kept
@@ -86,7 +86,7 @@ module _ (p : Plan) (laws : KeepsLaws p) (sees : SeesWhole (lawful_for p)) (s : 
       tells_record p (finished_of s c) c (answers_of e c) (ending_of e c) (told c) (keeps c lt).0
       (λ idle. ap (λ (m : Data). m.steps) (sym is) ∙ sound.at_rest c lt (ap (λ (m : Data). m.place) is ∙ idle))
 
-  moment : IsMomentOf p s B w (λ c. begun_of (told c)) (λ c. outcomes_of (told c))
+  pub moment : IsMomentOf p s B w (λ c. begun_of (told c)) (λ c. outcomes_of (told c))
   moment = record {
     plan = t.plan;
     starts = t.starts;
@@ -95,7 +95,7 @@ module _ (p : Plan) (laws : KeepsLaws p) (sees : SeesWhole (lawful_for p)) (s : 
     calls = λ c lt. subst (λ (n : ℕ). Calls (setup_for p) B n w c (begun_of (told c)) (outcomes_of (told c))) (ticket_is p s B t.starts c lt) (t.meets.rule.calls c lt);
   }
 
-  tells_calls : (c : ℕ) → c < p.callers → TellsCalls p s w e c (outcomes_of (told c))
+  pub tells_calls : (c : ℕ) → c < p.callers → TellsCalls p s w e c (outcomes_of (told c))
   tells_calls c lt =
       let own = tells c lt in
       record {
@@ -105,7 +105,7 @@ module _ (p : Plan) (laws : KeepsLaws p) (sees : SeesWhole (lawful_for p)) (s : 
       }
 
   -- the world of the closed row is one that a run leads to
-  abbrev team_is_run : IsRunOf p s B w e
+  abbrev pub team_is_run : IsRunOf p s B w e
   team_is_run = record {
     operations = λ c. begun_of (told c);
     outcomes = λ c. outcomes_of (told c);

@@ -1,32 +1,99 @@
--- Real time in the report of what events leave of a plan's table.
-use Rattle.std.specs.Prelude.{ℕ, ◌≤◌, ◌<◌, List, length, take, IsTrue, All}
-use Rattle.of_eval.specs.Record.{IsLawful}
+-- Real time: the begins and the ends of calls in the order in which they came, and the reports
+-- that respect it.
+use Rattle.std.specs.Prelude.{◌==◌, ℕ, ◌+◌, ◌≤◌, ◌<◌, if◌then◌else◌, List, [], ◌∷◌, ◌++◌, map, take, All, IsTrue, ◌≡◌}
+use Rattle.of_plan.specs.declared.plan.Item.{Item}
 use Rattle.of_plan.specs.Plan.{Plan}
 use Rattle.of_plan.specs.Ended.{Run}
-use Rattle.of_plan.specs.Report.{CallEntry, Report, empty_start}
-use Rattle.of_core.specs.Events.{Event, IsSchedule}
-use Rattle.of_core.specs.Calls.{operations, outcomes}
-use Rattle.of_caller.specs.Tables.{setup_for, opening_for}
-use Rattle.of_caller.specs.Left.{IsLeftBy, IsOfPlan}
+use Rattle.of_plan.specs.Report.{CallEntry, Report, Start, finished_of}
+use Rattle.of_eval.specs.Record.{IsLawful}
+use Rattle.of_core.specs.Table.{Setup}
+use Rattle.of_core.specs.World.{World, Start as TableStart}
+use Rattle.of_core.specs.Shared.{MayStart}
+use Rattle.of_core.specs.Events.{Event, Begins, Turns, Loads, Evicts, Raises, happens, machine, run, IsSchedule}
+use Rattle.of_core.specs.Calls.{ended_in, outcomes}
+use Rattle.of_row.specs.Views.{Sight}
+use Rattle.of_caller.specs.Tables.{setup_for, lawful_for, opening_at}
+use Rattle.of_caller.specs.Scheduled.{scheduled, IsScheduled}
+use Rattle.of_caller.specs.Runs.{IsRunOf}
+use Rattle.of_caller.specs.Teams.{IsTeamOf}
 
--- the call of the first entry ends before that of the second begins: behind the first k events
-abbrev pub EndsBefore : Plan → List Event → CallEntry → CallEntry → Type 0
-EndsBefore p es e f = (k : ℕ)
-    × (e.index < length (outcomes (setup_for p) (opening_for p) (take k es) e.caller))
-    × (length (operations (take k es) f.caller) ≤ f.index)
+-- ---- what is seen of calls from outside
 
--- the second stands behind the first: at a higher sequence, or, where it was not announced, at no
--- lower one
+-- a caller begins its next call, or its open call ends
+pub data Mark : Type 0 where
+  BeginsCall : (caller : ℕ) → Mark
+  EndsCall : (caller : ℕ) → Mark
+
+-- how many calls of a caller have begun in these marks
+abbrev pub begun_in : (caller : ℕ) → List Mark → ℕ
+begun_in c [] = 0
+begun_in c (BeginsCall d ∷ ms) = (if c == d then 1 else 0) + begun_in c ms
+begun_in c (EndsCall d ∷ ms) = begun_in c ms
+
+-- and how many have ended
+abbrev pub over_in : (caller : ℕ) → List Mark → ℕ
+over_in c [] = 0
+over_in c (BeginsCall d ∷ ms) = over_in c ms
+over_in c (EndsCall d ∷ ms) = (if c == d then 1 else 0) + over_in c ms
+
+-- after the first k marks, of a run from this start, the call of the entry has ended
+abbrev pub HasEnded : Start → List Mark → (k : ℕ) → CallEntry → Type 0
+HasEnded s ms k e = e.index < finished_of s e.caller + over_in e.caller (take k ms)
+
+-- after the first k marks it has not begun
+abbrev pub NotBegun : Start → List Mark → (k : ℕ) → CallEntry → Type 0
+NotBegun s ms k e = finished_of s e.caller + begun_in e.caller (take k ms) ≤ e.index
+
+-- the first call ends before the second begins: there is a moment between them
+abbrev pub EndsBefore : Start → List Mark → CallEntry → CallEntry → Type 0
+EndsBefore s ms e f = (k : ℕ) × HasEnded s ms k e × NotBegun s ms k f
+
+-- the second comes after the first in the history: at a higher sequence, or, if it was not
+-- announced, at no lower one
 abbrev pub StandsBehind : CallEntry → CallEntry → Type 0
 StandsBehind e f = (e.seq ≤ f.seq) × (IsTrue f.announced → e.seq < f.seq)
 
--- each entry stands behind those whose calls ended before its own began
-abbrev pub RespectsTime : Plan → List Event → Report → Type 0
-RespectsTime p es r = All (λ e. All (λ f. EndsBefore p es e f → StandsBehind e f) r.entries) r.entries
+-- each entry comes after those whose calls ended before its own call began
+abbrev pub RespectsTime : Start → List Mark → Report → Type 0
+RespectsTime s ms r =
+    All (λ e. All (λ f. EndsBefore s ms e f → StandsBehind e f) r.entries) r.entries
 
--- so it is of each lawful report of what a schedule of the plan leaves
-abbrev pub ReportsRespectTime : Type 0
-ReportsRespectTime =
-    (p : Plan) (es : List Event) (e : Run)
-    → IsSchedule (setup_for p) (opening_for p) es → IsOfPlan p es → IsLeftBy p es e
-    → (r : Report) → IsLawful p (empty_start p) e r → RespectsTime p es r
+-- ---- the marks of a schedule
+
+-- the mark of an event: a begin has one, and a turn that ends a call
+abbrev pub marks_of : Setup → World → Event → List Mark
+marks_of S w (Begins i op) = BeginsCall i ∷ []
+marks_of S w (Turns i) =
+    map (λ o. EndsCall i) (ended_in (machine w i) (machine (happens S w (Turns i)) i))
+marks_of S w (Loads c) = []
+marks_of S w (Evicts k) = []
+marks_of S w (Raises c) = []
+
+-- the marks of events, from a world on
+abbrev pub marks_in : Setup → World → List Event → List Mark
+marks_in S w [] = []
+marks_in S w (e ∷ es) = marks_of S w e ++ marks_in S (happens S w e) es
+
+-- the marks of the plan's callers with these items for a schedule, from this start
+abbrev pub course_of : Plan → TableStart → List Item → List Mark
+course_of p B items = marks_in (setup_for p) (opening_at p B) (scheduled p B items)
+
+-- ---- what holds of all schedules and teams
+
+-- the report of what a schedule of the plan leaves, from whatever start, respects its real time
+abbrev pub SchedulesRespectTime : Plan → Type 0
+SchedulesRespectTime p =
+    (s : Start) (B : TableStart) → MayStart (setup_for p) (lawful_for p) B
+    → (es : List Event) → IsSchedule (setup_for p) (opening_at p B) es
+    → (e : Run) (left : IsRunOf p s B (run (setup_for p) (opening_at p B) es) e)
+    → ((c : ℕ) → c < p.callers
+    → left.outcomes c ≡ outcomes (setup_for p) (opening_at p B) es c)
+    → (r : Report) → IsLawful p s e r
+    → RespectsTime s (marks_in (setup_for p) (opening_at p B) es) r
+
+-- so does the report of what a team leaves, with the schedule that its run is
+abbrev pub TeamsRespectTime : Plan → Type 0
+TeamsRespectTime p =
+    (s : Start) (B : TableStart) (e : Run) (v : Sight) → IsTeamOf p s B e v
+    → (items : List Item) × IsScheduled p s B items e
+    × ((r : Report) → IsLawful p s e r → RespectsTime s (course_of p B items) r)

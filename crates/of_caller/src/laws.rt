@@ -8,8 +8,9 @@ ghost use Rattle.of_caller.specs.Teams.{TeamsAreScheduled};
 ghost use Rattle.of_caller.specs.Runs.{SchedulesAreMoments, StartsAreRuns, RepliesAreHeld, RunsAreLawful, RunsAreReported, RunsKeepAllowances};
 ghost use Rattle.of_caller.specs.Restarts.{RunsRestart, TeamsRestart};
 ghost use Rattle.of_caller.specs.Behind.{ComesBehind};
+ghost use Rattle.of_caller.specs.InTime.{SchedulesRespectTime, TeamsRespectTime};
 
-use of_core::laws::{every_call, every_moment, machines, starts, step_kept};
+use of_core::laws::{every_call, every_moment, every_order, machines, starts, step_kept};
 use of_eval::Scripts;
 use of_mem::Work;
 use of_plan::Plan;
@@ -78,3 +79,21 @@ pub fn runs_restart()
 pub fn answers_are_behind<W: Work>()
     ensures { ComesBehind W.meaning W.lawful }
 {}
+
+/// The report of what a schedule of a plan leaves respects the schedule's real time: each entry comes
+/// after those whose calls ended before its own call began. What a team leaves is what some schedule
+/// leaves, with the plan's evictions in their order, and its report respects the real time of that
+/// schedule.
+pub fn reports_respect_time(plan: &Plan)
+    ensures schedules { SchedulesRespectTime plan.now }
+    ensures teams { TeamsRespectTime plan.now }
+{
+    let limit = plan.limit();
+    let scripts = Scripts {
+        callers: plan.callers(),
+        blocks: plan.blocks(),
+    };
+    plan_keeps_laws(plan);
+    sees_whole(scripts);
+    every_order(limit, scripts);
+}
