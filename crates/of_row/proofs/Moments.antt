@@ -13,7 +13,7 @@ use Rattle.of_core.specs.Starts.{IsDurable}
 use Rattle.of_core.specs.Events.{Event}
 use Rattle.of_core.specs.Calls.{operations, outcomes, no_outcome}
 use Rattle.of_core.specs.Laws.{EveryOrder, Restarts}
-use Rattle.of_core.specs.Linear.{Explains, Linearizes, found, FindsCall, Detects, IsRecovered, IsDurablyLinearizable}
+use Rattle.of_core.specs.Linear.{Explains, Linearizes, recovered_number, FindsCall, Detects, IsRecovered, IsDurablyLinearizable}
 use Rattle.of_core.proofs.Logs.{room_for}
 use Rattle.of_row.specs.Views.{Ended, Kept, Sight, no_ended, bare, IsFront, Each}
 use Rattle.of_row.specs.Rule.{members_of, ticket_at, op_at, outcome_at, Stays, Fits, world, Ruled, Meets}
@@ -55,14 +55,14 @@ module _ (S : Setup) (L : List ℕ → Type 0) (B : Start) (s : State (Unit {0})
   durable_same : (c : ℕ) → c < size S → durable_word S s.words c ≡ durable_word S W.words c
   durable_same c low = l.agrees.words (durable_at S c) (omega (arith, low))
 
-  found_same : (a : ℕ) → a < S.cells → found S (words_alone s.words) a ≡ found S W a
+  found_same : (a : ℕ) → a < S.cells → recovered_number S (words_alone s.words) a ≡ recovered_number S W a
   found_same a low = ap pay (recovered_data-same S.callers S.cells (durable_word S s.words) (durable_word S W.words) durable_same a low (omega (arith, low, r.good.core.shared.little)))
 
   -- a caller's own cells are cells
   own_in : (i x : ℕ) → i < S.callers → x < S.instrs + 2 → ticket_cell S i + x < S.cells
   own_in i x below low = omega (arith, low, room_for i S.callers (S.instrs + 2) below, r.good.core.shared.own_in)
 
-  ticket_same : (i : ℕ) → i < S.callers → found S (words_alone s.words) (ticket_cell S i) ≡ found S W (ticket_cell S i)
+  ticket_same : (i : ℕ) → i < S.callers → recovered_number S (words_alone s.words) (ticket_cell S i) ≡ recovered_number S W (ticket_cell S i)
   ticket_same i below = found_same (ticket_cell S i) (omega (arith, own_in i 0 below (omega arith)))
 
   finds_same : (c : Call) → c.caller < S.callers → FindsCall S W c → FindsCall S (words_alone s.words) c
