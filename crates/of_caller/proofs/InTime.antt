@@ -36,7 +36,7 @@ use Rattle.of_core.specs.Shared.{MayStart}
 use Rattle.of_core.specs.Events.{Event, Begins, Turns, Loads, Evicts, Raises, happens, machine, run, IsSchedule, start_ticket}
 use Rattle.of_core.specs.Calls.{only, operations, outcomes, ended_in, ended_by, begun_by, outcome_of, no_outcome, seq_of, Beyond, NoneSpent}
 use Rattle.of_core.proofs.Tests.{same_number}
-use Rattle.of_core.specs.Linear.{NotBegun as NotYet, EndsBefore as Before}
+use Rattle.of_core.specs.Linear.{HasNotBegunBy as NotYet, CallEndsBefore as Before}
 use Rattle.of_core.specs.Laws.{RealTime, LateCalls}
 use Rattle.of_caller.specs.Tables.{setup_for, lawful_for, opening_at, operation_of}
 use Rattle.of_caller.specs.Ends.{Tells, AreAnswers}
