@@ -101,8 +101,8 @@ module _ (p : Plan) (s : Start) (plan : IsPlan p) (e : Run) (long : length e.wor
 -- the report is one that `play` makes of the plan with the turns and evictions of the run
 module _ (p : Plan) (play : IsPlayable p) (kept : RunsKeepAllowances) (time : SchedulesRespectTime p) (e : Run) (r : Report) (items : List Item)
     (h : IsScheduled p (empty_start p) (zeros (setup_for p)) items e) (reports : ReportsRun p (empty_start p) e r) where
-  left : IsLeftBy p (events_of p items) (unnumbered p e)
-  left = record {
+  left_so : IsLeftBy p (events_of p items) (unnumbered p e)
+  left_so = record {
     answers = h.answers;
     endings = h.endings;
     words = h.words;
@@ -120,16 +120,16 @@ module _ (p : Plan) (play : IsPlayable p) (kept : RunsKeepAllowances) (time : Sc
   keeps : (c : ℕ) → c < p.callers → KeepsAllowance p r c (Some (sum_by (turns_in c) items))
   keeps c lt =
       subst (λ (n : ℕ). KeepsAllowance p r c (Some n)) (items_are_turns p items c)
-      (left_keeps_allowance p play (events_of p items) schedule (items_of_plan p play items h.items_in) (items_spent_last p play items schedule) (unnumbered p e) left kept r here.lawful c lt
-      (stopped_never_idle p play items h.items_in (unnumbered p e) left c lt))
+      (left_keeps_allowance p play (events_of p items) schedule (items_of_plan p play items h.items_in) (items_spent_last p play items schedule) (unnumbered p e) left_so kept r here.lawful c lt
+      (stopped_never_idle p play items h.items_in (unnumbered p e) left_so c lt))
 
   in_time : RespectsTime (empty_start p) (marks_in (setup_for p) (opening_for p) (events_of p items)) r
-  in_time = left_in_time p play (events_of p items) schedule (items_of_plan p play items h.items_in) (items_spent_last p play items schedule) (unnumbered p e) left time r here.lawful
+  in_time = left_in_time p play (events_of p items) schedule (items_of_plan p play items h.items_in) (items_spent_last p play items schedule) (unnumbered p e) left_so time r here.lawful
 
   as_played : IsPlayedReport (with_schedule p items) r
   as_played = record {
     run = unnumbered p e;
-    played = left_is_played p items (unnumbered p e) left;
+    played = left_is_played p items (unnumbered p e) left_so;
     reports = reports_with p items (empty_start p) (unnumbered p e) r here;
     allowance = λ c lt. keeps_with p items r c (Some (sum_by (turns_in c) items)) (keeps c lt);
     in_time = subst (λ (es : List Event). RespectsTime (empty_start p) (marks_in (setup_for p) (opening_for p) es) r) (sym (events_are p items)) in_time;
