@@ -1,5 +1,6 @@
 -- What stands beside an answer: the record of a run with the words that run callers at once, and none with any others.
 use Rattle.std.proofs.Common.{◌≡◌, inl, inr, ℕ, ◌+◌, ◌<◌, ◌≤◌, List, [], ◌∷◌, length, Option, None, Some, refl, sym, subst, ◌∙◌, arith}
+use Rattle.std.specs.Prelude.{⊤}
 use Rattle.std.specs.Option.{MatchOption}
 use Rattle.of_plan.specs.Plan.{Plan, stop_of}
 use Rattle.std.proofs.lemmas.Bool.Decides.{eqb_tells}
@@ -17,12 +18,12 @@ use Rattle.of_tool.specs.declared.status.TheConstants.{DONE}
 use Rattle.of_tool.specs.declared.top.Answer.{Answer}
 use Rattle.of_tool.specs.Commands.{words_of, IsLoad, IsPlain, Are, IsNoCommand}
 use Rattle.of_caller.specs.Allowances.{AllowedBy, KeepAllowances}
-use Rattle.of_tool.specs.Ran.{AllTell, IsRunReport}
+use Rattle.of_tool.specs.Ran.{AllTell, IsRunReport, IsSomeRuns}
 use Rattle.of_report.specs.LoadText.{load_text}
 use Rattle.of_row.specs.Views.{Sight}
 use Rattle.of_tool.specs.Verdicts.{Loaded, SourceState, SinkState, IsAnswer, IsWritten}
-use Rattle.of_tool.specs.Headline.{RunsPlan, LoadsPlan, ContinuesImage, AllDone, IsWhole}
-use Rattle.of_tool.specs.Answer.{HoldsLoad, CarriesRun, CarriesLoad, CarriesLife, Carries}
+use Rattle.of_tool.specs.Headline.{RunsPlan, LoadsPlan, ContinuesImage, LeavesTable, AllDone, IsWhole}
+use Rattle.of_tool.specs.Answer.{HoldsRun, HoldsLoad, HoldsLife, CarriesRun, CarriesLoad, CarriesLife, Carries}
 use Rattle.of_tool.proofs.CommandLemmas.{words_of_injective}
 use Rattle.of_tool.proofs.LoadReports.{done_if, one_text}
 
@@ -130,27 +131,75 @@ pub holds_load : {A : Type 0} (left : A → Option (Option ℕ)) (brakes : List 
     → IsRunReport left brakes p r e w → text ≡ load_text r → HoldsLoad left brakes n m text e w
 holds_load left brakes n m p r text e w is load enough run text_is =
     let here : IsRunReport left brakes (generated n m) r e w = subst (λ (q : Plan). IsRunReport left brakes q r e w) is run in
-    record { report = r; run = here; whole = load_whole left brakes n m r load enough here.of_team.legal here.allowances; text_is = text_is }
+    record { report = r; run = here; whole = load_whole left brakes n m r load enough here.promises.history.legal here.promises.allowances; text_is = text_is }
+
+-- a report of a run with these brakes is one of some run
+pub some_run : {A : Type 0} {left : A → Option (Option ℕ)} {brakes : List A} (p : Plan) (r : Report) (e : Record) (w : Sight) → IsRunReport left brakes p r e w → IsSomeRuns p r
+some_run p r e w h = record { left = e; seen = w; course = h.course; history = h.promises.history; real = h.real; table = h.table }
 
 pub load_answers : {A : Type 0} (left : A → Option (Option ℕ)) (brakes : List A) (words : List (List ℕ)) (before after : SourceState) (n m : ℕ) (found : Answer × Option (Ended × Pass)) → Are words (Load n m) → CarriesLoad left brakes n m found
     → IsAnswer words before after found.0.status found.0.text.items
 load_answers left brakes words before after n m (answer, None) is h = absurd h
-load_answers left brakes words before after n m (answer, Some r) is h = record { verdict = Loaded n m h.1.report; cause = (is, (run_of r.0, r.1.seat.me.0, h.1.run.of_team)); status_is = h.0; text_is = h.1.text_is }
+load_answers left brakes words before after n m (answer, Some r) is h = record { verdict = Loaded n m h.1.report; cause = (is, some_run (generated n m) h.1.report (run_of r.0) r.1.seat.me.0 h.1.run); status_is = h.0; text_is = h.1.text_is }
 
 -- ---- once the text is written
 
-module _ {A : Type 0} (left : A → Option (Option ℕ)) (brakes : List A) (before after : SourceState) (old new : SinkState) (answer : Answer) where
-  pub run_told : (ran : Option (Ended × Pass)) → CarriesRun left brakes before after (answer, ran) → answer.status ≡ DONE → IsWritten old new answer.text.items
-      → MatchOption ran ⊥ (λ r. RunsPlan left brakes before after old new (run_of r.0) r.1.seat.me.0)
-  run_told None h done w = h done
-  run_told (Some r) h done w = record { plan = h.1.plan; read = h.1.read; report = h.1.report; run = h.1.run; written = subst (IsWritten old new) h.1.text_is w }
+module _ {A : Type 0} (left : A → Option (Option ℕ)) (brakes : List A) (old new : SinkState) where
+  abbrev loads_plan : (n m : ℕ) (text : List ℕ) (e : Record) (w : Sight) → HoldsLoad left brakes n m text e w → IsWritten old new text → LoadsPlan left brakes n m old new e
+  loads_plan n m text e w h written = record {
+    course = h.run.course;
+    report = h.report;
+    prints = record { written = subst (IsWritten old new) h.text_is written; promises = h.run.promises; whole = h.whole };
+    real = h.run.real;
+  }
 
-  pub life_told : (ran : Option (Ended × Pass)) → CarriesLife left brakes before after (answer, ran) → answer.status ≡ DONE → IsWritten old new answer.text.items
-      → MatchOption ran ⊥ (λ r. ContinuesImage left brakes before after old new (run_of r.0) r.1.seat.me.0)
-  life_told None h done w = h done
-  life_told (Some r) h done w = record { image = h.1.image; plan = h.1.plan; read = h.1.read; report = h.1.writes.report; life = h.1.writes.life; written = subst (IsWritten old new) h.1.writes.text_is w }
+  pub load_told : (answer : Answer) (n m : ℕ) (ran : Option (Ended × Pass)) → CarriesLoad left brakes n m (answer, ran) → IsWritten old new answer.text.items
+      → MatchOption ran ⊥ (λ r. LoadsPlan left brakes n m old new (run_of r.0))
+  load_told answer n m None h w = h
+  load_told answer n m (Some r) h w = loads_plan n m answer.text.items (run_of r.0) r.1.seat.me.0 h.1 w
 
-pub load_told : {A : Type 0} (left : A → Option (Option ℕ)) (brakes : List A) (old new : SinkState) (answer : Answer) (n m : ℕ) (ran : Option (Ended × Pass)) → CarriesLoad left brakes n m (answer, ran) → IsWritten old new answer.text.items
-    → MatchOption ran ⊥ (λ r. LoadsPlan left brakes n m old new (run_of r.0) r.1.seat.me.0)
-load_told left brakes old new answer n m None h w = h
-load_told left brakes old new answer n m (Some r) h w = record { report = h.1.report; run = h.1.run; whole = h.1.whole; written = subst (IsWritten old new) h.1.text_is w }
+module _ {A : Type 0} (left : A → Option (Option ℕ)) (brakes : List A) (before after : SourceState) (old new : SinkState) where
+  abbrev runs_plan : (text : List ℕ) (e : Record) (w : Sight) → HoldsRun left brakes before after text e w → IsWritten old new text → RunsPlan left brakes before after old new e
+  runs_plan text e w h written = record {
+    plan = h.plan;
+    course = h.run.course;
+    report = h.report;
+    prints = record { read = h.read; written = subst (IsWritten old new) h.text_is written; promises = h.run.promises };
+    real = h.run.real;
+  }
+
+  abbrev continues_image : (text : List ℕ) (e : Record) (w : Sight) → HoldsLife left brakes before after text e w → IsWritten old new text → ContinuesImage left brakes before after old new e
+  continues_image text e w h written = record {
+    image = h.image;
+    plan = h.plan;
+    course = h.writes.life.course;
+    report = h.writes.report;
+    prints = record {
+      read = h.read;
+      written = subst (IsWritten old new) h.writes.text_is written;
+      promises = h.writes.life.promises;
+      goes_on = h.writes.life.goes_on;
+    };
+    real = h.writes.life.real;
+  }
+
+  module _ (answer : Answer) where
+    pub run_told : (ran : Option (Ended × Pass)) → CarriesRun left brakes before after (answer, ran) → answer.status ≡ DONE → IsWritten old new answer.text.items
+        → MatchOption ran ⊥ (λ r. RunsPlan left brakes before after old new (run_of r.0))
+    run_told None h done w = h done
+    run_told (Some r) h done w = runs_plan answer.text.items (run_of r.0) r.1.seat.me.0 h.1 w
+
+    pub life_told : (ran : Option (Ended × Pass)) → CarriesLife left brakes before after (answer, ran) → answer.status ≡ DONE → IsWritten old new answer.text.items
+        → MatchOption ran ⊥ (λ r. ContinuesImage left brakes before after old new (run_of r.0))
+    life_told None h done w = h done
+    life_told (Some r) h done w = continues_image answer.text.items (run_of r.0) r.1.seat.me.0 h.1 w
+
+    -- and what the table and the pass have
+    pub table_told : (words : List (List ℕ)) (ran : Option (Ended × Pass)) → Carries left brakes words before after (answer, ran) → IsWritten old new answer.text.items
+        → MatchOption ran ⊤ (λ r. LeavesTable left brakes words before after old new (run_of r.0) r.1.seat.me.0)
+    table_told words None h w = tt
+    table_told words (Some r) h w = record {
+      run = λ is. record { runs = runs_plan answer.text.items (run_of r.0) r.1.seat.me.0 (h.run is).1 w; table = (h.run is).1.run.table };
+      load = λ n m is. record { loads = loads_plan left brakes old new n m answer.text.items (run_of r.0) r.1.seat.me.0 (h.load n m is).1 w; table = (h.load n m is).1.run.table };
+      continued = λ is. record { continues = continues_image answer.text.items (run_of r.0) r.1.seat.me.0 (h.continued is).1 w; table = (h.continued is).1.writes.life.table };
+    }

@@ -21,6 +21,8 @@ pub mod PlaysSpent
 pub mod PlaysRecords
 pub mod PlaysBusy
 pub mod PlayedReports
+pub mod WithSchedule
+pub mod Promises
 pub mod RanReports
 pub mod LoadStores
 pub mod LoadReports

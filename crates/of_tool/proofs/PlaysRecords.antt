@@ -16,6 +16,7 @@ use Rattle.of_core.specs.Events.{Event, IsSchedule, machine, turns, zeros}
 use Rattle.of_core.specs.Calls.{operations, outcomes, no_outcome, NeverIdle, last_of}
 use Rattle.of_caller.specs.Tables.{setup_for, opening_for}
 use Rattle.of_caller.specs.Ends.{is_spent, AnswersFirst, NoneAnswered, halted, ending_at}
+use Rattle.of_caller.specs.InTime.{RespectsTime, marks_in, SchedulesRespectTime}
 use Rattle.of_caller.specs.Left.{IsLeftBy, IsOfPlan, moment_after}
 use Rattle.of_eval.specs.Reported.{ReportsRun}
 use Rattle.of_caller.specs.Runs.{ends_at, TellsCalls, IsRunOf, RunsAreLawful, RunsAreReported, RunsKeepAllowances}
@@ -114,6 +115,11 @@ module _ (p : Plan) (play : IsPlayable p) (es : List Event) (schedule : IsSchedu
       ] in
       law p (empty_start p) (zeros (setup_for p)) (moment_after p es) e run_here r lawful c (turns c es) lt few told.few (λ state none. told.exact (busy state) none)
 
+  -- and each call comes after those that ended before it began
+  pub left_in_time : SchedulesRespectTime p → (r : Report) → IsLawful p (empty_start p) e r → RespectsTime (empty_start p) (marks_in (setup_for p) (opening_for p) es) r
+  unfolding run_here
+  left_in_time law r lawful = law (empty_start p) (zeros (setup_for p)) play.laws.zero_start es schedule e run_here (λ c lt. refl) r lawful
+
 module _ (p : Plan) (play : IsPlayable p) (schedule : IsSchedule (setup_for p) (opening_for p) (play_events p)) (of_plan : IsOfPlan p (play_events p)) (e : Run) (played : IsPlayed p e) where
   -- what a plan's own schedule leaves is a lawful record
   pub played_is_lawful : RunsAreLawful → (r : Report) × IsLawful p (empty_start p) e r
@@ -127,3 +133,7 @@ module _ (p : Plan) (play : IsPlayable p) (schedule : IsSchedule (setup_for p) (
   pub played_keeps_allowance : RunsKeepAllowances → (r : Report) → IsLawful p (empty_start p) e r → (c : ℕ) → c < p.callers → (state_of (ending_of e c) ≡ stopped → NeverIdle (setup_for p) (opening_for p) (play_events p) c)
       → KeepsAllowance p r c (Some (turns c (play_events p)))
   played_keeps_allowance law r lawful c lt busy = left_keeps_allowance p play (play_events p) schedule of_plan (play_spent_last p play schedule) e played law r lawful c lt busy
+
+  -- and each call comes after those that ended before it began
+  pub played_in_time : SchedulesRespectTime p → (r : Report) → IsLawful p (empty_start p) e r → RespectsTime (empty_start p) (marks_in (setup_for p) (opening_for p) (play_events p)) r
+  played_in_time law r lawful = left_in_time p play (play_events p) schedule of_plan (play_spent_last p play schedule) e played law r lawful

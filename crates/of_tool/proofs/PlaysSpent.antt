@@ -1,4 +1,4 @@
--- In a plan's schedule a spent call is the last of its caller's.
+-- In a plan's schedule, or with any other in its place, a spent call is the last of its caller's.
 use Rattle.std.proofs.Common.{◌≡◌, ℕ, zero, suc, Bool, true, false, cond, List, [], ◌∷◌, ◌++◌, length, replicate, refl, ap, ◌∙◌}
 use Rattle.std.specs.Prelude.{◌&&◌, not, nat_lt, flat_map, slice_index_or}
 use Rattle.std.specs.List.{AllByRecursion as Each}
@@ -11,8 +11,9 @@ use Rattle.of_core.specs.Machine.{is_idle}
 use Rattle.of_core.specs.Events.{Event, Begins, Turns, Loads, Evicts, Raises, machine, happens, run, IsSchedule}
 use Rattle.of_caller.specs.Tables.{setup_for, opening_for, operation_of}
 use Rattle.of_caller.specs.Ends.{is_spent}
-use Rattle.of_tool.specs.Play.{moves_in, moves_for, begins_call, next_call, with_begin, events_from, play_events}
+use Rattle.of_tool.specs.Play.{moves_in, begins_call, next_call, with_begin, events_from, play_events}
 use Rattle.of_tool.proofs.PlaysMoments.{IsPlayable}
+use Rattle.of_tool.proofs.PlaysEvents.{events_of}
 use Rattle.of_tool.proofs.PlaysUnspent.{NoneAfterSpent, IsSpentLast, spent_last}
 
 -- ---- the schedule of a plan
@@ -69,10 +70,13 @@ module _ (p : Plan) (c : ℕ) where
   moves_unspent (e ∷ es) w moves =
       append_unspent (with_begin p w e) w (events_from p (run (setup_for p) w (with_begin p w e)) es) (move_unspent w e moves.0) (moves_unspent es (run (setup_for p) w (with_begin p w e)) moves.1)
 
-  -- in a plan's schedule a spent caller begins no call
-  pub play_unspent : NoneAfterSpent (setup_for p) (opening_for p) (play_events p) c
-  play_unspent = moves_unspent (moves_for p) (opening_for p) (all_moves p.schedule)
+  -- in a schedule a spent caller begins no call
+  pub items_unspent : (xs : List Item) → NoneAfterSpent (setup_for p) (opening_for p) (events_of p xs) c
+  items_unspent xs = moves_unspent (flat_map moves_in xs) (opening_for p) (all_moves xs)
 
 -- so a spent call is the last of its caller's there
+pub items_spent_last : (p : Plan) → IsPlayable p → (xs : List Item) → IsSchedule (setup_for p) (opening_for p) (events_of p xs) → IsSpentLast p (events_of p xs)
+items_spent_last p play xs schedule = spent_last p play (events_of p xs) schedule (λ c lt. items_unspent p c xs)
+
 pub play_spent_last : (p : Plan) → IsPlayable p → IsSchedule (setup_for p) (opening_for p) (play_events p) → IsSpentLast p (play_events p)
-play_spent_last p play schedule = spent_last p play (play_events p) schedule (λ c lt. play_unspent p c)
+play_spent_last p play schedule = items_spent_last p play p.schedule schedule

@@ -1,56 +1,55 @@
--- The report that what a team hands back is, and what its brakes say of it.
-use Rattle.std.proofs.Common.{◌≡◌, ◌∙◌, ℕ, ◌+◌, ◌<◌, List, [], ◌∷◌, ◌++◌, length, Option, None, Some, ◌==◌, Bool, true, false, set, length-set, refl, sym, ap, subst, arith}
-use Rattle.std.specs.List.{flat_map}
-use Rattle.of_plan.specs.Plan.{Plan, IsPlan, stop_of}
-use Rattle.of_plan.specs.Report.{CallEntry, Start, Report, empty_start, finished_of}
-use Rattle.of_plan.specs.Ended.{Run, answers_of, ending_of}
-use Rattle.of_plan.specs.Allowance.{KeepsAllowance}
+-- The report that what a team hands back is: what it promises, that its run is a schedule, and what its brakes say of it.
+use Rattle.std.proofs.Common.{◌≡◌, ◌∙◌, ℕ, ◌+◌, ◌<◌, List, [], ◌∷◌, length, Option, None, Some, ◌==◌, Bool, true, false, length-set, refl, sym, ap, subst, arith}
+use Rattle.std.specs.List.{sum_by}
 use Rattle.std.proofs.lemmas.List.{get_or-set_other}
 use Rattle.of_cell.specs.Cells.{durable_cells, durable_place, table_words}
 use Rattle.of_cell.specs.Words.{seq, pay}
+use Rattle.of_recover.proofs.Agreeing.{recovered_data-same}
 use Rattle.of_mem.specs.Places.{ticket_at}
 use Rattle.of_mem.specs.declared.work.RawReply.{RawReply}
 use Rattle.of_script.specs.declared.instr.TheConstants.{MOST_INSTRS}
 use Rattle.of_store.specs.Replies.{response_of}
 use Rattle.of_plan.specs.declared.answer.Ending.{Ending}
 use Rattle.of_plan.specs.declared.answer.Ending.TheVariants.{Done, Stopped, Spent as RanOut}
+use Rattle.of_plan.specs.declared.plan.Item.{Item}
+use Rattle.of_plan.specs.Plan.{Plan, IsPlan, stop_of}
+use Rattle.of_plan.specs.Report.{CallEntry, Start, Report, empty_start, finished_of}
+use Rattle.of_plan.specs.Ended.{Run, answers_of, ending_of}
+use Rattle.of_plan.specs.Allowance.{KeepsAllowance, turns_in}
 use Rattle.of_eval.specs.Shapes.{IsHeldBy}
 use Rattle.of_eval.specs.Record.{IsLawful, cells_in, durable_of, recovered_word, recovered_number, OpenCall, BeyondAnswers}
-use Rattle.of_recover.proofs.Agreeing.{recovered_data-same}
-use Rattle.of_report.proofs.Cells.{reply_same, stands_for_same}
-use Rattle.of_core.specs.Table.{table_size}
 use Rattle.of_eval.specs.Reported.{ReportsRun}
+use Rattle.of_core.specs.Table.{table_size}
 use Rattle.of_core.specs.World.{Start as TableStart}
-use Rattle.of_core.specs.Events.{zeros}
+use Rattle.of_core.specs.Events.{Event, zeros, machine, run, IsSchedule}
 use Rattle.of_row.specs.Views.{Sight}
 use Rattle.of_caller.specs.Starts.{StartsAt, ZerosAreEmpty}
-use Rattle.of_caller.specs.Tables.{setup_for}
-use Rattle.of_caller.specs.Stops.{KeepStop, CallerStops, KeepStops}
-use Rattle.of_plan.specs.declared.plan.Item.{Item}
-use Rattle.of_core.specs.World.{World}
-use Rattle.of_core.specs.Events.{Event, Begins, Turns, Loads, Evicts, Raises, happens, machine, run}
-use Rattle.of_caller.specs.Tables.{opening_for}
-use Rattle.of_caller.specs.Left.{IsLeftBy}
+use Rattle.of_caller.specs.Tables.{setup_for, opening_for}
 use Rattle.of_caller.specs.Ends.{ending_at}
-use Rattle.of_caller.specs.Scheduled.{moves_in, with_begin, events_from, scheduled, unnumbered, IsScheduled}
-use Rattle.of_tool.specs.Ran.{with_schedule, IsAsPlayed}
-use Rattle.of_tool.proofs.PlaysStart.{none_finished}
-use Rattle.of_caller.specs.Teams.{IsHandedBack, AnnouncesSeen, TeamsKeepAllowances}
+use Rattle.of_caller.specs.Left.{IsLeftBy}
+use Rattle.of_caller.specs.PlanLaws.{KeepsLaws}
+use Rattle.of_caller.specs.Runs.{SchedulesAreMoments, RunsKeepAllowances}
+use Rattle.of_caller.specs.Scheduled.{unnumbered, IsScheduled}
+use Rattle.of_caller.specs.InTime.{RespectsTime, marks_in, course_of, SchedulesRespectTime, TeamsRespectTime}
+use Rattle.of_caller.specs.Stops.{KeepStop, CallerStops, KeepStops}
 use Rattle.of_caller.specs.Allowances.{AllowedBy, KeepAllowances}
-use Rattle.of_tool.specs.Ran.{IsRunReport}
+use Rattle.of_caller.specs.Teams.{IsHandedBack, AnnouncesSeen, TeamsKeepAllowances}
+use Rattle.of_report.proofs.Cells.{reply_same, stands_for_same}
+use Rattle.of_tool.specs.Played.{IsPlayedReport}
+use Rattle.of_tool.specs.Ran.{with_schedule, IsRunReport}
+use Rattle.of_tool.proofs.PlaysStart.{none_finished}
+use Rattle.of_tool.proofs.PlaysEvents.{events_of}
+use Rattle.of_tool.proofs.PlaysMoments.{IsPlayable, playable}
+use Rattle.of_tool.proofs.PlaysSchedule.{items_are_schedule, items_of_plan, items_are_turns}
+use Rattle.of_tool.proofs.PlaysSpent.{items_spent_last}
+use Rattle.of_tool.proofs.PlaysBusy.{stopped_never_idle}
+use Rattle.of_tool.proofs.PlaysRecords.{left_keeps_allowance, left_in_time}
+use Rattle.of_tool.proofs.WithSchedule.{events_are, left_is_played, reports_with, keeps_with}
+use Rattle.of_tool.proofs.Promises.{history_of}
 
 allowed_by : (p : Plan) (r : Report) (e : Run) (c : ℕ) → (KeepStop (stop_of p c) (answers_of e c) (ending_of e c) → KeepsAllowance p r c (stop_of p c)) → (o : Option (Option ℕ)) → CallerStops p e c o → AllowedBy o p r c
 allowed_by p r e c keeps None h = tt
 allowed_by p r e c keeps (Some steps) h = keeps h
-
--- the plan's schedule is no matter for which call comes next
-same_events : (p : Plan) (items : List Item) (w : World) (ms : List Event) → events_from (with_schedule p items) w ms ≡ events_from p w ms
-same_events p items w [] = refl
-same_events p items w (Begins i op ∷ ms) = ap (λ (fs : List Event). Begins i op ∷ fs) (same_events p items (happens (setup_for p) w (Begins i op)) ms)
-same_events p items w (Turns i ∷ ms) = ap (λ (fs : List Event). with_begin p w (Turns i) ++ fs) (same_events p items (run (setup_for p) w (with_begin p w (Turns i))) ms)
-same_events p items w (Loads c ∷ ms) = ap (λ (fs : List Event). Loads c ∷ fs) (same_events p items (happens (setup_for p) w (Loads c)) ms)
-same_events p items w (Evicts k ∷ ms) = ap (λ (fs : List Event). Evicts k ∷ fs) (same_events p items (happens (setup_for p) w (Evicts k)) ms)
-same_events p items w (Raises c ∷ ms) = ap (λ (fs : List Event). Raises c ∷ fs) (same_events p items (happens (setup_for p) w (Raises c)) ms)
 
 -- a record's report is that of the record with no number taken: recovery reads no such word
 module _ (p : Plan) (s : Start) (plan : IsPlan p) (e : Run) (long : length e.words ≡ table_words p.callers MOST_INSTRS (cells_in p)) where
@@ -99,20 +98,42 @@ module _ (p : Plan) (s : Start) (plan : IsPlan p) (e : Run) (long : length e.wor
   reports_as : (r : Report) → ReportsRun p s e r → ReportsRun p s d r
   reports_as r h = record { lawful = lawful_as r h.lawful; within_limit = h.within_limit; announced = h.announced; least = h.least }
 
-as_played : (p : Plan) → IsPlan p → (e : Run) (r : Report) (items : List Item) → IsScheduled p (empty_start p) (zeros (setup_for p)) items e → ReportsRun p (empty_start p) e r → IsAsPlayed p e r
-as_played p plan e r items h reports = record {
-  schedule = items;
-  items = h.items_in;
-  evictions = h.evicted;
-  played = subst (λ (es : List Event). IsLeftBy (with_schedule p items) es (unnumbered p e)) (sym (same_events p items (opening_for p) (flat_map moves_in items))) record {
+-- the report is one that `play` makes of the plan with the turns and evictions of the run
+module _ (p : Plan) (play : IsPlayable p) (kept : RunsKeepAllowances) (time : SchedulesRespectTime p) (e : Run) (r : Report) (items : List Item)
+    (h : IsScheduled p (empty_start p) (zeros (setup_for p)) items e) (reports : ReportsRun p (empty_start p) e r) where
+  left_so : IsLeftBy p (events_of p items) (unnumbered p e)
+  left_so = record {
     answers = h.answers;
     endings = h.endings;
     words = h.words;
     told = h.told;
-    ended = λ c l. h.ended c l ∙ ap (λ (n : ℕ). ending_at (machine (run (setup_for p) (opening_for p) (scheduled p (zeros (setup_for p)) items)) c) n (length (answers_of e c))) (omega (arith, none_finished p c));
-  };
-  reports = reports_as p (empty_start p) plan e reports.lawful.words r reports;
-}
+    ended = λ c l. h.ended c l ∙ ap (λ (n : ℕ). ending_at (machine (run (setup_for p) (opening_for p) (events_of p items)) c) n (length (answers_of e c))) (omega (arith, none_finished p c));
+  }
+
+  schedule : IsSchedule (setup_for p) (opening_for p) (events_of p items)
+  schedule = items_are_schedule p play items h.items_in
+
+  here : ReportsRun p (empty_start p) (unnumbered p e) r
+  here = reports_as p (empty_start p) play.plan e reports.lawful.words r reports
+
+  -- each caller keeps to its turns, and each call comes after those that ended before it began
+  keeps : (c : ℕ) → c < p.callers → KeepsAllowance p r c (Some (sum_by (turns_in c) items))
+  keeps c lt =
+      subst (λ (n : ℕ). KeepsAllowance p r c (Some n)) (items_are_turns p items c)
+      (left_keeps_allowance p play (events_of p items) schedule (items_of_plan p play items h.items_in) (items_spent_last p play items schedule) (unnumbered p e) left_so kept r here.lawful c lt
+      (stopped_never_idle p play items h.items_in (unnumbered p e) left_so c lt))
+
+  in_time : RespectsTime (empty_start p) (marks_in (setup_for p) (opening_for p) (events_of p items)) r
+  in_time = left_in_time p play (events_of p items) schedule (items_of_plan p play items h.items_in) (items_spent_last p play items schedule) (unnumbered p e) left_so time r here.lawful
+
+  as_played : IsPlayedReport (with_schedule p items) r
+  as_played = record {
+    run = unnumbered p e;
+    played = left_is_played p items (unnumbered p e) left_so;
+    reports = reports_with p items (empty_start p) (unnumbered p e) r here;
+    allowance = λ c lt. keeps_with p items r c (Some (sum_by (turns_in c) items)) (keeps c lt);
+    in_time = subst (λ (es : List Event). RespectsTime (empty_start p) (marks_in (setup_for p) (opening_for p) es) r) (sym (events_are p items)) in_time;
+  }
 
 -- whoever keeps to its stop keeps it as its allowance
 allowed : {A : Type 0} (left : A → Option (Option ℕ)) (p : Plan) (r : Report) (e : Run) → ((c : ℕ) → c < p.callers → KeepStop (stop_of p c) (answers_of e c) (ending_of e c) → KeepsAllowance p r c (stop_of p c))
@@ -127,19 +148,23 @@ module _ (p : Plan) (B : TableStart) (e : Run) (w : Sight) (at_zeros : B ≡ zer
   pub has_report : (r : Report) × IsLawful p (empty_start p) e r
   has_report = (back.report, back.reported.lawful)
 
-  pub reported : {A : Type 0} (left : A → Option (Option ℕ)) (brakes : List A) (r : Report) → ((q : Report) → IsLawful p (empty_start p) e q → r ≡ q) → TeamsKeepAllowances p → KeepStops left p e 0 brakes → IsRunReport left brakes p r e w
-  reported left brakes r made keeps stops =
+  -- what was handed back is a report of the run with these brakes
+  pub reported : {A : Type 0} (left : A → Option (Option ℕ)) (brakes : List A) (r : Report) → ((q : Report) → IsLawful p (empty_start p) e q → r ≡ q) → KeepsLaws p → SchedulesAreMoments p → TeamsKeepAllowances p → RunsKeepAllowances
+      → SchedulesRespectTime p → TeamsRespectTime p → KeepStops left p e 0 brakes → IsRunReport left brakes p r e w
+  reported left brakes r made laws moments keeps kept time teams stops =
       let same : back.report ≡ r = sym (made back.report back.reported.lawful) in
-      let lawful : IsLawful p (empty_start p) e r = subst (IsLawful p (empty_start p) e) same back.reported.lawful in
+      let reports : ReportsRun p (empty_start p) e r = subst (ReportsRun p (empty_start p) e) same back.reported in
+      let run = teams (empty_start p) (zeros (setup_for p)) e back.sight back.team in
       record {
-        of_team = record {
-          sight = back.sight;
-          copy = back.copy;
-          team = back.team;
-          reports = subst (ReportsRun p (empty_start p) e) same back.reported;
-          announced = subst (AnnouncesSeen (zeros (setup_for p)) back.sight.seen) same back.announced;
-          legal = lawful.legal;
-          as_played = as_played p back.team.plan e r back.scheduled.0 back.scheduled.1 (subst (ReportsRun p (empty_start p) e) same back.reported);
+        course = course_of p (zeros (setup_for p)) run.0;
+        promises = record {
+          history = history_of p (empty_start p) e r reports (course_of p (zeros (setup_for p)) run.0) (run.2 r reports.lawful);
+          stops = stops;
+          allowances = allowed left p r e (λ c lt. keeps (empty_start p) (zeros (setup_for p)) e back.sight back.team r reports.lawful c lt) 0 brakes stops;
         };
-        allowances = allowed left p r e (λ c lt. keeps (empty_start p) (zeros (setup_for p)) e back.sight back.team r lawful c lt) 0 brakes stops;
+        real = record {
+          run = record { schedule = run.0; leaves = run.1; course_is = refl; reports = reports };
+          played = as_played p (playable p back.team.plan laws moments empty) kept time e r run.0 run.1 reports;
+        };
+        table = record { sight = back.sight; copy = back.copy; team = back.team; announced = subst (AnnouncesSeen (zeros (setup_for p)) back.sight.seen) same back.announced };
       }

@@ -6,14 +6,19 @@ use Rattle.of_plan.specs.Report.{Report, empty_start}
 use Rattle.of_plan.specs.Allowance.{KeepsAllowance, turns_for}
 use Rattle.of_eval.specs.Reported.{ReportsRun}
 use Rattle.of_image.specs.RunImage.{IsImageOf}
+use Rattle.of_core.specs.Events.{zeros}
+use Rattle.of_caller.specs.Tables.{setup_for}
+use Rattle.of_caller.specs.InTime.{RespectsTime, course_of}
 use Rattle.of_tool.specs.Play.{IsPlayed}
 
--- the report of what a plan's schedule leaves: it says of that run what holds of every run, and each caller keeps to its turns
+-- The report of what a plan's schedule leaves: it says of that run what holds of every run, each caller keeps to its turns, and each
+-- call comes after those that ended before it began.
 pub record IsPlayedReport (p : Plan) (r : Report) : Type 0 where
   pub run : Run
   pub played : IsPlayed p run
   pub reports : ReportsRun p (empty_start p) run r
   pub allowance : (c : ℕ) → c < p.callers → KeepsAllowance p r c (Some (turns_for p c))
+  pub in_time : RespectsTime (empty_start p) (course_of p (zeros (setup_for p)) p.schedule) r
 
 -- the text is the image of the durable words of the moment that a plan's schedule leaves: of the run of which `play` prints the report, with that report's sequence and store
 pub record IsPlayedImage (p : Plan) (text : List ℕ) : Type 0 where

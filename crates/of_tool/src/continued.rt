@@ -15,6 +15,7 @@ use crate::images::refused;
 use crate::status;
 use crate::top::{Answer, MOST_WITH_REPORT, Ran, bad_plan, read_input};
 use of_brake::Brake;
+use of_caller::laws::reports_respect_time;
 use of_image::{image_parse, image_print};
 use of_io::Source;
 use of_lives::{Life, continue_from, fits};
@@ -39,6 +40,7 @@ fn live<R: Threads + Sync>(
     ensures { IfOk result (λ r. WritesLife (λ b. left b) brakes.items (image_of image.now) plan.now
         (run_of r.1.0) r.1.1.seat.me.0 r.0.items) }
 {
+    reports_respect_time(plan);
     let Life {
         report,
         ended,

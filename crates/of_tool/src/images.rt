@@ -13,7 +13,7 @@ ghost use Rattle.of_tool.specs.Answer.{Answered, RefusesImage, TellsRefusal};
 use crate::play::play;
 use crate::status;
 use crate::top::{Answer, MOST_IMAGE, read_input, read_plan};
-use of_caller::laws::{plan_keeps_laws, runs_are_lawful};
+use of_caller::laws::{plan_keeps_laws, reports_respect_time, runs_are_lawful};
 use of_core::laws::starts;
 use of_eval::Scripts;
 use of_image::laws::records_have_images;
@@ -33,6 +33,7 @@ fn play_image(alloc: Global, plan: &Plan) -> Result<Vec<u8>, AllocError>
     };
     plan_keeps_laws(plan);
     runs_are_lawful();
+    reports_respect_time(plan);
     starts(plan.limit(), scripts);
     records_have_images();
     let ended = play(alloc, plan)?;

@@ -6,7 +6,7 @@ ghost use Rattle.of_report.specs.Report.{report_of};
 ghost use Rattle.of_tool.specs.Ran.{IsRunReport};
 
 use of_brake::Brake;
-use of_caller::laws::{plan_keeps_laws, teams_are_lawful};
+use of_caller::laws::{plan_keeps_laws, reports_respect_time, runs_are_lawful, teams_are_lawful};
 use of_caller::{row_for, team};
 use of_plan::{Ended, Plan};
 use of_report::Report;
@@ -26,7 +26,9 @@ pub fn run_report<R: Threads + Sync>(
     ensures { IfOk result (λ r. IsRunReport (λ b. left b) brakes.items plan.now (report_of r.0) (run_of r.1.0) r.1.1.seat.me.0) }
 {
     plan_keeps_laws(plan);
+    runs_are_lawful();
     teams_are_lawful(plan);
+    reports_respect_time(plan);
     let (row, pass) = row_for(alloc, plan)?;
     let (ended, pass) = team(rt, alloc, row, pass, plan, brakes)?;
     let report = Report::make(alloc, plan, &ended)?;

@@ -1,6 +1,6 @@
 //! The top call.
 
-ghost use Rattle.std.specs.Prelude.{◌≡◌, ◌≤◌, ◌⊎◌, ℕ, IfOk, MatchOption, MatchResult, None, vec_len, codes, decimal, ◌++◌};
+ghost use Rattle.std.specs.Prelude.{◌≡◌, ◌≤◌, ◌⊎◌, ⊤, ℕ, IfOk, MatchOption, MatchResult, None, vec_len, codes, decimal, ◌++◌};
 ghost use Rattle.of_io.specs.Faults.{Rose};
 ghost use Rattle.of_plan.specs.Ended.{run_of};
 ghost use Rattle.of_tool.specs.declared.command.Command.{Command};
@@ -9,7 +9,7 @@ ghost use Rattle.of_tool.specs.declared.status.TheConstants.{DONE, OUT_OF_MEMORY
 ghost use Rattle.of_tool.specs.Commands.{texts, words_of, IsTrace, IsLoad, IsInRange, IsPlain, Are, RunTeam};
 ghost use Rattle.of_tool.specs.Verdicts.{source_state, sink_state, limit_of, Answers, AskForInput, ReadsAll, ReadsPlan, IsReplayed, PlaysPlan, TracesPlan, ChecksReport, ReadsMisfit, Prints, IsValidInput};
 ghost use Rattle.of_tool.specs.Images.{ImagesPlan, RecoversImage, RenumbersImage, MigratesImage};
-ghost use Rattle.of_tool.specs.Headline.{RunsPlan, LoadsPlan, ContinuesImage};
+ghost use Rattle.of_tool.specs.Headline.{RunsPlan, LoadsPlan, ContinuesImage, LeavesTable};
 ghost use Rattle.of_tool.specs.Answer.{Answered, Refuses, RefusesUpTo, Judges, CarriesRun, CarriesLoad, Carries};
 
 use crate::command::{Command, HELP, VERSION};
@@ -334,27 +334,38 @@ pub fn tool<R: Threads + Sync, S: Source, K: Sink>(
     requires brakes { vec_len brakes ≡ 16 }
     requires none { ran.old ≡ None }
 
-    // THE HEADLINE. With status 0 of `run` the report of what the plan's callers left, running at once, was written: one legal history.
-    // The record of the run and the pass that has seen it are in `ran`.
+    // THE HEADLINE. With status 0 of `run` the report of what the plan's callers left, running at once,
+    // was written: one legal history, in real time, in which callers keep to their brakes. It comes of
+    // a real run, event by event, and the record of that run is in `ran`.
     ensures run { texts words.now ≡ words_of Run → result ≡ DONE
         → MatchOption ran.new ⊥ (λ r. RunsPlan (λ b. left b) brakes.items
         (source_state (S.remaining source.old) (S.faults source.old))
         (source_state (S.remaining source.new) (S.faults source.new))
         (sink_state (K.written sink.old) (K.finished sink.old) (K.faults sink.old))
         (sink_state (K.written sink.new) (K.finished sink.new) (K.faults sink.new))
-        (run_of r.0) r.1.seat.me.0) }
+        (run_of r.0)) }
 
-    // With status 0 of `load` the same holds of the plan that is made for it, and the summary of the report was written.
+    // With status 0 of `load` the same holds of the plan that is made for it, and the summary of the
+    // report was written.
     ensures load { (callers scripts : ℕ) → Are (texts words.now) (Load callers scripts) → result ≡ DONE
         → MatchOption ran.new ⊥ (λ r. LoadsPlan (λ b. left b) brakes.items callers scripts
         (sink_state (K.written sink.old) (K.finished sink.old) (K.faults sink.old))
         (sink_state (K.written sink.new) (K.finished sink.new) (K.faults sink.new))
-        (run_of r.0) r.1.seat.me.0) }
+        (run_of r.0)) }
 
-    // With status 0 of `continue` the report of what the plan's callers left, who went on from the image at once, was written, and behind
-    // it the image of their durable words: the one from which the next life can go on.
+    // With status 0 of `continue` the same holds of callers that went on from the image at once. After
+    // the report the image of their durable words was written: the next life can go on from it.
     ensures continued { texts words.now ≡ words_of Continue → result ≡ DONE
         → MatchOption ran.new ⊥ (λ r. ContinuesImage (λ b. left b) brakes.items
+        (source_state (S.remaining source.old) (S.faults source.old))
+        (source_state (S.remaining source.new) (S.faults source.new))
+        (sink_state (K.written sink.old) (K.finished sink.old) (K.faults sink.old))
+        (sink_state (K.written sink.new) (K.finished sink.new) (K.faults sink.new))
+        (run_of r.0)) }
+
+    // And the table of that run meets the rule of a row. The pass in `ran` has seen all of the run.
+    ensures table { result ≡ DONE → MatchOption ran.new ⊤ (λ r. LeavesTable (λ b. left b)
+        brakes.items (texts words.now)
         (source_state (S.remaining source.old) (S.faults source.old))
         (source_state (S.remaining source.new) (S.faults source.new))
         (sink_state (K.written sink.old) (K.finished sink.old) (K.faults sink.old))
@@ -384,7 +395,8 @@ pub fn tool<R: Threads + Sync, S: Source, K: Sink>(
         (sink_state (K.written sink.old) (K.finished sink.old) (K.faults sink.old))
         (sink_state (K.written sink.new) (K.finished sink.new) (K.faults sink.new)) }
 
-    // With status 0 of `play` the report of what the schedule of the plan that the whole input spells leaves was written.
+    // With status 0 of `play` the report of what the schedule of the plan that the whole input spells leaves was written. It respects the
+    // schedule's real time.
     ensures play { texts words.now ≡ words_of Play → result ≡ DONE → PlaysPlan
         (source_state (S.remaining source.old) (S.faults source.old))
         (source_state (S.remaining source.new) (S.faults source.new))

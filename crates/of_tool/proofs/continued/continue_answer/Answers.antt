@@ -14,9 +14,13 @@ returns-clause-answered g c =
         rw c.in-Ok.is at c.in_ok-read.ensures.read,
         record {
           report = writes.report;
-          record_of = run_of c.in_ok-text.ran.0;
+          left = run_of c.in_ok-text.ran.0;
           seen = c.in_ok-text.ran.1.seat.me.0;
-          life = writes.life.of_life;
+          course = writes.life.course;
+          history = writes.life.promises.history;
+          goes_on = writes.life.goes_on;
+          real = writes.life.real;
+          table = writes.life.table;
           text_is = writes.text_is;
         },
       );

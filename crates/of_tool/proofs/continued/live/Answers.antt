@@ -1,14 +1,18 @@
-use Rattle.std.proofs.Common.{◌≡◌, ℕ, ◌+◌, List, length, ◌++◌, sym, ap, ◌∙◌, subst}
+use Rattle.std.proofs.Common.{◌≡◌, ℕ, ◌+◌, List, length, ◌++◌, refl, sym, ap, ◌∙◌, subst}
 use Rattle.std.specs.Prelude.{slice_range}
 use Rattle.of_cell.specs.Cells.{durable_cells, table_words}
 use Rattle.of_mem.specs.Places.{base_of, cells_at}
 use Rattle.of_script.specs.declared.instr.TheConstants.{MOST_INSTRS}
 use Rattle.of_plan.specs.Ended.{run_of}
 use Rattle.of_report.specs.Report.{report_of}
-use Rattle.of_report.specs.Image.{durable_row}
+use Rattle.of_report.specs.Image.{image_of, start_of, durable_row}
 use Rattle.of_report.specs.ImageRow.{row_in}
 use Rattle.of_image.specs.declared.version.Version.TheVariants.{Two}
 use Rattle.of_image.specs.ImageText.{image_text, SpellsImage}
+use Rattle.of_caller.specs.InTime.{course_of}
+use Rattle.of_caller.specs.Teams.{AnnouncesSeen}
+use Rattle.of_lives.specs.Restarts.{start_in}
+use Rattle.of_tool.proofs.Promises.{history_of}
 use Rattle.of_tool.proofs.continued.live.Goals as goal
 
 pub image_print-requires-clause-size : goal.image_print-requires-clause-size
@@ -33,23 +37,30 @@ returns g c =
           (durable_cells (callers i) (cells_at (base_of (callers i) (c.plot.ensures.instrs i)) (blocks i)) + durable_cells (callers i) (cells_at (base_of (callers i) (c.plot.ensures.instrs i)) (blocks i)));
     } in
     let told = c.in_ok-report.ensures in
+    let i = image_of c.args.image.now in
+    let handed = told.team.handed in
+    let run = c.reports_respect_time.ensures.teams (start_of i) (start_in p i.row.words) e handed.sight handed.team in
     let leaves = told.leaves in
     let left : c.in_ok-left.left.items ≡ image_text Two (durable_row p e) = c.in_ok-left.ensures.text ∙ ap (image_text Two) row in
     let again : SpellsImage Two (image_text Two (durable_row p e)) (durable_row p e) = subst (λ (t : List ℕ). SpellsImage Two t (durable_row p e)) left (subst (SpellsImage Two c.in_ok-left.left.items) row c.in_ok-left.ensures.again) in
     record {
       report = report_of c.in_ok-report.field-0.report;
       life = record {
-        of_life = record {
+        course = course_of p (start_in p i.row.words) run.0;
+        promises = record {
+          history = history_of p (start_of i) e (report_of c.in_ok-report.field-0.report) told.report (course_of p (start_in p i.row.words) run.0) (run.2 (report_of c.in_ok-report.field-0.report) told.report.lawful);
+          stops = told.stops;
+          allowances = told.allowances;
+        };
+        goes_on = record {
           fits = c.requires.fits;
-          team = told.team;
-          reports = told.report;
-          legal = told.report.lawful.legal;
           not_again = told.not_again;
           next = leaves.0;
           leaves = leaves.1;
           reads = record { raw = durable_row p e; spelled = again; restored = leaves.1.restored };
         };
-        allowances = told.allowances;
+        real = record { schedule = run.0; leaves = run.1; course_is = refl; reports = told.report };
+        table = record { sight = handed.sight; copy = handed.copy; team = handed.team; announced = subst (AnnouncesSeen (start_in p i.row.words) handed.sight.seen) told.team.report handed.announced };
       };
       text_is = c.in_ok-append.ensures.items ∙ (λ i. c.in_ok-text.ensures i ++ left i);
     }

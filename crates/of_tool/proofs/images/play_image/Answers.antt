@@ -39,10 +39,10 @@ module _ (c : goal.After-deref) where
 
   -- what the schedule leaves has a report, as `play` prints it
   report : (r : Report) × IsLawful c.args.plan.now (empty_start c.args.plan.now) (run_of c.in_ok-ended.ended) r
-  report = has_report c.args.plan.now play c.runs_are_lawful.ensures.lawful c.runs_are_lawful.ensures.reported c.runs_are_lawful.ensures.allowances (run_of c.in_ok-ended.ended) c.in_ok-ended.ensures.played
+  report = has_report c.args.plan.now play c.runs_are_lawful.ensures.lawful c.runs_are_lawful.ensures.reported c.runs_are_lawful.ensures.allowances c.reports_respect_time.ensures.schedules (run_of c.in_ok-ended.ended) c.in_ok-ended.ensures.played
 
   played : IsPlayedReport c.args.plan.now report.0
-  played = lawful_report c.args.plan.now play c.runs_are_lawful.ensures.lawful c.runs_are_lawful.ensures.reported c.runs_are_lawful.ensures.allowances (run_of c.in_ok-ended.ended) c.in_ok-ended.ensures.played report.0 report.1
+  played = lawful_report c.args.plan.now play c.runs_are_lawful.ensures.lawful c.runs_are_lawful.ensures.reported c.runs_are_lawful.ensures.allowances c.reports_respect_time.ensures.schedules (run_of c.in_ok-ended.ended) c.in_ok-ended.ensures.played report.0 report.1
 
   restarts : RestartsAt c.args.plan.now.callers c.args.plan.now.blocks c.args.plan.now.limit
   restarts =

@@ -2,7 +2,7 @@ use Rattle.std.proofs.Common.{inl, inr, subst, ◌∙◌, refl}
 use Rattle.std.specs.Io.KnownBytes.{Appends}
 use Rattle.of_io.specs.Faults.{AppendsFront}
 use Rattle.of_tool.proofs.CommandLemmas.{help_answer, version_answer, serial_answer, play_answer, trace_answer, image_answer, recover_answer, renumber_answer, migrate_answer, check_answer, misfit_answer, done_where_valid}
-use Rattle.of_tool.proofs.Carried.{run_told, life_told, load_told}
+use Rattle.of_tool.proofs.Carried.{run_told, life_told, load_told, table_told}
 use Rattle.of_tool.proofs.top.tool.Goals as goal
 
 pub returns-in-Ok-write_all-clause-serial : goal.returns-in-Ok-write_all-clause-serial
@@ -23,6 +23,11 @@ returns-in-Ok-write_all-clause-run g c = λ is done.
 pub returns-in-Ok-write_all-clause-continued : goal.returns-in-Ok-write_all-clause-continued
 returns-in-Ok-write_all-clause-continued g c = λ is done.
     life_told _ _ _ _ _ _ c.in-Ok.answer _ (c.in-Ok.ensures.carries.continued is) done
+    (record { bytes = subst (Appends _ _) c.deref.ensures.value c.in-Ok-write_all.ensures.ok; finished = c.in-Ok-write_all.ensures.finished })
+
+pub returns-in-Ok-write_all-clause-table : goal.returns-in-Ok-write_all-clause-table
+returns-in-Ok-write_all-clause-table g c = λ done.
+    table_told _ _ _ _ _ _ c.in-Ok.answer _ _ c.in-Ok.ensures.carries
     (record { bytes = subst (Appends _ _) c.deref.ensures.value c.in-Ok-write_all.ensures.ok; finished = c.in-Ok-write_all.ensures.finished })
 
 pub returns-in-Ok-write_all-clause-misfit : goal.returns-in-Ok-write_all-clause-misfit
