@@ -19,6 +19,3 @@ pub use books::{Books, CLERKS, LIMIT, shape_of};
 pub use clerk::{Clerk, Job, call, enter};
 pub use day::{Day, Jobs, Tally, working_day};
 pub use transfer::Transfer;
-
-#[cfg(test)]
-mod tests;

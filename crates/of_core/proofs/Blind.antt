@@ -1,11 +1,11 @@
 -- A step is on no durable word, or it is a raise, which goes on the same whatever it finds.
-use Rattle.std.proofs.Common.{◌≡◌, ℕ, ◌+◌, ◌*◌, ◌<◌, ◌≤◌, ◌⊎◌, inl, inr, List, [], length, get_or, refl, sym, ◌∙◌, ap, subst, arith}
+use Rattle.std.proofs.Common.{◌≡◌, ℕ, ◌+◌, ◌<◌, ◌≤◌, ◌⊎◌, inl, inr, List, [], length, get_or, refl, ap, arith}
 use Rattle.of_core.specs.declared.place.Place.{Place}
 use Rattle.of_core.specs.declared.place.Place.TheVariants.{Idle, TryCurrent, TryRequest, TryCell, StoreScript, StoreAnnouncement, LoadCurrent, LoadRequest, CopyLog, LookAgain, LoadOwnTicket, LoadShape, LoadReply, LoadAnnouncement, LoadTicket, LoadScript, LoadCell, RaiseOld, StoreLog, RaiseLog, StoreRequest, RaiseRequest, ExchangeCurrent, RaiseCurrent, LoadTarget, ExchangeTarget, ReloadTarget, RaiseTarget, CloseRequest, RaiseClosed}
-use Rattle.of_core.specs.Table.{Setup, size, durable_at, log_at, ticket_cell, shape_cell, reply_cell}
-use Rattle.of_core.specs.Machine.{Data, log_words}
+use Rattle.of_core.specs.Table.{Setup, size, durable_at, log_at, ticket_cell}
+use Rattle.of_core.specs.Machine.{Data}
 use Rattle.of_core.specs.Steps.{want, want_at, word_of, took, took_at, counted_at}
-use Rattle.of_core.specs.World.{World, Start, Batch, added, commits_at}
+use Rattle.of_core.specs.World.{World, Start, added, commits_at}
 use Rattle.of_core.specs.Invariant.{At, Core}
 use Rattle.of_core.specs.Laws.{IsRaise, GoesBlindly}
 use Rattle.of_core.proofs.Logs.{length-log_words, room_for}

@@ -1,4 +1,5 @@
--- The order that there is: what holds of its calls, and of each two of them, and where it leads.
+-- The order that explains a schedule: the batches in order, and after each the reads of its state in
+-- the order of their answers. What holds of its calls, and of each two of them, and where it leads.
 use Rattle.std.proofs.Common.{◌≡◌, ℕ, zero, suc, ◌+◌, ◌-◌, ◌<◌, ◌≤◌, ◌⊎◌, ◌==◌, inl, inr, List, [], ◌∷◌, ◌++◌, length, take, get_or, refl, sym, ◌∙◌, ap, subst, arith, Bool}
 use Rattle.std.specs.List.{All}
 use Rattle.std.proofs.lemmas.Bool.{cases_eq, cases_lt}
@@ -10,15 +11,28 @@ use Rattle.of_core.specs.World.{Batch, Read}
 use Rattle.of_core.specs.History.{no_batch, after_calls, Replies, replay, Legal}
 use Rattle.of_core.specs.Order.{no_read}
 use Rattle.of_core.specs.Calls.{only}
-use Rattle.of_core.specs.Linear.{call_of, reads_at, in_order}
 use Rattle.of_core.proofs.Tests.{same_number, other_number}
 
--- a read of another state isn't there
-reads_skip : (s : ℕ) (r : Read) (rs : List Read) → (s ≡ r.seq → ⊥) → reads_at s (r ∷ rs) ≡ reads_at s rs
-reads_skip s r rs away = ap (λ (b : Bool). only b (call_of r ∷ []) ++ reads_at s rs) (other_number r.seq s away)
+-- a read as a call
+abbrev pub call_of : Read → Call
+call_of r = record { caller = r.caller; ticket = r.ticket; op = r.op; raw = r.raw }
 
-reads_take : (s : ℕ) (r : Read) (rs : List Read) → s ≡ r.seq → reads_at s (r ∷ rs) ≡ call_of r ∷ reads_at s rs
-reads_take s r rs e = ap (λ (b : Bool). only b (call_of r ∷ []) ++ reads_at s rs) (ap (λ (x : ℕ). r.seq == x) e ∙ same_number r.seq)
+-- the reads of the state s
+abbrev pub reads_of : (s : ℕ) → List Read → List Call
+reads_of s [] = []
+reads_of s (r ∷ rs) = only (r.seq == s) (call_of r ∷ []) ++ reads_of s rs
+
+-- the calls of the batches from the state s on, and the reads
+abbrev pub serial_order : (s : ℕ) → List Batch → List Read → List Call
+serial_order s [] rs = reads_of s rs
+serial_order s (b ∷ bs) rs = reads_of s rs ++ (b.calls ++ serial_order (s + 1) bs rs)
+
+-- a read of another state isn't there
+reads_skip : (s : ℕ) (r : Read) (rs : List Read) → (s ≡ r.seq → ⊥) → reads_of s (r ∷ rs) ≡ reads_of s rs
+reads_skip s r rs away = ap (λ (b : Bool). only b (call_of r ∷ []) ++ reads_of s rs) (other_number r.seq s away)
+
+reads_take : (s : ℕ) (r : Read) (rs : List Read) → s ≡ r.seq → reads_of s (r ∷ rs) ≡ call_of r ∷ reads_of s rs
+reads_take s r rs e = ap (λ (b : Bool). only b (call_of r ∷ []) ++ reads_of s rs) (ap (λ (x : ℕ). r.seq == x) e ∙ same_number r.seq)
 
 -- What holds of each call.
 module _ (P : Call → Type 0) where
@@ -26,22 +40,22 @@ module _ (P : Call → Type 0) where
   all_cons c cs h t zero d l = h
   all_cons c cs h t (suc k) d l = t k d (omega arith)
 
-  all_reads : (s : ℕ) (rs : List Read) → ((a : ℕ) → a < length rs → s ≡ (get_or rs a no_read).seq → P (call_of (get_or rs a no_read))) → All P (reads_at s rs)
+  all_reads : (s : ℕ) (rs : List Read) → ((a : ℕ) → a < length rs → s ≡ (get_or rs a no_read).seq → P (call_of (get_or rs a no_read))) → All P (reads_of s rs)
   all_reads s [] h = λ k d l. absurd (omega arith)
   all_reads s (r ∷ rs) h = go (cases_eq s r.seq) (all_reads s rs (λ a l e. h (suc a) (omega arith) e))
     where
-      go : (s ≡ r.seq) ⊎ (s ≡ r.seq → ⊥) → All P (reads_at s rs) → All P (reads_at s (r ∷ rs))
-      go (inl e) rest = subst (All P) (sym (reads_take s r rs e)) (all_cons (call_of r) (reads_at s rs) (h 0 (omega arith) e) rest)
+      go : (s ≡ r.seq) ⊎ (s ≡ r.seq → ⊥) → All P (reads_of s rs) → All P (reads_of s (r ∷ rs))
+      go (inl e) rest = subst (All P) (sym (reads_take s r rs e)) (all_cons (call_of r) (reads_of s rs) (h 0 (omega arith) e) rest)
       go (inr n) rest = subst (All P) (sym (reads_skip s r rs n)) rest
 
   pub all_in_order : (bs : List Batch) (s : ℕ) (rs : List Read)
       → ((a : ℕ) → a < length rs → s ≤ (get_or rs a no_read).seq → P (call_of (get_or rs a no_read)))
       → ((d : ℕ) → d < length bs → All P (get_or bs d no_batch).calls)
-      → All P (in_order s bs rs)
+      → All P (serial_order s bs rs)
   all_in_order [] s rs h t = all_reads s rs (λ a l e. h a l (omega (arith, e)))
   all_in_order (b ∷ bs) s rs h t =
-      All-append P (reads_at s rs) (b.calls ++ in_order (s + 1) bs rs) (all_reads s rs (λ a l e. h a l (omega (arith, e))))
-      (All-append P b.calls (in_order (s + 1) bs rs) (t 0 (omega arith)) (all_in_order bs (s + 1) rs (λ a l u. h a l (omega (arith, u))) (λ d l. t (suc d) (omega arith))))
+      All-append P (reads_of s rs) (b.calls ++ serial_order (s + 1) bs rs) (all_reads s rs (λ a l e. h a l (omega (arith, e))))
+      (All-append P b.calls (serial_order (s + 1) bs rs) (t 0 (omega arith)) (all_in_order bs (s + 1) rs (λ a l u. h a l (omega (arith, u))) (λ d l. t (suc d) (omega arith))))
 
 -- the call stands among these
 abbrev pub StandsIn : List Call → Call → Type 0
@@ -55,7 +69,7 @@ in_back cs ds c h =
     let back : length cs + h.0 - length cs ≡ h.0 = omega arith in
     (length cs + h.0, omega (arith, h.1, length-append cs ds), get_or-append_right cs ds (length cs) (length cs + h.0) no_call refl (omega arith) ∙ ap (λ (k : ℕ). get_or ds k no_call) back ∙ h.2)
 
-has_read : (s : ℕ) (rs : List Read) (a : ℕ) → a < length rs → s ≡ (get_or rs a no_read).seq → StandsIn (reads_at s rs) (call_of (get_or rs a no_read))
+has_read : (s : ℕ) (rs : List Read) (a : ℕ) → a < length rs → s ≡ (get_or rs a no_read).seq → StandsIn (reads_of s rs) (call_of (get_or rs a no_read))
 has_read s [] a l e = absurd (omega arith)
 has_read s (r ∷ rs) zero l e = subst (λ (cs : List Call). StandsIn cs (call_of r)) (sym (reads_take s r rs e)) (0, omega arith, refl)
 has_read s (r ∷ rs) (suc a) l e = go (cases_eq s r.seq) (has_read s rs a (omega arith) e)
@@ -63,31 +77,31 @@ has_read s (r ∷ rs) (suc a) l e = go (cases_eq s r.seq) (has_read s rs a (omeg
     c : Call
     c = call_of (get_or rs a no_read)
 
-    go : (s ≡ r.seq) ⊎ (s ≡ r.seq → ⊥) → StandsIn (reads_at s rs) c → StandsIn (reads_at s (r ∷ rs)) c
+    go : (s ≡ r.seq) ⊎ (s ≡ r.seq → ⊥) → StandsIn (reads_of s rs) c → StandsIn (reads_of s (r ∷ rs)) c
     go (inl q) rest = subst (λ (cs : List Call). StandsIn cs c) (sym (reads_take s r rs q)) (suc rest.0, omega (arith, rest.1), rest.2)
     go (inr n) rest = subst (λ (cs : List Call). StandsIn cs c) (sym (reads_skip s r rs n)) rest
 
 -- each read of a state from the first to the last stands in the order
 pub order_has_read : (bs : List Batch) (s : ℕ) (rs : List Read) (a : ℕ) → a < length rs → s ≤ (get_or rs a no_read).seq → (get_or rs a no_read).seq ≤ s + length bs
-    → StandsIn (in_order s bs rs) (call_of (get_or rs a no_read))
+    → StandsIn (serial_order s bs rs) (call_of (get_or rs a no_read))
 order_has_read [] s rs a l u v = has_read s rs a l (omega arith)
 order_has_read (b ∷ bs) s rs a l u v = go (cases_eq s (get_or rs a no_read).seq) (λ low. order_has_read bs (s + 1) rs a l low (omega (arith, v)))
   where
     c : Call
     c = call_of (get_or rs a no_read)
 
-    go : (s ≡ (get_or rs a no_read).seq) ⊎ (s ≡ (get_or rs a no_read).seq → ⊥) → (s + 1 ≤ (get_or rs a no_read).seq → StandsIn (in_order (s + 1) bs rs) c) → StandsIn (in_order s (b ∷ bs) rs) c
-    go (inl e) later = in_front (reads_at s rs) (b.calls ++ in_order (s + 1) bs rs) c (has_read s rs a l e)
-    go (inr n) later = in_back (reads_at s rs) (b.calls ++ in_order (s + 1) bs rs) c (in_back b.calls (in_order (s + 1) bs rs) c (later (omega arith)))
+    go : (s ≡ (get_or rs a no_read).seq) ⊎ (s ≡ (get_or rs a no_read).seq → ⊥) → (s + 1 ≤ (get_or rs a no_read).seq → StandsIn (serial_order (s + 1) bs rs) c) → StandsIn (serial_order s (b ∷ bs) rs) c
+    go (inl e) later = in_front (reads_of s rs) (b.calls ++ serial_order (s + 1) bs rs) c (has_read s rs a l e)
+    go (inr n) later = in_back (reads_of s rs) (b.calls ++ serial_order (s + 1) bs rs) c (in_back b.calls (serial_order (s + 1) bs rs) c (later (omega arith)))
 
 -- and so does each call of each batch
-pub order_has_call : (bs : List Batch) (s : ℕ) (rs : List Read) (d y : ℕ) → d < length bs → y < length (get_or bs d no_batch).calls → StandsIn (in_order s bs rs) (get_or (get_or bs d no_batch).calls y no_call)
+pub order_has_call : (bs : List Batch) (s : ℕ) (rs : List Read) (d y : ℕ) → d < length bs → y < length (get_or bs d no_batch).calls → StandsIn (serial_order s bs rs) (get_or (get_or bs d no_batch).calls y no_call)
 order_has_call [] s rs d y l u = absurd (omega arith)
 order_has_call (b ∷ bs) s rs zero y l u =
-    in_back (reads_at s rs) (b.calls ++ in_order (s + 1) bs rs) (get_or b.calls y no_call) (in_front b.calls (in_order (s + 1) bs rs) (get_or b.calls y no_call) (y, u, refl))
+    in_back (reads_of s rs) (b.calls ++ serial_order (s + 1) bs rs) (get_or b.calls y no_call) (in_front b.calls (serial_order (s + 1) bs rs) (get_or b.calls y no_call) (y, u, refl))
 order_has_call (b ∷ bs) s rs (suc d) y l u =
     let c : Call = get_or (get_or bs d no_batch).calls y no_call in
-    in_back (reads_at s rs) (b.calls ++ in_order (s + 1) bs rs) c (in_back b.calls (in_order (s + 1) bs rs) c (order_has_call bs (s + 1) rs d y (omega arith) u))
+    in_back (reads_of s rs) (b.calls ++ serial_order (s + 1) bs rs) c (in_back b.calls (serial_order (s + 1) bs rs) c (order_has_call bs (s + 1) rs d y (omega arith) u))
 
 -- What holds of each two calls, of which the first stands first.
 module _ (R : Call → Call → Type 0) where
@@ -120,13 +134,13 @@ module _ (R : Call → Call → Type 0) where
 
   pairs_reads : (s : ℕ) (rs : List Read)
       → ((a b : ℕ) → a < b → b < length rs → s ≡ (get_or rs a no_read).seq → s ≡ (get_or rs b no_read).seq → R (call_of (get_or rs a no_read)) (call_of (get_or rs b no_read)))
-      → Pairs (reads_at s rs)
+      → Pairs (reads_of s rs)
   pairs_reads s [] h = λ p q l u. absurd (omega arith)
   pairs_reads s (r ∷ rs) h = go (cases_eq s r.seq) (pairs_reads s rs (λ a b l u e f. h (suc a) (suc b) (omega arith) (omega arith) e f))
     where
-      go : (s ≡ r.seq) ⊎ (s ≡ r.seq → ⊥) → Pairs (reads_at s rs) → Pairs (reads_at s (r ∷ rs))
+      go : (s ≡ r.seq) ⊎ (s ≡ r.seq → ⊥) → Pairs (reads_of s rs) → Pairs (reads_of s (r ∷ rs))
       go (inr n) rest = subst Pairs (sym (reads_skip s r rs n)) rest
-      go (inl e) rest = subst Pairs (sym (reads_take s r rs e)) (pairs_cons (call_of r) (reads_at s rs) (all_reads (R (call_of r)) s rs (λ a l f. h 0 (suc a) (omega arith) (omega arith) e f)) rest)
+      go (inl e) rest = subst Pairs (sym (reads_take s r rs e)) (pairs_cons (call_of r) (reads_of s rs) (all_reads (R (call_of r)) s rs (λ a l f. h 0 (suc a) (omega arith) (omega arith) e f)) rest)
 
   -- what is to hold of calls of batches, of reads, and of one of each
   pub record Apart (s : ℕ) (bs : List Batch) (rs : List Read) : Type 0 where
@@ -147,12 +161,12 @@ module _ (R : Call → Call → Type 0) where
     same_reads = h.same_reads;
   }
 
-  pub pairs_in_order : (bs : List Batch) (s : ℕ) (rs : List Read) → Apart s bs rs → Pairs (in_order s bs rs)
+  pub pairs_in_order : (bs : List Batch) (s : ℕ) (rs : List Read) → Apart s bs rs → Pairs (serial_order s bs rs)
   pairs_in_order [] s rs h = pairs_reads s rs (λ a b l u e f. h.same_reads a b l u (sym e ∙ f))
-  pairs_in_order (b ∷ bs) s rs h = pairs_append (reads_at s rs) rest (pairs_reads s rs (λ a c l u e f. h.same_reads a c l u (sym e ∙ f))) (pairs_rest (pairs_in_order bs (s + 1) rs (next s b bs rs h))) from_reads
+  pairs_in_order (b ∷ bs) s rs h = pairs_append (reads_of s rs) rest (pairs_reads s rs (λ a c l u e f. h.same_reads a c l u (sym e ∙ f))) (pairs_rest (pairs_in_order bs (s + 1) rs (next s b bs rs h))) from_reads
     where
       later : List Call
-      later = in_order (s + 1) bs rs
+      later = serial_order (s + 1) bs rs
 
       rest : List Call
       rest = b.calls ++ later
@@ -161,7 +175,7 @@ module _ (R : Call → Call → Type 0) where
       pairs_rest there = pairs_append b.calls later (h.same 0 (omega arith)) there (λ y d l.
           all_in_order (R (get_or b.calls y d)) bs (s + 1) rs (λ a u v. h.read_behind 0 a (omega arith) u (omega (arith, v)) y d l) (λ e u. h.calls 0 (suc e) (omega arith) (omega arith) y d l))
 
-      from_reads : All (λ (c : Call). All (R c) rest) (reads_at s rs)
+      from_reads : All (λ (c : Call). All (R c) rest) (reads_of s rs)
       from_reads = all_reads (λ (c : Call). All (R c) rest) s rs (λ a l e.
           All-append (R (call_of (get_or rs a no_read))) b.calls later (h.read_before a 0 l (omega arith) (omega (arith, e)))
           (all_in_order (R (call_of (get_or rs a no_read))) bs (s + 1) rs (λ c u v. h.reads a c l u (omega (arith, e, v))) (λ d u. h.read_before a (suc d) l (omega arith) (omega (arith, e)))))
@@ -184,32 +198,32 @@ module _ (W : Meaning) where
   abbrev Leads : List ℕ → List Call → List ℕ → Type 0
   Leads xs cs ys = Replies W xs cs × (after_calls W xs cs ≡ ys)
 
-  reads_lead : (xs : List ℕ) (s : ℕ) (rs : List Read) → ((a : ℕ) → a < length rs → s ≡ (get_or rs a no_read).seq → Reads xs (get_or rs a no_read)) → Leads xs (reads_at s rs) xs
+  reads_lead : (xs : List ℕ) (s : ℕ) (rs : List Read) → ((a : ℕ) → a < length rs → s ≡ (get_or rs a no_read).seq → Reads xs (get_or rs a no_read)) → Leads xs (reads_of s rs) xs
   reads_lead xs s [] h = (tt, refl)
   reads_lead xs s (r ∷ rs) h = go (cases_eq s r.seq) (reads_lead xs s rs (λ a l e. h (suc a) (omega arith) e))
     where
-      go : (s ≡ r.seq) ⊎ (s ≡ r.seq → ⊥) → Leads xs (reads_at s rs) xs → Leads xs (reads_at s (r ∷ rs)) xs
+      go : (s ≡ r.seq) ⊎ (s ≡ r.seq → ⊥) → Leads xs (reads_of s rs) xs → Leads xs (reads_of s (r ∷ rs)) xs
       go (inr n) rest = subst (λ (cs : List Call). Leads xs cs xs) (sym (reads_skip s r rs n)) rest
       go (inl e) rest =
           let one : Reads xs r = h 0 (omega arith) e in
-          let there : Leads (W.cells xs r.op) (reads_at s rs) xs = subst (λ (ys : List ℕ). Leads ys (reads_at s rs) xs) (sym one.1) rest in
+          let there : Leads (W.cells xs r.op) (reads_of s rs) xs = subst (λ (ys : List ℕ). Leads ys (reads_of s rs) xs) (sym one.1) rest in
           subst (λ (cs : List Call). Leads xs cs xs) (sym (reads_take s r rs e)) ((one.0, there.0), there.1)
 
   -- it has the replies that it meets, and leads where the batches lead
   pub order_leads : (bs : List Batch) (s : ℕ) (rs : List Read) (xs : List ℕ) → Legal W xs bs
       → ((d a : ℕ) → d ≤ length bs → a < length rs → s + d ≡ (get_or rs a no_read).seq → Reads (replay W xs (take d bs)) (get_or rs a no_read))
-      → Leads xs (in_order s bs rs) (replay W xs bs)
+      → Leads xs (serial_order s bs rs) (replay W xs bs)
   order_leads [] s rs xs l h = reads_lead xs s rs (λ a u e. h 0 a (omega arith) u (omega (arith, e)))
   order_leads (b ∷ bs) s rs xs l h = join (order_leads bs (s + 1) rs (after_calls W xs b.calls) l.1 (λ d a u v e. h (suc d) a (omega arith) v (omega (arith, e))))
     where
       later : List Call
-      later = in_order (s + 1) bs rs
+      later = serial_order (s + 1) bs rs
 
-      first : Leads xs (reads_at s rs) xs
+      first : Leads xs (reads_of s rs) xs
       first = reads_lead xs s rs (λ a u e. h 0 a (omega arith) u (omega (arith, e)))
 
-      join : Leads (after_calls W xs b.calls) later (replay W (after_calls W xs b.calls) bs) → Leads xs (in_order s (b ∷ bs) rs) (replay W xs (b ∷ bs))
+      join : Leads (after_calls W xs b.calls) later (replay W (after_calls W xs b.calls) bs) → Leads xs (serial_order s (b ∷ bs) rs) (replay W xs (b ∷ bs))
       join rest = (
-        replies_append xs (reads_at s rs) (b.calls ++ later) first.0 (subst (λ (ys : List ℕ). Replies W ys (b.calls ++ later)) (sym first.1) (replies_append xs b.calls later l.0 rest.0)),
-        after_append xs (reads_at s rs) (b.calls ++ later) ∙ ap (λ (ys : List ℕ). after_calls W ys (b.calls ++ later)) first.1 ∙ after_append xs b.calls later ∙ rest.1,
+        replies_append xs (reads_of s rs) (b.calls ++ later) first.0 (subst (λ (ys : List ℕ). Replies W ys (b.calls ++ later)) (sym first.1) (replies_append xs b.calls later l.0 rest.0)),
+        after_append xs (reads_of s rs) (b.calls ++ later) ∙ ap (λ (ys : List ℕ). after_calls W ys (b.calls ++ later)) first.1 ∙ after_append xs b.calls later ∙ rest.1,
       )

@@ -1,5 +1,5 @@
--- A cell changes only where its durable word is at least its word: so of all words that it has held
--- its present one alone may not be durable.
+-- A cell changes only if its durable word is at least its word. So of all words that it has held,
+-- only the present one may not be durable.
 use Rattle.std.proofs.Common.{◌≡◌, ℕ, zero, suc, ◌+◌, ◌*◌, ◌-◌, ◌<◌, ◌≤◌, ◌⊎◌, ◌==◌, inl, inr, List, [], ◌∷◌, length, get_or, set, max, refl, sym, ◌∙◌, ap, subst, arith, Bool, true, false, if◌then◌else◌}
 use Rattle.std.specs.List.{All}
 use Rattle.std.proofs.lemmas.Bool.{cases_eq, cases_lt}
@@ -23,7 +23,7 @@ use Rattle.of_core.specs.Shared.{Opened, MayStart}
 use Rattle.of_core.specs.Invariant.{At, Core, Good, IsLoaded}
 use Rattle.of_core.specs.Moves.{Moves}
 use Rattle.of_core.specs.Events.{Event, Begins, Turns, Loads, Evicts, Raises, evicted, machine, happens, MayHappen, run, IsSchedule, opening}
-use Rattle.of_core.specs.Raised.{lower_changes, pending_of, pending}
+use Rattle.of_core.specs.Raised.{lower_changes, pending_among, pending}
 use Rattle.of_core.proofs.States.{later_by}
 use Rattle.of_core.proofs.Logs.{length-log_words}
 use Rattle.of_core.proofs.Stability.{log_in}
@@ -59,7 +59,7 @@ module _ (S : Setup) (Lawful : List ℕ → Type 0) (B : Start) (w : World) (g :
       go (inl e) = inr (subst (λ (y : ℕ). get_or w.words y 0 ≤ durable_word S w.words y) (sym e) u)
       go (inr n) = inl (elsewhere x v c n)
 
-  -- an exchange changes it only where it finds the word that it is to find
+  -- an exchange changes it only if it finds the word that it expects
   exchanged : (x old new c : ℕ) → (get_or w.words x 0 ≡ old → get_or w.words x 0 ≤ durable_word S w.words x) → Settles (set w.words x (if get_or w.words x 0 == old then new else get_or w.words x 0)) c
   exchanged x old new c u = go (get_or w.words x 0 == old) refl
     where
@@ -209,7 +209,8 @@ module _ (S : Setup) (Lawful : List ℕ → Type 0) (B : Start) (w : World) (g :
   own_logs p a f d n x u = keeps_level _ x n p (ap (λ (vs : List ℕ). get_or vs (log_at S i x) 0) (set-get_or w.words (word_of (want_at S m p)) 0)) (d (log_at S i x) (log_in S i x h u)) (f x u)
 
 module _ (S : Setup) where
-  -- what each moment has: log words are level with their durable words, but for those that their caller is about to raise, and of what was loaded only a cell's present word may not be durable
+  -- What each moment has: log words are level with their durable words, except those that their
+  -- caller is about to raise, and of what was loaded only a cell's present word may not be durable.
   pub record Level (w : World) : Type 0 where
     pub logs : (j x : ℕ) → j < S.callers → x < 2 * S.cells + 1 → (durable_log S w.words j x ≡ log_word S w.words j x) ⊎ RaisesAt (machine w j).place x
     pub loaded : All (λ (e : ℕ × ℕ). (e.1 ≤ durable_word S w.words e.0) ⊎ (e.1 ≡ get_or w.words e.0 0)) w.loaded
@@ -345,7 +346,7 @@ module _ (S : Setup) where
               level (inr q) = absurd q
           logs j x l u (inr away) = subst (λ (d : Data). (durable_log S w.words j x ≡ log_word S w.words j x) ⊎ RaisesAt d.place x) (sym (get_or-set_other w.machines i j (opened S (machine w i) op) no_machine (λ e. away (omega (arith, e))))) (v.logs j x l u)
 
-      -- an event changes a cell only where its durable word is at least its word
+      -- an event changes a cell only if its durable word is at least its word
       pub event_settles : (e : Event) → MayHappen S w e → (c : ℕ) → c < size S → (get_or (happens S w e).words c 0 ≡ get_or w.words c 0) ⊎ (get_or w.words c 0 ≤ durable_word S w.words c)
       event_settles (Turns i) may c l = cells_turn i may c l
       event_settles (Begins i op) may c l = inl refl
@@ -354,7 +355,7 @@ module _ (S : Setup) where
       event_settles (Raises x) may c l = inl (get_or-set_other w.words (durable_at S x) c _ 0 (λ e. omega (arith, e, l)))
 
       -- so nothing is pending below a word that the cell is at least
-      none_pending : (c v : ℕ) → v ≤ get_or w.words c 0 → (es : List (ℕ × ℕ)) → All (λ (e : ℕ × ℕ). (e.1 ≤ durable_word S w.words e.0) ⊎ (e.1 ≡ get_or w.words e.0 0)) es → pending_of (durable_word S w.words c) c v es ≡ 0
+      none_pending : (c v : ℕ) → v ≤ get_or w.words c 0 → (es : List (ℕ × ℕ)) → All (λ (e : ℕ × ℕ). (e.1 ≤ durable_word S w.words e.0) ⊎ (e.1 ≡ get_or w.words e.0 0)) es → pending_among (durable_word S w.words c) c v es ≡ 0
       none_pending c v t [] all = refl
       none_pending c v t (e ∷ es) all =
           let a = none_pending c v t es (λ k d l. all (suc k) d (omega (arith, l))) in

@@ -1,5 +1,5 @@
 -- Every schedule is durably linearizable: the batches up to the durable sequence in order, and
--- behind each the reads of its state, are a serial run that explains it.
+-- after each the reads of its state, are a serial run that explains it.
 use Rattle.std.proofs.Common.{◌≡◌, ℕ, ◌+◌, ◌-◌, ◌<◌, ◌≤◌, ◌⊎◌, inl, inr, List, [], ◌∷◌, ◌++◌, length, take, drop, get_or, refl, sym, ◌∙◌, ap, subst, arith, Option, Some, None, true, false, map}
 use Rattle.std.specs.List.{All}
 use Rattle.std.proofs.lemmas.Bool.{cases_lt}
@@ -19,7 +19,7 @@ use Rattle.of_core.specs.Invariant.{Good}
 use Rattle.of_core.specs.Events.{Event, run, IsSchedule, start_ticket}
 use Rattle.of_core.specs.Calls.{operations, outcomes, no_outcome, Stood, Calls}
 use Rattle.of_core.specs.Claim.{IsNewer, IsSound}
-use Rattle.of_core.specs.Linear.{Precedes, Explains, Linearizes, found, FindsCall, Detects, IsDurablyLinearizable, call_of, in_order}
+use Rattle.of_core.specs.Linear.{Precedes, Explains, Linearizes, recovered_number, FindsCall, Detects, IsDurablyLinearizable}
 use Rattle.of_core.proofs.States.{state_length, state_start, batch_is, later, legal_front}
 use Rattle.of_core.proofs.Assembling.{logs_of}
 use Rattle.of_core.proofs.Logs.{room_for}
@@ -28,7 +28,7 @@ use Rattle.of_core.proofs.Replays.{replay_length}
 use Rattle.of_core.proofs.Tickets.{ticket_upto, tickets_rise}
 use Rattle.of_core.proofs.Claims.{is_sound}
 use Rattle.of_core.proofs.Calls.{fewer_outs}
-use Rattle.of_core.proofs.InOrder.{all_in_order, StandsIn, order_has_read, order_has_call, Pairs, pairs_in_order, Reads, order_leads}
+use Rattle.of_core.proofs.InOrder.{call_of, serial_order, all_in_order, StandsIn, order_has_read, order_has_call, Pairs, pairs_in_order, Reads, order_leads}
 use Rattle.of_core.proofs.RealTime.{last_world, good_last, last_calls, durable_between, late_call, ended_call, late_read, ended_read, stands_begun}
 
 -- An operation that only reads leaves the numbers.
@@ -75,7 +75,7 @@ module _ (S : Setup) (Lawful : List ℕ → Type 0) (sound : Sound S.meaning Law
   bs = take n w.batches
 
   abbrev order : List Call
-  order = in_order B.seq bs w.reads
+  order = serial_order B.seq bs w.reads
 
   n_is : B.seq + n ≡ risen S w.words
   n_is = omega (arith, claim.from)
@@ -281,16 +281,16 @@ module _ (S : Setup) (Lawful : List ℕ → Type 0) (sound : Sound S.meaning Law
   abbrev durable : ℕ
   durable = risen S w.words
 
-  found_is : (a : ℕ) → a < S.cells → found S w a ≡ pay (at B w.batches durable a)
+  found_is : (a : ℕ) → a < S.cells → recovered_number S w a ≡ pay (at B w.batches durable a)
   found_is a l = ap pay (claim.recovers a l)
 
-  -- the state behind the durable batches is where it leads
+  -- the state after the durable batches is where it leads
   pub leads_there : SameFrom (base S) (numbers B w.batches durable) (after_calls S.meaning start order)
   leads_there =
       let same : SameFrom (base S) (numbers B w.batches durable) (replay S.meaning start bs) = rw n_is at (claim.state n (omega (arith, n_is, claim.reaches))) in
       same ∙ ap (λ (xs : List ℕ). drop (base S) xs) (sym (order_leads S.meaning bs B.seq w.reads start (legal_front S.meaning start w.batches n claim.legal) leads).1)
 
-  numbers_found : (a : ℕ) → base S ≤ a → a < S.cells → found S w a ≡ get_or (after_calls S.meaning start order) a 0
+  numbers_found : (a : ℕ) → base S ≤ a → a < S.cells → recovered_number S w a ≡ get_or (after_calls S.meaning start order) a 0
   numbers_found a low l = found_is a l ∙ sym (get_or-map pay (state B w.batches durable) a 0 0 (omega (arith, l, state_long))) ∙ same_from ∙ ap (λ (xs : List ℕ). get_or xs a 0) (sym (order_leads S.meaning bs B.seq w.reads start (legal_front S.meaning start w.batches n claim.legal) leads).1)
     where
       state_long : length (state B w.batches durable) ≡ S.cells
@@ -316,7 +316,7 @@ module _ (S : Setup) (Lawful : List ℕ → Type 0) (sound : Sound S.meaning Law
   detects i member = record { last = last_is (claim.own i member); upto = each_call Upto of_batches of_reads }
     where
       Upto : Call → Type 0
-      Upto c = c.caller ≡ i → S.meaning.reads_only c.op ≡ false → c.ticket ≤ found S w (ticket_cell S i)
+      Upto c = c.caller ≡ i → S.meaning.reads_only c.op ≡ false → c.ticket ≤ recovered_number S w (ticket_cell S i)
 
       ticket_in_cells : ticket_cell S i < S.cells
       ticket_in_cells = omega (arith, own_in i member)
@@ -327,7 +327,7 @@ module _ (S : Setup) (Lawful : List ℕ → Type 0) (sound : Sound S.meaning Law
       of_reads : (a : ℕ) → a < length w.reads → Upto (call_of (get_or w.reads a no_read))
       of_reads a l e q = let z : true ≡ false = sym (good.order.ordered.reads a no_read l).only ∙ q in cc
 
-      last_is : Last S B w.batches durable i → (found S w (ticket_cell S i) ≡ start_ticket S B i) ⊎ ((p : ℕ) × (p < length order) × ((get_or order p no_call).caller ≡ i) × FindsCall S w (get_or order p no_call))
+      last_is : Last S B w.batches durable i → (recovered_number S w (ticket_cell S i) ≡ start_ticket S B i) ⊎ ((p : ℕ) × (p < length order) × ((get_or order p no_call).caller ≡ i) × FindsCall S w (get_or order p no_call))
       last_is (inl h) = inl (found_is (ticket_cell S i) ticket_in_cells ∙ ap pay (h.1 (ticket_cell S i) (omega arith, omega arith)) ∙ ap (λ (xs : List ℕ). pay (get_or xs (ticket_cell S i) 0)) (state_start B w.batches))
       last_is (inr h) = inr (stands.0, stands.1, ap (λ (x : Call). x.caller) stands.2 ∙ h.caller, subst (FindsCall S w) (sym stands.2) finds)
         where
@@ -343,17 +343,17 @@ module _ (S : Setup) (Lawful : List ℕ → Type 0) (sound : Sound S.meaning Law
           now : ticket_in S B w.batches h.number c.caller ≡ c.ticket
           now = (good.core.shared.stands.now h.number h.from (omega (arith, h.upto, claim.reaches)) h.place no_call h.among).1
 
-          ticket_is : found S w (ticket_cell S i) ≡ c.ticket
+          ticket_is : recovered_number S w (ticket_cell S i) ≡ c.ticket
           ticket_is = found_is (ticket_cell S i) ticket_in_cells ∙ ap pay (own_is (ticket_cell S i) (omega arith, omega arith)) ∙ ap (ticket_in S B w.batches h.number) (sym h.caller) ∙ now
 
           finds : FindsCall S w c
           finds = record {
-            ticket = ap (λ (x : ℕ). found S w (ticket_cell S x)) h.caller ∙ ticket_is;
+            ticket = ap (λ (x : ℕ). recovered_number S w (ticket_cell S x)) h.caller ∙ ticket_is;
             shape = found_is (shape_cell S c.caller) (omega (arith, own_in c.caller (rw h.caller member))) ∙ h.shows.shape;
             replies = λ y l m. found_is (reply_cell S c.caller y) (omega (arith, l, own_in c.caller (rw h.caller member))) ∙ h.shows.replies y l m;
           }
 
-  -- So it is durably linearizable, by an order that leads to the state behind the durable batches.
+  -- So it is durably linearizable, by an order that leads to the state after the durable batches.
   pub durably_linearizable : (l : IsDurablyLinearizable S B first es) × SameFrom (base S) (numbers B w.batches durable) (after_calls S.meaning start l.order)
   durably_linearizable = (
     record {

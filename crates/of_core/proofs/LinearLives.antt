@@ -16,7 +16,8 @@ use Rattle.of_core.specs.Invariant.{Good}
 use Rattle.of_core.specs.Events.{Event, run, IsSchedule, opening, start_ticket}
 use Rattle.of_core.specs.Claim.{IsNewer, IsSound}
 use Rattle.of_core.specs.Calls.{Calls}
-use Rattle.of_core.specs.Linear.{found, FindsCall, IsDurablyLinearizable, start_behind, AreLives, joined, AreDurablyLinearizable}
+use Rattle.of_core.specs.Linear.{recovered_number, FindsCall, IsDurablyLinearizable}
+use Rattle.of_core.specs.LinearLives.{start_after, AreLives, whole_order, AreDurablyLinearizable}
 use Rattle.of_core.proofs.Logs.{room_for}
 use Rattle.of_core.proofs.Overlays.{calls_length}
 use Rattle.of_core.proofs.Replays.{calls_from, replies_from}
@@ -51,7 +52,7 @@ module _ (S : Setup) (Lawful : List ℕ → Type 0) (sound : Sound S.meaning Law
     linear = (durably_linearizable S Lawful sound B (opening S B n) good_start none es schedule).0
 
     -- the next life starts where the order leads
-    same : SameFrom (base S) (map pay (start_behind S n B es).cells) (after_calls S.meaning (map pay B.cells) linear.order)
+    same : SameFrom (base S) (map pay (start_after S n B es).cells) (after_calls S.meaning (map pay B.cells) linear.order)
     unfolding linear
     same = (durably_linearizable S Lawful sound B (opening S B n) good_start none es schedule).1
 
@@ -61,31 +62,31 @@ module _ (S : Setup) (Lawful : List ℕ → Type 0) (sound : Sound S.meaning Law
     claim : IsSound S B w
     claim = is_sound S Lawful sound B w good.core good.within good.late good.order
 
-    next_start : MayStart S Lawful (start_behind S n B es)
+    next_start : MayStart S Lawful (start_after S n B es)
     next_start = may_restart S Lawful B w good claim
 
-    next_ticket : (i : ℕ) → i < S.callers → start_ticket S (start_behind S n B es) i ≡ found S w (ticket_cell S i)
+    next_ticket : (i : ℕ) → i < S.callers → start_ticket S (start_after S n B es) i ≡ recovered_number S w (ticket_cell S i)
     next_ticket i member = sym (ap pay (claim.recovers (ticket_cell S i) (omega (arith, room_for i S.callers (S.instrs + 2) member, own_in))))
 
     first_long : length (map pay B.cells) ≡ S.cells
     first_long = length-map B.cells pay ∙ may.start.size
 
-    next_long : length (map pay (start_behind S n B es).cells) ≡ S.cells
-    next_long = length-map (start_behind S n B es).cells pay ∙ next_start.start.size
+    next_long : length (map pay (start_after S n B es).cells) ≡ S.cells
+    next_long = length-map (start_after S n B es).cells pay ∙ next_start.start.size
 
     -- no ticket falls
-    ticket_rises : (i : ℕ) → i < S.callers → start_ticket S B i ≤ start_ticket S (start_behind S n B es) i
+    ticket_rises : (i : ℕ) → i < S.callers → start_ticket S B i ≤ start_ticket S (start_after S n B es) i
     ticket_rises i member = go (linear.recovered.own i member).last
       where
-        go : (found S w (ticket_cell S i) ≡ start_ticket S B i) ⊎ ((p : ℕ) × (p < length linear.order) × ((get_or linear.order p no_call).caller ≡ i) × FindsCall S w (get_or linear.order p no_call)) → start_ticket S B i ≤ start_ticket S (start_behind S n B es) i
+        go : (recovered_number S w (ticket_cell S i) ≡ start_ticket S B i) ⊎ ((p : ℕ) × (p < length linear.order) × ((get_or linear.order p no_call).caller ≡ i) × FindsCall S w (get_or linear.order p no_call)) → start_ticket S B i ≤ start_ticket S (start_after S n B es) i
         go (inl e) = omega (arith, e, next_ticket i member)
         go (inr h) =
             let begun = (linear.linearizes.begun h.0 no_call h.1).1 refl in
-            omega (arith, begun.0, h.3.ticket, next_ticket i member, ap (start_ticket S B) h.2, ap (λ (x : ℕ). found S w (ticket_cell S x)) h.2)
+            omega (arith, begun.0, h.3.ticket, next_ticket i member, ap (start_ticket S B) h.2, ap (λ (x : ℕ). recovered_number S w (ticket_cell S x)) h.2)
 
   -- a list of lives is durably linearizable, by calls of the table's callers
   pub Lives : Start → List (List Event) → Type 0
-  Lives B lives = (l : AreDurablyLinearizable S n B lives) × All (λ (c : Call). c.caller < S.callers) (joined l.orders)
+  Lives B lives = (l : AreDurablyLinearizable S n B lives) × All (λ (c : Call). c.caller < S.callers) (whole_order l.orders)
 
   no_lives : (B : Start) → Lives B []
   unfolding Lives
@@ -102,31 +103,31 @@ module _ (S : Setup) (Lawful : List ℕ → Type 0) (sound : Sound S.meaning Law
   )
 
   -- one life more in front
-  one_more : (B : Start) (may : MayStart S Lawful B) (es : List Event) (schedule : IsSchedule S (opening S B n) es) (lives : List (List Event)) → Lives (start_behind S n B es) lives → Lives B (es ∷ lives)
+  one_more : (B : Start) (may : MayStart S Lawful B) (es : List Event) (schedule : IsSchedule S (opening S B n) es) (lives : List (List Event)) → Lives (start_after S n B es) lives → Lives B (es ∷ lives)
   unfolding Lives
   one_more B may es schedule lives more = (
     record {
       orders = first.order ∷ rest.orders;
       each = (first.linearizes, first.recovered, rest.each);
-      legal = replies_append S.meaning start first.order (joined rest.orders) first.linearizes.legal (replies_from S Lawful sound B next there (joined rest.orders) next_is there_is meets rest.legal);
-      leads = rest.leads ∙ calls_from S Lawful sound B next there (joined rest.orders) next_is there_is meets ∙ ap (λ (xs : List ℕ). drop (base S) xs) (sym (after_append S.meaning start first.order (joined rest.orders)));
-      once = pairs_append Once first.order (joined rest.orders) (λ p q l u writes. first.linearizes.rising p q l u) rest.once across;
-      newer = All-append (IsNew B) first.order (joined rest.orders) (λ p d l. ((first.linearizes.begun p d l).1 refl).0) (λ p d l. let t = rest.newer p d l in omega (arith, t, ticket_rises B may es schedule (get_or (joined rest.orders) p d).caller (more.1 p d l)));
+      legal = replies_append S.meaning start first.order (whole_order rest.orders) first.linearizes.legal (replies_from S Lawful sound B next there (whole_order rest.orders) next_is there_is meets rest.legal);
+      leads = rest.leads ∙ calls_from S Lawful sound B next there (whole_order rest.orders) next_is there_is meets ∙ ap (λ (xs : List ℕ). drop (base S) xs) (sym (after_append S.meaning start first.order (whole_order rest.orders)));
+      once = pairs_append Once first.order (whole_order rest.orders) (λ p q l u writes. first.linearizes.rising p q l u) rest.once across;
+      newer = All-append (IsNew B) first.order (whole_order rest.orders) (λ p d l. ((first.linearizes.begun p d l).1 refl).0) (λ p d l. let t = rest.newer p d l in omega (arith, t, ticket_rises B may es schedule (get_or (whole_order rest.orders) p d).caller (more.1 p d l)));
     },
-    All-append (λ (c : Call). c.caller < S.callers) first.order (joined rest.orders) (λ p d l. (first.linearizes.begun p d l).0) more.1,
+    All-append (λ (c : Call). c.caller < S.callers) first.order (whole_order rest.orders) (λ p d l. (first.linearizes.begun p d l).0) more.1,
   )
     where
       first : IsDurablyLinearizable S B (opening S B n) es
       first = linear B may es schedule
 
-      rest : AreDurablyLinearizable S n (start_behind S n B es) lives
+      rest : AreDurablyLinearizable S n (start_after S n B es) lives
       rest = more.0
 
       start : List ℕ
       start = map pay B.cells
 
       next : List ℕ
-      next = map pay (start_behind S n B es).cells
+      next = map pay (start_after S n B es).cells
 
       there : List ℕ
       there = after_calls S.meaning start first.order
@@ -140,16 +141,16 @@ module _ (S : Setup) (Lawful : List ℕ → Type 0) (sound : Sound S.meaning Law
       meets : SameFrom (base S) next there
       meets = same B may es schedule
 
-      across : All (λ (c : Call). All (Once c) (joined rest.orders)) first.order
+      across : All (λ (c : Call). All (Once c) (whole_order rest.orders)) first.order
       across p d l q e u writes own =
           let member = (first.linearizes.begun p d l).0 in
           let old = (first.recovered.own (get_or first.order p d).caller member).upto p d l refl writes in
           let new = rest.newer q e u in
-          omega (arith, old, new, next_ticket B may es schedule (get_or first.order p d).caller member, ap (start_ticket S (start_behind S n B es)) own)
+          omega (arith, old, new, next_ticket B may es schedule (get_or first.order p d).caller member, ap (start_ticket S (start_after S n B es)) own)
 
   pub lives_linear : (lives : List (List Event)) (B : Start) → MayStart S Lawful B → AreLives S n B lives → Lives B lives
   lives_linear [] B may s = no_lives B
-  lives_linear (es ∷ lives) B may s = one_more B may es s.0 lives (lives_linear lives (start_behind S n B es) (next_start B may es s.0) s.1)
+  lives_linear (es ∷ lives) B may s = one_more B may es s.0 lives (lives_linear lives (start_after S n B es) (next_start B may es s.0) s.1)
 
   pub any_lives : (B : Start) → MayStart S Lawful B → (lives : List (List Event)) → AreLives S n B lives → AreDurablyLinearizable S n B lives
   unfolding Lives

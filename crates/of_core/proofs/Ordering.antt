@@ -83,7 +83,7 @@ module _ (S : Setup) (Lawful : List ℕ → Type 0) (B : Start) (ws : List ℕ) 
     mode_tries true e q a = (helper_tries q.1 a.0, a.1)
     mode_tries false e q a = let z : false ≡ true = sym e ∙ q.0 in cc
 
-    tries_at : (p : Place) → At S B ws bs j m p → IsTrying m p → Trying S B ws bs j m × WasCurrent S B ws bs m.seq m.owner
+    pub tries_at : (p : Place) → At S B ws bs j m p → IsTrying m p → Trying S B ws bs j m × WasCurrent S B ws bs m.seq m.owner
     tries_at TryRequest a q = (a.0, a.1)
     tries_at (TryCell x) a q = (a.0, a.1)
     tries_at (CopyLog x) a q = (helper_tries q a.0.helper, a.0.current_word)

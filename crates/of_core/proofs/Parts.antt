@@ -35,7 +35,7 @@ pub second_part : (S : Setup) (w : World) (es ds : List Event) → IsSchedule S 
 second_part S w [] ds s = s
 second_part S w (e ∷ es) ds s = second_part S (happens S w e) es ds s.1
 
--- the second history goes on behind the first
+-- the second history goes on after the first
 pub record GoesOn (w v : World) : Type 0 where
   pub batches : List Batch
   pub batches_are : v.batches ≡ w.batches ++ batches
@@ -67,7 +67,7 @@ pub goes_on : (S : Setup) (w : World) (es : List Event) → GoesOn w (run S w es
 goes_on S w [] = goes_nowhere w w refl refl
 goes_on S w (e ∷ es) = goes_further w (happens S w e) (run S (happens S w e) es) (event_goes_on S w e) (goes_on S (happens S w e) es)
 
--- what stood stands
+-- what is in the first is in the second
 pub batch_stands : (B : Start) (w v : World) → GoesOn w v → (k : ℕ) → B.seq < k → k ≤ B.seq + length w.batches → batch B v.batches k ≡ batch B w.batches k
 batch_stands B w v g k l u = ap (λ (bs : List Batch). batch B bs k) g.batches_are ∙ batch_same B w.batches g.batches k l u
 

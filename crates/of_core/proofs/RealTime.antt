@@ -23,8 +23,19 @@ use Rattle.of_core.proofs.Moments.{run_good}
 use Rattle.of_core.proofs.Calls.{stood_low, fewer_outs}
 use Rattle.of_core.proofs.CallSteps.{reached, few}
 use Rattle.of_core.proofs.EveryCall.{run_calls}
-use Rattle.of_core.proofs.Parts.{run_append, outcomes_append, first_part, second_part, GoesOn, goes_on, batch_stands, read_stands}
-use Rattle.of_core.proofs.LowReads.{FromLow, reads_low}
+use Rattle.of_core.proofs.Parts.{run_append, operations_append, outcomes_append, first_part, second_part, GoesOn, goes_on, batch_stands, read_stands}
+use Rattle.of_core.proofs.Lost.{EndsLate, ends_late_run}
+use Rattle.of_core.specs.Commits.{IsSince}
+
+beyond_lower : (a b : ℕ) → a ≤ b → (o : Outcome) → Beyond b o → Beyond a o
+beyond_lower a b l (Answered s true raw steps) h = omega (arith, h, l)
+beyond_lower a b l (Answered s false raw steps) h = omega (arith, h, l)
+beyond_lower a b l (Spent s) h = omega (arith, h, l)
+
+is_since : (S : Setup) (from : ℕ) (op : List ℕ) (o : Outcome) → Beyond from o → EndsLate S from op o → IsSince S from op o
+is_since S from op (Answered s true raw steps) b l = (b, l)
+is_since S from op (Answered s false raw steps) b l = b
+is_since S from op (Spent s) b l = (b, l)
 
 module _ (S : Setup) (Lawful : List ℕ → Type 0) (sound : Sound S.meaning Lawful (base S) S.cells) (B : Start) (first : World) (good_first : Good S Lawful B first)
     (none : (i : ℕ) → i < S.callers → Calls S B (start_ticket S B i) first i [] []) (es : List Event) (schedule : IsSchedule S first es) where
@@ -67,6 +78,13 @@ module _ (S : Setup) (Lawful : List ℕ → Type 0) (sound : Sound S.meaning Law
     -- how a call has ended stays
     pub still : (i x : ℕ) → x < length (outcomes S first us i) → get_or (outcomes S first es i) x no_outcome ≡ ended i x
     still i x l = ap (λ (os : List Outcome). get_or os x no_outcome) (outcomes_are i) ∙ get_or_append_left (outcomes S first us i) (outcomes S between vs i) no_outcome x l
+
+    -- an outcome after it is one of the rest
+    outcome_is : (j y : ℕ) → length (outcomes S first us j) ≤ y → get_or (outcomes S between vs j) (y - length (outcomes S first us j)) no_outcome ≡ get_or (outcomes S first es j) y no_outcome
+    outcome_is j y l = sym (get_or-append_right (outcomes S first us j) (outcomes S between vs j) (length (outcomes S first us j)) y no_outcome refl l) ∙ ap (λ (os : List Outcome). get_or os y no_outcome) (sym (outcomes_are j))
+
+    inside : (j y : ℕ) → length (outcomes S first us j) ≤ y → y < length (outcomes S first es j) → y - length (outcomes S first us j) < length (outcomes S between vs j)
+    inside j y l u = omega (arith, l, u, ap length (outcomes_are j), length-append (outcomes S first us j) (outcomes S between vs j))
 
     abbrev Was : ℕ → ℕ → Outcome → Type 0
     Was i x o = Stood S B between i (start_ticket S B i + x + 1) (get_or (operations us i) x []) o
@@ -158,7 +176,7 @@ module _ (S : Setup) (Lawful : List ℕ → Type 0) (sound : Sound S.meaning Law
 
     -- one whose call hasn't begun is of no older state
     pub late_read : (a : ℕ) → a < length last_world.reads → start_ticket S B (read a).caller + length (operations us (read a).caller) < (read a).ticket → B.seq + length between.batches ≤ (read a).seq
-    late_read a l not_begun = subst (FromLow (B.seq + length between.batches)) is_it (reads_low S Lawful sound B i member (B.seq + length between.batches) vs between good_between rest (omega arith) (start_ticket S B i) (operations us i) (outcomes S first us i) (calls_between i member)
+    late_read a l not_begun = subst (EndsLate S (B.seq + length between.batches) (get_or (operations us i ++ operations vs i) (length (outcomes S first us i) + y) [])) is_it (ends_late_run S Lawful sound B i member (B.seq + length between.batches) (omega arith) vs between good_between rest (omega arith) (start_ticket S B i) (operations us i) (outcomes S first us i) (calls_between i member)
         (length (operations us i)) (λ q. absurd (omega (arith, q))) y (omega (arith, begun, below)) inside)
       where
         i : ℕ
@@ -235,38 +253,54 @@ module _ (S : Setup) (Lawful : List ℕ → Type 0) (sound : Sound S.meaning Law
             let below = fewer_outs S B (start_ticket S B i) between i (operations us i) (outcomes S first us i) (calls_between i member) in
             omega (arith, p.2, p.3, below))
 
-    -- one in a batch that hasn't begun is behind one that has ended
-    pub behind : (i x : ℕ) → i < S.callers → x < length (outcomes S first us i) → (k y : ℕ) (d : Call) → B.seq < k → k ≤ B.seq + length last_world.batches → y < length (batch B last_world.batches k).calls
+    -- one in a batch that hasn't begun is after one that has ended
+    pub later_batch : (i x : ℕ) → i < S.callers → x < length (outcomes S first us i) → (k y : ℕ) (d : Call) → B.seq < k → k ≤ B.seq + length last_world.batches → y < length (batch B last_world.batches k).calls
         → start_ticket S B (call k y d).caller + length (operations us (call k y d).caller) < (call k y d).ticket → seq_of (get_or (outcomes S first es i) x no_outcome) < k
-    behind i x i_in x_in k y d l u v not_begun = omega (arith, late_call k y d l u v not_begun, ended_low i x i_in x_in, ap seq_of (still i x x_in), durable_between)
+    later_batch i x i_in x_in k y d l u v not_begun = omega (arith, late_call k y d l u v not_begun, ended_low i x i_in x_in, ap seq_of (still i x x_in), durable_between)
 
-    -- a call comes behind one that had ended before it began
+    -- a call that hasn't begun ends late
+    ends_late : (j y : ℕ) → j < S.callers → length (operations us j) ≤ y → y < length (outcomes S first es j) → EndsLate S (B.seq + length between.batches) (get_or (operations es j) y []) (get_or (outcomes S first es j) y no_outcome)
+    ends_late j y j_in not_begun y_in =
+        subst (EndsLate S (B.seq + length between.batches) (get_or (operations es j) y [])) (outcome_is j y below)
+        (subst (λ (op : List ℕ). EndsLate S (B.seq + length between.batches) op (get_or (outcomes S between vs j) (y - length (outcomes S first us j)) no_outcome)) op_is
+        (ends_late_run S Lawful sound B j j_in (B.seq + length between.batches) (omega arith) vs between good_between rest (omega arith) (start_ticket S B j) (operations us j) (outcomes S first us j) (calls_between j j_in)
+        (length (operations us j)) (λ q. absurd (omega (arith, q))) (y - length (outcomes S first us j)) (omega (arith, here, not_begun)) (inside j y below y_in)))
+      where
+        below : length (outcomes S first us j) ≤ y
+        below = omega (arith, not_begun, fewer_outs S B (start_ticket S B j) between j (operations us j) (outcomes S first us j) (calls_between j j_in))
+
+        here : length (outcomes S first us j) + (y - length (outcomes S first us j)) ≡ y
+        here = omega (arith, below)
+
+        op_is : get_or (operations us j ++ operations vs j) (length (outcomes S first us j) + (y - length (outcomes S first us j))) [] ≡ get_or (operations es j) y []
+        op_is =
+            ap (λ (k : ℕ). get_or (operations us j ++ operations vs j) k []) here
+            ∙ ap (λ (xs : List (List ℕ)). get_or xs y []) (sym (operations_append us vs j) ∙ ap (λ (xs : List Event). operations xs j) is)
+
+    -- and has a later outcome than the last batch
+    later_outcome : (j y : ℕ) → j < S.callers → length (operations us j) ≤ y → y < length (outcomes S first es j) → Beyond (B.seq + length between.batches) (get_or (outcomes S first es j) y no_outcome)
+    later_outcome j y j_in not_begun y_in = go (get_or (outcomes S first es j) y no_outcome) (ends_late j y j_in not_begun y_in) ((last_calls j j_in).each y y_in)
+      where
+        go : (o : Outcome) → EndsLate S (B.seq + length between.batches) (get_or (operations es j) y []) o → Stood S B last_world j (start_ticket S B j + y + 1) (get_or (operations es j) y []) o → Beyond (B.seq + length between.batches) o
+        go (Answered s true raw steps) e h = late_call s h.2.place no_call h.0 (omega (arith, h.1, reached S Lawful B last_world good_last)) h.2.among (rw (h.2.caller, h.2.ticket) (omega (arith, not_begun)))
+        go (Answered s false raw steps) e h = e
+        go (Spent s) e h = omega (arith, h.0, few S Lawful B between good_between)
+
+    -- so a call comes after one that had ended before it began
     pub beyond : (i x j y : ℕ) → i < S.callers → j < S.callers → x < length (outcomes S first us i) → length (operations us j) ≤ y → y < length (outcomes S first es j)
         → Beyond (seq_of (get_or (outcomes S first es i) x no_outcome)) (get_or (outcomes S first es j) y no_outcome)
-    beyond i x j y i_in j_in x_in not_begun y_in = subst (λ (o : Outcome). Beyond (seq_of o) (get_or (outcomes S first es j) y no_outcome)) (sym (still i x x_in)) (go (get_or (outcomes S first es j) y no_outcome) refl ((last_calls j j_in).each y y_in))
-      where
-        low : seq_of (ended i x) ≤ risen S between.words
-        low = ended_low i x i_in x_in
+    beyond i x j y i_in j_in x_in not_begun y_in =
+        subst (λ (o : Outcome). Beyond (seq_of o) (get_or (outcomes S first es j) y no_outcome)) (sym (still i x x_in))
+        (beyond_lower (seq_of (ended i x)) (B.seq + length between.batches) (omega (arith, ended_low i x i_in x_in, durable_between)) (get_or (outcomes S first es j) y no_outcome) (later_outcome j y j_in not_begun y_in))
 
-        below : length (outcomes S first us j) ≤ length (operations us j)
-        below = fewer_outs S B (start_ticket S B j) between j (operations us j) (outcomes S first us j) (calls_between j j_in)
+    -- and no outcome is older than its call
+    pub since : (j y : ℕ) → j < S.callers → length (operations us j) ≤ y → y < length (outcomes S first es j)
+        → IsSince S (B.seq + length between.batches) (get_or (operations es j) y []) (get_or (outcomes S first es j) y no_outcome)
+    since j y j_in not_begun y_in =
+        is_since S (B.seq + length between.batches) (get_or (operations es j) y []) (get_or (outcomes S first es j) y no_outcome) (later_outcome j y j_in not_begun y_in) (ends_late j y j_in not_begun y_in)
 
-        from_low : FromLow (B.seq + length between.batches) (get_or (outcomes S first es j) y no_outcome)
-        from_low =
-            subst (FromLow (B.seq + length between.batches))
-            (sym (get_or-append_right (outcomes S first us j) (outcomes S between vs j) (length (outcomes S first us j)) y no_outcome refl (omega (arith, below, not_begun))) ∙ ap (λ (os : List Outcome). get_or os y no_outcome) (sym (outcomes_are j)))
-            (reads_low S Lawful sound B j j_in (B.seq + length between.batches) vs between good_between rest (omega arith) (start_ticket S B j) (operations us j) (outcomes S first us j) (calls_between j j_in)
-            (length (operations us j)) (λ q. absurd (omega (arith, q))) (y - length (outcomes S first us j)) (omega (arith, below, not_begun)) (omega (arith, y_in, below, not_begun, ap length (outcomes_are j), length-append (outcomes S first us j) (outcomes S between vs j))))
-
-        go : (o : Outcome) → get_or (outcomes S first es j) y no_outcome ≡ o → Stood S B last_world j (start_ticket S B j + y + 1) (get_or (operations es j) y []) o → Beyond (seq_of (ended i x)) o
-        go (Answered s true raw steps) e h =
-            let up = reached S Lawful B last_world good_last in
-            let late = late_call s h.2.place no_call h.0 (omega (arith, h.1, up)) h.2.among (rw (h.2.caller, h.2.ticket) (omega (arith, not_begun))) in
-            omega (arith, late, low, durable_between)
-        go (Answered s false raw steps) e h = let f : FromLow (B.seq + length between.batches) (Answered s false raw steps) = subst (FromLow (B.seq + length between.batches)) e from_low in omega (arith, f, low, durable_between)
-        go (Spent s) e h = omega (arith, h.0, low, limit_between)
-
--- A caller's own calls: each had ended when the next one began. So real time has each caller's order in it.
+-- A caller's own calls: each had ended when the next one began. So real time includes each caller's
+-- own order.
 module _ (S : Setup) (Lawful : List ℕ → Type 0) (sound : Sound S.meaning Lawful (base S) S.cells) (B : Start) (i : ℕ) (member : i < S.callers) where
   abbrev Between : World → List Event → List (List ℕ) → List Outcome → ℕ → Type 0
   Between w es ops outs x = (k : ℕ) × (x < length (outs ++ outcomes S w (take k es) i)) × (length (ops ++ operations (take k es) i) ≤ x + 1)
@@ -280,7 +314,7 @@ module _ (S : Setup) (Lawful : List ℕ → Type 0) (sound : Sound S.meaning Law
       now : x < length outs → Between w (e ∷ es) ops outs x
       now a = (0, omega (arith, a, ap length (append-nil outs)), omega (arith, u, ap length (append-nil ops)))
 
-      -- an event begins a call of the caller only where none is open
+      -- an event begins a call of the caller only if none is open
       begins_idle : (d : Event) → MayHappen S w d → 0 < length (begun_by d i) → IsIdle (machine w i)
       begins_idle (Begins j op) may a = at (cases_eq j i)
         where

@@ -13,14 +13,14 @@ use Rattle.of_core.specs.World.{World, Start, stepped}
 use Rattle.of_core.specs.Invariant.{Good, IsLoaded}
 use Rattle.of_core.specs.Moves.{Moves}
 use Rattle.of_core.specs.Events.{Event, Begins, Turns, Loads, Evicts, Raises, counted, evicted, machine, happens, MayHappen, run, IsSchedule}
-use Rattle.of_core.specs.Raised.{goes_round, lower_changes, is_pending, pending_of, pending}
+use Rattle.of_core.specs.Raised.{goes_round, lower_changes, is_pending, pending_among, pending}
 use Rattle.of_core.proofs.Found.{found_now}
 use Rattle.of_core.proofs.Durables.{step_durables}
 use Rattle.of_core.proofs.StepKept.{step_kept, step_moves}
 use Rattle.of_core.proofs.Raises.{rises}
 use Rattle.of_core.proofs.Happenings.{event_good, load_kept}
 
--- a word that stays, or comes to v at least, sends nobody round
+-- a word that stays, or becomes at least v, ends the loop
 stays_not : (x y v : ℕ) → (y ≡ x) ⊎ (v ≤ y) → counted (goes_round x y v) ≡ 0
 stays_not x y v h = go (x == y) refl (nat_lt y v) refl h
   where
@@ -65,7 +65,7 @@ not_pending x c v e h = go (pending_tells x c v e)
     go (inl p) = p.0
     go (inr p) = absurd (h p.1 p.2 p.3)
 
--- behind a durable word that has risen no more are pending
+-- after a durable word has risen no more words are pending
 one_rises : (x y c v : ℕ) → x ≤ y → (e : ℕ × ℕ) → counted (is_pending y c v e) ≤ counted (is_pending x c v e)
 one_rises x y c v u e = go (pending_tells y c v e) (pending_tells x c v e)
   where
@@ -76,20 +76,20 @@ one_rises x y c v u e = go (pending_tells y c v e) (pending_tells x c v e)
     go (inr p) (inl q) = absurd (q.1 p.1 (omega (arith, u, p.2)) p.3)
     go (inr p) (inr q) = omega (arith, p.0, q.0)
 
-all_rise : (x y c v : ℕ) → x ≤ y → (es : List (ℕ × ℕ)) → pending_of y c v es ≤ pending_of x c v es
+all_rise : (x y c v : ℕ) → x ≤ y → (es : List (ℕ × ℕ)) → pending_among y c v es ≤ pending_among x c v es
 all_rise x y c v u [] = omega arith
 all_rise x y c v u (e ∷ es) = let p = one_rises x y c v u e in let q = all_rise x y c v u es in omega (arith, p, q)
 
--- and one fewer, where one of them is raised
+-- and one fewer, if one of them is raised
 one_raised : (x y c v : ℕ) → x ≤ y → (es : List (ℕ × ℕ)) (k : ℕ) → k < length es → (get_or es k (0, 0)).0 ≡ c → x < (get_or es k (0, 0)).1 → (get_or es k (0, 0)).1 < v → (get_or es k (0, 0)).1 ≤ y
-    → 1 + pending_of y c v es ≤ pending_of x c v es
+    → 1 + pending_among y c v es ≤ pending_among x c v es
 one_raised x y c v u [] k l a b d f = absurd (omega (arith, l))
 one_raised x y c v u (e ∷ es) zero l a b d f = go (pending_tells x c v e) (pending_tells y c v e) (all_rise x y c v u es)
   where
     go : ((counted (is_pending x c v e) ≡ 0) × (e.0 ≡ c → x < e.1 → e.1 < v → ⊥)) ⊎ ((counted (is_pending x c v e) ≡ 1) × (e.0 ≡ c) × (x < e.1) × (e.1 < v))
         → ((counted (is_pending y c v e) ≡ 0) × (e.0 ≡ c → y < e.1 → e.1 < v → ⊥)) ⊎ ((counted (is_pending y c v e) ≡ 1) × (e.0 ≡ c) × (y < e.1) × (e.1 < v))
-        → pending_of y c v es ≤ pending_of x c v es
-        → 1 + (counted (is_pending y c v e) + pending_of y c v es) ≤ counted (is_pending x c v e) + pending_of x c v es
+        → pending_among y c v es ≤ pending_among x c v es
+        → 1 + (counted (is_pending y c v e) + pending_among y c v es) ≤ counted (is_pending x c v e) + pending_among x c v es
     go (inl p) q r = absurd (p.1 a b d)
     go (inr p) (inl q) r = omega (arith, p.0, q.0, r)
     go (inr p) (inr q) r = absurd (omega (arith, q.2, f))
@@ -99,7 +99,7 @@ one_raised x y c v u (e ∷ es) (suc k) l a b d f =
     omega (arith, p, q)
 
 -- a word of v at least isn't pending
-one_more : (x c v : ℕ) (es : List (ℕ × ℕ)) (e : ℕ × ℕ) → (e.0 ≡ c → v ≤ e.1) → pending_of x c v (es ++ e ∷ []) ≡ pending_of x c v es
+one_more : (x c v : ℕ) (es : List (ℕ × ℕ)) (e : ℕ × ℕ) → (e.0 ≡ c → v ≤ e.1) → pending_among x c v (es ++ e ∷ []) ≡ pending_among x c v es
 one_more x c v [] e h = go (pending_tells x c v e)
   where
     go : ((counted (is_pending x c v e) ≡ 0) × (e.0 ≡ c → x < e.1 → e.1 < v → ⊥)) ⊎ ((counted (is_pending x c v e) ≡ 1) × (e.0 ≡ c) × (x < e.1) × (e.1 < v)) → counted (is_pending x c v e) + 0 ≡ 0
@@ -107,7 +107,7 @@ one_more x c v [] e h = go (pending_tells x c v e)
     go (inr p) = let z = h p.1 in absurd (omega (arith, z, p.3))
 one_more x c v (d ∷ es) e h = ap (λ (n : ℕ). counted (is_pending x c v d) + n) (one_more x c v es e h)
 
--- where no event changes a durable word to one below v, it stays as it is or comes to v at least
+-- if no event changes a durable word to one below v, it stays as it is or becomes at least v
 pub stands : (S : Setup) (es : List Event) (w : World) (c v : ℕ) → lower_changes S w es c v ≡ 0 → (durable_word S (run S w es).words c ≡ durable_word S w.words c) ⊎ (v ≤ durable_word S (run S w es).words c)
 stands S [] w c v h = inl refl
 stands S (e ∷ es) w c v h = go (round_tells (durable_word S w.words c) (durable_word S (happens S w e).words c) v) (stands S es (happens S w e) c v (omega (arith, h)))
@@ -185,7 +185,7 @@ module _ (S : Setup) (Lawful : List ℕ → Type 0) (sound : Sound S.meaning Law
         up : durable_word S w.words c ≤ durable_word S (evicted S w d).words c
         up = rises S Lawful B w.words w.batches g.core.shared d.0 d.1 is c
 
-        go : (d.0 ≡ c) ⊎ (d.0 ≡ c → ⊥) → counted (goes_round (durable_word S w.words c) (durable_word S (evicted S w d).words c) v) + pending_of (durable_word S (evicted S w d).words c) c v w.loaded ≤ pending_of (durable_word S w.words c) c v w.loaded
+        go : (d.0 ≡ c) ⊎ (d.0 ≡ c → ⊥) → counted (goes_round (durable_word S w.words c) (durable_word S (evicted S w d).words c) v) + pending_among (durable_word S (evicted S w d).words c) c v w.loaded ≤ pending_among (durable_word S w.words c) c v w.loaded
         go (inr n) =
             let a = stays_not (durable_word S w.words c) (durable_word S (evicted S w d).words c) v (inl (raised_other d n)) in
             let b = all_rise (durable_word S w.words c) (durable_word S (evicted S w d).words c) c v up w.loaded in
@@ -197,13 +197,13 @@ module _ (S : Setup) (Lawful : List ℕ → Type 0) (sound : Sound S.meaning Law
 
             by : (counted (goes_round (durable_word S w.words c) (durable_word S (evicted S w d).words c) v) ≡ 0)
                 ⊎ ((counted (goes_round (durable_word S w.words c) (durable_word S (evicted S w d).words c) v) ≡ 1) × (durable_word S w.words c ≡ durable_word S (evicted S w d).words c → ⊥) × (durable_word S (evicted S w d).words c < v))
-                → counted (goes_round (durable_word S w.words c) (durable_word S (evicted S w d).words c) v) + pending_of (durable_word S (evicted S w d).words c) c v w.loaded ≤ pending_of (durable_word S w.words c) c v w.loaded
+                → counted (goes_round (durable_word S w.words c) (durable_word S (evicted S w d).words c) v) + pending_among (durable_word S (evicted S w d).words c) c v w.loaded ≤ pending_among (durable_word S w.words c) c v w.loaded
             by (inl q) =
                 let b = all_rise (durable_word S w.words c) (durable_word S (evicted S w d).words c) c v up w.loaded in
                 omega (arith, q, b)
             by (inr q) = changed (cases_lt (durable_word S w.words c) d.1)
               where
-                changed : (durable_word S w.words c < d.1) ⊎ (d.1 ≤ durable_word S w.words c) → counted (goes_round (durable_word S w.words c) (durable_word S (evicted S w d).words c) v) + pending_of (durable_word S (evicted S w d).words c) c v w.loaded ≤ pending_of (durable_word S w.words c) c v w.loaded
+                changed : (durable_word S w.words c < d.1) ⊎ (d.1 ≤ durable_word S w.words c) → counted (goes_round (durable_word S w.words c) (durable_word S (evicted S w d).words c) v) + pending_among (durable_word S (evicted S w d).words c) c v w.loaded ≤ pending_among (durable_word S w.words c) c v w.loaded
                 changed (inr u) = absurd (q.1 (omega (arith, here, u)))
                 changed (inl u) =
                     let b = one_raised (durable_word S w.words c) (durable_word S (evicted S w d).words c) c v up w.loaded k h e u (omega (arith, here, u, q.2)) (omega (arith, here)) in

@@ -1,13 +1,15 @@
 -- The laws of all steps and all schedules: what the contracts of `laws` say.
-use Rattle.std.specs.Prelude.{ℕ, ◌+◌, List, [], ◌∷◌, ◌++◌, length, ◌≡◌, ◌≤◌, ◌<◌, ◌⊎◌, Bool, true, false}
+use Rattle.std.specs.Prelude.{ℕ, ◌+◌, List, [], ◌∷◌, ◌++◌, length, ◌≡◌, ◌≤◌, ◌<◌, ◌⊎◌, true, map, slice_index}
 use Rattle.std.specs.List.{All}
 use Rattle.std.proofs.Common.{get_or, set, take, replicate}
 use Rattle.of_cell.specs.declared.word.TheConstants.{PAYLOADS}
-use Rattle.of_cell.specs.Words.{word}
+use Rattle.of_cell.specs.Words.{word, pay}
 use Rattle.of_mem.specs.Meaning.{Meaning}
 use Rattle.of_recover.specs.Recovered.{recovered}
+use Rattle.of_recover.specs.Writes.{row_after, recovery_writes}
+use Rattle.of_recover.specs.Renumbered.{renumbering_writes}
 use Rattle.of_core.specs.declared.place.Place.{Place}
-use Rattle.of_core.specs.declared.place.Place.TheVariants.{Idle, TryCurrent, StoreScript, StoreAnnouncement, LoadCurrent}
+use Rattle.of_core.specs.declared.place.Place.TheVariants.{Idle, LoadCurrent}
 use Rattle.of_core.specs.declared.place.Outcome.{Outcome}
 use Rattle.of_core.specs.Table.{Setup, setup_of, size, table_size, cell, durable_at, durable_word}
 use Rattle.of_core.specs.declared.place.Op.{Op}
@@ -25,7 +27,8 @@ use Rattle.of_core.specs.Starts.{first_words, start_of, IsStartRow, IsDurable, r
 use Rattle.of_core.specs.Bound.{bound}
 use Rattle.of_core.specs.Claim.{IsSound}
 use Rattle.of_core.specs.Calls.{Calls, TurnsTold, begun_by, ended_by, ended_in, operations, outcomes, no_outcome, seq_of, Beyond}
-use Rattle.of_core.specs.Linear.{NotBegun, IsDurablyLinearizable, EndsBefore, AreLives, AreDurablyLinearizable}
+use Rattle.of_core.specs.Linear.{HasNotBegunBy, CallEndsBefore, Linearizes, IsRecovered, IsDurablyLinearizable, IsDetectable}
+use Rattle.of_core.specs.LinearLives.{AreLives, AreDurablyLinearizable}
 
 -- the setup of a table for a work, with this limit
 abbrev pub setup_for : {X : Type 0} → (many size : X → ℕ) → (X → Meaning) → (limit : ℕ) → X → Setup
@@ -94,6 +97,7 @@ StepDurables S Lawful = EachStep S Lawful (λ B w i m n. (c : ℕ) → c < size 
     → (durable_word S (stepped S i m n w).words c ≡ durable_word S w.words c)
     ⊎ (durable_word S (stepped S i m n w).words c ≡ get_or w.words c 0))
 
+-- the step raises a word
 abbrev pub IsRaise : Op → Type 0
 IsRaise (Load c) = ⊥
 IsRaise (Store c v) = ⊥
@@ -106,7 +110,7 @@ GoesBlindly S m =
     IsRaise (want S m) × ((n k : ℕ) → took S m n ≡ took S m k)
     × ((ws : List ℕ) (n : ℕ) → added S ws m n ≡ [])
 
--- so is each step on a durable word: what stands there changes nobody's way
+-- so is each step on a durable word: no machine goes on otherwise for what it finds there
 abbrev pub StepBlind : Setup → (List ℕ → Type 0) → Type 0
 StepBlind S Lawful = EachMachine S Lawful (λ B w i m.
     ((c : ℕ) → c < size S → word_of (want S m) ≡ durable_at S c → ⊥) ⊎ GoesBlindly S m)
@@ -265,33 +269,41 @@ abbrev pub EveryOrder : Setup → (List ℕ → Type 0) → Type 0
 EveryOrder S Lawful =
     EachSchedule S Lawful (λ B n es. IsDurablyLinearizable S B (opening S B n) es)
 
--- of two calls of any callers the one that begins when the other has ended stands behind it
+-- and detectable: what recovery finds tells each caller whether its last call took effect, by each
+-- order that linearizes the schedule and that recovery finds
+abbrev pub Detectable : Setup → (List ℕ → Type 0) → Type 0
+Detectable S Lawful = EachSchedule S Lawful (λ B n es.
+    let w : World = opening S B n in
+    (order : List Call) → Linearizes S B w es order → IsRecovered S B (run S w es) order
+    → (i : ℕ) → i < S.callers → IsDetectable S B w es order i)
+
+-- of two calls of any callers, one that begins after the other has ended has a later outcome
 abbrev pub RealTime : Setup → (List ℕ → Type 0) → Type 0
 RealTime S Lawful = EachSchedule S Lawful (λ B n es.
     let w : World = opening S B n in
-    (i x j y : ℕ) → i < S.callers → j < S.callers → EndsBefore S w es i x j y
+    (i x j y : ℕ) → i < S.callers → j < S.callers → CallEndsBefore S w es i x j y
     → y < length (outcomes S w es j)
     → Beyond (seq_of (get_or (outcomes S w es i) x no_outcome))
     (get_or (outcomes S w es j) y no_outcome))
 
--- where a call has ended after the first k events, each call that hasn't begun then and that a batch
--- has, answered or open, is in a batch behind its sequence
+-- if a call has ended after the first k events, then each call that has not begun by then is in a
+-- later batch, answered or open, or in none
 abbrev pub LateCalls : Setup → (List ℕ → Type 0) → Type 0
 LateCalls S Lawful = EachSchedule S Lawful (λ B n es.
     let w : World = opening S B n in
     let bs : List Batch = (run S w es).batches in
     (k i x : ℕ) → i < S.callers → x < length (outcomes S w (take k es) i)
     → (b : ℕ) → B.seq < b → b ≤ B.seq + length bs
-    → All (λ (c : Call). NotBegun S B es k c
+    → All (λ (c : Call). HasNotBegunBy S B es k c
     → seq_of (get_or (outcomes S w es i) x no_outcome) < b) (batch B bs b).calls)
 
 -- a caller's calls are one after the other: each has ended before the next one begins
 abbrev pub OwnTime : Setup → (List ℕ → Type 0) → Type 0
 OwnTime S Lawful = EachSchedule S Lawful (λ B n es.
     (i x : ℕ) → i < S.callers → x + 1 < length (operations es i)
-    → EndsBefore S (opening S B n) es i x i (x + 1))
+    → CallEndsBefore S (opening S B n) es i x i (x + 1))
 
--- and lives, of whatever number, one after the other are durably linearizable
+-- and lives one after the other, any number of them, are durably linearizable together
 abbrev pub EveryLife : Setup → (List ℕ → Type 0) → Type 0
 EveryLife S Lawful = EachStart S Lawful (λ B n.
     (lives : List (List Event)) → AreLives S n B lives → AreDurablyLinearizable S n B lives)
@@ -304,27 +316,6 @@ EndsInTime S Lawful =
     → (es : List Event) → IsSchedule S w es → (i : ℕ) → i < S.callers → StaysOpen S w es i
     → ((machine w i).steps + turns i es < bound S)
     × ((machine (run S w es) i).place ≡ LoadCurrent → (machine (run S w es) i).rounds ≤ 2)
-
--- a try or a round begins at these places, or the announcement behind the last try
-abbrev pub begins_at : Place → Bool
-begins_at TryCurrent = true
-begins_at (StoreScript j) = true
-begins_at LoadCurrent = true
-begins_at p = false
-
--- at these the call is announced, and then comes to its first round by itself
-abbrev pub announces_at : Place → Bool
-announces_at (StoreScript j) = true
-announces_at StoreAnnouncement = true
-announces_at p = false
-
--- a try or a round is given up only behind a batch that was committed since it began: so whoever
--- loses one has seen another get on, and with nobody else under way a read is answered by its first
--- try, and any other call by its first round
-abbrev pub GivenUp : Setup → (List ℕ → Type 0) → Type 0
-GivenUp S Lawful = EachStep S Lawful (λ B w i m n.
-    announces_at m.place ≡ false → begins_at (took S m n).place ≡ true → IsOpen m.place
-    → m.seq < B.seq + length w.batches)
 
 -- Starts.
 
@@ -368,6 +359,26 @@ Restarts S Lawful =
     (B : Start) (w : World) → Good S Lawful B w → (row : List ℕ) → IsDurable S w.words row →
     let found : List ℕ = recovered S.callers S.cells row in
     IsStartRow S Lawful found × (start_of S.callers S.cells found ≡ recovered_start S B w)
+
+-- So it is also after a recovery that has stopped between two of its writes: a recovery of what it
+-- left gives the same row.
+abbrev pub RestartsMidway : Setup → (List ℕ → Type 0) → Type 0
+RestartsMidway S Lawful =
+    (B : Start) (w : World) → Good S Lawful B w → (row : List ℕ) → IsDurable S w.words row
+    → (made : ℕ) →
+    let writes : List (ℕ × ℕ) = recovery_writes S.callers S.cells (slice_index row) in
+    let found : List ℕ = recovered S.callers S.cells (row_after (take made writes) row) in
+    IsStartRow S Lawful found × (start_of S.callers S.cells found ≡ recovered_start S B w)
+
+-- and what a renumbering of such a row leaves, stopped between two of its writes, is a row from
+-- which a table may start with the same numbers
+abbrev pub RenumbersMidway : Setup → (List ℕ → Type 0) → Type 0
+RenumbersMidway S Lawful = (row : List ℕ) → IsStartRow S Lawful row → (made : ℕ) →
+    let writes : List (ℕ × ℕ) = renumbering_writes S.callers S.cells row in
+    let left : List ℕ = row_after (take made writes) row in
+    IsStartRow S Lawful left
+    × (map pay (start_of S.callers S.cells left).cells
+    ≡ map pay (start_of S.callers S.cells row).cells)
 
 -- Machines by themselves.
 

@@ -2,28 +2,29 @@
 //! theorems.
 
 ghost use Rattle.of_core.specs.Laws.{setup_for};
-ghost use Rattle.of_core.specs.Laws.{StepBlind};
-ghost use Rattle.of_core.specs.Laws.{StepKept, StepMoves, StepTaken, StepDurables, NewCalls};
-ghost use Rattle.of_core.specs.Laws.{BeginKept, LoadKept, LoadedStays, RaiseKept, RaiseRises};
-ghost use Rattle.of_core.specs.Laws.{BesideKept, StartKept, GoodIsSound};
+ghost use Rattle.of_core.specs.Laws.{StepKept, StepMoves, StepTaken, StepDurables, StepBlind};
+ghost use Rattle.of_core.specs.Laws.{NewCalls, BeginKept, LoadKept, LoadedStays, RaiseKept};
+ghost use Rattle.of_core.specs.Laws.{RaiseRises, BesideKept, StartKept, GoodIsSound};
 ghost use Rattle.of_core.specs.Laws.{StartCalls, StepCalls, BeginCalls, RaiseCalls, BesideCalls};
 ghost use Rattle.of_core.specs.Laws.{EventKept, ScheduleKept, EveryDurable, EveryMoment};
-ghost use Rattle.of_core.specs.Laws.{EveryCall, EveryTurn, CallsKept, EndsInTime, GivenUp};
-ghost use Rattle.of_core.specs.Raised.{RaisesHeld, RaisesAreShort, EvictionsAreShort};
-ghost use Rattle.of_core.specs.Raised.{CellsLevel, RaisesUndisturbed, EvictionsUndisturbed, RaisesStand};
-ghost use Rattle.of_core.specs.Laws.{EveryOrder, RealTime, LateCalls, OwnTime, EveryLife};
+ghost use Rattle.of_core.specs.Laws.{EveryCall, EveryTurn, CallsKept, EndsInTime};
+ghost use Rattle.of_core.specs.Laws.{EveryOrder, Detectable, RealTime, LateCalls, OwnTime, EveryLife};
+ghost use Rattle.of_core.specs.Commits.{DoneAfterTwoCommits, GivenUp, LostToCommits, OutcomesAreNew};
+ghost use Rattle.of_core.specs.Raised.{RaisesHeld, RaisesAreShort, EvictionsAreShort, CellsLevel};
+ghost use Rattle.of_core.specs.Raised.{RaisesUndisturbed, EvictionsUndisturbed, RaisesStand};
 ghost use Rattle.of_core.specs.Laws.{FirstWords, FirstMachines, ZerosMayStart};
-ghost use Rattle.of_core.specs.Laws.{ZeroWords, ZeroTickets, Restarts};
+ghost use Rattle.of_core.specs.Laws.{ZeroWords, ZeroTickets};
+ghost use Rattle.of_core.specs.Laws.{Restarts, RestartsMidway, RenumbersMidway};
 ghost use Rattle.of_core.specs.Laws.{IdleOrOpen, IdleIs, IdleStays, IdleRests, FindsWord, TurnIsStep};
-ghost use Rattle.of_core.specs.Laws.{FirstState, BatchesNumbered, NextBatch, BatchesStand, StatesStand};
-ghost use Rattle.of_core.specs.Laws.{BeginningBatches, BeginningStates, BeginningLegal};
+ghost use Rattle.of_core.specs.Laws.{FirstState, BatchesNumbered, NextBatch, BatchesStand};
+ghost use Rattle.of_core.specs.Laws.{StatesStand, BeginningBatches, BeginningStates, BeginningLegal};
 
 use of_mem::Work;
 
 /// From whatever meets the invariant each step, each begin of a call and each eviction leads to
-/// what meets it. A fresh machine may begin an idle one's next call in its place, with as many calls
-/// behind it: all else that the protocol needs stands on the table. A table at a start meets the
-/// invariant, and whatever meets it has what every moment claims.
+/// what meets it. A fresh machine may begin an idle one's next call in its place, with as many
+/// calls behind it: all else that the protocol needs stands on the table. A table at a start meets
+/// the invariant, and whatever meets it has what every moment claims.
 pub fn step_kept<W: Work>(limit: u32, work: W)
     ensures kept { StepKept (setup_for W.many W.size W.meaning limit work) (W.lawful work) }
     ensures moves { StepMoves (setup_for W.many W.size W.meaning limit work) (W.lawful work) }
@@ -70,28 +71,36 @@ pub fn every_call<W: Work>(limit: u32, work: W)
     ensures kept { CallsKept (setup_for W.many W.size W.meaning limit work) (W.lawful work) }
 {}
 
-/// Every schedule is durably linearizable: one serial run of all calls that were answered, and of
-/// some of the open ones, has all replies, each call behind those that had ended when it began; and
-/// recovery at any moment finds what that run leads to, and tells each caller its last call there.
-/// Lives that go on one from the other have such runs, which together are one from the first start.
+/// Every schedule is durably linearizable: one serial order of all calls that were answered, and of
+/// some open ones, has all replies, and each call comes after those that had ended when it began.
+/// Recovery at any moment finds what that order leads to. It tells each caller whether its last
+/// call took effect, and its reply. Lives that go on one from the other have such orders, which
+/// together are one from the first start. No outcome is older than its call.
 pub fn every_order<W: Work>(limit: u32, work: W)
     ensures order { EveryOrder (setup_for W.many W.size W.meaning limit work) (W.lawful work) }
+    ensures detectable { Detectable (setup_for W.many W.size W.meaning limit work) (W.lawful work) }
     ensures real_time { RealTime (setup_for W.many W.size W.meaning limit work) (W.lawful work) }
     ensures late { LateCalls (setup_for W.many W.size W.meaning limit work) (W.lawful work) }
     ensures own_time { OwnTime (setup_for W.many W.size W.meaning limit work) (W.lawful work) }
+    ensures since { OutcomesAreNew (setup_for W.many W.size W.meaning limit work) (W.lawful work) }
     ensures lives { EveryLife (setup_for W.many W.size W.meaning limit work) (W.lawful work) }
 {}
 
 /// Every call is answered or spent within the step bound of its own steps, in three rounds at most.
+/// An announced call is done after at most two commits that follow its announcement. A try or a
+/// round is lost only to a commit: if nobody commits, a read ends in its first try and any other
+/// call in its first round.
 pub fn ends_in_time<W: Work>(limit: u32, work: W)
     ensures in_time { EndsInTime (setup_for W.many W.size W.meaning limit work) (W.lawful work) }
+    ensures two_commits { DoneAfterTwoCommits (setup_for W.many W.size W.meaning limit work) (W.lawful work) }
     ensures given_up { GivenUp (setup_for W.many W.size W.meaning limit work) (W.lawful work) }
+    ensures lost { LostToCommits (setup_for W.many W.size W.meaning limit work) (W.lawful work) }
 {}
 
 /// A raise is a loop of a load and an exchange. While a caller is about to raise a durable word, no
-/// call changes that word to one below what it raises it to; only an eviction may, by a word that it
-/// has loaded before, once. In schedules from a start none does: a cell changes only where its durable
-/// word is at least its word.
+/// call changes that word to one below the word that is raised. Only an eviction may, once, by a
+/// word that it has loaded before. In schedules from a start no eviction does: a cell changes only
+/// if its durable word is at least its word.
 pub fn raises_are_short<W: Work>(limit: u32, work: W)
     ensures held { RaisesHeld (setup_for W.many W.size W.meaning limit work) (W.lawful work) }
     ensures calls { RaisesAreShort (setup_for W.many W.size W.meaning limit work) (W.lawful work) }
@@ -103,7 +112,9 @@ pub fn raises_are_short<W: Work>(limit: u32, work: W)
 {}
 
 /// A table's first words hold its start, and its machines are idle. Zeros are a start that may be,
-/// with no call behind it, and so is what recovery makes of the durable words of any moment.
+/// with no call behind it, and so is what recovery makes of the durable words of any moment. A
+/// recovery that has stopped between two of its writes changes nothing of that, and a renumbering
+/// that has stopped leaves a start with the same numbers.
 pub fn starts<W: Work>(limit: u32, work: W)
     ensures words { FirstWords (setup_for W.many W.size W.meaning limit work) }
     ensures machines { FirstMachines (setup_for W.many W.size W.meaning limit work) }
@@ -111,6 +122,8 @@ pub fn starts<W: Work>(limit: u32, work: W)
     ensures zero_words { ZeroWords (setup_for W.many W.size W.meaning limit work) }
     ensures zero_tickets { ZeroTickets (setup_for W.many W.size W.meaning limit work) }
     ensures restarts { Restarts (setup_for W.many W.size W.meaning limit work) (W.lawful work) }
+    ensures midway { RestartsMidway (setup_for W.many W.size W.meaning limit work) (W.lawful work) }
+    ensures renumbered { RenumbersMidway (setup_for W.many W.size W.meaning limit work) (W.lawful work) }
 {}
 
 /// What holds of a machine by itself, on any table.

@@ -171,31 +171,3 @@ impl Plot {
         self.base() + FIRST_BLOCK + 3 * b + field
     }
 }
-
-#[cfg(test)]
-mod tests {
-    use crate::plot::Plot;
-
-    #[test]
-    fn lies_as_laid_out(rt: HostRuntime) {
-        let plot = Plot {
-            callers: 2,
-            instrs: 16,
-            blocks: 4,
-        };
-        assert_eq!(rt; plot.cells(), 111);
-        assert_eq!(rt;
-            (plot.ticket(1), plot.shape(1), plot.reply(1, 15)),
-            (18, 19, 35)
-        );
-        assert_eq!(rt;
-            (plot.register(3), plot.fresh(), plot.free(), plot.keys()),
-            (39, 52, 53, 54)
-        );
-        assert_eq!(rt;
-            (plot.bucket(31), plot.head(3), plot.tail(3), plot.length(3)),
-            (86, 96, 97, 98)
-        );
-        assert_eq!(rt; (plot.block(0, 0), plot.block(3, 2)), (99, 110));
-    }
-}

@@ -71,27 +71,3 @@ impl Slots {
         }
     }
 }
-
-#[cfg(test)]
-mod tests {
-    use crate::slots::Slots;
-    use std::test::Fail;
-
-    #[test]
-    fn clear_takes_numbers_away(rt: HostRuntime) -> Result<(), Fail> {
-        let mut slots = Slots::new(rt.alloc(), 3)?;
-        assert_eq!(rt; slots.get(2), None);
-        slots.set(2, Some(0));
-        slots.set(1, Some(5));
-        slots.set(1, None);
-        assert_eq!(rt;
-            (slots.get(0), slots.get(1), slots.get(2)),
-            (None, None, Some(0))
-        );
-        slots.clear();
-        assert_eq!(rt; slots.get(2), None);
-        slots.set(2, Some(7));
-        assert_eq!(rt; slots.get(2), Some(7));
-        Ok(())
-    }
-}

@@ -15,7 +15,7 @@ use Rattle.of_recover.specs.Row.{IsDurableRow, current_seq, current_owner, is_op
 use Rattle.of_recover.specs.Log.{log_word, entry_count, entry_addr, entry_value, counts, names, first_naming}
 use Rattle.of_recover.specs.Recovered.{replayed_data, recovered_data, is_data, recovered_word, recovered}
 use Rattle.of_recover.specs.Walk.{after_entry, Replays}
-use Rattle.of_recover.specs.Writes.{written, entry_writes, log_writes, recovery_writes, IsUnderway}
+use Rattle.of_recover.specs.Writes.{row_after, entry_writes, log_writes, recovery_writes, IsUnderway}
 use Rattle.of_recover.proofs.Entries.{picked, first_more, range_push, replays_none, replays_more, same_entry, entry_within}
 use Rattle.of_recover.proofs.Rows.{length-recovered, recovered_at, left_alone, brought_to_end, inside, outside}
 use Rattle.of_recover.proofs.Kept.{recovered_twice}
@@ -152,17 +152,17 @@ module _ (N M : ℕ) (row : ℕ → ℕ) where
       go false = omega arith
 
   -- entry n does what its write says
-  pub entry_step : (n : ℕ) (ws : List ℕ) → Replays N M row n ws → after_entry N M ws n ≡ written (entry_writes N M row n) ws
+  pub entry_step : (n : ℕ) (ws : List ℕ) → Replays N M row n ws → after_entry N M ws n ≡ row_after (entry_writes N M row n) ws
   entry_step n ws h = same_entry N M row n ws h ∙ go (counts N M row n) refl
     where
       done : (t : Bool) → (if t then set ws (data_cell N (entry_addr N M row n)) (word (current_seq row) (entry_value N M row n)) else ws)
-          ≡ written (if t then (data_cell N (entry_addr N M row n), word (current_seq row) (entry_value N M row n)) ∷ [] else []) ws
+          ≡ row_after (if t then (data_cell N (entry_addr N M row n), word (current_seq row) (entry_value N M row n)) ∷ [] else []) ws
       done true = refl
       done false = refl
 
       go : (b : Bool) → counts N M row n ≡ b
           → (if b && nat_lt (seq (get_or ws (data_cell N (entry_addr N M row n)) 0)) (current_seq row) then set ws (data_cell N (entry_addr N M row n)) (word (current_seq row) (entry_value N M row n)) else ws)
-          ≡ written (if b && (is_none (first_naming N M row n (entry_addr N M row n)) && nat_lt (seq (row (data_cell N (entry_addr N M row n)))) (current_seq row)) then (data_cell N (entry_addr N M row n), word (current_seq row) (entry_value N M row n)) ∷ [] else []) ws
+          ≡ row_after (if b && (is_none (first_naming N M row n (entry_addr N M row n)) && nat_lt (seq (row (data_cell N (entry_addr N M row n)))) (current_seq row)) then (data_cell N (entry_addr N M row n), word (current_seq row) (entry_value N M row n)) ∷ [] else []) ws
       go false e = refl
       go true e =
           ap (λ (t : Bool). if t then set ws (data_cell N (entry_addr N M row n)) (word (current_seq row) (entry_value N M row n)) else ws)
@@ -172,16 +172,16 @@ module _ (N M : ℕ) (row : ℕ → ℕ) where
           ∙ done (is_none (first_naming N M row n (entry_addr N M row n)) && nat_lt (seq (row (data_cell N (entry_addr N M row n)))) (current_seq row))
 
   -- so after n entries the words are those with the writes of n entries
-  pub log_written : (n : ℕ) (old : List ℕ) → IsDurableRow N M old → ((c : ℕ) → get_or old c 0 ≡ row c) → Replays N M row n (written (log_writes N M row n) old)
+  pub log_written : (n : ℕ) (old : List ℕ) → IsDurableRow N M old → ((c : ℕ) → get_or old c 0 ≡ row c) → Replays N M row n (row_after (log_writes N M row n) old)
   unfolding log_writes
   log_written zero old size same = replays_none N M row old size same
   log_written (suc n) old size same =
       let h = log_written n old size same in
-      let e : written (log_writes N M row (suc n)) old ≡ after_entry N M (written (log_writes N M row n) old) n =
-      ap (λ (x : List (ℕ × ℕ)). written x old) (log_writes_more n)
+      let e : row_after (log_writes N M row (suc n)) old ≡ after_entry N M (row_after (log_writes N M row n) old) n =
+      ap (λ (x : List (ℕ × ℕ)). row_after x old) (log_writes_more n)
       ∙ fold-append (λ ws w. set ws w.0 w.1) old (log_writes N M row n) (entry_writes N M row n)
-      ∙ sym (entry_step n (written (log_writes N M row n) old) h) in
-      subst (λ (x : List ℕ). Replays N M row (suc n) x) (sym e) (rw add-one at (replays_more N M row n (written (log_writes N M row n) old) h))
+      ∙ sym (entry_step n (row_after (log_writes N M row n) old) h) in
+      subst (λ (x : List ℕ). Replays N M row (suc n) x) (sym e) (rw add-one at (replays_more N M row n (row_after (log_writes N M row n) old) h))
 
   -- a front of the log's writes is the writes of its first entries
   pub front_of_log : (k n : ℕ) → (m : ℕ) × ((m ≤ n) × (take k (log_writes N M row n) ≡ log_writes N M row m))
@@ -238,34 +238,34 @@ module _ (N M : ℕ) (old : List ℕ) (size : IsDurableRow N M old) where
   }
 
   open_written : is_open N (λ c. get_or old c 0) ≡ true
-      → written (log_writes N M (λ c. get_or old c 0) (entry_count N M (λ c. get_or old c 0)) ++ (request_cell (current_owner (λ c. get_or old c 0)), word (current_seq (λ c. get_or old c 0)) 1) ∷ []) old ≡ recovered N M old
+      → row_after (log_writes N M (λ c. get_or old c 0) (entry_count N M (λ c. get_or old c 0)) ++ (request_cell (current_owner (λ c. get_or old c 0)), word (current_seq (λ c. get_or old c 0)) 1) ∷ []) old ≡ recovered N M old
   open_written e =
       fold-append (λ ws w. set ws w.0 w.1) old (log_writes N M (λ c. get_or old c 0) (entry_count N M (λ c. get_or old c 0))) ((request_cell (current_owner (λ c. get_or old c 0)), word (current_seq (λ c. get_or old c 0)) 1) ∷ [])
-      ∙ brought_to_end N M old size (written (log_writes N M (λ c. get_or old c 0) (entry_count N M (λ c. get_or old c 0))) old) e (log_written N M (λ c. get_or old c 0) (entry_count N M (λ c. get_or old c 0)) old size (λ c. refl))
+      ∙ brought_to_end N M old size (row_after (log_writes N M (λ c. get_or old c 0) (entry_count N M (λ c. get_or old c 0))) old) e (log_written N M (λ c. get_or old c 0) (entry_count N M (λ c. get_or old c 0)) old size (λ c. refl))
 
   -- all writes leave the recovered list
-  pub all_written : written (recovery_writes N M (λ c. get_or old c 0)) old ≡ recovered N M old
+  pub all_written : row_after (recovery_writes N M (λ c. get_or old c 0)) old ≡ recovered N M old
   all_written = go (is_open N (λ c. get_or old c 0)) refl
     where
-      go : (b : Bool) → is_open N (λ c. get_or old c 0) ≡ b → written (recovery_writes N M (λ c. get_or old c 0)) old ≡ recovered N M old
+      go : (b : Bool) → is_open N (λ c. get_or old c 0) ≡ b → row_after (recovery_writes N M (λ c. get_or old c 0)) old ≡ recovered N M old
       go false e = rw e (left_alone N M old size e)
       go true e = rw e (open_written e)
 
   -- and each front of them leaves a row that recovers to it
-  pub fronts_recover : (k : ℕ) → recovered N M (written (take k (recovery_writes N M (λ c. get_or old c 0))) old) ≡ recovered N M old
+  pub fronts_recover : (k : ℕ) → recovered N M (row_after (take k (recovery_writes N M (λ c. get_or old c 0))) old) ≡ recovered N M old
   fronts_recover k = go (is_open N (λ c. get_or old c 0)) refl
     where
-      go : (b : Bool) → is_open N (λ c. get_or old c 0) ≡ b → recovered N M (written (take k (recovery_writes N M (λ c. get_or old c 0))) old) ≡ recovered N M old
+      go : (b : Bool) → is_open N (λ c. get_or old c 0) ≡ b → recovered N M (row_after (take k (recovery_writes N M (λ c. get_or old c 0))) old) ≡ recovered N M old
       go false e = rw (e, take-nil k) refl
       go true e = rw e (on (cases_lt (length (log_writes N M (λ c. get_or old c 0) (entry_count N M (λ c. get_or old c 0)))) k))
         where
           on : (length (log_writes N M (λ c. get_or old c 0) (entry_count N M (λ c. get_or old c 0))) < k) ⊎ (k ≤ length (log_writes N M (λ c. get_or old c 0) (entry_count N M (λ c. get_or old c 0))))
-              → recovered N M (written (take k (log_writes N M (λ c. get_or old c 0) (entry_count N M (λ c. get_or old c 0)) ++ (request_cell (current_owner (λ c. get_or old c 0)), word (current_seq (λ c. get_or old c 0)) 1) ∷ [])) old) ≡ recovered N M old
-          on (inl l) = ap (recovered N M) (ap (λ (x : List (ℕ × ℕ)). written x old) (all_of (log_writes N M (λ c. get_or old c 0) (entry_count N M (λ c. get_or old c 0))) (request_cell (current_owner (λ c. get_or old c 0)), word (current_seq (λ c. get_or old c 0)) 1) k l) ∙ open_written e) ∙ recovered_twice N M old size
+              → recovered N M (row_after (take k (log_writes N M (λ c. get_or old c 0) (entry_count N M (λ c. get_or old c 0)) ++ (request_cell (current_owner (λ c. get_or old c 0)), word (current_seq (λ c. get_or old c 0)) 1) ∷ [])) old) ≡ recovered N M old
+          on (inl l) = ap (recovered N M) (ap (λ (x : List (ℕ × ℕ)). row_after x old) (all_of (log_writes N M (λ c. get_or old c 0) (entry_count N M (λ c. get_or old c 0))) (request_cell (current_owner (λ c. get_or old c 0)), word (current_seq (λ c. get_or old c 0)) 1) k l) ∙ open_written e) ∙ recovered_twice N M old size
           on (inr l) = front (front_of_log N M (λ c. get_or old c 0) k (entry_count N M (λ c. get_or old c 0)))
             where
               front : (m : ℕ) × ((m ≤ entry_count N M (λ c. get_or old c 0)) × (take k (log_writes N M (λ c. get_or old c 0) (entry_count N M (λ c. get_or old c 0))) ≡ log_writes N M (λ c. get_or old c 0) m))
-                  → recovered N M (written (take k (log_writes N M (λ c. get_or old c 0) (entry_count N M (λ c. get_or old c 0)) ++ (request_cell (current_owner (λ c. get_or old c 0)), word (current_seq (λ c. get_or old c 0)) 1) ∷ [])) old) ≡ recovered N M old
+                  → recovered N M (row_after (take k (log_writes N M (λ c. get_or old c 0) (entry_count N M (λ c. get_or old c 0)) ++ (request_cell (current_owner (λ c. get_or old c 0)), word (current_seq (λ c. get_or old c 0)) 1) ∷ [])) old) ≡ recovered N M old
               front (m, (le, q)) =
-                  ap (λ (x : List (ℕ × ℕ)). recovered N M (written x old)) (take-append-le k (log_writes N M (λ c. get_or old c 0) (entry_count N M (λ c. get_or old c 0))) _ l ∙ q)
-                  ∙ underway_recovers N M old (written (log_writes N M (λ c. get_or old c 0) m) old) size (front_underway m (written (log_writes N M (λ c. get_or old c 0) m) old) e le (log_written N M (λ c. get_or old c 0) m old size (λ c. refl)))
+                  ap (λ (x : List (ℕ × ℕ)). recovered N M (row_after x old)) (take-append-le k (log_writes N M (λ c. get_or old c 0) (entry_count N M (λ c. get_or old c 0))) _ l ∙ q)
+                  ∙ underway_recovers N M old (row_after (log_writes N M (λ c. get_or old c 0) m) old) size (front_underway m (row_after (log_writes N M (λ c. get_or old c 0) m) old) e le (log_written N M (λ c. get_or old c 0) m old size (λ c. refl)))

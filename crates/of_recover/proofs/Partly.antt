@@ -1,4 +1,4 @@
--- A recovery that may make so many writes and no more.
+-- A recovery that may make only a given number of writes.
 use Rattle.std.proofs.Common.{◌≡◌, ℕ, zero, suc, ◌+◌, ◌*◌, ◌-◌, ◌<◌, ◌≤◌, ◌==◌, ◌&&◌, nat_lt, nat_le, Bool, true, false, if◌then◌else◌, List, [], ◌∷◌, ◌++◌, length, take, get_or, set, refl, sym, ◌∙◌, ap, arith, add-one, length-append}
 use Rattle.std.specs.Option.{is_none}
 use Rattle.std.proofs.lemmas.Bool.Decides.{nat_tests}
@@ -11,9 +11,16 @@ use Rattle.of_cell.proofs.Order.{seq_word, pay_small}
 use Rattle.of_recover.specs.Row.{IsDurableRow, current_seq, current_owner, is_open}
 use Rattle.of_recover.specs.Log.{log_word, entry_count, entry_addr, entry_value, counts, first_naming}
 use Rattle.of_recover.specs.Walk.{after_entry, lands, Replays}
-use Rattle.of_recover.specs.Writes.{written, entry_writes, log_writes, recovery_writes, IsPartlyReplayed}
+use Rattle.of_recover.specs.Writes.{row_after, entry_writes, log_writes, recovery_writes}
 use Rattle.of_recover.proofs.Entries.{same_zero, same_log, entry_within, replays_none, replays_more}
 use Rattle.of_recover.proofs.Fronts.{still_older, log_writes_more, one_at_most, entry_step, log_written, all_of}
+
+-- n entries have made the row `words` of `old` by as many of their writes as may be made, of which
+-- `left` are left; while more may be made these are all of their writes
+pub record IsPartlyReplayed (callers cells : ℕ) (old : List ℕ) (most n left : ℕ) (words : List ℕ) : Type 0 where
+  pub row : words ≡ row_after (take most (log_writes callers cells (λ c. get_or old c 0) n)) old
+  pub more : left ≡ most - length (log_writes callers cells (λ c. get_or old c 0) n)
+  pub replays : 0 < left → Replays callers cells (λ c. get_or old c 0) n words
 
 -- whether an entry with these words lands
 abbrev landing : (callers cells : ℕ) → List ℕ → (current addr value : ℕ) → Bool
@@ -62,15 +69,15 @@ module _ (N M : ℕ) (row : ℕ → ℕ) where
 
   -- where one may be made, the next entry's is
   pub made : (most n : ℕ) (ws old : List ℕ) → IsDurableRow N M old → ((c : ℕ) → get_or old c 0 ≡ row c) → length (log_writes N M row n) < most
-      → ws ≡ written (take most (log_writes N M row n)) old → after_entry N M ws n ≡ written (take most (log_writes N M row (n + 1))) old
+      → ws ≡ row_after (take most (log_writes N M row n)) old → after_entry N M ws n ≡ row_after (take most (log_writes N M row (n + 1))) old
   made most n ws old size same l e =
       let all : take most (log_writes N M row (n + 1)) ≡ log_writes N M row n ++ entry_writes N M row n =
       take_all most (log_writes N M row (n + 1)) (rw (add-one n, log_writes_more N M row n) (omega (arith, length-append (log_writes N M row n) (entry_writes N M row n), one_at_most N M row n)))
       ∙ rw add-one (log_writes_more N M row n) in
-      ap (λ (x : List ℕ). after_entry N M x n) (e ∙ ap (λ (x : List (ℕ × ℕ)). written x old) (take_all most (log_writes N M row n) (omega arith)))
-      ∙ entry_step N M row n (written (log_writes N M row n) old) (log_written N M row n old size same)
+      ap (λ (x : List ℕ). after_entry N M x n) (e ∙ ap (λ (x : List (ℕ × ℕ)). row_after x old) (take_all most (log_writes N M row n) (omega arith)))
+      ∙ entry_step N M row n (row_after (log_writes N M row n) old) (log_written N M row n old size same)
       ∙ sym (fold-append (λ ws w. set ws w.0 w.1) old (log_writes N M row n) (entry_writes N M row n))
-      ∙ ap (λ (x : List (ℕ × ℕ)). written x old) (sym all)
+      ∙ ap (λ (x : List (ℕ × ℕ)). row_after x old) (sym all)
 
   -- an entry makes one write at most, so n entries make n at most
   pub few_writes : (n : ℕ) → length (log_writes N M row n) ≤ n
@@ -105,7 +112,7 @@ module _ (N M : ℕ) (old : List ℕ) (size : IsDurableRow N M old) where
     -- or no more may be made
     pub stays : (left' : ℕ) (ws' : List ℕ) → left ≤ 0 → ws' ≡ ws → left' ≡ left → IsPartlyReplayed N M old most (n + 1) left' ws'
     stays left' ws' l e f = record {
-      row = e ∙ h.row ∙ ap (λ (x : List (ℕ × ℕ)). written x old) (sym (spent N M (λ c. get_or old c 0) most n (omega (arith, h.more))));
+      row = e ∙ h.row ∙ ap (λ (x : List (ℕ × ℕ)). row_after x old) (sym (spent N M (λ c. get_or old c 0) most n (omega (arith, h.more))));
       more = omega (arith, spent_length N M (λ c. get_or old c 0) most n (omega (arith, h.more)));
       replays = λ m. absurd (omega arith);
     }
@@ -118,23 +125,23 @@ few false k n b e = omega arith
 -- what a replay of at most so many writes leaves, and the closing behind it where one more may be made
 module _ (N M : ℕ) (old : List ℕ) where
   -- where nothing is open
-  pub nothing_open : (most : ℕ) → is_open N (λ c. get_or old c 0) ≡ false → old ≡ written (take most (recovery_writes N M (λ c. get_or old c 0))) old
+  pub nothing_open : (most : ℕ) → is_open N (λ c. get_or old c 0) ≡ false → old ≡ row_after (take most (recovery_writes N M (λ c. get_or old c 0))) old
   nothing_open most e = rw (e, take-nil most) refl
 
   -- where no more may be made behind the log's writes
   pub left_open : (most : ℕ) (ws : List ℕ) → is_open N (λ c. get_or old c 0) ≡ true → most ≤ length (log_writes N M (λ c. get_or old c 0) (entry_count N M (λ c. get_or old c 0)))
-      → ws ≡ written (take most (log_writes N M (λ c. get_or old c 0) (entry_count N M (λ c. get_or old c 0)))) old → ws ≡ written (take most (recovery_writes N M (λ c. get_or old c 0))) old
-  left_open most ws e l h = h ∙ rw e (ap (λ (x : List (ℕ × ℕ)). written x old) (sym (take-append-le most (log_writes N M (λ c. get_or old c 0) (entry_count N M (λ c. get_or old c 0))) _ l)))
+      → ws ≡ row_after (take most (log_writes N M (λ c. get_or old c 0) (entry_count N M (λ c. get_or old c 0)))) old → ws ≡ row_after (take most (recovery_writes N M (λ c. get_or old c 0))) old
+  left_open most ws e l h = h ∙ rw e (ap (λ (x : List (ℕ × ℕ)). row_after x old) (sym (take-append-le most (log_writes N M (λ c. get_or old c 0) (entry_count N M (λ c. get_or old c 0))) _ l)))
 
   -- where one more may be made
   pub closed : (most : ℕ) (ws : List ℕ) → is_open N (λ c. get_or old c 0) ≡ true → length (log_writes N M (λ c. get_or old c 0) (entry_count N M (λ c. get_or old c 0))) < most
-      → ws ≡ written (take most (log_writes N M (λ c. get_or old c 0) (entry_count N M (λ c. get_or old c 0)))) old
-      → set ws (request_cell (current_owner (λ c. get_or old c 0))) (word (current_seq (λ c. get_or old c 0)) 1) ≡ written (take most (recovery_writes N M (λ c. get_or old c 0))) old
+      → ws ≡ row_after (take most (log_writes N M (λ c. get_or old c 0) (entry_count N M (λ c. get_or old c 0)))) old
+      → set ws (request_cell (current_owner (λ c. get_or old c 0))) (word (current_seq (λ c. get_or old c 0)) 1) ≡ row_after (take most (recovery_writes N M (λ c. get_or old c 0))) old
   closed most ws e l h =
       rw e (ap (λ (x : List ℕ). set x (request_cell (current_owner (λ c. get_or old c 0))) (word (current_seq (λ c. get_or old c 0)) 1))
-      (h ∙ ap (λ (x : List (ℕ × ℕ)). written x old) (take_all most (log_writes N M (λ c. get_or old c 0) (entry_count N M (λ c. get_or old c 0))) (omega arith)))
+      (h ∙ ap (λ (x : List (ℕ × ℕ)). row_after x old) (take_all most (log_writes N M (λ c. get_or old c 0) (entry_count N M (λ c. get_or old c 0))) (omega arith)))
       ∙ sym (fold-append (λ ws w. set ws w.0 w.1) old (log_writes N M (λ c. get_or old c 0) (entry_count N M (λ c. get_or old c 0))) ((request_cell (current_owner (λ c. get_or old c 0)), word (current_seq (λ c. get_or old c 0)) 1) ∷ []))
-      ∙ ap (λ (x : List (ℕ × ℕ)). written x old) (sym (all_of (log_writes N M (λ c. get_or old c 0) (entry_count N M (λ c. get_or old c 0))) (request_cell (current_owner (λ c. get_or old c 0)), word (current_seq (λ c. get_or old c 0)) 1) most l)))
+      ∙ ap (λ (x : List (ℕ × ℕ)). row_after x old) (sym (all_of (log_writes N M (λ c. get_or old c 0) (entry_count N M (λ c. get_or old c 0))) (request_cell (current_owner (λ c. get_or old c 0)), word (current_seq (λ c. get_or old c 0)) 1) most l)))
 
   few_entries : entry_count N M (λ c. get_or old c 0) ≤ M
   few_entries = few (seq (log_word N M (λ c. get_or old c 0) 0) == current_seq (λ c. get_or old c 0)) (pay (log_word N M (λ c. get_or old c 0) 0)) M (nat_le (pay (log_word N M (λ c. get_or old c 0) 0)) M) refl

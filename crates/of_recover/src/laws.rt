@@ -1,11 +1,12 @@
-//! What a recovered row keeps and what it changes. Nothing here has a body to run: a proof cites the clauses.
+//! What a recovered row keeps and what it changes. Nothing here has a body to run: a proof cites
+//! the clauses.
 
 ghost use Rattle.std.specs.Prelude.{◌≡◌, false, slice_index};
 ghost use Rattle.std.proofs.Common.{take};
 ghost use Rattle.of_recover.specs.Row.{IsDurableRow, is_open};
 ghost use Rattle.of_recover.specs.Recovered.{recovered, RecoversData, ClosesRequest, KeepsOthers, KeepsUnnamed};
 ghost use Rattle.of_recover.specs.Renumbered.{renumbered, renumbering_writes, BeginsAnew, BeginsAnewPartly};
-ghost use Rattle.of_recover.specs.Writes.{written, recovery_writes, IsUnderway};
+ghost use Rattle.of_recover.specs.Writes.{row_after, recovery_writes, IsUnderway};
 
 use of_cell::Shape;
 
@@ -16,21 +17,24 @@ pub fn recovered_twice(shape: &Shape, durable: &[u64])
     ensures same { let once = recovered shape.now.callers shape.now.cells durable.now in recovered shape.now.callers shape.now.cells once ≡ once }
 {}
 
-/// A recovery that stops between two of its writes loses nothing: whatever the number of them that were
-/// made, in the order in which they are made, the row that they leave is recovered to the same row.
+/// A recovery that stops between two of its writes loses nothing. It makes them in order, and after
+/// any number of them a recovery of the row that they leave gives the same row.
 pub fn recovered_midway(shape: &Shape, durable: &[u64], made: usize)
     requires { IsDurableRow shape.now.callers shape.now.cells durable.now }
-    ensures all { written (recovery_writes shape.now.callers shape.now.cells (slice_index durable.now)) durable.now ≡ recovered shape.now.callers shape.now.cells durable.now }
-    ensures midway { let front = take made (recovery_writes shape.now.callers shape.now.cells (slice_index durable.now)) in
-        recovered shape.now.callers shape.now.cells (written front durable.now) ≡ recovered shape.now.callers shape.now.cells durable.now }
+    ensures all { let writes = recovery_writes shape.now.callers shape.now.cells (slice_index durable.now) in
+        row_after writes durable.now ≡ recovered shape.now.callers shape.now.cells durable.now }
+    ensures midway { let writes = recovery_writes shape.now.callers shape.now.cells (slice_index durable.now) in
+        recovered shape.now.callers shape.now.cells (row_after (take made writes) durable.now)
+        ≡ recovered shape.now.callers shape.now.cells durable.now }
 {}
 
-/// Nor does it matter in which order the data cells are written, or which of them are: as long as the
-/// request isn't closed, recovery leaves the same row.
+/// Nor does it matter in which order the data cells are written, or which of them are. As long as
+/// the request is not closed, recovery leaves the same row.
 pub fn recovered_underway(shape: &Shape, durable: &[u64], later: &[u64])
     requires row { IsDurableRow shape.now.callers shape.now.cells durable.now }
     requires underway { IsUnderway shape.now.callers shape.now.cells durable.now later.now }
-    ensures { recovered shape.now.callers shape.now.cells later.now ≡ recovered shape.now.callers shape.now.cells durable.now }
+    ensures { recovered shape.now.callers shape.now.cells later.now
+        ≡ recovered shape.now.callers shape.now.cells durable.now }
 {}
 
 /// What becomes of each cell: the data cells have their recovered words, the request of an open
@@ -50,13 +54,15 @@ pub fn renumbered_row(shape: &Shape, durable: &[u64])
     ensures { BeginsAnew shape.now.callers shape.now.cells durable.now (renumbered shape.now.callers shape.now.cells durable.now) }
 {}
 
-/// A renumbering that stops between two of its writes loses nothing: whatever the number of them that
-/// were made, the row that they leave has the same numbers, a table may start from it, and a
-/// renumbering of it leaves the same row.
+/// A renumbering that stops between two of its writes loses nothing. After any number of them the
+/// row that they leave has the same numbers, a table may start from it, and a renumbering of it
+/// leaves the same row.
 pub fn renumbered_midway(shape: &Shape, durable: &[u64], made: usize)
     requires row { IsDurableRow shape.now.callers shape.now.cells durable.now }
     requires closed { is_open shape.now.callers (slice_index durable.now) ≡ false }
-    ensures all { written (renumbering_writes shape.now.callers shape.now.cells durable.now) durable.now ≡ renumbered shape.now.callers shape.now.cells durable.now }
-    ensures midway { let front = take made (renumbering_writes shape.now.callers shape.now.cells durable.now) in
-        BeginsAnewPartly shape.now.callers shape.now.cells durable.now (written front durable.now) }
+    ensures all { let writes = renumbering_writes shape.now.callers shape.now.cells durable.now in
+        row_after writes durable.now ≡ renumbered shape.now.callers shape.now.cells durable.now }
+    ensures midway { let writes = renumbering_writes shape.now.callers shape.now.cells durable.now in
+        BeginsAnewPartly shape.now.callers shape.now.cells durable.now
+        (row_after (take made writes) durable.now) }
 {}

@@ -1,9 +1,12 @@
+//! Renumbering of a recovered row in place: its data cells keep their numbers, and its sequences
+//! begin anew.
+
 ghost use Rattle.std.specs.Prelude.{◌≡◌, false, slice_index};
 ghost use Rattle.std.proofs.Common.{take};
 ghost use Rattle.of_recover.specs.Row.{IsDurableRow, is_open};
 ghost use Rattle.of_recover.specs.Recovered.{is_data};
 ghost use Rattle.of_recover.specs.Renumbered.{renumbered, renumbered_word, renumbering_writes};
-ghost use Rattle.of_recover.specs.Writes.{written};
+ghost use Rattle.of_recover.specs.Writes.{row_after};
 
 use of_cell::{Shape, pack, payload_of};
 
@@ -26,8 +29,9 @@ fn renumbered_word(shape: &Shape, cell: usize, word: u64) -> u64
     }
 }
 
-/// Begins the sequences of a recovered row anew: each data cell keeps its number, at sequence 0, and the
-/// current transaction, the requests and the logs are those of a table on which nothing has happened.
+/// Begins the sequences of a recovered row anew: each data cell keeps its number, at sequence 0,
+/// and the current transaction, the requests and the logs are those of a table on which nothing has
+/// happened.
 pub fn renumber(shape: &Shape, durable: &mut [u64])
     requires row { IsDurableRow shape.now.callers shape.now.cells durable.old }
     requires closed { is_open shape.now.callers (slice_index durable.old) ≡ false }
@@ -37,12 +41,13 @@ pub fn renumber(shape: &Shape, durable: &mut [u64])
     renumber_partly(shape, durable, cells);
 }
 
-/// Makes the writes of a renumbering, in their order, and stops where `most` of them are made. The
-/// current transaction comes last, since a data cell that is newer than it is at fault. So whatever is
-/// left out, what is left has the same numbers and may be renumbered again (`laws::renumbered_midway`).
+/// Makes the writes of a renumbering, in their order, and stops when `most` of them are made. The
+/// current transaction comes last, because no data cell may be newer than it. So what is left has
+/// the same numbers, and may be renumbered again (`laws::renumbered_midway`).
 pub fn renumber_partly(shape: &Shape, durable: &mut [u64], most: usize)
     requires { IsDurableRow shape.now.callers shape.now.cells durable.old }
-    ensures { durable.new ≡ written (take most (renumbering_writes shape.now.callers shape.now.cells durable.old)) durable.old }
+    ensures { let writes = renumbering_writes shape.now.callers shape.now.cells durable.old in
+        durable.new ≡ row_after (take most writes) durable.old }
 {
     let cells = durable.len();
     for made in 0..most.min(cells) {
@@ -57,9 +62,9 @@ mod tests {
     use crate::laws::{recovered_cells, recovered_twice};
     use crate::recovery::recover;
 
-    // Recovery changes nothing in the row, and renumbering asks for a recovered one.
-    // One caller and two data cells: the current transaction, its closed request, the two data cells, and
-    // a log of a count and two entries.
+    // Recovery changes nothing in the row, and renumbering asks for a recovered one. One caller and
+    // two data cells: the current transaction, its closed request, the two data cells, and a log of
+    // a count and two entries.
     #[test]
     fn renumbers(rt: HostRuntime) {
         let shape = Shape::new(1, 8, 2).expect(&rt, "in range");

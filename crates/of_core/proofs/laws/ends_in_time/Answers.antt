@@ -1,13 +1,24 @@
+use Rattle.std.proofs.Common.{arith}
 use Rattle.of_core.proofs.laws.ends_in_time.Goals as goal
+use Rattle.of_core.specs.Events.{opening}
 use Rattle.of_core.specs.Laws.{setup_for}
 use Rattle.of_core.proofs.InTime.{ends_in_time}
 use Rattle.of_core.proofs.GivenUp.{given_up}
+use Rattle.of_core.proofs.Lost.{has_lost}
+use Rattle.of_core.proofs.Openings.{start_good}
+use Rattle.of_core.proofs.TwoCommits.{done_in_schedule}
 
 pub returns : goal.returns
 returns g c =
     let laws = g.met.W.Work g.world.𝓛 g.world.𝓜 g.world.𝓡 ((λ s x. x), (λ x. x), (λ x. x), λ x. x) in
     let S = setup_for g.W.Work.many g.W.Work.size g.W.Work.meaning c.args.limit c.args.work in
+    let L = g.W.Work.lawful c.args.work in
+    let sound = laws.sound c.args.work in
+    let fits = laws.fits c.args.work in
     record {
-      in_time = ends_in_time S (g.W.Work.lawful c.args.work) (laws.sound c.args.work);
-      given_up = λ B w h i m l e n f. given_up S (g.W.Work.lawful c.args.work) B w h.core i m l e n f;
+      in_time = ends_in_time S L sound;
+      two_commits = λ B may n room es s k i member new more.
+          done_in_schedule S L sound B (opening S B n) (start_good S L sound B may fits.some (omega (arith, fits.few)) fits.own n room (omega arith) (omega (arith, fits.small))) es s k i member new more;
+      given_up = λ B w h i m l e n f. given_up S L B w h.core i m l e n f;
+      lost = λ B w h es s i member rest live. has_lost S L sound B w h es s i member rest live;
     }

@@ -1,0 +1,111 @@
+-- Calls beside commits: an announced call is done after at most two of them, a try or a round is
+-- lost only to one of them, and an outcome is no older than its call.
+use Rattle.std.specs.Prelude.{ℕ, ◌+◌, ◌-◌, List, [], length, ◌≡◌, ◌≤◌, ◌<◌, Bool, true, false}
+use Rattle.std.proofs.Common.{get_or, take}
+use Rattle.of_cell.specs.Words.{seq}
+use Rattle.of_core.specs.declared.machine.trying.TheConstants.{MOST_TRIES}
+use Rattle.of_core.specs.declared.place.Place.{Place}
+use Rattle.of_core.specs.declared.place.Place.TheVariants.{TryCurrent, StoreScript, StoreAnnouncement, LoadCurrent}
+use Rattle.of_core.specs.declared.place.Outcome.{Outcome}
+use Rattle.of_core.specs.declared.place.Outcome.TheVariants.{Answered, Spent}
+use Rattle.of_core.specs.Table.{Setup, announcement_of}
+use Rattle.of_core.specs.Machine.{Data, IsOpen, no_call}
+use Rattle.of_core.specs.Steps.{took}
+use Rattle.of_core.specs.World.{World, Start, Batch}
+use Rattle.of_core.specs.History.{batch}
+use Rattle.of_core.specs.Invariant.{Good}
+use Rattle.of_core.specs.Events.{Event, run, opening, start_ticket, IsSchedule, machine}
+use Rattle.of_core.specs.Turn.{IsIdle}
+use Rattle.of_core.specs.Calls.{operations, outcomes, no_outcome}
+use Rattle.of_core.specs.Laws.{EachStep, EachSchedule}
+
+-- the sequence of the last batch
+abbrev pub last_batch : Start → World → ℕ
+last_batch B w = B.seq + length w.batches
+
+-- Two commits.
+
+-- the ticket that caller i has announced, or 0 if it has announced none
+abbrev pub announced_ticket : Setup → World → (i : ℕ) → ℕ
+announced_ticket S w i = seq (announcement_of S w.words i)
+
+-- a batch, the batch n at the latest, has the call t of caller i
+pub record HasRun (B : Start) (bs : List Batch) (n i t : ℕ) : Type 0 where
+  pub number : ℕ
+  pub from : B.seq < number
+  pub upto : number ≤ n
+  pub place : ℕ
+  pub among : place < length (batch B bs number).calls
+  pub caller : (get_or (batch B bs number).calls place no_call).caller ≡ i
+  pub ticket : (get_or (batch B bs number).calls place no_call).ticket ≡ t
+
+-- An announced call is done after at most two commits that follow its announcement: if the call of
+-- caller i with a ticket of this table is announced after the first k events, and two more batches
+-- are committed, then a batch up to the second of them has that call.
+abbrev pub DoneAfterTwoCommits : Setup → (List ℕ → Type 0) → Type 0
+DoneAfterTwoCommits S Lawful = EachSchedule S Lawful (λ B n es.
+    (k i : ℕ) → i < S.callers →
+    let w : World = run S (opening S B n) (take k es) in
+    let v : World = run S (opening S B n) es in
+    start_ticket S B i < announced_ticket S w i → last_batch B w + 2 ≤ last_batch B v
+    → HasRun B v.batches (last_batch B w + 2) i (announced_ticket S w i))
+
+-- Lost tries and rounds.
+
+-- a try or a round begins at these places, and so does the announcement after the last try
+abbrev pub begins_at : Place → Bool
+begins_at TryCurrent = true
+begins_at (StoreScript j) = true
+begins_at LoadCurrent = true
+begins_at p = false
+
+-- at these places a call is being announced, and its first round comes next
+abbrev pub announces_at : Place → Bool
+announces_at (StoreScript j) = true
+announces_at StoreAnnouncement = true
+announces_at p = false
+
+-- a try or a round is given up only after a batch was committed since it began
+abbrev pub GivenUp : Setup → (List ℕ → Type 0) → Type 0
+GivenUp S Lawful = EachStep S Lawful (λ B w i m n.
+    announces_at m.place ≡ false → begins_at (took S m n).place ≡ true → IsOpen m.place
+    → m.seq < last_batch B w)
+
+-- Beside these commits since it began, a call has lost at most one try and one round for each: it
+-- has begun at most one more. If its operation only reads, it has begun a round, and so was
+-- announced, only after as many commits as lose the most tries.
+pub record HasLost (S : Setup) (m : Data) (commits : ℕ) : Type 0 where
+  pub tries : m.tries ≤ commits + 1
+  pub rounds : m.rounds ≤ commits + 1
+  pub tried : S.meaning.reads_only m.op ≡ true → 1 ≤ m.rounds → MOST_TRIES ≤ commits
+
+-- so it is of each open call, beside the commits since a moment at which its caller was idle: if
+-- there is none, a read ends in its first try, and any other call in its first round
+abbrev pub LostToCommits : Setup → (List ℕ → Type 0) → Type 0
+LostToCommits S Lawful =
+    (B : Start) (w : World) → Good S Lawful B w → (es : List Event) → IsSchedule S w es →
+    let v : World = run S w es in
+    (i : ℕ) → i < S.callers → IsIdle (machine w i) → IsOpen (machine v i).place
+    → HasLost S (machine v i) (last_batch B v - last_batch B w)
+
+-- How old an outcome may be.
+
+-- The outcome is no older than the batch `from`: a read is of that state or a later one, an
+-- announced call is in a later batch, and a call is spent at that sequence or a later one. An
+-- operation that only reads is tried before it is announced: it is in a batch, or is spent, only
+-- after the commits that the most tries lose.
+abbrev pub IsSince : Setup → (from : ℕ) → (op : List ℕ) → Outcome → Type 0
+IsSince S from op (Answered s true raw steps) =
+    (from < s) × (S.meaning.reads_only op ≡ true → from + MOST_TRIES < s)
+IsSince S from op (Answered s false raw steps) = from ≤ s
+IsSince S from op (Spent s) =
+    (from ≤ s) × (S.meaning.reads_only op ≡ true → from + MOST_TRIES ≤ s)
+
+-- every outcome is no older than the last batch at any moment before its call began
+abbrev pub OutcomesAreNew : Setup → (List ℕ → Type 0) → Type 0
+OutcomesAreNew S Lawful = EachSchedule S Lawful (λ B n es.
+    let w : World = opening S B n in
+    (k i x : ℕ) → i < S.callers → length (operations (take k es) i) ≤ x
+    → x < length (outcomes S w es i)
+    → IsSince S (last_batch B (run S w (take k es))) (get_or (operations es i) x [])
+    (get_or (outcomes S w es i) x no_outcome))

@@ -1,6 +1,0 @@
-pub mod Blocks
-pub mod Stores
-pub mod Keeps
-pub mod Zeros
-pub mod Asked
-pub mod Starts

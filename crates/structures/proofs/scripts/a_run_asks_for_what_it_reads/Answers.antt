@@ -1,6 +1,0 @@
-use Rattle.std.proofs.Common.{arith}
-use Rattle.structures.proofs.Starts.{nothing_known}
-use Rattle.structures.proofs.scripts.a_run_asks_for_what_it_reads.Goals as goal
-
-pub run-requires-clause-agrees : goal.run-requires-clause-agrees
-run-requires-clause-agrees g c _ = nothing_known 18 1 _ c.in_ok-space.space c.in_ok-space.ensures (omega arith)

@@ -1,0 +1,34 @@
+//! Tests of what runs in threads. Rows: worked schedules beside the bank, callers in threads, and
+//! rows that start. Callers: calls that brakes stop and let go on, a spent call, teams, and
+//! newcomers, through a door too. Lives, each from the image of the words that the one before left.
+//! Days at the example's bank. There is nothing to call here.
+#![tactic(auto)]
+
+#[cfg(test)]
+mod bank_days;
+#[cfg(test)]
+mod call_tests;
+#[cfg(test)]
+mod call_threads;
+#[cfg(test)]
+mod calls;
+#[cfg(test)]
+mod doors;
+#[cfg(test)]
+mod lives;
+#[cfg(test)]
+mod row_scene;
+#[cfg(test)]
+mod row_tests;
+#[cfg(test)]
+mod row_threads;
+#[cfg(test)]
+mod rows;
+#[cfg(test)]
+mod starts;
+#[cfg(test)]
+mod stepper;
+#[cfg(test)]
+mod team_tests;
+#[cfg(test)]
+mod teams;

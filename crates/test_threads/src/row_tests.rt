@@ -1,0 +1,302 @@
+//! Worked schedules on a row and on a bank, and two callers of a row in threads of their own.
+
+ghost use Rattle.std.specs.Prelude.{◌≤◌};
+ghost use Rattle.test_threads.specs.Starts.{alone, MayStartFrom};
+
+use crate::row_scene::{Event, bank_after, bank_from, row_after, told_from};
+use crate::row_threads::run_two;
+use crate::rows::shape_for;
+use crate::starts::{behind_a_batch, with_a_store};
+use of_cell::{Shape, pack, payload_of};
+use of_core::Outcome;
+use of_eval::Scripts;
+use std::alloc::{AllocError, Global};
+use std::test::Fail;
+
+/// The words of `store 3 7`, `store 3 8`, `store 3 9`, `add 3 1` and `add 4 1`.
+const STORE_3_7: u64 = (35 << 31) + 7;
+
+const STORE_3_8: u64 = (35 << 31) + 8;
+
+const STORE_3_9: u64 = (35 << 31) + 9;
+
+const ADD_3_1: u64 = (51 << 31) + 1;
+
+const ADD_4_1: u64 = (52 << 31) + 1;
+
+/// The shape of a reply that is none, and of one that is a number.
+const NONE: u32 = 65_536;
+
+const NUMBER: u32 = 65_537;
+
+/// How the last call ended, as far as the tests compare it.
+#[derive(Clone, Copy, Debug, PartialEq, Eq)]
+enum Left {
+    /// It is open, or nothing was told.
+    Open,
+    /// The sequence, the reply's shape and first number, and the steps.
+    Answered(u32, u32, u32, u64),
+    /// The sequence.
+    Spent(u32),
+}
+
+fn left_by(last: Option<Outcome>) -> Left {
+    match last {
+        None => Left::Open,
+        Some(
+            Outcome::Answered {
+                seq,
+                announced: _,
+                raw,
+                steps,
+            },
+        ) => Left::Answered(seq, raw.shape, raw.values[0], steps),
+        Some(Outcome::Spent { seq }) => Left::Spent(seq),
+    }
+}
+
+/// What the last event told on a row, where all its words but the members word are those that the
+/// same events leave of a bank. None where they differ, or the members word hasn't one bit for each
+/// caller.
+fn compared(
+    alloc: Global,
+    callers: u32,
+    limit: u32,
+    calls: [&[u64]; 2],
+    events: &[Event],
+) -> Result<Option<Left>, AllocError>
+    requires some { 1 ≤ callers }
+    requires few { callers ≤ 2 }
+    requires limit { limit ≤ 4294967294 }
+{
+    let scripts = Scripts { callers, blocks: 0 };
+    let (words, last) = row_after(alloc, scripts, limit, calls, events)?;
+    let wanted = bank_after(alloc, scripts, limit, calls, events)?;
+    let members = if callers == 1 { 1 } else { 3 };
+    match (words.split_last(), wanted.split_last()) {
+        (Some((own, words)), Some((_, wanted))) => {
+            if *own == members && words == wanted {
+                return Ok(Some(left_by(last)));
+            }
+            Ok(None)
+        }
+        _ => Ok(None),
+    }
+}
+
+/// So many turns of a caller.
+fn turns(caller: u32, count: u32) -> Event {
+    Event::Turns { caller, count }
+}
+
+#[test]
+fn exchange_evicted(rt: HostRuntime) -> Result<(), Fail> {
+    let calls = [[STORE_3_7].as_slice(), [].as_slice()];
+    let events = [turns(0, 29), Event::Evict { cell: 0 }];
+    assert_eq!(rt;
+        compared(rt.alloc(), 1, 5, calls, events.as_slice())?,
+        Some(Left::Open)
+    );
+    Ok(())
+}
+
+#[test]
+fn exchange_raised(rt: HostRuntime) -> Result<(), Fail> {
+    let calls = [[STORE_3_7].as_slice(), [].as_slice()];
+    let events = [turns(0, 30)];
+    assert_eq!(rt;
+        compared(rt.alloc(), 1, 5, calls, events.as_slice())?,
+        Some(Left::Open)
+    );
+    Ok(())
+}
+
+#[test]
+fn one_call_in_48_steps(rt: HostRuntime) -> Result<(), Fail> {
+    let calls = [[STORE_3_7].as_slice(), [].as_slice()];
+    let events = [turns(0, 48)];
+    let wanted = Left::Answered(1, NONE, 0, 48);
+    assert_eq!(rt;
+        compared(rt.alloc(), 1, 5, calls, events.as_slice())?,
+        Some(wanted)
+    );
+    Ok(())
+}
+
+#[test]
+fn helped_after_the_exchange(rt: HostRuntime) -> Result<(), Fail> {
+    let calls = [[STORE_3_7].as_slice(), [ADD_3_1].as_slice()];
+    let events = [turns(0, 31), turns(1, 80)];
+    let wanted = Left::Answered(2, NUMBER, 8, 80);
+    assert_eq!(rt;
+        compared(rt.alloc(), 2, 5, calls, events.as_slice())?,
+        Some(wanted)
+    );
+    Ok(())
+}
+
+#[test]
+fn two_calls_in_one_batch(rt: HostRuntime) -> Result<(), Fail> {
+    let calls = [[STORE_3_7].as_slice(), [ADD_3_1].as_slice()];
+    let events = [turns(0, 2), turns(1, 75)];
+    let wanted = Left::Answered(1, NUMBER, 8, 75);
+    assert_eq!(rt;
+        compared(rt.alloc(), 2, 5, calls, events.as_slice())?,
+        Some(wanted)
+    );
+    Ok(())
+}
+
+#[test]
+fn late_helper_does_no_harm(rt: HostRuntime) -> Result<(), Fail> {
+    let calls = [[STORE_3_7, STORE_3_9].as_slice(), [ADD_4_1].as_slice()];
+    let events = [turns(0, 31), turns(1, 14), turns(0, 103), turns(1, 17)];
+    let wanted = Left::Answered(2, NUMBER, 1, 31);
+    assert_eq!(rt;
+        compared(rt.alloc(), 2, 5, calls, events.as_slice())?,
+        Some(wanted)
+    );
+    Ok(())
+}
+
+#[test]
+fn spent_at_the_limit(rt: HostRuntime) -> Result<(), Fail> {
+    let calls = [[STORE_3_7].as_slice(), [STORE_3_8].as_slice()];
+    let events = [turns(0, 50), turns(1, 5)];
+    assert_eq!(rt;
+        compared(rt.alloc(), 2, 1, calls, events.as_slice())?,
+        Some(Left::Spent(1))
+    );
+    Ok(())
+}
+
+#[test]
+fn pending_call_in_the_last_batch(rt: HostRuntime) -> Result<(), Fail> {
+    let calls = [[STORE_3_7].as_slice(), [STORE_3_8].as_slice()];
+    let events = [turns(1, 2), turns(0, 75), turns(1, 4)];
+    let wanted = Left::Answered(1, NONE, 0, 6);
+    assert_eq!(rt;
+        compared(rt.alloc(), 2, 1, calls, events.as_slice())?,
+        Some(wanted)
+    );
+    Ok(())
+}
+
+#[test]
+fn evictions_between(rt: HostRuntime) -> Result<(), Fail> {
+    let calls = [[STORE_3_7].as_slice(), [ADD_3_1].as_slice()];
+    let first = [
+        turns(0, 20),
+        Event::Evict { cell: 1 },
+        turns(1, 33),
+        Event::Evict { cell: 0 },
+        turns(0, 9),
+        Event::Evict { cell: 2 },
+        turns(1, 90),
+    ];
+    assert!(rt; compared(rt.alloc(), 2, 5, calls, first.as_slice())?.is_some());
+    Ok(())
+}
+
+/// How the last call ended in so many turns of one caller that starts behind a store of 7 in
+/// register 3, and adds 1 there. None where a row and a bank end otherwise.
+fn started(
+    alloc: Global,
+    limit: u32,
+    durable: [u64; 246],
+    count: u32,
+) -> Result<Option<Left>, AllocError>
+    requires limit { limit ≤ 4294967294 }
+    requires row { MayStartFrom alone limit durable }
+{
+    let calls = [STORE_3_7, ADD_3_1];
+    let of_row = left_by(told_from(alloc, limit, durable, calls.as_slice(), count)?);
+    let (last, _words) = bank_from(alloc, limit, durable, calls.as_slice(), count)?;
+    Ok(if left_by(last) == of_row {
+        Some(of_row)
+    } else {
+        None
+    })
+}
+
+/// The data cells that such a call leaves in a batch with this sequence: the caller's ticket and
+/// reply, and the register.
+fn added(seq: u32) -> [u64; 81] {
+    let mut cells = [0; 81];
+    cells[0] = pack(seq, 2);
+    cells[1] = pack(seq, NUMBER);
+    cells[2] = pack(seq, 8);
+    cells[21] = pack(seq, 8);
+    cells
+}
+
+/// Whether the words behind the first two, which stand for the table, begin with these.
+fn holds(words: &[u64], cells: &[u64; 81]) -> bool {
+    words.len() >= 83 && words[2..83] == cells[..]
+}
+
+#[test]
+fn a_table_that_starts_behind_a_batch(rt: HostRuntime) -> Result<(), Fail> {
+    let durable = behind_a_batch(5);
+    assert_eq!(rt; started(rt.alloc(), 5, durable, 48)?, Some(Left::Open));
+    let wanted = Left::Answered(2, NUMBER, 8, 49);
+    assert_eq!(rt; started(rt.alloc(), 5, durable, 49)?, Some(wanted));
+    let calls = [STORE_3_7, ADD_3_1];
+    let (_, words) = bank_from(rt.alloc(), 5, durable, calls.as_slice(), 49)?;
+    assert!(rt; holds(words.as_slice(), &added(2)));
+    Ok(())
+}
+
+#[test]
+fn a_table_that_starts_with_a_store(rt: HostRuntime) -> Result<(), Fail> {
+    let durable = with_a_store(5);
+    assert_eq!(rt; started(rt.alloc(), 5, durable, 48)?, Some(Left::Open));
+    let wanted = Left::Answered(1, NUMBER, 8, 49);
+    assert_eq!(rt; started(rt.alloc(), 5, durable, 49)?, Some(wanted));
+    let calls = [STORE_3_7, ADD_3_1];
+    let (_, words) = bank_from(rt.alloc(), 5, durable, calls.as_slice(), 49)?;
+    assert!(rt; holds(words.as_slice(), &added(1)));
+    Ok(())
+}
+
+#[test]
+fn a_table_that_starts_at_its_limit(rt: HostRuntime) -> Result<(), Fail> {
+    let durable = behind_a_batch(1);
+    // the script, the announcement, the current word, its request, and one's own ticket
+    assert_eq!(rt; started(rt.alloc(), 1, durable, 4)?, Some(Left::Open));
+    assert_eq!(rt; started(rt.alloc(), 1, durable, 5)?, Some(Left::Spent(1)));
+    Ok(())
+}
+
+/// The number that a data cell holds. None where there is no such cell.
+fn number(shape: &Shape, words: &[u64], cell: u32) -> Option<u32> {
+    if cell >= shape.cells {
+        return None;
+    }
+    let word = words.get(shape.data_cell(cell) as usize).copied()?;
+    Some(payload_of(word))
+}
+
+#[test]
+fn two_callers_in_threads(rt: HostRuntime) -> Result<(), Fail> {
+    let calls = [
+        [STORE_3_7, ADD_3_1].as_slice(),
+        [ADD_4_1, ADD_4_1].as_slice(),
+    ];
+    let scripts = Scripts {
+        callers: 2,
+        blocks: 0,
+    };
+    let plot = scripts.plot();
+    let shape = shape_for(&plot);
+    let (words, _pass) = run_two(&rt, rt.alloc(), scripts, 100, calls)?;
+    // all calls are in the history, and the registers hold what they left
+    let words = words.as_slice();
+    assert_eq!(rt; number(&shape, words, plot.ticket(0)), Some(2));
+    assert_eq!(rt; number(&shape, words, plot.ticket(1)), Some(2));
+    assert_eq!(rt; number(&shape, words, plot.register(3)), Some(8));
+    assert_eq!(rt; number(&shape, words, plot.register(4)), Some(2));
+    // both numbers are taken
+    assert_eq!(rt; words.get(shape.members_word() as usize).copied(), Some(3));
+    Ok(())
+}
