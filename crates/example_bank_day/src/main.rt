@@ -6,7 +6,9 @@ ghost use Rattle.of_script.specs.declared.instr.TheConstants.{REGISTERS};
 ghost use Rattle.example_bank.specs.Books.{AreBooks, Hold};
 ghost use Rattle.example_bank_day.specs.declared.TheConstants.{AMOUNT};
 
-use example_bank::{BankErr, Books, CLERKS, Day, Job, Jobs, Tally, Transfer, together, working_day};
+use example_bank::{
+    BankErr, Books, CLERKS, Day, Job, Jobs, Tally, Transfer, together, working_day,
+};
 use of_eval::Scripts;
 use of_script::REGISTERS;
 use of_store::Store;
