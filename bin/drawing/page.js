@@ -4,6 +4,7 @@ const element = id => document.getElementById(id)
 const words = new Map(Object.entries(data.start))
 let done = data.first
 let touched = ""  // the word of the last event
+let noting = 0  // what notes the position in the address, once the moves have ended
 
 const valueOf = name => words.get(name) ?? "(0,0)"
 const pair = value => value.slice(1, -1).split(",").map(Number)
@@ -137,7 +138,8 @@ function card(caller, event, now) {
   return `<div class="card ${event && event.caller == caller ? "on" : ""}">
     <b>caller ${caller}</b>${text}<span class="last">${state}</span>
     <div>announced ${word("announcement " + caller)} ${announced(caller, now)}</div>
-    <div>request ${both("request " + caller)} ${request(caller, now)}</div>${log(caller, now)}</div>`
+    <div>request ${both("request " + caller)} ${request(caller, now)}</div>
+    ${log(caller, now)}</div>`
 }
 
 // The cells
@@ -188,8 +190,9 @@ function finding(sequence) {
   const open = !left.isOpen ? "no transaction is open"
     : `transaction ${left.sequence} is open, and is finished from the durable log of
       caller ${left.owner}`
-  const lost = now.sequence > sequence ? ` <span class="bad">Transaction ${now.sequence} is lost: its
-    commit is not durable yet, and no caller has been answered from it.</span>` : ""
+  const lost = now.sequence <= sequence ? ""
+    : ` <span class="bad">Transaction ${now.sequence} is lost: its commit is not durable yet, and no
+      caller has been answered from it.</span>`
   return `<p>Recovery finds <b>sequence ${sequence}</b>: ${open}.${lost}</p>`
 }
 
@@ -265,12 +268,15 @@ function outcome(event) {
   return ""
 }
 
+const eviction = event => `an eviction writes ${event.word.replace("durable ", "")} back`
+
 function sentence(event) {
   if (event.isIdle) return `caller ${event.caller} has nothing to do`
   const isOwn = event.owner == event.caller, owner = "caller " + event.owner
-  const says = event.isEviction ? `an eviction writes ${event.word.replace("durable ", "")} back`
-    : `caller ${event.caller} ` + meanings[event.step]
-      .replace("@owner's", isOwn ? "its own" : owner + "'s").replace("@owner", isOwn ? "itself" : owner)
+  if (event.isEviction) return [eviction(event), outcome(event)].filter(Boolean).join(" – ")
+  const says = `caller ${event.caller} ` + meanings[event.step]
+    .replace("@owner's", isOwn ? "its own" : owner + "'s")
+    .replace("@owner", isOwn ? "itself" : owner)
   return [says, outcome(event), event.end].filter(Boolean).join(" – ")
 }
 
@@ -314,7 +320,8 @@ function show() {
   showState(event)
   showCrash()
   showCursor(event)
-  history.replaceState(null, "", "#" + done)
+  clearTimeout(noting)
+  noting = setTimeout(() => history.replaceState(null, "", "#" + done), 200)
 }
 
 // Moves
