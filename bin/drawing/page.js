@@ -43,8 +43,8 @@ function transaction(prefix = "") {
 
 function word(name, more = "") {
   const zero = valueOf(name) == "(0,0)" ? "zero" : ""
-  const hit = name == touched ? "hit" : ""
-  return `<span class="word ${zero} ${hit} ${more}">${valueOf(name)}</span>`
+  const hit = name == touched ? "hit" : "", long = valueOf(name).length > 10 ? "long" : ""
+  return `<span class="word ${zero} ${hit} ${long} ${more}">${valueOf(name)}</span>`
 }
 
 function durable(name) {

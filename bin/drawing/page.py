@@ -76,4 +76,4 @@ def cells(plan, addresses):
 def row_data(picture):
     """Of each row its top, its height, and where its events begin."""
     return [[top, height, [[at, round(place, 1)] for at, place in row.marks]]
-            for row, (top, height) in zip(picture.rows, picture.row_tops())]
+            for row, (top, height) in zip(picture.rows, picture.row_places())]

@@ -54,11 +54,10 @@ def items(history, first):
     """What needs room in the rows."""
     for bar in history.bars:
         more = 26 if bar.kind == "commit" else 9
-        yield Item(max(bar.start, first), bar.stop, LETTER * len(bar.label) + more,
-                   bar.events[-1].at)
+        yield Item(bar.start, bar.stop, LETTER * len(bar.label) + more, bar.events[-1].at)
     for call in history.calls:
         letters = min(len(call.text), 16) + min(len(call.outcome), 22)
-        yield Item(max(call.start, first), call.stop, LETTER * letters + 24, call.stop - 1)
+        yield Item(call.start, call.stop, LETTER * letters + 24, call.stop - 1)
     for event in history.events[first:]:
         if event.kind == "evict":
             yield Item(event.at, event.at + 1, 15, event.at)
@@ -68,8 +67,9 @@ def items(history, first):
 class Picture:
     """The events from `first` on, as lanes in rows."""
 
-    def __init__(self, history, first, width):
+    def __init__(self, history, first, width, title=""):
         self.history, self.plan, self.first, self.full = history, history.plan, first, width
+        self.title, self.head = title, 32 if title else 10
         self.events = history.events[first:]
         self.evictions = [it for it in self.events if it.kind == "evict"]
         inner = width - GUTTER - EDGE
@@ -102,28 +102,26 @@ class Picture:
 
     # the whole
 
-    def draw(self, title=""):
-        head = 32 if title else 10
-        for place, row in enumerate(self.rows):
-            self.out.append(f'<g transform="translate({GUTTER},{head + place * self.row_height})">')
+    def draw(self):
+        for row, (top, _) in zip(self.rows, self.row_places()):
+            self.out.append(f'<g transform="translate({GUTTER},{top})">')
             self.draw_row(row)
             self.out += [*self.late, "</g>"]
             self.late = []
-        below = self.draw_findings(head + len(self.rows) * self.row_height)
+        below = self.draw_findings(self.head + len(self.rows) * self.row_height)
         height = self.draw_legend(below)
         size = f'width="{self.full}" height="{height}"'
-        head = (f'<svg xmlns="http://www.w3.org/2000/svg" {size} '
-                f'viewBox="0 0 {self.full} {height}">\n<style>{self.style()}</style>\n'
-                f'<defs>{self.hatches()}</defs>\n<rect {size} fill="#fff"/>\n')
-        if title:
-            shown = escape(clip(title, self.full - 16, LETTER * 1.2))
-            head += f'<text x="8" y="18" class="title">{shown}</text>\n'
-        return head + "\n".join(self.out) + "\n</svg>\n"
+        begin = (f'<svg xmlns="http://www.w3.org/2000/svg" {size} '
+                 f'viewBox="0 0 {self.full} {height}">\n<style>{self.style()}</style>\n'
+                 f'<defs>{self.hatches()}</defs>\n<rect {size} fill="#fff"/>\n')
+        if self.title:
+            shown = escape(clip(self.title, self.full - 16, LETTER * 1.2))
+            begin += f'<text x="8" y="18" class="title">{shown}</text>\n'
+        return begin + "\n".join(self.out) + "\n</svg>\n"
 
-    def row_tops(self, title=""):
+    def row_places(self):
         """Where each row begins, and how high it is."""
-        head = 32 if title else 10
-        return [(head + place * self.row_height, self.row_height - 18)
+        return [(self.head + place * self.row_height, self.row_height - 18)
                 for place in range(len(self.rows))]
 
     def kinds(self):
@@ -337,7 +335,7 @@ class Picture:
         used = [(name, KINDS[name].meaning) for name in self.kinds()]
         used.append(("raise", "write back: raise a durable word"))
         if any(it.is_lost for it in self.events):
-            used.append(("lost", "a lost exchange"))
+            used.append(("lost", "hollow: a lost exchange"))
         if self.evictions:
             used.append(("evict", "an eviction (hollow: changes nothing)"))
         used.append(("", "current: the last committed; durable: the last that a crash keeps"))

@@ -11,18 +11,20 @@ GUTTER = 11
 SCALE = Scale([2, 1, .75, .5, .25], 260, .3, 30, 1)
 WIDTH = 80  # if the text doesn't go to a terminal
 BLANK = " .-_"  # what a line of a commit or a help may cross
-KEY = """In a bar: = a step, ~ a write-back, x a lost exchange, . a pause. (S): transaction S is
-committed, (S)? and the crash loses it; > and : lead from the owner of a log to its helper.
-v is an eviction, o one that changes nothing."""
+KEY = """In a bar: = a step, ~ a write-back, x a lost exchange, . a pause
+(S) transaction S is committed, (S)? and the crash loses it
+> and : lead from the owner of a log to the helper that copies it
+v an eviction, o an eviction that changes nothing
+"""
 
 
 def items(history, first):
     """What needs room in the rows, in characters."""
     for bar in history.bars:
-        yield Item(max(bar.start, first), bar.stop, len(bar.label) + 4, bar.events[-1].at)
+        yield Item(bar.start, bar.stop, len(bar.label) + 4, bar.events[-1].at)
     for call in history.calls:
         letters = min(len(call.text), 16) + min(len(call.outcome), 22)
-        yield Item(max(call.start, first), call.stop, letters + 4, call.stop - 1)
+        yield Item(call.start, call.stop, letters + 4, call.stop - 1)
     for event in history.events[first:]:
         if event.kind == "evict":
             yield Item(event.at, event.at + 1, 2, event.at)
@@ -68,7 +70,7 @@ class Lines:
             texts += [*map(str, self.row_lines(row)), ""]
         if self.history.ends_with_crash:
             texts += wrapped(findings(self.history), self.full) + [""]
-        return "\n".join(texts) + "\n" + KEY + "\n"
+        return "\n".join([*texts, KEY])
 
     def place(self, at):
         return int(self.row.place(at) + .001)
