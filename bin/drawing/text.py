@@ -3,7 +3,6 @@ import os
 import sys
 import textwrap
 
-from .kinds import KINDS
 from .rows import Item, Rows, Scale
 from .svg import BANDS, clip, findings
 
@@ -115,15 +114,15 @@ class Lines:
         inner = right - left - 2
         lane = self.lanes[bar.caller]
         if inner < 1:
-            lane.write(left, KINDS[bar.kind].letter * max(1, right - left))
+            lane.write(left, bar.label[:max(1, right - left)])
             return
         label = ("…" if bar.start < self.row.first else "") + bar.label
         lane.write(left, "[" + "." * inner + "]")
         for event in bar.events:
             if self.row.has(event.at):
                 self.write_mark(lane, event, left + 1, right - 2)
-        if len(label) <= inner:
-            lane.write(left + 1, label + " " * (len(label) < inner))
+        shown = label if len(label) <= inner else bar.label[:inner]
+        lane.write(left + 1, shown + " " * (len(shown) < inner))
 
     def write_mark(self, lane, event, low, high):
         """The marks of a step; a lost exchange hides a step, and a step hides a write-back."""
