@@ -289,8 +289,7 @@ class Picture:
 
     def draw_commit(self, event):
         """A line across all lanes; dashed and hollow if the crash loses the transaction."""
-        sequence, place = event.sequence, self.effect(event)
-        is_lost = sequence > self.history.report.sequence
+        sequence, place, is_lost = event.sequence, self.effect(event), not self.is_kept(event)
         batch = ", ".join(f"{caller}.{script}" for caller, script
                           in self.history.report.batch(sequence))
         title = f"transaction {sequence}, committed by caller {event.caller}"
@@ -304,6 +303,10 @@ class Picture:
                   f'rx="7.5" stroke="{colour}" fill="{fill}"{dashes}', title)
         self.late.append(f'<text x="{number(place)}" y="12" class="m p b" '
                          f'style="fill:{colour if is_lost else "#fff"}">{sequence}</text>')
+
+    def is_kept(self, event):
+        """Whether recovery finds the transaction of a commit."""
+        return event.sequence <= self.history.report.sequence
 
     def draw_crash(self):
         bolts = (self.bands + 2 * BAND) // 8
@@ -336,6 +339,8 @@ class Picture:
         used.append(("raise", "write back: raise a durable word"))
         if any(it.is_lost for it in self.events):
             used.append(("lost", "hollow: a lost exchange"))
+        if any(it.is_commit and not self.is_kept(it) for it in self.events):
+            used.append(("gone", "dashed: the crash loses it"))
         if self.evictions:
             used.append(("evict", "an eviction (hollow: changes nothing)"))
         used.append(("", "current: the last committed; durable: the last that a crash keeps"))
@@ -358,6 +363,9 @@ class Picture:
             fill = "#fff" if name == "lost" else KINDS["commit"].colour
             self.path(f"M{left + 4} {top + 5}l5 -5l5 5l-5 5z",
                       f'fill="{fill}" stroke="{KINDS["commit"].colour}" stroke-width="1.4"')
+        elif name == "gone":
+            self.path(f"M{left} {top + 5}h20", f'stroke="{KINDS["commit"].colour}" '
+                      'stroke-width="1.3" stroke-dasharray="4 3"')
         elif name == "raise":
             self.rect(left + 4, top + 3, (12, 5), 'class="raise"')
         elif name:
