@@ -11,12 +11,16 @@ TOP = pathlib.Path(__file__).resolve().parent.parent.parent
 MOST_LINES = 10_000  # of one trace
 
 
-def answer(text, *words):
-    """What the program prints of this text; an end with an error ends this script too."""
+def answer(text, *words, errors=subprocess.PIPE):
+    """What the program prints of this text; an end with an error ends this script too.
+
+    What it says on standard error is shown if it fails, or at once if `errors` is None.
+    """
     path = os.environ.get("ONEFILE") or str(TOP / "bin/onefile")
-    done = subprocess.run([path, *words], input=text, capture_output=True, text=True)
+    done = subprocess.run([path, *words], input=text, stdout=subprocess.PIPE, stderr=errors,
+                          text=True)
     if done.returncode:
-        sys.stderr.write(done.stderr)
+        sys.stderr.write(done.stderr or "")
         sys.exit(f"bin/draw: onefile {' '.join(words)}: {done.stdout.strip()}")
     return done.stdout
 
