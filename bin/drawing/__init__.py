@@ -1,0 +1,1 @@
+"""What bin/draw is made of: plans and traces, bars and calls, rows, pictures, pages."""

@@ -1,0 +1,99 @@
+"""The trace of a plan: what the program prints of its events, and what follows from these lines."""
+import os
+import pathlib
+import re
+import subprocess
+import sys
+
+from .kinds import KIND_OF
+
+TOP = pathlib.Path(__file__).resolve().parent.parent.parent
+MOST_LINES = 10_000  # of one trace
+
+
+def answer(text, *words, errors=subprocess.PIPE):
+    """What the program prints of this text; an end with an error ends this script too.
+
+    What it says on standard error is shown if it fails, or at once if `errors` is None.
+    """
+    path = os.environ.get("ONEFILE") or str(TOP / "bin/onefile")
+    done = subprocess.run([path, *words], input=text, stdout=subprocess.PIPE, stderr=errors,
+                          text=True)
+    if done.returncode:
+        sys.stderr.write(done.stderr or "")
+        sys.exit(f"bin/draw: onefile {' '.join(words)}: {done.stdout.strip()}")
+    return done.stdout
+
+
+class Event:
+    """A line of the trace. `owner` is the caller whose word it is on, or whose log is applied."""
+
+    FORM = re.compile(
+        r"(?P<at>\d+) (?:(?P<idle>\d+) nothing|"
+        r"(?:evict|(?P<caller>\d+) (?P<script>\d+) (?P<step>[a-z ]+)), "
+        r"(?P<word>.+): (?P<found>\S+) -> (?P<left>\(\d+,\d+\)|\d+)(?:, (?P<end>.+))?)$"
+    )
+
+    def __init__(self, line):
+        parts = self.FORM.match(line)
+        self.line, self.at, self.step = line, int(parts["at"]), parts["step"]
+        self.word, self.found, self.left = parts["word"], parts["found"], parts["left"]
+        self.end, self.owner = parts["end"], None
+        caller = parts["caller"] or parts["idle"]
+        self.caller = int(caller) if caller else None
+        self.script = int(parts["script"]) if parts["script"] else None
+        self.kind = KIND_OF[self.step] if self.step else "nothing" if caller else "evict"
+
+    @property
+    def is_raise(self):
+        """Whether the step writes a word back."""
+        return bool(self.step) and self.step.startswith("raise")
+
+    @property
+    def changes(self):
+        return self.found != self.left
+
+    @property
+    def is_lost(self):
+        """Whether it is an exchange that found another word than it expected."""
+        return bool(self.step) and self.step in (
+            "exchange current", "exchange target", "close request") and not self.changes
+
+    @property
+    def is_commit(self):
+        return self.step == "exchange current" and self.changes
+
+    @property
+    def sequence(self):
+        return sequence_of(self.left)
+
+
+def sequence_of(word):
+    """The first number of a word such as (3,1)."""
+    return int(word[1:].split(",")[0])
+
+
+def read_trace(text, count):
+    """The first `count` events of a plan."""
+    events = []
+    for at in range(0, count, MOST_LINES):
+        printed = answer(text, "trace", str(at), str(min(MOST_LINES, count - at)))
+        events += map(Event, printed.splitlines())
+    name_owners(events)
+    return events
+
+
+def name_owners(events):
+    """Finds whose log each step applies: a helper's is the log that it has copied just before."""
+    copied = {}
+    for event in events:
+        if event.kind == "apply":
+            event.owner = copied.get(event.caller, event.caller)
+            event.kind = "apply" if event.owner == event.caller else "assist"
+        elif event.word and event.step not in ("load cell", "try cell"):
+            named = re.search(r"(\d+)\)?$", event.word)
+            event.owner = int(named[1]) if named else None
+        if event.step == "copy log":
+            copied[event.caller] = event.owner
+        elif event.kind not in ("help", "assist"):
+            copied.pop(event.caller, None)
