@@ -108,7 +108,7 @@ class History:
         how, _, sequence = event.end.split()[:3]
         words = [] if how == "answered" else [how]
         if how != "spent":
-            words.append(self.report.entries[call.caller, call.script][2])
+            words.append(event.part("reply"))
         call.stop, call.is_answered = event.at + 1, True
         call.outcome = " ".join([*words, "at", sequence])
 

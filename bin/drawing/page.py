@@ -33,15 +33,16 @@ def data(history, first, picture):
     plan, names = history.plan, sorted({it.word for it in history.events if it.word})
     steps, place = list(KIND_OF), {name: at for at, name in enumerate(names)}
     reports, report_of = crash_reports(history, first)
-    logged = logged_addresses(history)
+    logged = logged_cells(history)
+    cells = {it: f"cell {1 + plan.callers + it} ({name})" for it, name in logged.items()}
     return {
         "first": first, "stop": history.stop, "planned": plan.events, "callers": plan.callers,
         "scripts": [plan.scripts.get(caller, []) for caller in range(plan.callers)],
         "words": names, "steps": steps, "start": history.words(first),
         "events": [event_data(it, place, steps) for it in history.events[first:]],
-        "holding": {address: plan.holding(address) for address in logged},
-        "store": cells(plan, [it for it in logged if not plan.is_own(it)]),
-        "own": cells(plan, [it for it in logged if plan.is_own(it)]),
+        "holding": logged,
+        "store": [cells[it] for it, name in logged.items() if not is_own(name)],
+        "own": [cells[it] for it, name in logged.items() if is_own(name)],
         "reports": reports, "reportOf": report_of,
         "rows": row_data(picture), "gutter": GUTTER,
         "commits": [it.at + 1 for it in picture.events if it.is_commit],
@@ -61,16 +62,16 @@ def event_data(event, place, steps):
             event.end or 0, event.owner, colour]
 
 
-def logged_addresses(history):
-    """The addresses of the data cells that logs name; a log has them at its odd places."""
+def logged_cells(history):
+    """The data cells that logs name, by address; a log has addresses at its odd places."""
     stored = [it for it in history.events if it.step == "store log"]
-    return sorted({int(it.left[1:-1].split(",")[1]) for it in stored
-                   if int(it.word.split()[1]) % 2})
+    return dict(sorted((int(it.left[1:-1].split(",")[1]), it.parts[-1]) for it in stored
+                       if int(it.word.split()[1]) % 2))
 
 
-def cells(plan, addresses):
-    """The names that the trace has for these data cells."""
-    return [f"cell {1 + plan.callers + it} ({plan.holding(it)})" for it in addresses]
+def is_own(name):
+    """Whether this is a cell of a caller: its ticket, or the shape or a number of its reply."""
+    return name.split()[0] in ("ticket", "shape", "reply")
 
 
 def row_data(picture):

@@ -1,14 +1,5 @@
 """A plan's text: its scripts, its schedule, and the plan that is cut after some of its events."""
 
-OWN_CELLS = ["ticket", "shape"] + [f"reply {place}" for place in range(16)]
-QUEUE_CELLS = ["front", "back", "length"]
-STORE_CELLS = (
-    [f"register {number}" for number in range(16)]
-    + ["blocks taken", "free list", "number of keys"]
-    + [f"bucket {number}" for number in range(32)]
-    + [f"{part} of queue {number}" for number in range(4) for part in QUEUE_CELLS]
-)
-
 
 class Plan:
     """What a plan says. Its text must be one that the program takes for a plan."""
@@ -45,18 +36,3 @@ class Plan:
             if count:
                 lines.append(f"turns {which} {count}" if word == "turns" else f"evict {which}")
         return "\n".join([*self.kept, *lines, "end", ""])
-
-    def holding(self, address):
-        """What the data cell with this address holds; a log names cells by their addresses."""
-        shared = len(OWN_CELLS) * self.callers
-        if address < shared:
-            caller, place = divmod(address, len(OWN_CELLS))
-            return f"{OWN_CELLS[place]} of {caller}"
-        if address < shared + len(STORE_CELLS):
-            return STORE_CELLS[address - shared]
-        block, field = divmod(address - shared - len(STORE_CELLS), 3)
-        return f"field {field} of block {block}"
-
-    def is_own(self, address):
-        """Whether this is a cell of a caller: its ticket, or the shape or a number of its reply."""
-        return address < len(OWN_CELLS) * self.callers

@@ -26,23 +26,31 @@ def answer(text, *words, errors=subprocess.PIPE):
 
 
 class Event:
-    """A line of the trace. `owner` is the caller whose word it is on, or whose log is applied."""
+    """A line of the trace. `owner` is the caller whose word it is on, or whose log is applied;
+    `parts` is what the line says after the change, between semicolons."""
 
     FORM = re.compile(
         r"(?P<at>\d+) (?:(?P<idle>\d+) nothing|"
         r"(?:evict|(?P<caller>\d+) (?P<script>\d+) (?P<step>[a-z ]+)), "
-        r"(?P<word>.+): (?P<found>\S+) -> (?P<left>\(\d+,\d+\)|\d+)(?:, (?P<end>.+))?)$"
+        r"(?P<word>.+?): (?P<found>\S+) -> (?P<left>\(\d+,\d+\)|\d+)(?:, (?P<end>[^;]+))?"
+        r"(?:; (?P<parts>.+))?)$"
     )
 
     def __init__(self, line):
         parts = self.FORM.match(line)
         self.line, self.at, self.step = line, int(parts["at"]), parts["step"]
         self.word, self.found, self.left = parts["word"], parts["found"], parts["left"]
-        self.end, self.owner = parts["end"], None
+        self.end, self.parts = parts["end"], (parts["parts"] or "").split("; ")
+        self.owner = None
         caller = parts["caller"] or parts["idle"]
         self.caller = int(caller) if caller else None
         self.script = int(parts["script"]) if parts["script"] else None
         self.kind = KIND_OF[self.step] if self.step else "nothing" if caller else "evict"
+
+    def part(self, name):
+        """What follows this word in a part, or None; an empty text if nothing follows."""
+        found = [it for it in self.parts if re.split("[ ,]", it)[0] == name]
+        return found[0][len(name):].lstrip(", ") if found else None
 
     @property
     def is_raise(self):
@@ -56,12 +64,11 @@ class Event:
     @property
     def is_lost(self):
         """Whether it is an exchange that found another word than it expected."""
-        return bool(self.step) and self.step in (
-            "exchange current", "exchange target", "close request") and not self.changes
+        return self.part("lost") is not None
 
     @property
     def is_commit(self):
-        return self.step == "exchange current" and self.changes
+        return self.step == "exchange current" and not self.is_lost
 
     @property
     def sequence(self):

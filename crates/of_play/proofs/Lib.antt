@@ -18,4 +18,5 @@ pub mod WordNames
 pub mod TraceLines
 pub mod TraceTurns
 pub mod TracesFurther
+pub mod TraceLaws
 pub mod Joined

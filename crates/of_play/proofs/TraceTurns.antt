@@ -1,5 +1,6 @@
 -- What the code reads before and after an event, and writes as its line.
-use Rattle.std.proofs.Common.{◌≡◌, ℕ, ◌-◌, ◌<◌, List, [], ◌∷◌, ◌++◌, length, get_or, refl, sym, ◌∙◌, ap, subst, Option, Bool, true, false}
+use Rattle.std.proofs.Common.{◌≡◌, ℕ, ◌+◌, ◌-◌, ◌<◌, ◌==◌, List, [], ◌∷◌, ◌++◌, length, get_or, refl, sym, ◌∙◌, ap, subst, Option, Some, None, Bool, true, false}
+use Rattle.std.specs.Prelude.{IfSome}
 use Rattle.std.proofs.lemmas.List.{append_assoc, append-nil, get_or-set_same}
 use Rattle.of_eval.specs.Scripts.{scripts_meaning}
 use Rattle.of_plan.specs.Plan.{Plan, scripts_of, data_cells}
@@ -10,22 +11,26 @@ use Rattle.of_core.specs.declared.place.Outcome.{Outcome}
 use Rattle.of_core.specs.Table.{Setup, durable_at}
 use Rattle.of_core.specs.Machine.{Data, is_idle, no_machine, opened, first_place}
 use Rattle.of_core.specs.Seen.{ended}
+use Rattle.of_core.specs.Turn.{told, turn_of}
 use Rattle.of_core.specs.Steps.{want, word_of}
 use Rattle.of_core.specs.World.{World}
-use Rattle.of_core.specs.Moment.{table, machine_of}
+use Rattle.of_core.specs.Moment.{after, table, machine_of}
 use Rattle.of_core.specs.Events.{Event, Begins, Turns, Raises, machine, happens}
 use Rattle.of_caller.specs.Tables.{setup_for, opening_for, operation_of}
 use Rattle.of_caller.specs.Left.{moment_after}
+use Rattle.of_caller.specs.Ends.{HoldsReply}
+use Rattle.of_caller.specs.Runs.{RepliesAreHeld}
 use Rattle.of_play.specs.Play.{begins_call, next_call}
-use Rattle.of_play.specs.Playing.{StandsAfter, GoesOn, BeginsNext}
-use Rattle.of_play.specs.TraceText.{step_line, rest_line, evict_line}
+use Rattle.of_play.specs.Playing.{StandsAfter, GoesOn, BeginsNext, IsReplied}
+use Rattle.of_play.specs.TraceLine.{step_line, rest_line, evict_line}
 use Rattle.of_play.specs.Trace.{turn_line, ready, line_at}
 use Rattle.of_play.specs.declared.playing.Playing.{Playing}
-use Rattle.of_play.specs.declared.trace_text.Step.{Step}
+use Rattle.of_play.specs.declared.trace_line.Step.{Step}
 use Rattle.of_play.proofs.PlaysMoments.{IsPlayable}
 use Rattle.of_play.proofs.PlaysEvents.{run_append}
-use Rattle.of_play.proofs.PlaysGood.{good_at, here}
-use Rattle.of_play.proofs.PlaysStand.{machine_same, next_none, next_one, begins_busy}
+use Rattle.of_play.proofs.PlaysGood.{good_at, here, turn_open}
+use Rattle.of_play.proofs.PlaysStand.{machine_same, next_none, next_one, begins_busy, turn_says}
+use Rattle.of_play.proofs.PlaysReplies.{turn_replied}
 
 -- a call that has begun is open
 begun_open : (reads : Bool) → first_place reads ≡ Idle → ⊥
@@ -42,6 +47,7 @@ read c T m d ws vs = record {
   caller = c;
   index = m.made - 1;
   place = m.place;
+  op = want T m;
   change = record { word = word_of (want T m); found = get_or ws (word_of (want T m)) 0; left = get_or vs (word_of (want T m)) 0 };
   outcome = ended d;
 }
@@ -49,12 +55,17 @@ read c T m d ws vs = record {
 -- it has been read part by part
 pub read_is : (c : ℕ) (T : Setup) (m d : Data) (ws vs : List ℕ) (index : ℕ) (place : Place) (op : Op) (word found left : ℕ) (outcome : Option Outcome)
     → index ≡ m.made - 1 → place ≡ m.place → op ≡ want T m → word ≡ word_of op → found ≡ get_or ws word 0 → left ≡ get_or vs word 0 → outcome ≡ ended d
-    → ◌≡◌ {A = Step} (record { caller = c; index = index; place = place; change = record { word = word; found = found; left = left }; outcome = outcome }) (read c T m d ws vs)
+    → ◌≡◌ {A = Step} (record { caller = c; index = index; place = place; op = op; change = record { word = word; found = found; left = left }; outcome = outcome }) (read c T m d ws vs)
 read_is c T m d ws vs index place op word found left outcome is_index is_place is_op is_word is_found is_left is_outcome =
     let w : word ≡ word_of (want T m) = is_word ∙ ap word_of is_op in
     let f : found ≡ get_or ws (word_of (want T m)) 0 = is_found ∙ ap (λ (x : ℕ). get_or ws x 0) w in
     let l : left ≡ get_or vs (word_of (want T m)) 0 = is_left ∙ ap (λ (x : ℕ). get_or vs x 0) w in
-    λ i. record { caller = c; index = is_index i; place = is_place i; change = record { word = w i; found = f i; left = l i }; outcome = is_outcome i }
+    λ i. record { caller = c; index = is_index i; place = is_place i; op = is_op i; change = record { word = w i; found = f i; left = l i }; outcome = is_outcome i }
+
+-- how a call has ended that a turn has ended
+told_holds : (o : Option Outcome) → IsReplied (told o) → IfSome o HoldsReply
+told_holds None h = tt
+told_holds (Some o) h = h
 
 module _ (p : Plan) (plan : IsPlayable p) where
   abbrev S : Setup
@@ -134,6 +145,20 @@ module _ (p : Plan) (plan : IsPlayable p) where
           let e : is_idle (machine at c).place ≡ false = open_is (machine at c).place (λ i. busy (ap (λ (d : Data). d.place) machine_at ∙ i)) in
           (λ i. step_line p.callers (data_cells p.callers p.blocks) k (read c ((begins es st).table i) (machine_at i) (machine_after i) (words_at i) (words_after i)))
           ∙ sym (ap (λ b. turn_line p k c b at (happens S at (Turns c))) e)
+
+      -- where the call has ended its reply is one
+      pub held : RepliesAreHeld → ((machine_of t.bank c).place ≡ Idle → ⊥) → IfSome (ended (machine_of u.bank c)) HoldsReply
+      held replied busy =
+          let gs = es ++ begun in
+          let w = moment_after p gs in
+          let x = after scripts_meaning (Turns c ∷ []) t.bank in
+          let r = turn_of (machine_of t.bank c) (machine_of x c) in
+          let said : IsReplied r = turn_replied p plan gs t (begins es st) c h replied x refl r refl in
+          let is : r ≡ turn_of (machine w c) (machine (happens S w (Turns c)) c) = turn_says p plan gs t (begins es st) c h x refl r refl in
+          let before : machine w c ≡ machine_of t.bank c = ap (λ (v : World). machine v c) is_ready ∙ sym machine_at in
+          let now : machine (happens S w (Turns c)) c ≡ machine_of u.bank c = ap (λ (v : World). machine (happens S v (Turns c)) c) is_ready ∙ sym machine_after in
+          let all : r ≡ told (ended (machine_of u.bank c)) = is ∙ (λ i. turn_of (before i) (now i)) ∙ turn_open (machine_of t.bank c).place (machine_of u.bank c) (open_is (machine_of t.bank c).place busy) in
+          told_holds (ended (machine_of u.bank c)) (subst IsReplied all said)
 
   -- an eviction is made
   module _ (a : ℕ) (s u : Playing) (goes : GoesOn p (Raises a ∷ []) s u) where

@@ -3,5 +3,8 @@ pub mod Played
 pub mod Playing
 pub mod Names
 pub mod TraceText
+pub mod TraceParts
+pub mod TraceLine
 pub mod Trace
 pub mod Tracing
+pub mod TraceLaws

@@ -9,9 +9,9 @@ use Rattle.of_core.specs.World.{World}
 use Rattle.of_core.specs.Events.{Event, Turns, Raises, machine, happens, run}
 use Rattle.of_caller.specs.Tables.{setup_for, opening_for}
 use Rattle.of_play.specs.declared.trace_text.Change.{Change}
-use Rattle.of_play.specs.declared.trace_text.Step.{Step}
+use Rattle.of_play.specs.declared.trace_line.Step.{Step}
 use Rattle.of_play.specs.Play.{moves_for, next_call, with_begin}
-use Rattle.of_play.specs.TraceText.{step_line, rest_line, evict_line}
+use Rattle.of_play.specs.TraceLine.{step_line, rest_line, evict_line}
 
 -- what a word holds at one moment and at another
 abbrev pub change_of : (word : ℕ) → (w v : World) → Change
@@ -23,6 +23,7 @@ step_of p i w v = record {
   caller = i;
   index = (machine w i).made - 1;
   place = (machine w i).place;
+  op = want (setup_for p) (machine w i);
   change = change_of (word_of (want (setup_for p) (machine w i))) w v;
   outcome = ended (machine v i);
 }

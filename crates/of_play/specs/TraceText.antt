@@ -1,11 +1,9 @@
--- What a trace prints: the plain names of steps and words, and a line for each event.
-use Rattle.std.specs.Prelude.{ℕ, List, [], ◌++◌, Option, Some, None, true, false, codes, decimal}
+-- What a trace prints: the plain names of steps and of words, and what a word was and is.
+use Rattle.std.specs.Prelude.{ℕ, List, ◌++◌, codes, decimal}
 use Rattle.of_cell.specs.Words.{seq, pay}
 use Rattle.of_cell.specs.Cells.{data_cell}
 use Rattle.of_core.specs.declared.place.Place.{Place}
 use Rattle.of_core.specs.declared.place.Place.TheVariants.{Idle, TryCurrent, TryRequest, TryCell, StoreScript, StoreAnnouncement, LoadCurrent, LoadRequest, CopyLog, LookAgain, LoadOwnTicket, LoadShape, LoadReply, LoadAnnouncement, LoadTicket, LoadScript, LoadCell, RaiseOld, StoreLog, RaiseLog, StoreRequest, RaiseRequest, ExchangeCurrent, RaiseCurrent, LoadTarget, ExchangeTarget, ReloadTarget, RaiseTarget, CloseRequest, RaiseClosed}
-use Rattle.of_core.specs.declared.place.Outcome.{Outcome}
-use Rattle.of_core.specs.declared.place.Outcome.TheVariants.{Answered, Spent}
 use Rattle.of_play.specs.declared.names.Holding.{Holding}
 use Rattle.of_play.specs.declared.names.Holding.TheVariants.{Ticket, Shape, Reply, Register, Taken, Free, Keys, Bucket, Front, Back, Length, Block}
 use Rattle.of_play.specs.declared.names.Cell.{Cell}
@@ -13,7 +11,6 @@ use Rattle.of_play.specs.declared.names.Cell.TheVariants.{Current, Request, Data
 use Rattle.of_play.specs.declared.names.Word.{Word}
 use Rattle.of_play.specs.declared.names.Word.TheVariants.{Now, Durable, Script, Announcement, Members}
 use Rattle.of_play.specs.declared.trace_text.Change.{Change}
-use Rattle.of_play.specs.declared.trace_text.Step.{Step}
 use Rattle.of_play.specs.Names.{holding_at, word_at}
 
 -- the plain name of the step that comes next at a place
@@ -98,28 +95,3 @@ named_change n w found left = word_text n w ++ codes ": " ++ value_text w found 
 -- the same of the word with a place, where there are n callers and m data cells
 abbrev pub change_text : (n m : ℕ) → Change → List ℕ
 change_text n m c = named_change n (word_at n m c.word) c.found c.left
-
--- how the call has ended
-abbrev pub end_text : Option Outcome → List ℕ
-end_text None = []
-end_text (Some (Answered s true raw k)) = codes ", answered at " ++ decimal s ++ codes " in " ++ decimal k ++ codes " steps"
-end_text (Some (Answered s false raw k)) = codes ", read at " ++ decimal s ++ codes " in " ++ decimal k ++ codes " steps"
-end_text (Some (Spent s)) = codes ", spent at " ++ decimal s
-
--- who has made event k, for which script, and the step
-abbrev pub head_text : (k : ℕ) → Step → List ℕ
-head_text k s =
-    (decimal k ++ codes " " ++ decimal s.caller)
-    ++ (codes " " ++ decimal s.index ++ codes " " ++ step_text s.place ++ codes ", ")
-
--- The line of event k. It is a turn of a caller that has made a step,
-abbrev pub step_line : (n m k : ℕ) → Step → List ℕ
-step_line n m k s = head_text k s ++ change_text n m s.change ++ end_text s.outcome ++ codes "\n"
-
--- or one that has done nothing,
-abbrev pub rest_line : (k i : ℕ) → List ℕ
-rest_line k i = decimal k ++ codes " " ++ decimal i ++ codes " nothing\n"
-
--- or an eviction
-abbrev pub evict_line : (n m k : ℕ) → Change → List ℕ
-evict_line n m k c = decimal k ++ codes " evict, " ++ change_text n m c ++ codes "\n"

@@ -4,6 +4,7 @@ ghost use Rattle.of_core.specs.Events.{IsSchedule};
 ghost use Rattle.of_caller.specs.Tables.{setup_for, opening_for};
 ghost use Rattle.of_play.specs.Play.{play_events};
 ghost use Rattle.of_play.specs.Names.{HoldingsAreNamed, CellsAreNamed, WordsAreNamed};
+ghost use Rattle.of_play.specs.TraceLaws.{AllAreShown, LinesAreOfMoves, TracesEndAsPlays, RepliesAreRead};
 
 use of_caller::laws::plan_keeps_laws;
 use of_plan::Plan;
@@ -20,4 +21,17 @@ pub fn words_are_named()
     ensures holdings { HoldingsAreNamed }
     ensures cells { CellsAreNamed }
     ensures words { WordsAreNamed }
+{}
+
+/// A plan's schedule has turns and evictions alone. The trace has the line of each, in the world that those before it leave; the
+/// world after the last one is what `play` ends in.
+pub fn traces_are_of_plays()
+    ensures shown { AllAreShown }
+    ensures lines { LinesAreOfMoves }
+    ensures end { TracesEndAsPlays }
+{}
+
+/// The reply that a trace prints is the one that the call's cells hold.
+pub fn replies_are_read()
+    ensures { RepliesAreRead }
 {}

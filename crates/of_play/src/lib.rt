@@ -5,6 +5,8 @@ pub mod laws;
 mod names;
 mod played;
 mod playing;
+mod trace_line;
+mod trace_parts;
 mod trace_text;
 
 pub use played::play_report;

@@ -1,12 +1,12 @@
-//! The lines of a trace.
+//! The names that a trace prints, and what has become of a word.
 
 ghost use Rattle.std.specs.Prelude.{◌≡◌, ◌<◌, ◌++◌, OnOk, string_bytes};
 ghost use Rattle.of_plan.specs.Plan.{data_cells};
-ghost use Rattle.of_play.specs.TraceText.{step_text, holding_text, cell_text, word_text, pair_text, value_text, named_change, change_text, end_text, head_text, step_line, rest_line, evict_line};
+ghost use Rattle.of_play.specs.TraceText.{step_text, holding_text, cell_text, word_text, pair_text, value_text, named_change, change_text};
 
 use crate::names::{Cell, Holding, Word};
 use of_cell::{payload_of, seq_of};
-use of_core::{Outcome, Place};
+use of_core::Place;
 use of_plan::Plan;
 use std::alloc::AllocError;
 use std::fmt::Write;
@@ -22,21 +22,8 @@ pub struct Change {
     pub left: u64,
 }
 
-/// A step that a caller has made.
-#[derive(Clone, Copy)]
-pub struct Step {
-    pub caller: u32,
-    /// The index of its call's script.
-    pub index: u32,
-    /// Where the call stood.
-    pub place: Place,
-    pub change: Change,
-    /// How the call has ended, where it was its last step.
-    pub outcome: Option<Outcome>,
-}
-
-// The plain name of the step that comes next at a place.
-fn step_name(place: Place) -> &'static str
+/// The plain name of the step that comes next at a place.
+pub fn step_name(place: Place) -> &'static str
     ensures { result.now ≡ step_text place }
 {
     match place {
@@ -73,8 +60,8 @@ fn step_name(place: Place) -> &'static str
     }
 }
 
-// Writes what a data cell holds.
-fn put_holding(out: &mut String, holding: Holding) -> Result<(), AllocError>
+/// Writes what a data cell holds.
+pub fn put_holding(out: &mut String, holding: Holding) -> Result<(), AllocError>
     ensures { OnOk result (string_bytes out.new ≡ string_bytes out.old ++ holding_text holding) }
 {
     match holding {
@@ -125,8 +112,8 @@ fn put_word(out: &mut String, plan: &Plan, word: Word) -> Result<(), AllocError>
     }
 }
 
-// Writes the two parts of a word.
-fn put_pair(out: &mut String, value: u64) -> Result<(), AllocError>
+/// Writes the two parts of a word.
+pub fn put_pair(out: &mut String, value: u64) -> Result<(), AllocError>
     ensures { OnOk result (string_bytes out.new ≡ string_bytes out.old ++ pair_text value) }
 {
     let (seq, number) = (seq_of(value), payload_of(value));
@@ -143,8 +130,8 @@ fn put_value(out: &mut String, word: Word, value: u64) -> Result<(), AllocError>
     }
 }
 
-// Writes a word of a plan's table by its name, and what has become of it.
-fn put_change(out: &mut String, plan: &Plan, change: &Change) -> Result<(), AllocError>
+/// Writes a word of a plan's table by its name, and what has become of it.
+pub fn put_change(out: &mut String, plan: &Plan, change: &Change) -> Result<(), AllocError>
     ensures { OnOk result (string_bytes out.new ≡ string_bytes out.old ++ change_text plan.now.callers (data_cells plan.now.callers plan.now.blocks) change.now) }
 {
     let word = Word::at(&plan.shape(), change.word);
@@ -153,68 +140,4 @@ fn put_change(out: &mut String, plan: &Plan, change: &Change) -> Result<(), Allo
     put_value(out, word, change.found)?;
     out.push_str(" -> ")?;
     put_value(out, word, change.left)
-}
-
-// Writes how a call has ended.
-fn put_end(out: &mut String, outcome: Option<Outcome>) -> Result<(), AllocError>
-    ensures { OnOk result (string_bytes out.new ≡ string_bytes out.old ++ end_text outcome) }
-{
-    match outcome {
-        None => Ok(()),
-        Some(Outcome::Spent { seq }) => write!(out, ", spent at {seq}"),
-        Some(
-            Outcome::Answered {
-                seq,
-                announced,
-                steps,
-                ..
-            },
-        ) => {
-            if announced {
-                write!(out, ", answered at {seq} in {steps} steps")
-            } else {
-                write!(out, ", read at {seq} in {steps} steps")
-            }
-        }
-    }
-}
-
-// Writes who has made an event, for which script, and the step.
-fn put_head(out: &mut String, number: u32, step: &Step) -> Result<(), AllocError>
-    ensures { OnOk result (string_bytes out.new ≡ string_bytes out.old ++ head_text number step.now) }
-{
-    let name = step_name(step.place);
-    write!(out, "{number} {}", step.caller)?;
-    write!(out, " {} {name}, ", step.index)
-}
-
-/// Writes the line of a turn that has made a step.
-pub fn put_step(out: &mut String, plan: &Plan, number: u32, step: &Step) -> Result<(), AllocError>
-    ensures { OnOk result (string_bytes out.new ≡ string_bytes out.old ++ step_line plan.now.callers (data_cells plan.now.callers plan.now.blocks) number step.now) }
-{
-    put_head(out, number, step)?;
-    put_change(out, plan, &step.change)?;
-    put_end(out, step.outcome)?;
-    out.push_str("\n")
-}
-
-/// Writes the line of a turn that has done nothing.
-pub fn put_rest(out: &mut String, number: u32, caller: u32) -> Result<(), AllocError>
-    ensures { OnOk result (string_bytes out.new ≡ string_bytes out.old ++ rest_line number caller) }
-{
-    writeln!(out, "{number} {caller} nothing")
-}
-
-/// Writes the line of an eviction.
-pub fn put_evict(
-    out: &mut String,
-    plan: &Plan,
-    number: u32,
-    change: &Change,
-) -> Result<(), AllocError>
-    ensures { OnOk result (string_bytes out.new ≡ string_bytes out.old ++ evict_line plan.now.callers (data_cells plan.now.callers plan.now.blocks) number change.now) }
-{
-    write!(out, "{number} evict, ")?;
-    put_change(out, plan, change)?;
-    out.push_str("\n")
 }

@@ -11,4 +11,5 @@ mod report;
 pub mod store;
 
 pub use image::Image;
+pub use printing::put_reply;
 pub use report::{EndState, Entry, Line, Report};

@@ -43,8 +43,8 @@ fn answered(reply: &Reply) -> &[Option<u32>]
     &values[..usize::from(reply.len).min(values.len())]
 }
 
-// Writes the words of a reply, each behind a space.
-fn put_reply(out: &mut String, reply: &Reply) -> Result<(), AllocError>
+/// Writes the words of a reply at the end of `out`, each after a space.
+pub fn put_reply(out: &mut String, reply: &Reply) -> Result<(), AllocError>
     ensures { OnOk result (string_bytes out.new ≡ string_bytes out.old ++ reply_text (response_of reply.now)) }
 {
     match reply.abort {

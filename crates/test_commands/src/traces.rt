@@ -22,12 +22,12 @@ fn events_of_a_schedule(rt: HostRuntime) -> Result<(), Fail> {
         (
             30,
             3,
-            "30 0 0 exchange current, current: (0,0) -> (1,0)\n31 evict, durable current: (0,0) -> (1,0)\n32 1 0 store script, script word 0 of 1: 0 -> 4611686022722355209\n",
+            "30 0 0 exchange current, current: (0,0) -> (1,0); won\n31 evict, durable current: (0,0) -> (1,0)\n32 1 0 store script, script word 0 of 1: 0 -> 4611686022722355209; put 2 9\n",
         ),
         (
             59,
             5,
-            "59 0 0 raise closed, durable request 0: (1,0) -> (1,1), answered at 1 in 50 steps\n60 0 1 try current, current: (1,0) -> (1,0)\n61 0 1 try request, request 0: (1,1) -> (1,1)\n62 0 1 try cell, cell 42 (register 3): (1,7) -> (1,7), read at 1 in 3 steps\n63 0 nothing\n",
+            "59 0 0 raise closed, durable request 0: (1,0) -> (1,1), answered at 1 in 50 steps; closed; reply none\n60 0 1 try current, current: (1,0) -> (1,0)\n61 0 1 try request, request 0: (1,1) -> (1,1); closed\n62 0 1 try cell, cell 42 (register 3): (1,7) -> (1,7), read at 1 in 3 steps; reply 7\n63 0 nothing\n",
         ),
         (
             140,

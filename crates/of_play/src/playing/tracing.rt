@@ -5,8 +5,9 @@ ghost use Rattle.of_core.specs.Steps.{word_of};
 ghost use Rattle.of_play.specs.Trace.{trace_text};
 
 use crate::playing::Playing;
-use crate::trace_text::{Change, Step, put_evict, put_rest, put_step};
-use of_caller::laws::plan_keeps_laws;
+use crate::trace_line::{Step, put_evict, put_rest, put_step};
+use crate::trace_text::Change;
+use of_caller::laws::{plan_keeps_laws, runs_are_lawful};
 use of_core::Op;
 use of_plan::{Item, Plan};
 use std::alloc::{AllocError, Global};
@@ -55,6 +56,7 @@ impl Playing {
         ensures line { OnOk result (WritesLine plan.now number (Turns caller) self.old (string_bytes text.old) (string_bytes text.new)) }
     {
         plan_keeps_laws(plan);
+        runs_are_lawful();
         self.begin_next(plan, caller);
         if self.bank.is_idle(caller) {
             self.turn(plan, caller)?;
@@ -62,7 +64,8 @@ impl Playing {
         }
         let index = self.bank.made(caller).saturating_sub(1);
         let place = self.bank.place(caller);
-        let word = word_of(self.bank.want(caller));
+        let op = self.bank.want(caller);
+        let word = word_of(op);
         let found = self.bank.word(word);
         self.turn(plan, caller)?;
         let left = self.bank.word(word);
@@ -70,6 +73,7 @@ impl Playing {
             caller,
             index,
             place,
+            op,
             change: Change { word, found, left },
             outcome: self.bank.answer(caller),
         };

@@ -1,0 +1,49 @@
+-- What is claimed of traces besides their text.
+use Rattle.std.specs.Prelude.{◌≡◌, ℕ, ◌<◌, List, [], ◌∷◌, length, take, get_or}
+use Rattle.std.specs.List.{AllByRecursion}
+use Rattle.of_script.specs.declared.instr.Reply.{Reply}
+use Rattle.of_script.specs.declared.instr.TheConstants.{MOST_INSTRS}
+use Rattle.of_store.specs.Replies.{response_of}
+use Rattle.of_mem.specs.declared.work.RawReply.{RawReply}
+use Rattle.of_eval.specs.Shapes.{IsHeldBy}
+use Rattle.of_plan.specs.Plan.{Plan}
+use Rattle.of_core.specs.World.{World}
+use Rattle.of_core.specs.Events.{Event, Begins, Turns, Loads, Evicts, Raises, run}
+use Rattle.of_caller.specs.Tables.{setup_for, opening_for}
+use Rattle.of_caller.specs.Left.{moment_after}
+use Rattle.of_play.specs.Play.{with_begin, moves_for, play_events}
+use Rattle.of_play.specs.Trace.{line_at, trace_lines}
+use Rattle.of_play.specs.TraceParts.{reply_in}
+
+-- it is a turn or an eviction, of which a trace has a line
+abbrev pub IsShown : Event → Type 0
+IsShown (Turns i) = Unit {0}
+IsShown (Raises c) = Unit {0}
+IsShown (Begins i op) = ⊥
+IsShown (Loads c) = ⊥
+IsShown (Evicts k) = ⊥
+
+-- there are no other events in a plan's schedule
+abbrev pub AllAreShown : Type 0
+AllAreShown = (p : Plan) → AllByRecursion IsShown (moves_for p)
+
+-- the world that these moves leave, each with the begin right before it
+abbrev pub world_after : Plan → World → List Event → World
+world_after p w [] = w
+world_after p w (e ∷ es) = world_after p (run (setup_for p) w (with_begin p w e)) es
+
+-- line k is that of move k, in the world that the moves before it leave
+abbrev pub LinesAreOfMoves : Type 0
+LinesAreOfMoves = (p : Plan) (k : ℕ) (e : Event) → k < length (moves_for p)
+    → get_or (trace_lines p) k []
+    ≡ line_at p k (world_after p (opening_for p) (take k (moves_for p))) (get_or (moves_for p) k e)
+
+-- and the world after the last one is what `play` ends in
+abbrev pub TracesEndAsPlays : Type 0
+TracesEndAsPlays =
+    (p : Plan) → world_after p (opening_for p) (moves_for p) ≡ moment_after p (play_events p)
+
+-- the reply that a trace prints is the one that the cells hold
+abbrev pub RepliesAreRead : Type 0
+RepliesAreRead = (raw : RawReply) (r : Reply) → length raw.values ≡ MOST_INSTRS → IsHeldBy raw r
+    → reply_in raw ≡ response_of r

@@ -1,0 +1,129 @@
+-- What a line of a trace tells of its step after the change: parts, each after a semicolon.
+use Rattle.std.specs.Prelude.{ℕ, zero, suc, ◌+◌, ◌/◌, ◌%◌, ◌^◌, ◌==◌, nat_lt, if◌then◌else◌, Bool, true, false, List, [], ◌∷◌, ◌++◌, take, Option, Some, None, codes, decimal}
+use Rattle.of_cell.specs.Words.{seq, pay}
+use Rattle.of_mem.specs.declared.work.RawReply.{RawReply}
+use Rattle.of_script.specs.declared.instr.Instr.{Instr}
+use Rattle.of_script.specs.declared.instr.Cause.{Cause}
+use Rattle.of_script.specs.declared.instr.Cause.TheVariants.{Overflow, Short, NoRoom, Differs, BadOp}
+use Rattle.of_script.specs.Text.{instr_text}
+use Rattle.of_script.specs.Reading.{instr_at}
+use Rattle.of_store.specs.State.{Response, Answered as Values, Aborted}
+use Rattle.of_eval.specs.Reading.{marked_in}
+use Rattle.of_report.specs.ReportText.{reply_text}
+use Rattle.of_core.specs.declared.place.Op.{Op}
+use Rattle.of_core.specs.declared.place.Op.TheVariants.{Load, Store, Exchange, Raise}
+use Rattle.of_core.specs.declared.place.Outcome.{Outcome}
+use Rattle.of_core.specs.declared.place.Outcome.TheVariants.{Answered, Spent}
+use Rattle.of_play.specs.declared.names.Holding.{Holding}
+use Rattle.of_play.specs.declared.names.Holding.TheVariants.{Ticket, Shape, Reply, Register, Taken, Free, Keys, Bucket, Front, Back, Length, Block}
+use Rattle.of_play.specs.declared.names.Cell.{Cell}
+use Rattle.of_play.specs.declared.names.Cell.TheVariants.{Current, Request, Data, Log}
+use Rattle.of_play.specs.declared.names.Word.{Word}
+use Rattle.of_play.specs.declared.names.Word.TheVariants.{Now, Durable, Script, Announcement, Members}
+use Rattle.of_play.specs.Names.{holding_at}
+use Rattle.of_play.specs.TraceText.{holding_text, pair_text}
+
+-- ---- what the step did
+
+-- an exchange has won, or another word than the expected one was there
+abbrev pub exchange_part : (won : Bool) → (old new : ℕ) → List ℕ
+exchange_part true old new = codes "; won"
+exchange_part false old new = codes "; lost, wanted " ++ pair_text old ++ codes " -> " ++ pair_text new
+
+-- a raise has found a word above the one to which it raises
+abbrev pub raise_part : (above : Bool) → (value : ℕ) → List ℕ
+raise_part true v = codes "; wanted " ++ pair_text v
+raise_part false v = []
+
+-- what became of a step that found this
+abbrev pub did_part : Op → (found : ℕ) → List ℕ
+did_part (Load c) found = []
+did_part (Store c v) found = []
+did_part (Exchange c old new) found = exchange_part (found == old) old new
+did_part (Raise c v) found = raise_part (nat_lt v found) v
+
+-- ---- what the word that was left means
+
+-- an instruction, where it is the word of one
+abbrev pub instr_part : Option Instr → List ℕ
+instr_part None = []
+instr_part (Some i) = codes "; " ++ instr_text i
+
+-- a pointer: 0 leads to no block, and one more than a block's number to that block
+abbrev pub pointer_part : ℕ → List ℕ
+pointer_part zero = codes "; no block"
+pointer_part (suc b) = codes "; block " ++ decimal b
+
+-- the shape of a reply: how many instructions it answers, or at which one the script aborted
+abbrev pub shape_part : ℕ → List ℕ
+shape_part x =
+    if x == 0 then []
+    else if nat_lt x (2 ^ 21) then codes "; answers " ++ decimal (x / 2 ^ 16 % 32)
+    else codes "; aborted at " ++ decimal (x / 2 ^ 21 % 32)
+
+-- a field of a block: the last one is a pointer
+abbrev pub field_part : (field x : ℕ) → List ℕ
+field_part f x = if f == 2 then pointer_part x else []
+
+-- the number of a data cell that holds this, where it is more than a number
+abbrev pub holding_part : Holding → ℕ → List ℕ
+holding_part (Ticket i) x = []
+holding_part (Shape i) x = shape_part x
+holding_part (Reply i j) x = []
+holding_part (Register r) x = []
+holding_part Taken x = []
+holding_part Free x = pointer_part x
+holding_part Keys x = []
+holding_part (Bucket b) x = pointer_part x
+holding_part (Front q) x = pointer_part x
+holding_part (Back q) x = pointer_part x
+holding_part (Length q) x = []
+holding_part (Block b f) x = field_part f x
+
+-- a request: whether the transaction of this sequence is open
+abbrev pub request_part : (s x : ℕ) → List ℕ
+request_part s x = if s == 0 then [] else if x == 0 then codes "; open" else codes "; closed"
+
+-- a word of a log: each other one, from word 1 on, is the address of a data cell
+abbrev pub log_part : (n at x : ℕ) → List ℕ
+log_part n at x = if at % 2 == 1 then codes "; " ++ holding_text (holding_at n x) else []
+
+-- the word of a cell, where there are n callers
+abbrev pub cell_part : (n : ℕ) → Cell → ℕ → List ℕ
+cell_part n Current v = []
+cell_part n (Request i) v = request_part (seq v) (pay v)
+cell_part n (Data a) v = holding_part (holding_at n a) (pay v)
+cell_part n (Log i at) v = log_part n at (pay v)
+
+-- what a word of the table means
+abbrev pub word_part : (n : ℕ) → Word → ℕ → List ℕ
+word_part n (Now c) v = cell_part n c v
+word_part n (Durable c) v = cell_part n c v
+word_part n (Script i x) v = instr_part (instr_at v)
+word_part n (Announcement i) v = []
+word_part n Members v = []
+
+-- ---- the reply of a call that has ended
+
+-- the cause with this number in a shape
+abbrev pub cause_at : ℕ → Cause
+cause_at c =
+    if c == 1 then Overflow else if c == 2 then Short else if c == 3 then NoRoom
+    else if c == 4 then Differs else BadOp
+
+-- the reply that these cells hold
+abbrev pub reply_in : RawReply → Response
+reply_in raw =
+    if nat_lt raw.shape (2 ^ 21)
+    then Values (take (raw.shape / 2 ^ 16 % 32) (marked_in (raw.shape % 2 ^ 16) raw.values))
+    else Aborted (raw.shape / 2 ^ 21 % 32) (cause_at (raw.shape / 2 ^ 26))
+
+-- as a report has it
+abbrev pub held_part : RawReply → List ℕ
+held_part raw = codes "; reply" ++ reply_text (reply_in raw)
+
+-- a spent call has none
+abbrev pub reply_part : Option Outcome → List ℕ
+reply_part None = []
+reply_part (Some (Answered s announced raw k)) = held_part raw
+reply_part (Some (Spent s)) = []
