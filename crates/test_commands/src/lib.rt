@@ -2,6 +2,8 @@
 #![tactic(auto)]
 
 #[cfg(test)]
+mod brakes;
+#[cfg(test)]
 mod checks;
 #[cfg(test)]
 mod faults;
