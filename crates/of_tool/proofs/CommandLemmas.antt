@@ -23,7 +23,7 @@ use Rattle.of_tool.specs.declared.command.Command.TheVariants.{Serial, Play, Tra
 use Rattle.of_tool.specs.declared.command.TheConstants.{HELP, VERSION}
 use Rattle.of_tool.specs.declared.status.TheConstants.{DONE, ILLEGAL, DOES_NOT_FIT}
 use Rattle.of_tool.specs.Commands.{words_of, IsInRange, IsTrace, IsLoad, SpellsUpTo, Are, IsNoCommand}
-use Rattle.of_tool.specs.Trace.{trace_text}
+use Rattle.of_play.specs.Trace.{trace_text}
 use Rattle.of_tool.specs.Verdicts.{Verdict, ShowsHelp, ShowsVersion, Replayed, Played, Traced, Ran, Loaded, FoundLegal, FoundIllegal, Imaged, Recovered, Renumbered, Migrated, Continued, DoesNotFit, NoCommand, ReadFault, TooLong, BadPlan, BadImage, UnlawfulImage}
 use Rattle.of_tool.specs.Verdicts.{HasCause, status_of, text_of, SourceState, SinkState, IsAnswer, IsWritten, IsReplayed, PlaysPlan, TracesPlan, AskForPlan, AskForImage, limit_of, AsksUpTo, AskForInput, ReadsNoPlan, ReadsNoFirst, ReadsNoSecond, ReadsMisfit, ChecksReport, IsPlanInput, IsImageInput, ReadsBehind, IsValidInput}
 use Rattle.of_tool.specs.Images.{ImagesPlan, RecoversImage, RenumbersImage, MigratesImage}

@@ -16,10 +16,11 @@ use Rattle.of_report.proofs.Recovery.{part_at, row_long, row_at}
 use Rattle.of_image.specs.declared.version.Version.TheVariants.{Two}
 use Rattle.of_image.specs.ImageText.{image_text, SpellsImage}
 use Rattle.of_image.specs.RunImage.{durable_row, MayRestart, RecordsHaveImages}
-use Rattle.of_tool.specs.Play.{IsPlayed, play_events}
-use Rattle.of_tool.specs.Played.{IsPlayedReport, IsPlayedImage}
-use Rattle.of_tool.proofs.PlaysMoments.{IsPlayable, good_moment}
-use Rattle.of_tool.proofs.PlaysSchedule.{play_is_schedule}
+use Rattle.of_play.specs.Play.{IsPlayed, play_events}
+use Rattle.of_play.specs.Played.{IsPlayedReport}
+use Rattle.of_tool.specs.PlayedImage.{IsPlayedImage}
+use Rattle.of_play.proofs.PlaysMoments.{IsPlayable, good_moment}
+use Rattle.of_play.proofs.PlaysSchedule.{play_is_schedule}
 
 module _ (p : Plan) (play : IsPlayable p) (restarts : Restarts (setup_for p) (lawful_for p)) where
   -- what recovery leaves of the durable words is a row from which a table may start

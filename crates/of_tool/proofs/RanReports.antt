@@ -35,15 +35,15 @@ use Rattle.of_caller.specs.Stops.{KeepStop, CallerStops, KeepStops}
 use Rattle.of_caller.specs.Allowances.{AllowedBy, KeepAllowances}
 use Rattle.of_caller.specs.Teams.{IsHandedBack, AnnouncesSeen, TeamsKeepAllowances}
 use Rattle.of_report.proofs.Cells.{reply_same, stands_for_same}
-use Rattle.of_tool.specs.Played.{IsPlayedReport}
+use Rattle.of_play.specs.Played.{IsPlayedReport}
 use Rattle.of_tool.specs.Ran.{with_schedule, IsRunReport}
-use Rattle.of_tool.proofs.PlaysStart.{none_finished}
-use Rattle.of_tool.proofs.PlaysEvents.{events_of}
-use Rattle.of_tool.proofs.PlaysMoments.{IsPlayable, playable}
-use Rattle.of_tool.proofs.PlaysSchedule.{items_are_schedule, items_of_plan, items_are_turns}
-use Rattle.of_tool.proofs.PlaysSpent.{items_spent_last}
-use Rattle.of_tool.proofs.PlaysBusy.{stopped_never_idle}
-use Rattle.of_tool.proofs.PlaysRecords.{left_keeps_allowance, left_in_time}
+use Rattle.of_play.proofs.PlaysStart.{none_finished}
+use Rattle.of_play.proofs.PlaysEvents.{events_of}
+use Rattle.of_play.proofs.PlaysMoments.{IsPlayable, playable}
+use Rattle.of_play.proofs.PlaysSchedule.{items_are_schedule, items_of_plan, items_are_turns}
+use Rattle.of_play.proofs.PlaysSpent.{items_spent_last}
+use Rattle.of_play.proofs.PlaysBusy.{stopped_never_idle}
+use Rattle.of_play.proofs.PlaysRecords.{left_keeps_allowance, left_in_time}
 use Rattle.of_tool.proofs.WithSchedule.{events_are, left_is_played, reports_with, keeps_with}
 use Rattle.of_tool.proofs.Promises.{history_of}
 

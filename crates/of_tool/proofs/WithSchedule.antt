@@ -20,9 +20,9 @@ use Rattle.of_core.specs.Events.{Event, Begins, Turns, Loads, Evicts, Raises, ha
 use Rattle.of_caller.specs.Tables.{setup_for, opening_for}
 use Rattle.of_caller.specs.Left.{IsLeftBy}
 use Rattle.of_caller.specs.Scheduled.{moves_in, with_begin, events_from}
-use Rattle.of_tool.specs.Play.{IsPlayed}
+use Rattle.of_play.specs.Play.{IsPlayed}
 use Rattle.of_tool.specs.Ran.{with_schedule}
-use Rattle.of_tool.proofs.PlaysEvents.{events_of}
+use Rattle.of_play.proofs.PlaysEvents.{events_of}
 
 module _ (p : Plan) (items : List Item) where
   abbrev q : Plan

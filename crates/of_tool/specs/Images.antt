@@ -5,7 +5,7 @@ use Rattle.of_report.specs.Image.{Image}
 use Rattle.of_image.specs.declared.version.Version.TheVariants.{Two}
 use Rattle.of_image.specs.RecoveredText.{recovered_text}
 use Rattle.of_image.specs.RenumberedImage.{Renumbers}
-use Rattle.of_tool.specs.Played.{IsPlayedImage}
+use Rattle.of_tool.specs.PlayedImage.{IsPlayedImage}
 use Rattle.of_tool.specs.Verdicts.{SourceState, SinkState, ReadsPlan, ReadsItsImage, ReadsEarlier, IsWritten}
 
 -- the whole input is a plan's text, and the image of what its schedule leaves was written

@@ -1,16 +1,9 @@
 pub mod Commands
 pub mod Ran
 pub mod Continued
-pub mod Played
+pub mod PlayedImage
 pub mod Verdicts
 pub mod Headline
 pub mod Images
 pub mod Answer
-pub mod Replay
-pub mod Play
-pub mod Playing
 pub mod HelpText
-pub mod Names
-pub mod TraceText
-pub mod Trace
-pub mod Tracing

@@ -28,8 +28,9 @@ use Rattle.of_tool.specs.declared.command.TheConstants.{HELP, VERSION}
 use Rattle.of_tool.specs.declared.status.TheConstants.{DONE, OUT_OF_MEMORY, USAGE, READ_FAULT, WRITE_FAULT, BAD_PLAN, TOO_LONG, BAD_IMAGE, ILLEGAL, DOES_NOT_FIT}
 use Rattle.of_tool.specs.declared.top.TheConstants.{MOST_INPUT, MOST_WITH_REPORT, MOST_IMAGE}
 use Rattle.of_tool.specs.Commands.{words_of, Are, IsNoCommand}
-use Rattle.of_tool.specs.Played.{IsPlayedReport, IsPlayedImage}
-use Rattle.of_tool.specs.Trace.{trace_text}
+use Rattle.of_play.specs.Played.{IsPlayedReport}
+use Rattle.of_tool.specs.PlayedImage.{IsPlayedImage}
+use Rattle.of_play.specs.Trace.{trace_text}
 use Rattle.of_tool.specs.Ran.{IsSomeRuns}
 use Rattle.of_tool.specs.Continued.{IsSomeLifes}
 

@@ -6,11 +6,10 @@ ghost use Rattle.of_report.specs.Image.{IsImage, image_of};
 ghost use Rattle.of_image.specs.declared.version.Version.TheVariants.{Two};
 ghost use Rattle.of_tool.specs.declared.command.Command.TheVariants.{Image as TheImage, Recover, Renumber, Migrate};
 ghost use Rattle.of_tool.specs.Commands.{words_of};
-ghost use Rattle.of_tool.specs.Played.{IsPlayedImage};
+ghost use Rattle.of_tool.specs.PlayedImage.{IsPlayedImage};
 ghost use Rattle.of_tool.specs.Verdicts.{source_state, ReadsItsImage};
 ghost use Rattle.of_tool.specs.Answer.{Answered, RefusesImage, TellsRefusal};
 
-use crate::play::play;
 use crate::status;
 use crate::top::{Answer, MOST_IMAGE, read_input, read_plan};
 use of_caller::laws::{plan_keeps_laws, reports_respect_time, runs_are_lawful};
@@ -20,6 +19,7 @@ use of_image::laws::records_have_images;
 use of_image::{ImageErr, image_parse, image_print, migrate, recovered_print, renumbered_print};
 use of_io::Source;
 use of_plan::Plan;
+use of_play::play;
 use of_report::Image;
 use std::alloc::{AllocError, Global};
 

@@ -1,11 +1,7 @@
-//! Laws of schedules, and the numbers and fixed texts of the commands.
+//! The numbers and fixed texts of the commands, and the laws of schedules and traces.
 
 ghost use Rattle.std.specs.Prelude.{◌≡◌, codes};
-ghost use Rattle.of_core.specs.Events.{IsSchedule};
-ghost use Rattle.of_caller.specs.Tables.{setup_for, opening_for};
-ghost use Rattle.of_tool.specs.Play.{play_events};
 ghost use Rattle.of_tool.specs.HelpText.{help_text};
-ghost use Rattle.of_tool.specs.Names.{HoldingsAreNamed, CellsAreNamed, WordsAreNamed};
 
 use crate::command::{HELP, VERSION};
 use crate::status::{
@@ -13,15 +9,7 @@ use crate::status::{
     WRITE_FAULT,
 };
 use crate::top::{MOST_IMAGE, MOST_INPUT, MOST_WITH_REPORT};
-use of_caller::laws::plan_keeps_laws;
-use of_plan::Plan;
-
-/// Each event of a plan's schedule may happen when it comes; so what they leave is a moment, with all that holds of every moment.
-pub fn plans_have_schedules(plan: &Plan)
-    ensures { IsSchedule (setup_for plan.now) (opening_for plan.now) (play_events plan.now) }
-{
-    plan_keeps_laws(plan);
-}
+pub use of_play::laws::{plans_have_schedules, words_are_named};
 
 /// The exit statuses, and how many bytes a command reads at most.
 pub fn numbers()
@@ -44,11 +32,4 @@ pub fn numbers()
 pub fn help_and_version()
     ensures version { VERSION.now ≡ codes "onefile 0.1.0\n" }
     ensures help { HELP.now ≡ help_text }
-{}
-
-/// The names that a trace prints are those of what stands there: of each data cell, each cell and each word of a table.
-pub fn words_are_named()
-    ensures holdings { HoldingsAreNamed }
-    ensures cells { CellsAreNamed }
-    ensures words { WordsAreNamed }
 {}

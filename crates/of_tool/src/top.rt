@@ -15,9 +15,6 @@ ghost use Rattle.of_tool.specs.Answer.{Answered, Refuses, RefusesUpTo, Judges, C
 use crate::command::{Command, HELP, VERSION};
 use crate::continued::continue_answer;
 use crate::images::{image_answer, migrate_answer, recover_answer, renumber_answer};
-use crate::play::trace;
-use crate::played::play_report;
-use crate::replay::serial;
 use crate::run::run_report;
 use crate::status;
 use of_brake::Brake;
@@ -26,7 +23,9 @@ use of_image::laws::unlawful_have_none;
 use of_io::{ReadErr, Sink, Source, read_all, write_all};
 use of_plan::texts::one_cut;
 use of_plan::{Ended, Plan, PlanErr, generate, parse, parts};
+use of_play::{play_report, trace};
 use of_row::Pass;
+use of_serial::serial;
 use std::alloc::{AllocError, Global};
 use std::thread::Threads;
 

@@ -16,9 +16,9 @@ use Rattle.of_report.specs.ImageRow.{row_in}
 use Rattle.of_image.specs.declared.version.Version.TheVariants.{Two}
 use Rattle.of_image.specs.ImageText.{image_text, SpellsImage}
 use Rattle.of_image.specs.RunImage.{durable_row}
-use Rattle.of_tool.specs.Played.{IsPlayedReport}
-use Rattle.of_tool.proofs.PlaysMoments.{IsPlayable, playable}
-use Rattle.of_tool.proofs.PlayedReports.{has_report, lawful_report}
+use Rattle.of_play.specs.Played.{IsPlayedReport}
+use Rattle.of_play.proofs.PlaysMoments.{IsPlayable, playable}
+use Rattle.of_play.proofs.PlayedReports.{has_report, lawful_report}
 use Rattle.of_tool.proofs.PlayedImages.{played_image}
 use Rattle.of_tool.proofs.images.play_image.Goals as goal
 

@@ -1,0 +1,53 @@
+-- The code goes on move by move.
+use Rattle.std.proofs.Common.{◌≡◌, ℕ, zero, suc, ◌+◌, ◌<◌, List, [], ◌∷◌, ◌++◌, replicate, refl, sym, ◌∙◌, ap, subst, add-one}
+use Rattle.std.proofs.lemmas.List.{append_assoc, append-nil}
+use Rattle.of_eval.specs.declared.scripts.Scripts.{Scripts}
+use Rattle.of_eval.specs.Scripts.{scripts_meaning}
+use Rattle.of_plan.specs.declared.plan.Item.{Item}
+use Rattle.of_plan.specs.declared.plan.Item.TheVariants.{Evict}
+use Rattle.of_plan.specs.Plan.{Plan, IsItem, durable_cells_of}
+use Rattle.of_core.specs.Moment.{Bench, after}
+use Rattle.of_core.specs.Events.{Event, Turns, Raises}
+use Rattle.of_caller.specs.Tables.{setup_for, opening_for}
+use Rattle.of_caller.specs.Left.{moment_after}
+use Rattle.of_play.specs.Play.{moves_in, events_from}
+use Rattle.of_play.specs.Playing.{StandsAfter, IsPlaying, GoesOn}
+use Rattle.of_play.specs.declared.playing.Playing.{Playing}
+use Rattle.of_play.proofs.PlaysMoments.{IsPlayable}
+use Rattle.of_play.proofs.PlaysEvents.{run_append, events_append}
+use Rattle.of_play.proofs.PlaysStand.{raise_stands}
+
+-- moves after moves
+pub goes_further : (p : Plan) (ms ns : List Event) (r s t : Playing) → GoesOn p ms r s → GoesOn p ns s t → GoesOn p (ms ++ ns) r t
+goes_further p ms ns r s t f g es st =
+    let S = setup_for p in
+    let w = moment_after p es in
+    let fs = events_from p w ms in
+    subst (λ (gs : List Event). StandsAfter p gs t)
+    (append_assoc es fs _
+    ∙ ap (λ (gs : List Event). es ++ (fs ++ gs)) (ap (λ v. events_from p v ns) (run_append S (opening_for p) es fs))
+    ∙ ap (λ (gs : List Event). es ++ gs) (sym (events_append p w ms ns)))
+    (g (es ++ fs) (f es st))
+
+pub goes_nowhere : (p : Plan) (s : Playing) → GoesOn p [] s s
+goes_nowhere p s es st = subst (λ (gs : List Event). StandsAfter p gs s) (sym (append-nil es)) st
+
+pub plays_on : (p : Plan) (ms : List Event) (s t : Playing) → IsPlaying p s → GoesOn p ms s t → IsPlaying p t
+plays_on p ms s t r f = record { plan = r.plan; events = r.events ++ events_from p (moment_after p r.events) ms; stands = f r.events r.stands }
+
+-- one turn more
+replicate_more : (n : ℕ) (e : Event) → replicate n e ++ e ∷ [] ≡ replicate (n + 1) e
+replicate_more n e = all n ∙ ap (λ (k : ℕ). replicate k e) (sym (add-one n))
+  where
+    all : (n : ℕ) → replicate n e ++ e ∷ [] ≡ replicate (suc n) e
+    all zero = refl
+    all (suc n) = ap (λ (es : List Event). e ∷ es) (all n)
+
+pub one_turn_more : (p : Plan) (c n : ℕ) (r s t : Playing) → GoesOn p (replicate n (Turns c)) r s → GoesOn p (Turns c ∷ []) s t → GoesOn p (replicate (n + 1) (Turns c)) r t
+one_turn_more p c n r s t f g = subst (λ (ms : List Event). GoesOn p ms r t) (replicate_more n (Turns c)) (goes_further p (replicate n (Turns c)) (Turns c ∷ []) r s t f g)
+
+-- an eviction
+pub evict_goes_on : (p : Plan) → IsPlayable p → (item : Item) (a : ℕ) → item ≡ Evict a → IsItem p item → (s : Playing) (x : Bench Scripts) → x ≡ after scripts_meaning (Raises a ∷ []) s.bank → GoesOn p (moves_in item) s (record s { bank = x })
+evict_goes_on p plan item a is within s x leaves =
+    let h : a < durable_cells_of p = subst (IsItem p) is within in
+    subst (λ (y : Item). GoesOn p (moves_in y) s (record s { bank = x })) (sym is) (λ es st. raise_stands p plan es s st a h x leaves)

@@ -1,0 +1,125 @@
+-- What a trace prints: the plain names of steps and words, and a line for each event.
+use Rattle.std.specs.Prelude.{ℕ, List, [], ◌++◌, Option, Some, None, true, false, codes, decimal}
+use Rattle.of_cell.specs.Words.{seq, pay}
+use Rattle.of_cell.specs.Cells.{data_cell}
+use Rattle.of_core.specs.declared.place.Place.{Place}
+use Rattle.of_core.specs.declared.place.Place.TheVariants.{Idle, TryCurrent, TryRequest, TryCell, StoreScript, StoreAnnouncement, LoadCurrent, LoadRequest, CopyLog, LookAgain, LoadOwnTicket, LoadShape, LoadReply, LoadAnnouncement, LoadTicket, LoadScript, LoadCell, RaiseOld, StoreLog, RaiseLog, StoreRequest, RaiseRequest, ExchangeCurrent, RaiseCurrent, LoadTarget, ExchangeTarget, ReloadTarget, RaiseTarget, CloseRequest, RaiseClosed}
+use Rattle.of_core.specs.declared.place.Outcome.{Outcome}
+use Rattle.of_core.specs.declared.place.Outcome.TheVariants.{Answered, Spent}
+use Rattle.of_play.specs.declared.names.Holding.{Holding}
+use Rattle.of_play.specs.declared.names.Holding.TheVariants.{Ticket, Shape, Reply, Register, Taken, Free, Keys, Bucket, Front, Back, Length, Block}
+use Rattle.of_play.specs.declared.names.Cell.{Cell}
+use Rattle.of_play.specs.declared.names.Cell.TheVariants.{Current, Request, Data, Log}
+use Rattle.of_play.specs.declared.names.Word.{Word}
+use Rattle.of_play.specs.declared.names.Word.TheVariants.{Now, Durable, Script, Announcement, Members}
+use Rattle.of_play.specs.declared.trace_text.Change.{Change}
+use Rattle.of_play.specs.declared.trace_text.Step.{Step}
+use Rattle.of_play.specs.Names.{holding_at, word_at}
+
+-- the plain name of the step that comes next at a place
+abbrev pub step_text : Place → List ℕ
+step_text Idle = codes "nothing"
+step_text TryCurrent = codes "try current"
+step_text TryRequest = codes "try request"
+step_text (TryCell a) = codes "try cell"
+step_text (StoreScript j) = codes "store script"
+step_text StoreAnnouncement = codes "store announcement"
+step_text LoadCurrent = codes "load current"
+step_text LoadRequest = codes "load request"
+step_text (CopyLog x) = codes "copy log"
+step_text LookAgain = codes "look again"
+step_text LoadOwnTicket = codes "load own ticket"
+step_text LoadShape = codes "load shape"
+step_text (LoadReply j) = codes "load reply"
+step_text LoadAnnouncement = codes "load announcement"
+step_text LoadTicket = codes "load ticket"
+step_text (LoadScript j) = codes "load script"
+step_text (LoadCell a) = codes "load cell"
+step_text RaiseOld = codes "raise old"
+step_text (StoreLog x) = codes "store log"
+step_text (RaiseLog x) = codes "raise log"
+step_text StoreRequest = codes "store request"
+step_text RaiseRequest = codes "raise request"
+step_text ExchangeCurrent = codes "exchange current"
+step_text RaiseCurrent = codes "raise current"
+step_text (LoadTarget j) = codes "load target"
+step_text (ExchangeTarget j f) = codes "exchange target"
+step_text (ReloadTarget j) = codes "reload target"
+step_text (RaiseTarget j f) = codes "raise target"
+step_text CloseRequest = codes "close request"
+step_text RaiseClosed = codes "raise closed"
+
+-- what a data cell holds
+abbrev pub holding_text : Holding → List ℕ
+holding_text (Ticket i) = codes "ticket of " ++ decimal i
+holding_text (Shape i) = codes "shape of " ++ decimal i
+holding_text (Reply i j) = codes "reply " ++ decimal j ++ codes " of " ++ decimal i
+holding_text (Register r) = codes "register " ++ decimal r
+holding_text Taken = codes "blocks taken"
+holding_text Free = codes "free list"
+holding_text Keys = codes "number of keys"
+holding_text (Bucket b) = codes "bucket " ++ decimal b
+holding_text (Front q) = codes "front of queue " ++ decimal q
+holding_text (Back q) = codes "back of queue " ++ decimal q
+holding_text (Length q) = codes "length of queue " ++ decimal q
+holding_text (Block b f) = codes "field " ++ decimal f ++ codes " of block " ++ decimal b
+
+-- the name of a cell, where there are n callers; that of a data cell has its number
+abbrev pub cell_text : (n : ℕ) → Cell → List ℕ
+cell_text n Current = codes "current"
+cell_text n (Request i) = codes "request " ++ decimal i
+cell_text n (Data a) = codes "cell " ++ decimal (data_cell n a) ++ codes " (" ++ holding_text (holding_at n a) ++ codes ")"
+cell_text n (Log i x) = codes "log " ++ decimal x ++ codes " of " ++ decimal i
+
+-- the name of a word
+abbrev pub word_text : (n : ℕ) → Word → List ℕ
+word_text n (Now c) = cell_text n c
+word_text n (Durable c) = codes "durable " ++ cell_text n c
+word_text n (Script i x) = codes "script word " ++ decimal x ++ codes " of " ++ decimal i
+word_text n (Announcement i) = codes "announcement " ++ decimal i
+word_text n Members = codes "members"
+
+-- the two parts of a word
+abbrev pub pair_text : ℕ → List ℕ
+pair_text v = codes "(" ++ decimal (seq v) ++ codes "," ++ decimal (pay v) ++ codes ")"
+
+-- what stands in a word: a script word is a number, and any other a pair
+abbrev pub value_text : Word → ℕ → List ℕ
+value_text (Now c) v = pair_text v
+value_text (Durable c) v = pair_text v
+value_text (Script i x) v = decimal v
+value_text (Announcement i) v = pair_text v
+value_text Members v = decimal v
+
+-- a word by its name, what was found there, and what was left
+abbrev pub named_change : (n : ℕ) → Word → (found left : ℕ) → List ℕ
+named_change n w found left = word_text n w ++ codes ": " ++ value_text w found ++ codes " -> " ++ value_text w left
+
+-- the same of the word with a place, where there are n callers and m data cells
+abbrev pub change_text : (n m : ℕ) → Change → List ℕ
+change_text n m c = named_change n (word_at n m c.word) c.found c.left
+
+-- how the call has ended
+abbrev pub end_text : Option Outcome → List ℕ
+end_text None = []
+end_text (Some (Answered s true raw k)) = codes ", answered at " ++ decimal s ++ codes " in " ++ decimal k ++ codes " steps"
+end_text (Some (Answered s false raw k)) = codes ", read at " ++ decimal s ++ codes " in " ++ decimal k ++ codes " steps"
+end_text (Some (Spent s)) = codes ", spent at " ++ decimal s
+
+-- who has made event k, for which script, and the step
+abbrev pub head_text : (k : ℕ) → Step → List ℕ
+head_text k s =
+    (decimal k ++ codes " " ++ decimal s.caller)
+    ++ (codes " " ++ decimal s.index ++ codes " " ++ step_text s.place ++ codes ", ")
+
+-- The line of event k. It is a turn of a caller that has made a step,
+abbrev pub step_line : (n m k : ℕ) → Step → List ℕ
+step_line n m k s = head_text k s ++ change_text n m s.change ++ end_text s.outcome ++ codes "\n"
+
+-- or one that has done nothing,
+abbrev pub rest_line : (k i : ℕ) → List ℕ
+rest_line k i = decimal k ++ codes " " ++ decimal i ++ codes " nothing\n"
+
+-- or an eviction
+abbrev pub evict_line : (n m k : ℕ) → Change → List ℕ
+evict_line n m k c = decimal k ++ codes " evict, " ++ change_text n m c ++ codes "\n"

@@ -1,0 +1,23 @@
+//! Laws of a plan's schedule, and of the names that a trace prints.
+
+ghost use Rattle.of_core.specs.Events.{IsSchedule};
+ghost use Rattle.of_caller.specs.Tables.{setup_for, opening_for};
+ghost use Rattle.of_play.specs.Play.{play_events};
+ghost use Rattle.of_play.specs.Names.{HoldingsAreNamed, CellsAreNamed, WordsAreNamed};
+
+use of_caller::laws::plan_keeps_laws;
+use of_plan::Plan;
+
+/// Each event of a plan's schedule may happen when it comes; so what they leave is a moment, with all that holds of every moment.
+pub fn plans_have_schedules(plan: &Plan)
+    ensures { IsSchedule (setup_for plan.now) (opening_for plan.now) (play_events plan.now) }
+{
+    plan_keeps_laws(plan);
+}
+
+/// The names that a trace prints are those of what stands there: of each data cell, each cell and each word of a table.
+pub fn words_are_named()
+    ensures holdings { HoldingsAreNamed }
+    ensures cells { CellsAreNamed }
+    ensures words { WordsAreNamed }
+{}

@@ -1,0 +1,246 @@
+//! A plan's schedule, run step by step on a bank.
+
+ghost use Rattle.std.specs.Prelude.{◌≡◌, IfOk};
+ghost use Rattle.of_plan.specs.Plan.{IsPlan};
+ghost use Rattle.of_plan.specs.Ended.{run_of};
+ghost use Rattle.of_play.specs.Play.{IsPlayed};
+
+use of_caller::laws::{plan_keeps_laws, runs_are_lawful};
+use of_core::{Bank, Outcome, Turn};
+use of_eval::{Scripts, reply_of};
+use of_plan::{Answer, Ended, Ending, Item, Plan};
+use of_script::{MOST_INSTRS, to_words};
+use std::alloc::{AllocError, Global};
+
+mod tracing;
+
+pub use tracing::trace;
+
+/// How a caller stands between its turns.
+#[derive(Clone, Copy)]
+struct Standing {
+    /// The sequence at which its last call was spent, where it was.
+    spent: Option<u32>,
+    /// How many steps its open call has made.
+    steps: u64,
+}
+
+/// The run of a plan's schedule so far.
+#[derive(Drop)]
+struct Playing {
+    bank: Bank<Scripts>,
+    answers: Vec<Vec<Answer>>,
+    standings: Vec<Standing>,
+}
+
+impl Playing {
+    ghost use Rattle.std.specs.Prelude.{◌≡◌, ◌+◌, ◌<◌, [], ◌∷◌, length, replicate, slice_index_or, IfOk, OnOk, if◌then◌else◌};
+    ghost use Rattle.of_plan.specs.Plan.{IsPlan, IsItem, scripts_of};
+    ghost use Rattle.of_plan.specs.Ended.{run_of};
+    ghost use Rattle.of_core.specs.Events.{Turns};
+    ghost use Rattle.of_play.specs.Play.{moves_in};
+    ghost use Rattle.of_caller.specs.Ends.{HoldsReply};
+    ghost use Rattle.of_play.specs.Playing.{StandsAfter, IsPlaying, GoesOn, BeginsNext, HasTime, IsReplied, Notes, NotesEnd, idle_standing, EndsAs, LeavesAs};
+
+    /// The run before the first step.
+    fn new(alloc: Global, plan: &Plan) -> Result<Self, AllocError>
+        ensures plan { IsPlan plan.now }
+        ensures stands { IfOk result (StandsAfter plan.now []) }
+    {
+        let scripts = Scripts {
+            callers: plan.callers(),
+            blocks: plan.blocks(),
+        };
+        let bank = Bank::new(alloc, plan.shape(), plan.limit(), scripts)?;
+        let mut answers = Vec::new(alloc);
+        let mut standings = Vec::new(alloc);
+        for _ in 0..plan.callers() {
+            answers.push(Vec::new(alloc))?;
+            standings.push(Standing {
+                spent: None,
+                steps: 0,
+            })?;
+        }
+        Ok(Playing {
+            bank,
+            answers,
+            standings,
+        })
+    }
+
+    /// Begins a caller's next call where it has none open, isn't spent and has a script left.
+    #[inline(always)]
+    fn begin_next(&mut self, plan: &Plan, caller: u32)
+        requires caller { caller < plan.now.callers }
+        requires playing { IsPlaying plan.now self.old }
+        ensures { BeginsNext plan.now caller self.old self.new }
+    {
+        plan_keeps_laws(plan);
+        if !self.bank.is_idle(caller) {
+            return;
+        }
+        if self.standings[caller as usize].spent.is_some() {
+            return;
+        }
+        let scripts = plan.scripts(caller);
+        let made = self.bank.made(caller) as usize;
+        if made >= scripts.len() {
+            return;
+        }
+        let mut words = [0; MOST_INSTRS];
+        let count = to_words(&scripts[made], &mut words);
+        self.bank.begin(caller, &words[..count as usize]);
+    }
+
+    /// Notes how the call of a caller has ended. A spent call has no answer.
+    // out of line, so that the turn of an open call doesn't carry the reply's frame
+    #[inline(never)]
+    fn note_end(&mut self, caller: u32, outcome: Outcome) -> Result<(), AllocError>
+        requires answers { caller < length self.old.answers.items }
+        requires standings { caller < length self.old.standings.items }
+        requires reply { HoldsReply outcome }
+        ensures { OnOk result (NotesEnd caller outcome self.old self.new) }
+    {
+        let place = caller as usize;
+        match outcome {
+            Outcome::Spent { seq } => {
+                self.standings[place] = Standing {
+                    spent: Some(seq),
+                    steps: 0,
+                };
+                Ok(())
+            }
+            Outcome::Answered {
+                seq,
+                announced,
+                raw,
+                steps,
+            } => {
+                self.standings[place] = Standing {
+                    spent: None,
+                    steps: 0,
+                };
+                let Some(reply) = reply_of(&raw) else {
+                    unreachable!()
+                };
+                self.answers[place].push(Answer {
+                    seq,
+                    announced,
+                    reply,
+                    steps,
+                })?;
+                Ok(())
+            }
+        }
+    }
+
+    /// Notes what a turn has said of its caller.
+    #[inline(always)]
+    fn note(&mut self, caller: u32, turn: Turn) -> Result<(), AllocError>
+        requires answers { caller < length self.old.answers.items }
+        requires standings { caller < length self.old.standings.items }
+        requires time { HasTime turn (slice_index_or self.old.standings.items caller idle_standing) }
+        requires reply { IsReplied turn }
+        ensures { OnOk result (Notes caller turn self.old self.new) }
+    {
+        match turn {
+            Turn::Idle => Ok(()),
+            Turn::Open => {
+                self.standings[caller as usize].steps += 1;
+                Ok(())
+            }
+            Turn::Ended(outcome) => self.note_end(caller, outcome),
+        }
+    }
+
+    /// Makes a turn of a caller: the step of its open call, or of the next one, which it begins.
+    // in line, since there are a million of them in a row, each of some sixty instructions
+    #[inline(always)]
+    fn turn(&mut self, plan: &Plan, caller: u32) -> Result<(), AllocError>
+        requires caller { caller < plan.now.callers }
+        requires playing { IsPlaying plan.now self.old }
+        ensures { OnOk result (GoesOn plan.now (Turns caller ∷ []) self.old self.new) }
+    {
+        plan_keeps_laws(plan);
+        runs_are_lawful();
+        self.begin_next(plan, caller);
+        let turn = self.bank.turn(caller);
+        self.note(caller, turn)
+    }
+
+    /// Makes that many turns of a caller.
+    fn turns(&mut self, plan: &Plan, caller: u32, count: u32) -> Result<(), AllocError>
+        requires caller { caller < plan.now.callers }
+        requires playing { IsPlaying plan.now self.old }
+        ensures { OnOk result (GoesOn plan.now (replicate count (Turns caller)) self.old self.new) }
+    {
+        for _ in 0..count {
+            self.turn(plan, caller)?;
+        }
+        Ok(())
+    }
+
+    /// Makes the moves of an item of the schedule.
+    fn item(&mut self, plan: &Plan, item: Item) -> Result<(), AllocError>
+        requires item { IsItem plan.now item }
+        requires playing { IsPlaying plan.now self.old }
+        ensures { OnOk result (GoesOn plan.now (moves_in item) self.old self.new) }
+    {
+        plan_keeps_laws(plan);
+        match item {
+            Item::Turns { caller, count } => self.turns(plan, caller, count),
+            Item::Evict { cell } => {
+                self.bank.evict(cell);
+                Ok(())
+            }
+        }
+    }
+
+    /// How a caller ends.
+    fn ending(&self, plan: &Plan, caller: u32) -> Ending
+        requires caller { caller < plan.now.callers }
+        requires playing { IsPlaying plan.now self.now }
+        ensures { EndsAs plan.now caller self.now result }
+    {
+        plan_keeps_laws(plan);
+        if self.answers[caller as usize].len() == plan.scripts(caller).len() {
+            return Ending::Done;
+        }
+        let standing = self.standings[caller as usize];
+        match standing.spent {
+            Some(seq) => Ending::Spent { seq },
+            None => Ending::Stopped {
+                asked: standing.steps + 1,
+            },
+        }
+    }
+
+    /// What the run leaves.
+    fn end(self, alloc: Global, plan: &Plan) -> Result<Ended, AllocError>
+        requires { IsPlaying plan.now self }
+        ensures { IfOk result (λ ended. LeavesAs plan.now self (run_of ended)) }
+    {
+        let mut endings = Vec::new(alloc);
+        for caller in 0..plan.callers() {
+            endings.push(self.ending(plan, caller))?;
+        }
+        Ok(Ended {
+            answers: self.answers,
+            endings,
+            words: self.bank.words(),
+        })
+    }
+}
+
+/// Runs a plan's schedule step by step on a bank: at each turn of a caller its open call makes a step, or it begins its next script and
+/// makes the first one. A caller that is done or spent makes none.
+pub fn play(alloc: Global, plan: &Plan) -> Result<Ended, AllocError>
+    ensures plan { IsPlan plan.now }
+    ensures played { IfOk result (λ ended. IsPlayed plan.now (run_of ended)) }
+{
+    let mut playing = Playing::new(alloc, plan)?;
+    for item in plan.schedule() {
+        playing.item(plan, *item)?;
+    }
+    playing.end(alloc, plan)
+}

@@ -1,0 +1,234 @@
+//! What a plan's schedule does, event by event, as a text.
+
+ghost use Rattle.std.specs.Prelude.{◌≡◌, ◌<◌, ◌≤◌, ◌+◌, ◌^◌, IfOk};
+ghost use Rattle.of_core.specs.Steps.{word_of};
+ghost use Rattle.of_play.specs.Trace.{trace_text};
+
+use crate::playing::Playing;
+use crate::trace_text::{Change, Step, put_evict, put_rest, put_step};
+use of_caller::laws::plan_keeps_laws;
+use of_core::Op;
+use of_plan::{Item, Plan};
+use std::alloc::{AllocError, Global};
+
+/// An event of a schedule.
+#[derive(Clone, Copy)]
+enum Event {
+    /// A turn of a caller.
+    Turn(u32),
+    /// The eviction of a cell.
+    Evict(u32),
+}
+
+/// The word that a step is on.
+fn word_of(op: Op) -> u32
+    ensures { result ≡ word_of op }
+{
+    match op {
+        Op::Load { word }
+        | Op::Store { word, .. }
+        | Op::Exchange { word, .. }
+        | Op::Raise { word, .. } => word,
+    }
+}
+
+impl Playing {
+    ghost use Rattle.std.specs.Prelude.{◌≡◌, ◌<◌, ◌++◌, [], ◌∷◌, OnOk, string_bytes};
+    ghost use Rattle.of_core.specs.Events.{Turns, Raises, Event as TheEvent};
+    ghost use Rattle.of_core.specs.Table.{size};
+    ghost use Rattle.of_caller.specs.Tables.{setup_for};
+    ghost use Rattle.of_caller.specs.Left.{moment_after};
+    ghost use Rattle.of_play.specs.Playing.{StandsAfter, IsPlaying, GoesOn};
+    ghost use Rattle.of_play.specs.Tracing.{event_of, IsEvent, WritesLine};
+
+    /// Makes a turn of a caller, and writes its line.
+    fn shown_turn(
+        &mut self,
+        plan: &Plan,
+        caller: u32,
+        number: u32,
+        text: &mut String,
+    ) -> Result<(), AllocError>
+        requires caller { caller < plan.now.callers }
+        requires playing { IsPlaying plan.now self.old }
+        ensures goes { OnOk result (GoesOn plan.now (Turns caller ∷ []) self.old self.new) }
+        ensures line { OnOk result (WritesLine plan.now number (Turns caller) self.old (string_bytes text.old) (string_bytes text.new)) }
+    {
+        plan_keeps_laws(plan);
+        self.begin_next(plan, caller);
+        if self.bank.is_idle(caller) {
+            self.turn(plan, caller)?;
+            return put_rest(text, number, caller);
+        }
+        let index = self.bank.made(caller).saturating_sub(1);
+        let place = self.bank.place(caller);
+        let word = word_of(self.bank.want(caller));
+        let found = self.bank.word(word);
+        self.turn(plan, caller)?;
+        let left = self.bank.word(word);
+        let step = Step {
+            caller,
+            index,
+            place,
+            change: Change { word, found, left },
+            outcome: self.bank.answer(caller),
+        };
+        put_step(text, plan, number, &step)
+    }
+
+    /// Makes an eviction, and writes its line.
+    fn shown_evict(
+        &mut self,
+        plan: &Plan,
+        cell: u32,
+        number: u32,
+        text: &mut String,
+    ) -> Result<(), AllocError>
+        requires cell { cell < size (setup_for plan.now) }
+        requires playing { IsPlaying plan.now self.old }
+        ensures goes { OnOk result (GoesOn plan.now (Raises cell ∷ []) self.old self.new) }
+        ensures line { OnOk result (WritesLine plan.now number (Raises cell) self.old (string_bytes text.old) (string_bytes text.new)) }
+    {
+        plan_keeps_laws(plan);
+        let word = plan.shape().durable_word(cell);
+        let found = self.bank.word(word);
+        self.item(plan, Item::Evict { cell })?;
+        let left = self.bank.word(word);
+        put_evict(text, plan, number, &Change { word, found, left })
+    }
+
+    /// Makes an event.
+    fn event(&mut self, plan: &Plan, event: Event) -> Result<(), AllocError>
+        requires event { IsEvent plan.now event }
+        requires playing { IsPlaying plan.now self.old }
+        ensures { OnOk result (GoesOn plan.now (event_of event ∷ []) self.old self.new) }
+    {
+        match event {
+            Event::Turn(caller) => self.turn(plan, caller),
+            Event::Evict(cell) => self.item(plan, Item::Evict { cell }),
+        }
+    }
+
+    /// Makes an event, and writes its line.
+    fn shown_event(
+        &mut self,
+        plan: &Plan,
+        event: Event,
+        number: u32,
+        text: &mut String,
+    ) -> Result<(), AllocError>
+        requires event { IsEvent plan.now event }
+        requires playing { IsPlaying plan.now self.old }
+        ensures goes { OnOk result (GoesOn plan.now (event_of event ∷ []) self.old self.new) }
+        ensures line { OnOk result (WritesLine plan.now number (event_of event) self.old (string_bytes text.old) (string_bytes text.new)) }
+    {
+        match event {
+            Event::Turn(caller) => self.shown_turn(plan, caller, number, text),
+            Event::Evict(cell) => self.shown_evict(plan, cell, number, text),
+        }
+    }
+}
+
+/// A trace on its way: the run so far, and the lines.
+#[derive(Drop)]
+struct Tracing {
+    playing: Playing,
+    /// The number of the next event.
+    number: u32,
+    /// The number of the first event that is shown, and the number behind the last one.
+    first: u32,
+    end: u32,
+    text: String,
+}
+
+impl Tracing {
+    ghost use Rattle.std.specs.Prelude.{◌≡◌, ◌<◌, ◌≤◌, [], ◌∷◌, IfOk, OnOk, replicate};
+    ghost use Rattle.of_plan.specs.Plan.{IsItem};
+    ghost use Rattle.of_core.specs.Events.{Turns};
+    ghost use Rattle.of_play.specs.Play.{moves_in};
+    ghost use Rattle.of_play.specs.Tracing.{event_of, IsEvent, IsTracing, TracesOn};
+
+    /// Makes an event before the first that is shown.
+    fn pass(&mut self, plan: &Plan, event: Event) -> Result<(), AllocError>
+        requires event { IsEvent plan.now event }
+        requires tracing { IsTracing plan.now self.old }
+        requires open { self.old.number < self.old.end }
+        requires early { self.old.number < self.old.first }
+        ensures { OnOk result (TracesOn plan.now (event_of event ∷ []) self.old self.new) }
+    {
+        self.playing.event(plan, event)?;
+        self.number += 1;
+        Ok(())
+    }
+
+    /// Makes an event, and shows it.
+    fn show(&mut self, plan: &Plan, event: Event) -> Result<(), AllocError>
+        requires event { IsEvent plan.now event }
+        requires tracing { IsTracing plan.now self.old }
+        requires open { self.old.number < self.old.end }
+        requires late { self.old.first ≤ self.old.number }
+        ensures { OnOk result (TracesOn plan.now (event_of event ∷ []) self.old self.new) }
+    {
+        self.playing
+            .shown_event(plan, event, self.number, &mut self.text)?;
+        self.number += 1;
+        Ok(())
+    }
+
+    /// Makes an event. It does nothing where all that are to be shown were shown.
+    fn event(&mut self, plan: &Plan, event: Event) -> Result<(), AllocError>
+        requires event { IsEvent plan.now event }
+        requires tracing { IsTracing plan.now self.old }
+        ensures { OnOk result (TracesOn plan.now (event_of event ∷ []) self.old self.new) }
+    {
+        if self.number >= self.end {
+            Ok(())
+        } else if self.number < self.first {
+            self.pass(plan, event)
+        } else {
+            self.show(plan, event)
+        }
+    }
+
+    /// Makes that many turns of a caller.
+    fn turns(&mut self, plan: &Plan, caller: u32, count: u32) -> Result<(), AllocError>
+        requires caller { caller < plan.now.callers }
+        requires tracing { IsTracing plan.now self.old }
+        ensures { OnOk result (TracesOn plan.now (replicate count (Turns caller)) self.old self.new) }
+    {
+        for _ in 0..count {
+            self.event(plan, Event::Turn(caller))?;
+        }
+        Ok(())
+    }
+
+    /// Makes the events of an item of the schedule.
+    fn item(&mut self, plan: &Plan, item: Item) -> Result<(), AllocError>
+        requires item { IsItem plan.now item }
+        requires tracing { IsTracing plan.now self.old }
+        ensures { OnOk result (TracesOn plan.now (moves_in item) self.old self.new) }
+    {
+        match item {
+            Item::Turns { caller, count } => self.turns(plan, caller, count),
+            Item::Evict { cell } => self.event(plan, Event::Evict(cell)),
+        }
+    }
+}
+
+/// What a plan's schedule does from an event on (the first turn or eviction is 0), of so many events: a line each.
+pub fn trace(alloc: Global, plan: &Plan, first: u32, count: u32) -> Result<Vec<u8>, AllocError>
+    requires { first + count < 2 ^ 32 }
+    ensures { IfOk result (λ text. text.items ≡ trace_text plan.now first count) }
+{
+    let mut tracing = Tracing {
+        playing: Playing::new(alloc, plan)?,
+        number: 0,
+        first,
+        end: first + count,
+        text: String::new(alloc),
+    };
+    for item in plan.schedule() {
+        tracing.item(plan, *item)?;
+    }
+    Ok(tracing.text.into_bytes())
+}

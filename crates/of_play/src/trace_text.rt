@@ -1,0 +1,220 @@
+//! The lines of a trace.
+
+ghost use Rattle.std.specs.Prelude.{◌≡◌, ◌<◌, ◌++◌, OnOk, string_bytes};
+ghost use Rattle.of_plan.specs.Plan.{data_cells};
+ghost use Rattle.of_play.specs.TraceText.{step_text, holding_text, cell_text, word_text, pair_text, value_text, named_change, change_text, end_text, head_text, step_line, rest_line, evict_line};
+
+use crate::names::{Cell, Holding, Word};
+use of_cell::{payload_of, seq_of};
+use of_core::{Outcome, Place};
+use of_plan::Plan;
+use std::alloc::AllocError;
+use std::fmt::Write;
+
+/// What has become of a word of the table.
+#[derive(Clone, Copy)]
+pub struct Change {
+    /// The place of the word.
+    pub word: u32,
+    /// What was found there.
+    pub found: u64,
+    /// What was left there.
+    pub left: u64,
+}
+
+/// A step that a caller has made.
+#[derive(Clone, Copy)]
+pub struct Step {
+    pub caller: u32,
+    /// The index of its call's script.
+    pub index: u32,
+    /// Where the call stood.
+    pub place: Place,
+    pub change: Change,
+    /// How the call has ended, where it was its last step.
+    pub outcome: Option<Outcome>,
+}
+
+// The plain name of the step that comes next at a place.
+fn step_name(place: Place) -> &'static str
+    ensures { result.now ≡ step_text place }
+{
+    match place {
+        Place::Idle => "nothing",
+        Place::TryCurrent => "try current",
+        Place::TryRequest => "try request",
+        Place::TryCell(_) => "try cell",
+        Place::StoreScript(_) => "store script",
+        Place::StoreAnnouncement => "store announcement",
+        Place::LoadCurrent => "load current",
+        Place::LoadRequest => "load request",
+        Place::CopyLog(_) => "copy log",
+        Place::LookAgain => "look again",
+        Place::LoadOwnTicket => "load own ticket",
+        Place::LoadShape => "load shape",
+        Place::LoadReply(_) => "load reply",
+        Place::LoadAnnouncement => "load announcement",
+        Place::LoadTicket => "load ticket",
+        Place::LoadScript(_) => "load script",
+        Place::LoadCell(_) => "load cell",
+        Place::RaiseOld => "raise old",
+        Place::StoreLog(_) => "store log",
+        Place::RaiseLog(_) => "raise log",
+        Place::StoreRequest => "store request",
+        Place::RaiseRequest => "raise request",
+        Place::ExchangeCurrent => "exchange current",
+        Place::RaiseCurrent => "raise current",
+        Place::LoadTarget(_) => "load target",
+        Place::ExchangeTarget(_, _) => "exchange target",
+        Place::ReloadTarget(_) => "reload target",
+        Place::RaiseTarget(_, _) => "raise target",
+        Place::CloseRequest => "close request",
+        Place::RaiseClosed => "raise closed",
+    }
+}
+
+// Writes what a data cell holds.
+fn put_holding(out: &mut String, holding: Holding) -> Result<(), AllocError>
+    ensures { OnOk result (string_bytes out.new ≡ string_bytes out.old ++ holding_text holding) }
+{
+    match holding {
+        Holding::Ticket(caller) => write!(out, "ticket of {caller}"),
+        Holding::Shape(caller) => write!(out, "shape of {caller}"),
+        Holding::Reply { caller, at } => write!(out, "reply {at} of {caller}"),
+        Holding::Register(register) => write!(out, "register {register}"),
+        Holding::Taken => out.push_str("blocks taken"),
+        Holding::Free => out.push_str("free list"),
+        Holding::Keys => out.push_str("number of keys"),
+        Holding::Bucket(bucket) => write!(out, "bucket {bucket}"),
+        Holding::Front(queue) => write!(out, "front of queue {queue}"),
+        Holding::Back(queue) => write!(out, "back of queue {queue}"),
+        Holding::Length(queue) => write!(out, "length of queue {queue}"),
+        Holding::Block { block, field } => write!(out, "field {field} of block {block}"),
+    }
+}
+
+// Writes the name of a cell of a plan's table.
+fn put_cell(out: &mut String, plan: &Plan, cell: Cell) -> Result<(), AllocError>
+    ensures { OnOk result (string_bytes out.new ≡ string_bytes out.old ++ cell_text plan.now.callers cell) }
+{
+    match cell {
+        Cell::Current => out.push_str("current"),
+        Cell::Request(caller) => write!(out, "request {caller}"),
+        Cell::Data(addr) => {
+            write!(out, "cell {} (", plan.callers() as u64 + 1 + addr as u64)?;
+            put_holding(out, Holding::at(&plan.plot(), addr))?;
+            out.push_str(")")
+        }
+        Cell::Log { caller, at } => write!(out, "log {at} of {caller}"),
+    }
+}
+
+// Writes the name of a word of a plan's table.
+fn put_word(out: &mut String, plan: &Plan, word: Word) -> Result<(), AllocError>
+    ensures { OnOk result (string_bytes out.new ≡ string_bytes out.old ++ word_text plan.now.callers word) }
+{
+    match word {
+        Word::Now(cell) => put_cell(out, plan, cell),
+        Word::Durable(cell) => {
+            out.push_str("durable ")?;
+            put_cell(out, plan, cell)
+        }
+        Word::Script { caller, at } => write!(out, "script word {at} of {caller}"),
+        Word::Announcement(caller) => write!(out, "announcement {caller}"),
+        Word::Members => out.push_str("members"),
+    }
+}
+
+// Writes the two parts of a word.
+fn put_pair(out: &mut String, value: u64) -> Result<(), AllocError>
+    ensures { OnOk result (string_bytes out.new ≡ string_bytes out.old ++ pair_text value) }
+{
+    let (seq, number) = (seq_of(value), payload_of(value));
+    write!(out, "({seq},{number})")
+}
+
+// Writes what stands in a word.
+fn put_value(out: &mut String, word: Word, value: u64) -> Result<(), AllocError>
+    ensures { OnOk result (string_bytes out.new ≡ string_bytes out.old ++ value_text word value) }
+{
+    match word {
+        Word::Script { .. } | Word::Members => write!(out, "{value}"),
+        Word::Now(_) | Word::Durable(_) | Word::Announcement(_) => put_pair(out, value),
+    }
+}
+
+// Writes a word of a plan's table by its name, and what has become of it.
+fn put_change(out: &mut String, plan: &Plan, change: &Change) -> Result<(), AllocError>
+    ensures { OnOk result (string_bytes out.new ≡ string_bytes out.old ++ change_text plan.now.callers (data_cells plan.now.callers plan.now.blocks) change.now) }
+{
+    let word = Word::at(&plan.shape(), change.word);
+    put_word(out, plan, word)?;
+    out.push_str(": ")?;
+    put_value(out, word, change.found)?;
+    out.push_str(" -> ")?;
+    put_value(out, word, change.left)
+}
+
+// Writes how a call has ended.
+fn put_end(out: &mut String, outcome: Option<Outcome>) -> Result<(), AllocError>
+    ensures { OnOk result (string_bytes out.new ≡ string_bytes out.old ++ end_text outcome) }
+{
+    match outcome {
+        None => Ok(()),
+        Some(Outcome::Spent { seq }) => write!(out, ", spent at {seq}"),
+        Some(
+            Outcome::Answered {
+                seq,
+                announced,
+                steps,
+                ..
+            },
+        ) => {
+            if announced {
+                write!(out, ", answered at {seq} in {steps} steps")
+            } else {
+                write!(out, ", read at {seq} in {steps} steps")
+            }
+        }
+    }
+}
+
+// Writes who has made an event, for which script, and the step.
+fn put_head(out: &mut String, number: u32, step: &Step) -> Result<(), AllocError>
+    ensures { OnOk result (string_bytes out.new ≡ string_bytes out.old ++ head_text number step.now) }
+{
+    let name = step_name(step.place);
+    write!(out, "{number} {}", step.caller)?;
+    write!(out, " {} {name}, ", step.index)
+}
+
+/// Writes the line of a turn that has made a step.
+pub fn put_step(out: &mut String, plan: &Plan, number: u32, step: &Step) -> Result<(), AllocError>
+    ensures { OnOk result (string_bytes out.new ≡ string_bytes out.old ++ step_line plan.now.callers (data_cells plan.now.callers plan.now.blocks) number step.now) }
+{
+    put_head(out, number, step)?;
+    put_change(out, plan, &step.change)?;
+    put_end(out, step.outcome)?;
+    out.push_str("\n")
+}
+
+/// Writes the line of a turn that has done nothing.
+pub fn put_rest(out: &mut String, number: u32, caller: u32) -> Result<(), AllocError>
+    ensures { OnOk result (string_bytes out.new ≡ string_bytes out.old ++ rest_line number caller) }
+{
+    writeln!(out, "{number} {caller} nothing")
+}
+
+/// Writes the line of an eviction.
+pub fn put_evict(
+    out: &mut String,
+    plan: &Plan,
+    number: u32,
+    change: &Change,
+) -> Result<(), AllocError>
+    ensures { OnOk result (string_bytes out.new ≡ string_bytes out.old ++ evict_line plan.now.callers (data_cells plan.now.callers plan.now.blocks) number change.now) }
+{
+    write!(out, "{number} evict, ")?;
+    put_change(out, plan, change)?;
+    out.push_str("\n")
+}

@@ -1,0 +1,4 @@
+pub mod Cases
+pub mod HeldReplies
+pub mod KnownCells
+pub mod Courses

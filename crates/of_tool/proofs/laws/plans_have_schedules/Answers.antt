@@ -1,6 +1,0 @@
-use Rattle.of_tool.proofs.PlaysMoments.{playable}
-use Rattle.of_tool.proofs.PlaysSchedule.{play_is_schedule}
-use Rattle.of_tool.proofs.laws.plans_have_schedules.Goals as goal
-
-pub returns : goal.returns
-returns c = let laws = c.plan_keeps_laws.ensures in play_is_schedule c.args.plan.now (playable c.args.plan.now laws.plan laws.laws laws.moments laws.zeros)
