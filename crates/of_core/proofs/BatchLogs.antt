@@ -1,6 +1,6 @@
 -- A batch's log is what its calls write, and its owner's call is among them. A try or a round loads
 -- only cells that a run needs.
-use Rattle.std.proofs.Common.{◌≡◌, ◌⊎◌, inl, inr, ℕ, zero, suc, ◌+◌, ◌*◌, ◌-◌, ◌<◌, ◌≤◌, ◌==◌, List, [], ◌∷◌, ◌++◌, length, get_or, set, refl, sym, ◌∙◌, ap, subst, arith, Option, Some, None, Bool, true, false, nat_lt, map, length-append}
+use Rattle.std.proofs.Common.{◌≡◌, ◌⊎◌, inl, inr, ℕ, zero, suc, ◌+◌, ◌*◌, ◌-◌, ◌<◌, ◌≤◌, ◌==◌, List, [], ◌∷◌, ◌++◌, length, get_or, refl, sym, ◌∙◌, ap, subst, arith, Option, Some, None, Bool, true, false, nat_lt, map, length-append}
 use Rattle.std.proofs.lemmas.Bool.{cases_eq, cases_lt}
 use Rattle.std.proofs.lemmas.Bool.Decides.{nat_tests}
 use Rattle.std.proofs.lemmas.List.{append-nil, get_or-set_same, get_or-set_other, get_or_default}
@@ -13,14 +13,14 @@ use Rattle.of_mem.specs.Pad.{over}
 use Rattle.of_core.specs.declared.place.Place.{Place}
 use Rattle.of_core.specs.declared.place.Place.TheVariants.{Idle, TryCurrent, TryRequest, TryCell, StoreScript, StoreAnnouncement, LoadCurrent, LoadRequest, CopyLog, LookAgain, LoadOwnTicket, LoadShape, LoadReply, LoadAnnouncement, LoadTicket, LoadScript, LoadCell, RaiseOld, StoreLog, RaiseLog, StoreRequest, RaiseRequest, ExchangeCurrent, RaiseCurrent, LoadTarget, ExchangeTarget, ReloadTarget, RaiseTarget, CloseRequest, RaiseClosed}
 use Rattle.of_core.specs.declared.machine.trying.TheConstants.{MOST_TRIES}
-use Rattle.of_core.specs.Table.{Setup, base, size, ticket_cell, current_word, last}
+use Rattle.of_core.specs.Table.{Setup, base, size, ticket_cell, last}
 use Rattle.of_core.specs.Machine.{Call, Data, IsOpen, is_idle, no_machine, no_call, opened, first_place, unknown, learned, log_words}
-use Rattle.of_core.specs.Steps.{read_on, read_ran, tried, resumed, after_try_request, over_try, after_try_cell, want, want_at, word_of, finds, took, took_at, counted_at, FoundBy, after_store_script, after_load_request, after_copy_log, after_look_again, after_own_ticket, not_there, after_load_shape, shape_read, after_load_reply, reply_read, asks_more, first_mark, after_announcement, weighed, after_load_ticket, after_load_script, script_more, call_run, ran, next_call, with_run, after_load_cell, after_raise_log, after_exchange, after_raise_current, after_load_target, next_entry, after_raise_closed, is_open, copy_more}
+use Rattle.of_core.specs.Steps.{read_ran, tried, resumed, after_try_request, over_try, after_try_cell, want, want_at, finds, took, took_at, counted_at, FoundBy, after_store_script, after_load_request, after_copy_log, after_look_again, after_own_ticket, after_load_shape, shape_read, after_load_reply, reply_read, asks_more, first_mark, after_announcement, weighed, after_load_ticket, after_load_script, script_more, call_run, ran, next_call, with_run, after_load_cell, after_raise_log, after_exchange, after_raise_current, after_load_target, next_entry, after_raise_closed, is_open, copy_more}
 use Rattle.of_core.specs.World.{World, Start, Batch, added, commits_at, one_batch}
-use Rattle.of_core.specs.History.{state, batch, numbers}
+use Rattle.of_core.specs.History.{batch, numbers}
 use Rattle.of_core.specs.Shared.{MayStart}
 use Rattle.of_core.specs.Invariant.{At, Core, Good}
-use Rattle.of_core.specs.Claim.{knows_state, UsesOne, IsSound}
+use Rattle.of_core.specs.Claim.{knows_state, IsSound}
 use Rattle.of_core.specs.Events.{Event, Begins, Turns, Loads, Evicts, Raises, happens, MayHappen, machine, run, IsSchedule, opening, idles, start_ticket}
 use Rattle.of_core.specs.Needed.{NeedsCell}
 use Rattle.of_core.specs.Written.{RunOf, with_call, LeadTo, IsLogOf, HasOwnCall}

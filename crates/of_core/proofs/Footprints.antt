@@ -2,7 +2,7 @@
 use Rattle.std.proofs.Common.{◌≡◌, ◌⊎◌, inl, inr, ℕ, zero, suc, ◌+◌, ◌*◌, ◌-◌, ◌<◌, ◌≤◌, ◌==◌, List, [], ◌∷◌, length, get_or, set, replicate, refl, sym, ◌∙◌, ap, subst, arith, Option, Some, None, Bool, true, false, nat_lt}
 use Rattle.std.proofs.lemmas.Bool.{cases_eq}
 use Rattle.std.proofs.lemmas.Bool.Decides.{nat_tests}
-use Rattle.std.proofs.lemmas.List.{get_or-set_same, get_or-set_other, get_or_default}
+use Rattle.std.proofs.lemmas.List.{get_or-set_same, get_or-set_other}
 use Rattle.of_core.specs.declared.machine.trying.TheConstants.{MOST_TRIES}
 use Rattle.of_cell.specs.Words.{word, seq, pay}
 use Rattle.of_mem.specs.Meaning.{Walked, Needs, Gives, Sound}
@@ -14,7 +14,7 @@ use Rattle.of_core.specs.Machine.{Data, IsOpen, is_idle, no_machine, unknown, le
 use Rattle.of_core.specs.Steps.{read_on, read_ran, tried, resumed, after_try_request, over_try, after_try_cell, want, want_at, word_of, finds, took, took_at, counted_at, after_store_script, after_load_request, after_copy_log, after_look_again, after_own_ticket, after_load_shape, shape_read, after_load_reply, reply_read, asks_more, first_mark, after_announcement, weighed, after_load_ticket, after_load_script, script_more, ran, next_call, with_run, after_load_cell, after_raise_log, after_exchange, after_raise_current, after_load_target, next_entry, after_raise_closed, is_open, copy_more}
 use Rattle.of_core.specs.World.{World, Start}
 use Rattle.of_core.specs.Invariant.{At, Core, Good}
-use Rattle.of_core.specs.Events.{Event, Begins, Turns, Loads, Evicts, Raises, happens, MayHappen, machine, run, turns, one_turn, counted, IsSchedule, StaysOpen}
+use Rattle.of_core.specs.Events.{Event, Begins, Turns, Loads, Evicts, Raises, happens, MayHappen, machine, run, turns, one_turn, IsSchedule, StaysOpen}
 use Rattle.of_core.specs.Footprint.{knowns, next_load, Touches, TouchesOnly, apply_steps, help_steps, store_steps, try_steps, round_steps, footprint, HasFootprint}
 use Rattle.of_core.proofs.Logs.{room_for, length-log_words}
 use Rattle.of_core.proofs.Tests.{differ, mark_some, is_newer}

@@ -1,5 +1,5 @@
 -- Whatever meets the invariant has begun at a start that may be, and its states are lawful.
-use Rattle.std.proofs.Common.{◌≡◌, ℕ, ◌+◌, ◌*◌, ◌≤◌, List, length, sym, ap, subst, arith, map}
+use Rattle.std.proofs.Common.{ℕ, List, subst, arith, map}
 use Rattle.of_cell.specs.Words.{pay}
 use Rattle.of_core.specs.Table.{Setup}
 use Rattle.of_core.specs.World.{World, Start}

@@ -1,5 +1,5 @@
 -- A data cell keeps its word, or gets one of a later transaction.
-use Rattle.std.proofs.Common.{◌≡◌, ◌⊎◌, inl, inr, ℕ, zero, suc, ◌+◌, ◌*◌, ◌-◌, ◌<◌, ◌≤◌, ◌==◌, List, [], ◌∷◌, length, get_or, set, max, refl, sym, ◌∙◌, ap, subst, arith, Bool, true, false, if◌then◌else◌}
+use Rattle.std.proofs.Common.{◌≡◌, ◌⊎◌, inl, inr, ℕ, ◌<◌, ◌≤◌, ◌==◌, List, [], ◌∷◌, length, get_or, set, refl, ◌∙◌, ap, arith, Bool, true, false, if◌then◌else◌}
 use Rattle.std.proofs.lemmas.Bool.{cases_eq}
 use Rattle.std.proofs.lemmas.Bool.Decides.{nat_tests}
 use Rattle.std.proofs.lemmas.List.{get_or-set_other, set-get_or, get_or_default}
@@ -7,8 +7,8 @@ use Rattle.of_cell.specs.Words.{word, seq}
 use Rattle.of_mem.specs.Meaning.{Sound}
 use Rattle.of_core.specs.declared.place.Place.{Place}
 use Rattle.of_core.specs.declared.place.Place.TheVariants.{StoreScript, StoreAnnouncement, RaiseOld, StoreLog, RaiseLog, StoreRequest, RaiseRequest, ExchangeCurrent, RaiseCurrent, ExchangeTarget, RaiseTarget, CloseRequest, RaiseClosed}
-use Rattle.of_core.specs.Table.{Setup, base, size, durable_at, script_at, request_at, data_at, log_at, cell, last}
-use Rattle.of_core.specs.Machine.{Data, entry, log_words, no_machine}
+use Rattle.of_core.specs.Table.{Setup, base, durable_at, script_at, request_at, data_at, log_at, cell, last}
+use Rattle.of_core.specs.Machine.{Data, entry, no_machine}
 use Rattle.of_core.specs.Steps.{want, want_at, word_of, words_after, finds}
 use Rattle.of_core.specs.World.{World, Start}
 use Rattle.of_core.specs.Invariant.{At, Core, Good}

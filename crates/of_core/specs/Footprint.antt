@@ -1,6 +1,6 @@
 -- How many steps a call makes at most, by what it touches: the longest log that it writes, copies
 -- or applies, and the most data cells that one of its tries or rounds loads.
-use Rattle.std.specs.Prelude.{ℕ, ◌+◌, ◌*◌, List, [], ◌∷◌, length, Option, Some, None, Bool, true, false, ◌≡◌, ◌≤◌, ◌<◌}
+use Rattle.std.specs.Prelude.{ℕ, ◌+◌, ◌*◌, List, [], ◌∷◌, length, Option, Some, None, false, ◌≡◌, ◌≤◌, ◌<◌}
 use Rattle.std.proofs.Common.{get_or, suc}
 use Rattle.of_core.specs.declared.machine.trying.TheConstants.{MOST_TRIES}
 use Rattle.of_core.specs.declared.place.Place.{Place}
