@@ -29,7 +29,7 @@ use Rattle.of_row.proofs.Tellings.{put_at, put_else, at_last, begun_idle, begun_
 
 -- ---- schedules in two parts
 
-schedule_append : (S : Setup) (w : World) (es ds : List Event) → IsSchedule S w es → IsSchedule S (run S w es) ds → IsSchedule S w (es ++ ds)
+pub schedule_append : (S : Setup) (w : World) (es ds : List Event) → IsSchedule S w es → IsSchedule S (run S w es) ds → IsSchedule S w (es ++ ds)
 schedule_append S w [] ds a b = b
 schedule_append S w (e ∷ es) ds a b = (a.0, schedule_append S (happens S w e) es ds a.1 b)
 
