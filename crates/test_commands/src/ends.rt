@@ -2,7 +2,7 @@
 
 ghost use Rattle.std.specs.Prelude.{◌<◌, ◌≤◌};
 
-use super::*;
+use of_io::{MOST_LIMIT, MemSink, MemSource, ReadErr, StdSink, StdSource, read_all, write_all};
 use std::alloc::Global;
 use std::test::Fail;
 

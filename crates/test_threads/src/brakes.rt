@@ -1,6 +1,6 @@
 //! Brakes of each kind, asked on one thread.
 
-use crate::{Brake, Fuel, Pattern, hold_pair};
+use of_brake::{Brake, Fuel, Pattern, hold_pair};
 use std::alloc::AllocError;
 
 #[test]
