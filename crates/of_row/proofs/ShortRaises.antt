@@ -1,17 +1,13 @@
 -- The raises of a run are short: the core's laws on raises, at each moment of a schedule.
-use Rattle.std.proofs.Common.{◌≡◌, ◌≢◌, ℕ, zero, suc, ◌+◌, ◌-◌, ◌<◌, ◌≤◌, ◌⊎◌, ◌==◌, nat_lt, inl, inr, List, [], ◌∷◌, ◌++◌, length, get_or, take, drop, max, Bool, true, false, if◌then◌else◌, refl, sym, ◌∙◌, ap, subst, arith}
-use Rattle.std.proofs.lemmas.Bool.{cases_lt}
+use Rattle.std.proofs.Common.{◌≡◌, ◌≢◌, ℕ, suc, ◌+◌, ◌-◌, ◌<◌, ◌≤◌, ◌⊎◌, ◌==◌, nat_lt, inl, inr, List, [], ◌∷◌, ◌++◌, length, get_or, take, drop, max, Bool, true, false, if◌then◌else◌, refl, sym, ◌∙◌, ap, subst, arith}
 use Rattle.std.proofs.lemmas.Bool.Decides.{nat_tests}
 use Rattle.std.proofs.lemmas.List.{take-append-drop, drop-drop, length-append, get_or_append_left, get_or-set_same, get_or_push}
 use Rattle.std.proofs.Math.Seq.{take-add}
-use Rattle.atomic_table.specs.Table.{State}
-use Rattle.of_core.specs.declared.place.Op.TheVariants.{Raise}
 use Rattle.of_core.specs.Table.{Setup, size, table_size, durable_at, durable_word}
-use Rattle.of_core.specs.Steps.{want}
 use Rattle.of_core.specs.World.{World, Start}
 use Rattle.of_core.specs.Shared.{MayStart}
-use Rattle.of_core.specs.Invariant.{Good, IsLoaded}
-use Rattle.of_core.specs.Events.{Event, Loads, Evicts, happens, evicted, run, machine, counted, IsSchedule}
+use Rattle.of_core.specs.Invariant.{Good}
+use Rattle.of_core.specs.Events.{Event, Loads, Evicts, happens, evicted, run, counted, IsSchedule}
 use Rattle.of_core.specs.Raised.{goes_round, lower_changes, is_pending, pending_among, EvictionsAreShort, RaisesUndisturbed, EvictionsUndisturbed}
 use Rattle.of_core.specs.Laws.{LoadKept, StartKept, ScheduleKept}
 use Rattle.of_core.proofs.Parts.{run_append, first_part, second_part}
