@@ -13,6 +13,3 @@ pub use fuel::Fuel;
 pub use hold::{Holder, Teller, hold_pair};
 pub use pattern::Pattern;
 pub use steps::Steps;
-
-#[cfg(test)]
-mod tests;

@@ -1,5 +1,5 @@
 -- What the steps of a call come to: each step leads from what is told of a call on its way to what is told behind it.
-use Rattle.std.proofs.Common.{◌≡◌, ◌↔◌, IsTrue, ℕ, zero, suc, ◌+◌, ◌-◌, ◌<◌, inl, inr, Bool, true, false, List, [], ◌∷◌, ◌++◌, Option, Some, refl, sym, ap, ◌∙◌, subst, arith, append_assoc}
+use Rattle.std.proofs.Common.{◌≡◌, ◌↔◌, IsTrue, ℕ, zero, suc, ◌+◌, ◌-◌, ◌<◌, ◌≤◌, inl, inr, Bool, true, false, List, [], ◌∷◌, ◌++◌, length, Option, Some, refl, sym, ap, ◌∙◌, subst, arith, append_assoc}
 use mathlib.Core.List.{append-nil, IsPrefix}
 use Rattle.of_core.specs.declared.place.Outcome.{Outcome}
 use Rattle.of_core.specs.Table.{Setup}
@@ -8,9 +8,10 @@ use Rattle.of_core.specs.Steps.{took}
 use Rattle.of_core.specs.World.{Start}
 use Rattle.of_core.specs.Bound.{bound}
 use Rattle.of_core.specs.Turn.{IsIdle}
-use Rattle.of_core.specs.Calls.{Beyond}
+use Rattle.of_core.specs.Calls.{operations, Beyond}
 use Rattle.of_core.specs.Laws.{IdleOrOpen}
 use Rattle.of_row.specs.Views.{Ended, Kept, Sight, reach, shown}
+use Rattle.of_row.specs.Told.{begun_of}
 use Rattle.of_row.specs.Rule.{HasEnded}
 use Rattle.of_row.specs.Turned.{Turned, Meant, Tells, since_by, since_after, ended_by, ended_at, of_answer, kept_after}
 use Rattle.of_caller.specs.CallsTold.{HasClosed, IsOpenStill, StepsTold}
@@ -19,6 +20,7 @@ use Rattle.of_caller.proofs.SpentSteps.{spent_exactly}
 -- a call on its way: n steps of it have led from the machine m and the view v to d and w
 pub record Progress (S : Setup) (L : List ℕ → Type 0) (B : Start) (m : Data) (v : Sight) (n : ℕ) (d : Data) (w : Sight) : Type 0 where
   pub seen : IsPrefix v.seen w.seen
+  pub past : IsPrefix v.past w.past
   pub caller : d.caller ≡ m.caller
   pub made : d.made ≡ m.made
   pub op : d.op ≡ m.op
@@ -30,6 +32,7 @@ pub record Progress (S : Setup) (L : List ℕ → Type 0) (B : Start) (m : Data)
   pub some : 0 < n → StepsTold S B d w kept
   pub turns : kept.turns ≡ before.turns + n
   pub since : 0 < n → kept.since ≡ since_after B v before
+  pub behind : 0 < n → length (operations v.past m.caller) ≤ length (begun_of before)
   pub still : IsOpen d.place → IsOpenStill S m before n d kept
   pub ended : IsIdle d → (o : Outcome) × HasClosed S L B m v before n d w kept o
 
@@ -43,7 +46,7 @@ pub same_kept : (x y : Kept) → ◌≡◌ {A = List Kept} (x ∷ []) (y ∷ [])
 unfolding first_kept
 same_kept x y e = ap (λ l. first_kept l x) e
 
-prefix_trans : {A : Type 0} (xs ys zs : List A) → IsPrefix xs ys → IsPrefix ys zs → IsPrefix xs zs
+pub prefix_trans : {A : Type 0} (xs ys zs : List A) → IsPrefix xs ys → IsPrefix ys zs → IsPrefix xs zs
 prefix_trans xs ys zs p q = (p.0 ++ q.0, sym (append_assoc xs p.0 q.0) ∙ (ap (λ l. l ++ q.0) p.1 ∙ q.1))
 
 -- ---- the start of a call
@@ -54,6 +57,7 @@ open_not_idle d o idle = absurd (let z : true ≡ false = sym (ap is_idle idle) 
 pub starts_at : (S : Setup) (L : List ℕ → Type 0) (B : Start) (d : Data) (v : Sight) → IsOpen d.place → d.steps < bound S → (x : Kept) → v.kept ≡ x ∷ [] → Progress S L B d v 0 d v
 starts_at S L B d v o within x one = record {
   seen = ([], append-nil v.seen);
+  past = ([], append-nil v.past);
   caller = refl;
   made = refl;
   op = refl;
@@ -65,6 +69,7 @@ starts_at S L B d v o within x one = record {
   some = λ h. absurd (omega (arith, h));
   turns = omega arith;
   since = λ h. absurd (omega (arith, h));
+  behind = λ h. absurd (omega (arith, h));
   still = λ z. record { open_call = o; steps = omega arith; within = within; kept = refl };
   ended = λ idle. absurd (open_not_idle d o idle);
 }
@@ -93,6 +98,19 @@ module _ (S : Setup) (L : List ℕ → Type 0) (B : Start) (d0 : Data) (v0 : Sig
       go (suc m) z =
           let shows = p.some (omega (arith, z)) in
           ap (λ (b : Bool). since_by b (reach B v.seen) p.kept.since) (ap (λ (m : Data). is_idle m.place) shows.machine ∙ o) ∙ p.since (omega (arith, z))
+
+  -- before the call's first step the past had no others
+  behind_is : length (operations v0.past d0.caller) ≤ length (begun_of p.before)
+  behind_is = go n refl
+    where
+      go : (m : ℕ) → n ≡ m → length (operations v0.past d0.caller) ≤ length (begun_of p.before)
+      go zero z =
+          let same = p.none z in
+          let kept : p.kept ≡ p.before = same_kept p.kept p.before (sym p.kept_now ∙ ap (λ (u : Sight). u.kept) same.0 ∙ p.kept_before) in
+          let few : length (operations v.past d.caller) ≤ length (begun_of p.kept) = t.behind p.kept p.kept_now in
+          let there : length (operations v.past d.caller) ≡ length (operations v0.past d0.caller) = (λ i. length (operations (same.0 i).past (same.1 i).caller)) in
+          omega (arith, few, there, ap (λ (x : Kept). length (begun_of x)) kept)
+      go (suc m) z = p.behind (omega (arith, z))
 
   abbrev next : Kept
   next = kept_after B v p.kept e
@@ -130,6 +148,7 @@ module _ (S : Setup) (L : List ℕ → Type 0) (B : Start) (d0 : Data) (v0 : Sig
   pub goes_by : Progress S L B d0 v0 (n + 1) e w
   goes_by = record {
     seen = prefix_trans v0.seen v.seen w.seen p.seen t.more;
+    past = prefix_trans v0.past v.past w.past p.past t.past;
     caller = t.caller ∙ p.caller;
     made = t.made ∙ p.made;
     op = t.op ∙ p.op;
@@ -138,9 +157,10 @@ module _ (S : Setup) (L : List ℕ → Type 0) (B : Start) (d0 : Data) (v0 : Sig
     kept_before = p.kept_before;
     kept_now = t.kept p.kept p.kept_now;
     none = λ z. absurd (omega (arith, z));
-    some = λ h. record { machine = refl; legal = t.legal; own = t.own p.kept p.kept_now; once = t.once p.kept p.kept_now };
+    some = λ h. record { machine = refl; legal = t.legal; own = t.own p.kept p.kept_now; once = t.once p.kept p.kept_now; told = t.told p.kept p.kept_now };
     turns = omega (arith, p.turns);
     since = λ h. since_is;
+    behind = λ h. behind_is;
     still = stays;
     ended = closes;
   }

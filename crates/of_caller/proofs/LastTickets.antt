@@ -1,12 +1,11 @@
 -- What recovery finds in a caller's own cells is its last announced entry: its ticket and its reply.
-use Rattle.std.proofs.Common.{◌≡◌, ℕ, zero, suc, ◌+◌, ◌-◌, ◌<◌, ◌≤◌, ◌⊎◌, inl, inr, Bool, true, false, cond, eqb, List, [], ◌∷◌, ◌++◌, length, get_or, refl, sym, ap, subst, ◌∙◌, arith, length-append}
+use Rattle.std.proofs.Common.{◌≡◌, ℕ, zero, suc, ◌+◌, ◌-◌, ◌<◌, ◌≤◌, ◌⊎◌, inl, inr, Bool, true, false, List, [], ◌∷◌, ◌++◌, length, get_or, refl, sym, ap, subst, ◌∙◌, arith, length-append}
 use Rattle.std.specs.Prelude.{IsTrue, Any, ◌==◌}
 use Rattle.std.specs.List.{AllByRecursion as Each}
 use Rattle.std.proofs.lemmas.Bool.{cases_lt}
 use Rattle.std.proofs.lemmas.Bool.Decides.{eqb_tells}
 use Rattle.std.proofs.lemmas.List.Elements.{All-from_recursion}
 use Rattle.of_mem.specs.Places.{ticket_at}
-use Rattle.of_script.specs.declared.instr.Reply.{Reply}
 use Rattle.of_script.specs.declared.instr.TheConstants.{MOST_INSTRS}
 use Rattle.of_eval.specs.Record.{recovered_number, answer_entry, answer_entries, open_entry, OpenCall, BeyondAnswers, IsLawful}
 use Rattle.of_plan.specs.declared.answer.Answer.{Answer}
@@ -16,14 +15,14 @@ use Rattle.of_plan.specs.Plan.{Plan}
 use Rattle.of_plan.specs.Report.{CallEntry, Start, Report, entries_of, finished_of}
 use Rattle.of_plan.specs.Ended.{Run, answers_of, ending_of}
 use Rattle.of_plan.specs.Histories.{IsIn}
-use Rattle.of_plan.proofs.HistoriesLists.{each_append, any_in, in_left, in_right}
+use Rattle.of_plan.proofs.HistoriesLists.{each_append, any_in, in_left}
 use Rattle.of_core.specs.Machine.{no_call}
 use Rattle.of_core.specs.World.{World, Start as TableStart}
 use Rattle.of_caller.specs.Runs.{IsRunOf}
 use Rattle.of_caller.specs.Restarts.{IsHeldIn, HoldLast}
 use Rattle.of_caller.proofs.RecordsLists.{in_at, length-answer_entries, answer_at}
-use Rattle.of_caller.proofs.RecordsCalls.{call_at, entry_at, IsPlace, IsRun, Stands, is_entry, earlier}
-use Rattle.of_caller.proofs.RecordsFacts.{CallerFacts, HasNone, IsLast}
+use Rattle.of_caller.proofs.RecordsCalls.{call_at, entry_at, IsPlace, Stands, is_entry, earlier}
+use Rattle.of_caller.proofs.RecordsFacts.{CallerFacts, IsLast}
 use Rattle.of_caller.proofs.RecordsOwn.{IsOwnOf, own_entries, own_at, answer_is, each_answer}
 use Rattle.of_caller.proofs.RecordsLawful.{MomentFacts, narrow}
 use Rattle.of_caller.proofs.Records.{facts}

@@ -1,11 +1,11 @@
 -- From what recovery makes of the durable words that a run leaves a table may start, and it starts
 -- where the run's report ends.
-use Rattle.std.proofs.Common.{◌≡◌, ℕ, ◌+◌, ◌-◌, ◌<◌, ◌≤◌, ◌⊎◌, inl, inr, List, length, get_or, take, drop, map, refl, sym, ap, subst, ◌∙◌, arith, length-take-le}
+use Rattle.std.proofs.Common.{◌≡◌, ℕ, ◌+◌, ◌-◌, ◌<◌, ◌≤◌, inl, inr, List, length, get_or, drop, sym, ap, subst, ◌∙◌, arith, length-take-le}
 use Rattle.std.specs.Prelude.{slice_range, IsTrue, All}
 use Rattle.std.proofs.lemmas.Bool.{cases_lt}
 use Rattle.std.proofs.lemmas.List.{get_or_past, get_or-take, get_or-drop, length-drop}
 use Rattle.of_cell.specs.Words.{seq, pay}
-use Rattle.of_cell.specs.Cells.{data_cell, durable_cells}
+use Rattle.of_cell.specs.Cells.{data_cell}
 use Rattle.of_cell.proofs.Order.{seq_zero}
 use Rattle.of_recover.specs.Recovered.{recovered, recovered_data}
 use Rattle.of_recover.proofs.Rows.{length-recovered}
@@ -17,7 +17,7 @@ use Rattle.of_mem.specs.declared.work.RawReply.{RawReply}
 use Rattle.of_eval.specs.Shapes.{IsHeldBy}
 use Rattle.of_eval.specs.Lawful.{StandsFor}
 use Rattle.of_eval.specs.Stored.{plain}
-use Rattle.of_eval.specs.Record.{cells_in, recovered_seq, recovered_word, recovered_number, IsLawful}
+use Rattle.of_eval.specs.Record.{cells_in, recovered_number, IsLawful}
 use Rattle.of_eval.proofs.Overlay.{stands_below}
 use Rattle.of_plan.specs.Plan.{Plan}
 use Rattle.of_plan.specs.Report.{CallEntry, Start, Report, entries_of, finished_of}
@@ -25,7 +25,7 @@ use Rattle.of_plan.specs.Ended.{Run}
 use Rattle.of_core.specs.Table.{Setup, size, durable_word, risen}
 use Rattle.of_core.specs.World.{World, Start as TableStart}
 use Rattle.of_core.specs.Starts.{start_of, IsDurable, IsStartRow}
-use Rattle.of_core.specs.Shared.{IsStart, MayStart}
+use Rattle.of_core.specs.Shared.{MayStart}
 use Rattle.of_caller.specs.Tables.{setup_for, lawful_for}
 use Rattle.of_caller.specs.Starts.{number_in}
 use Rattle.of_caller.specs.Runs.{IsRunOf}

@@ -1,5 +1,5 @@
 -- A team's run is a schedule.
-use Rattle.std.proofs.Common.{◌≡◌, ◌==◌, ◌&&◌, not, nat_lt, ℕ, zero, suc, ◌+◌, ◌-◌, ◌<◌, ◌≤◌, ◌⊎◌, inl, inr, Bool, true, false, if◌then◌else◌, List, [], ◌∷◌, ◌++◌, length, map, take, drop, get_or, set, length-set, Option, Some, None, refl, sym, ap, ◌∙◌, subst, arith}
+use Rattle.std.proofs.Common.{◌≡◌, ◌==◌, ◌&&◌, not, nat_lt, ℕ, zero, suc, ◌+◌, ◌<◌, ◌≤◌, ◌⊎◌, inl, inr, Bool, true, false, if◌then◌else◌, List, [], ◌∷◌, ◌++◌, length, map, take, drop, get_or, set, length-set, Option, Some, None, refl, sym, ap, ◌∙◌, subst, arith}
 use Rattle.std.specs.List.{filter_map, flat_map, slice_index_or, AllByRecursion as Each}
 use Rattle.std.proofs.lemmas.Bool.{cases_lt}
 use Rattle.std.proofs.lemmas.Bool.Decides.{nat_tests}
@@ -17,7 +17,7 @@ use Rattle.of_plan.specs.Ended.{Run, answers_of, ending_of}
 use Rattle.of_core.specs.declared.place.Outcome.{Outcome}
 use Rattle.of_core.specs.declared.place.Outcome.TheVariants.{Answered, Spent}
 use Rattle.of_core.specs.declared.place.Place.TheVariants.{Idle}
-use Rattle.of_core.specs.Table.{Setup, size, table_size}
+use Rattle.of_core.specs.Table.{Setup, table_size}
 use Rattle.of_core.specs.Machine.{Data, IsOpen, is_idle, no_machine}
 use Rattle.of_core.specs.World.{World, Start as TableStart}
 use Rattle.of_core.specs.Turn.{IsIdle}
@@ -29,17 +29,18 @@ use Rattle.of_row.specs.Views.{Ended, Kept, Sight}
 use Rattle.of_row.specs.Told.{begun_of, outcomes_of}
 use Rattle.of_row.specs.Laws.{SeesWhole}
 use Rattle.of_row.specs.Rule.{world}
-use Rattle.of_row.specs.Trail.{lifted, Agrees, TurnIsNext, IsPrompt, IsToldBy, EvictsSo, evictions}
+use Rattle.of_row.specs.Trail.{lifted, Agrees, IsPrompt, IsToldBy, EvictsSo, evictions}
+use Rattle.of_row.proofs.Calls.{are_told}
 use Rattle.of_caller.specs.Tables.{setup_for, lawful_for, opening_at, operation_of}
 use Rattle.of_caller.specs.Ends.{AreAnswers, is_spent, halted, ending_at}
 use Rattle.of_caller.proofs.RecordsOwn.{stopped_at, idle_or_open}
 use Rattle.of_caller.specs.PlanLaws.{KeepsLaws}
-use Rattle.of_caller.specs.Runs.{AreNext, ends_at}
+use Rattle.of_caller.specs.Runs.{AreNext}
 use Rattle.of_caller.specs.Teams.{KeepsCaller, KeepsLast, IsTeamOf, TeamsAreScheduled}
 use Rattle.of_caller.proofs.Schedules.{ticket_is}
-use Rattle.of_caller.proofs.KeptCallers.{TellsRecord, begun_idle}
+use Rattle.of_caller.proofs.KeptCallers.{begun_idle}
 use Rattle.of_caller.proofs.Teams.{keeps, tells, machine_is}
-use Rattle.of_caller.specs.Scheduled.{moves_in, begins_call, next_call, with_begin, events_from, scheduled, evicted_by, evictions_of, IsScheduled}
+use Rattle.of_caller.specs.Scheduled.{moves_in, begins_call, next_call, with_begin, events_from, scheduled, evicted_by, IsScheduled}
 
 -- ---- the moves and the items of events
 
@@ -357,11 +358,11 @@ module _ (p : Plan) (laws : KeepsLaws p) (sees : SeesWhole (lawful_for p)) (s : 
       halted_so : (c : ℕ) → c < p.callers → ((told c).machine.place ≡ Idle) ⊎ IsOpen (told c).machine.place → halted (last_of (outcomes_of (told c))) (told c).machine.steps ≡ halted (told c).machine.answer (told c).machine.steps
       halted_so c l (inl idle) =
           let m = machine_is p laws sees s B e v t c l in
-          let q = t.meets.rule.calls c l in
+          let q = are_told T (lawful_for p) laws.calls B t.meets.state t.meets.rule c l in
           ap (λ (o : Option Outcome). halted o (told c).machine.steps) (sym (q.last (ap (λ (d : Data). d.place) m ∙ idle)) ∙ ap (λ (d : Data). d.answer) m)
       halted_so c l (inr o) =
           let m = machine_is p laws sees s B e v t c l in
-          let q = t.meets.rule.calls c l in
+          let q = are_told T (lawful_for p) laws.calls B t.meets.state t.meets.rule c l in
           let none : (told c).machine.answer ≡ None = ap (λ (d : Data). d.answer) (sym m) ∙ q.unanswered (subst (λ (d : Data). IsOpen d.place) (sym m) o) in
           stopped_at (last_of (outcomes_of (told c))) (told c).machine.steps (unspent (outcomes_of (told c)) None refl (open_unspent p (finished_of s c) c (answers_of e c) (ending_of e c) (told c) (keeps p laws sees s B e v t c l).0 o))
           ∙ ap (λ (a : Option Outcome). halted a (told c).machine.steps) (sym none)

@@ -22,6 +22,7 @@ use Rattle.of_row.specs.Told.{IsAsTold, begun_of, outcomes_of}
 use Rattle.of_row.specs.Laws.{SeesWhole}
 use Rattle.of_caller.specs.Tables.{setup_for, lawful_for}
 use Rattle.of_caller.specs.PlanLaws.{KeepsLaws}
+use Rattle.of_row.proofs.Calls.{are_told}
 use Rattle.of_caller.specs.Moments.{batch_calls}
 use Rattle.of_caller.specs.Runs.{IsMomentOf, IsRunOf, TellsCalls, steps_made, ends_at}
 use Rattle.of_caller.specs.Stops.{KeepStop, told_in, open_in}
@@ -92,7 +93,7 @@ module _ (p : Plan) (laws : KeepsLaws p) (sees : SeesWhole (lawful_for p)) (s : 
     starts = t.starts;
     sound = sound;
     scripts = λ c lt. (tells c lt).scripts;
-    calls = λ c lt. subst (λ (n : ℕ). Calls (setup_for p) B n w c (begun_of (told c)) (outcomes_of (told c))) (ticket_is p s B t.starts c lt) (t.meets.rule.calls c lt);
+    calls = λ c lt. subst (λ (n : ℕ). Calls (setup_for p) B n w c (begun_of (told c)) (outcomes_of (told c))) (ticket_is p s B t.starts c lt) (are_told (setup_for p) (lawful_for p) laws.calls B t.meets.state t.meets.rule c lt);
   }
 
   pub tells_calls : (c : ℕ) → c < p.callers → TellsCalls p s w e c (outcomes_of (told c))

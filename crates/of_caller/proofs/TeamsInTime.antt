@@ -1,17 +1,17 @@
 -- The report of what a team leaves respects the real time of the schedule that its run is: the row's
 -- words and its history are those that the events leave, but for the announcements that its batches
 -- have met.
-use Rattle.std.proofs.Common.{◌≡◌, ℕ, zero, suc, ◌-◌, List, [], ◌∷◌, length, get_or, map, refl, sym, ap, subst, ◌∙◌}
-use Rattle.std.proofs.lemmas.List.{length-map}
+use Rattle.std.proofs.Common.{◌≡◌, ℕ, ◌-◌, List, map, subst}
 use Rattle.of_plan.specs.Plan.{Plan}
 use Rattle.of_plan.specs.Report.{Start, Report}
 use Rattle.of_plan.specs.Ended.{Run}
 use Rattle.of_eval.specs.Record.{IsLawful}
-use Rattle.of_core.specs.World.{World, Batch, Start as TableStart}
-use Rattle.of_core.specs.History.{batch, no_batch}
+use Rattle.of_core.specs.World.{World, Start as TableStart}
+use Rattle.of_core.specs.History.{batch}
 use Rattle.of_core.specs.Events.{Event, run}
-use Rattle.of_row.specs.Views.{Committed, Sight, bare}
+use Rattle.of_row.specs.Views.{Sight, bare}
 use Rattle.of_row.specs.Laws.{SeesWhole}
+use Rattle.of_row.proofs.Calls.{same_calls, same_long}
 use Rattle.of_caller.specs.Tables.{setup_for, lawful_for, opening_at}
 use Rattle.of_caller.specs.Moments.{batch_calls}
 use Rattle.of_caller.specs.PlanLaws.{KeepsLaws}
@@ -20,18 +20,6 @@ use Rattle.of_caller.specs.InTime.{RespectsTime, marks_in, TeamsRespectTime}
 use Rattle.of_caller.proofs.Teams.{w, team_is_run}
 use Rattle.of_caller.proofs.Scheduled.{team_scheduled}
 use Rattle.of_caller.proofs.InTime.{KeepsTime, respects_time}
-
--- batches that are the same but for their announcements have the same calls
-calls_in : (bs : List Batch) (j : ℕ) → get_or (map (λ (c : Committed). c.calls) (map bare bs)) j [] ≡ (get_or bs j no_batch).calls
-calls_in [] j = refl
-calls_in (b ∷ bs) zero = refl
-calls_in (b ∷ bs) (suc j) = calls_in bs j
-
-same_calls : (bs ds : List Batch) → map bare bs ≡ map bare ds → (j : ℕ) → (get_or bs j no_batch).calls ≡ (get_or ds j no_batch).calls
-same_calls bs ds same j = sym (calls_in bs j) ∙ (ap (λ (cs : List Committed). get_or (map (λ (c : Committed). c.calls) cs) j []) same ∙ calls_in ds j)
-
-same_long : (bs ds : List Batch) → map bare bs ≡ map bare ds → length bs ≡ length ds
-same_long bs ds same = sym (length-map bs bare) ∙ (ap (λ (cs : List Committed). length cs) same ∙ length-map ds bare)
 
 module _ (p : Plan) (laws : KeepsLaws p) (sees : SeesWhole (lawful_for p)) (time : KeepsTime (setup_for p) (lawful_for p)) (s : Start) (B : TableStart) (e : Run) (v : Sight) (t : IsTeamOf p s B e v) where
   abbrev es : List Event

@@ -1,15 +1,20 @@
 -- Real time between two callers, as far as they know of it: a call that begins when its caller has
--- heard of an answer comes after that answer.
-use Rattle.std.specs.Prelude.{ℕ, List, Ok, Err}
+-- heard of an answer comes after that answer, and begins after it among the events.
+use Rattle.std.specs.Prelude.{ℕ, ◌<◌, List, length, Result, Ok, Err}
 use Rattle.std.proofs.Common.{zero, suc}
 use mathlib.Core.List.{IsPrefix}
 use Rattle.of_mem.specs.Meaning.{Meaning}
 use Rattle.of_core.specs.declared.place.Outcome.{Outcome}
 use Rattle.of_core.specs.Machine.{Data}
+use Rattle.of_core.specs.Turn.{IsIdle}
+use Rattle.of_core.specs.Events.{Event}
 use Rattle.of_core.specs.Calls.{seq_of, Beyond}
+use Rattle.of_core.specs.Linear.{CallEndsBefore}
 use Rattle.of_row.specs.declared.row.Row.{Row}
-use Rattle.of_row.specs.Rows.{HasNoCall}
+use Rattle.of_row.specs.Rows.{setup_at, start_at, HasNoCall}
+use Rattle.of_row.specs.Trail.{first_of}
 use Rattle.of_caller.specs.declared.caller.Caller.{Caller}
+use Rattle.of_caller.specs.declared.caller.CallErr.{CallErr}
 use Rattle.of_caller.specs.declared.caller.CallErr.TheVariants.{Stopped}
 use Rattle.of_caller.specs.Callers.{call_of, sight_of}
 use Rattle.of_caller.specs.CallsTold.{CallTold}
@@ -39,3 +44,22 @@ ComesBehind {W} meaning lawful =
     → HasHeard a' b → HasNoCall b.member
     → IsAnsweredAfter meaning lawful row stops n b b' p
     → Beyond (seq_of o) p
+
+-- the second caller's past begins with all that the first's had
+abbrev pub HasFollowed : {W : Type 0} → (told hearer : Caller W) → Type 0
+HasFollowed a b = IsPrefix (sight_of a).past (sight_of b).past
+
+-- A call of caller a has ended and left it as a'. Caller b has taken in a pass that knew of that, and
+-- has then made a step of its next call. So in all events that begin with b's past, as those of the
+-- row do from then on, a's call has ended before b's begins.
+abbrev pub EndsFirst : {W : Type 0} → (W → Meaning) → (W → List ℕ → Type 0) → Type 0
+EndsFirst {W} meaning lawful =
+    (row : Row W) (m n : Data) (a a' b b' : Caller W) (s t p q : ℕ)
+    (r result : Result Outcome CallErr)
+    → (first : CallTold meaning lawful row m a a' s t r) → IsIdle (call_of a')
+    → HasFollowed a' b → HasNoCall b.member
+    → (second : CallTold meaning lawful row n b b' p q result) → 0 < second.steps
+    → (es : List Event) → IsPrefix (sight_of b').past es
+    → CallEndsBefore (setup_at meaning row)
+    (first_of (setup_at meaning row) (start_at meaning row)) es
+    m.caller (length first.before.ended) n.caller (length second.before.ended)

@@ -1,5 +1,5 @@
 -- What a call tells its caller: how it has ended, or that it is still open.
-use Rattle.std.specs.Prelude.{◌≡◌, ℕ, ◌+◌, ◌<◌, ◌≤◌, List, [], ◌∷◌, ◌++◌, map, Some, Result, Ok, Err}
+use Rattle.std.specs.Prelude.{◌≡◌, ℕ, ◌+◌, ◌<◌, ◌≤◌, List, [], ◌∷◌, ◌++◌, length, map, Some, Result, Ok, Err}
 use mathlib.Core.List.{IsPrefix}
 use Rattle.of_cell.specs.Words.{pay}
 use Rattle.of_mem.specs.Meaning.{Meaning}
@@ -11,8 +11,10 @@ use Rattle.of_core.specs.World.{Start}
 use Rattle.of_core.specs.History.{Legal}
 use Rattle.of_core.specs.Bound.{bound}
 use Rattle.of_core.specs.Turn.{IsIdle}
-use Rattle.of_core.specs.Calls.{Beyond, IsAnswered}
+use Rattle.of_core.specs.Calls.{operations, Beyond, IsAnswered}
 use Rattle.of_row.specs.Views.{Kept, Sight, reach, shown}
+use Rattle.of_row.specs.Told.{begun_of}
+use Rattle.of_row.specs.Trail.{IsToldBy}
 use Rattle.of_row.specs.Rule.{HasEnded, HasOwn, OwnOnce}
 use Rattle.of_row.specs.Turned.{Meant, Tells, since_after}
 use Rattle.of_row.specs.declared.row.Row.{Row}
@@ -68,13 +70,15 @@ ResultTold S L B m v x n d w y (Err (Stopped asked)) =
 ResultTold S L B m v x n d w y (Err (Spent seq)) = HasClosed S L B m v x n d w y (Over seq)
 
 -- what is told of steps that were made: the member keeps the machine; what was seen is a legal
--- history; and it has of the caller's calls just those that the caller made, as they have ended,
--- each announced one that was answered in one batch
+-- history; it has of the caller's calls just those that the caller made, as they have ended,
+-- each announced one that was answered in one batch; and in the events of its past the caller's
+-- calls began and ended so
 pub record StepsTold (S : Setup) (B : Start) (d : Data) (w : Sight) (y : Kept) : Type 0 where
   pub machine : y.machine ≡ d
   pub legal : Legal S.meaning (map pay B.cells) (shown w.seen)
   pub own : HasOwn S B w.seen y
   pub once : OwnOnce S B w.seen y
+  pub told : IsToldBy S B w.past d.caller y
 
 -- what a call tells with this result, where the count of steps went from a to b
 pub record HasTold (S : Setup) (Lawful : List ℕ → Type 0) (B : Start)
@@ -83,8 +87,9 @@ pub record HasTold (S : Setup) (Lawful : List ℕ → Type 0) (B : Start)
   -- the steps are counted
   pub steps : ℕ
   pub rise : b ≡ a + steps
-  -- nothing that was seen is lost
+  -- nothing that was seen is lost, and the past goes on
   pub seen : IsPrefix v.seen w.seen
+  pub past : IsPrefix v.past w.past
   -- number, ticket and operation stay
   pub caller : d.caller ≡ m.caller
   pub made : d.made ≡ m.made
@@ -96,6 +101,8 @@ pub record HasTold (S : Setup) (Lawful : List ℕ → Type 0) (B : Start)
   pub kept_now : w.kept ≡ kept ∷ []
   pub none : steps ≡ 0 → w ≡ v
   pub some : 0 < steps → StepsTold S B d w kept
+  -- before the first step the past had no call of the caller but those that it had begun
+  pub behind : 0 < steps → length (operations v.past m.caller) ≤ length (begun_of before)
   -- each step that is counted was made on the table
   pub turns : kept.turns ≡ before.turns + steps
   -- and the member keeps what was seen when the call began, also where it was stopped

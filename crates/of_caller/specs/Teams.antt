@@ -1,5 +1,5 @@
 -- What a team hands back: the record of a run, and a pass that has the run's calls.
-use Rattle.std.specs.Prelude.{◌≡◌, ℕ, ◌+◌, ◌-◌, ◌≤◌, ◌<◌, ◌⊎◌, List, [], ◌∷◌, ◌++◌, length, map, filter_map, take, drop, slice_index_or, false, true, Option, Some, None, IsTrue, All, Any}
+use Rattle.std.specs.Prelude.{◌≡◌, ℕ, ◌+◌, ◌-◌, ◌≤◌, ◌<◌, ◌⊎◌, List, [], ◌∷◌, ◌++◌, length, map, take, drop, slice_index_or, false, true, IsTrue, All, Any}
 use Rattle.of_eval.specs.declared.scripts.Scripts.{Scripts}
 use Rattle.of_eval.specs.Record.{IsLawful}
 use Rattle.of_eval.specs.Reported.{ReportsRun}
@@ -7,7 +7,6 @@ use Rattle.of_plan.specs.declared.answer.Answer.{Answer}
 use Rattle.of_plan.specs.declared.answer.Ending.{Ending}
 use Rattle.of_plan.specs.declared.answer.Ending.TheVariants.{Done, Stopped, Spent}
 use Rattle.of_plan.specs.declared.plan.Item.{Item}
-use Rattle.of_plan.specs.declared.plan.Item.TheVariants.{Turns, Evict}
 use Rattle.of_plan.specs.Plan.{Plan, IsPlan, scripts_of, stop_of, bound_of}
 use Rattle.of_plan.specs.Report.{CallEntry, Report, Start, finished_of}
 use Rattle.of_plan.specs.Ended.{Run, answers_of, ending_of}

@@ -29,6 +29,9 @@ pub(crate) struct Lane {
     pub(crate) answers: Vec<Answer>,
     /// Until it has run, that of a caller whose first step was denied.
     pub(crate) ending: Ending,
+    /// Lanes stand beside each other in memory, and each writes its machine at each step. This
+    /// keeps what the next one reads off that line.
+    pub(crate) apart: [u64; 16],
 }
 
 /// Adds an item for which there is room.

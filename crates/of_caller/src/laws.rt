@@ -7,7 +7,7 @@ ghost use Rattle.of_caller.specs.Teams.{TeamsAreLawful, TeamsKeepAllowances};
 ghost use Rattle.of_caller.specs.Teams.{TeamsAreScheduled};
 ghost use Rattle.of_caller.specs.Runs.{SchedulesAreMoments, StartsAreRuns, RepliesAreHeld, RunsAreLawful, RunsAreReported, RunsKeepAllowances};
 ghost use Rattle.of_caller.specs.Restarts.{RunsRestart, TeamsRestart};
-ghost use Rattle.of_caller.specs.Behind.{ComesBehind};
+ghost use Rattle.of_caller.specs.Behind.{ComesBehind, EndsFirst};
 ghost use Rattle.of_caller.specs.InTime.{SchedulesRespectTime, TeamsRespectTime};
 
 use of_core::laws::{every_call, every_moment, every_order, machines, starts, step_kept};
@@ -75,9 +75,11 @@ pub fn runs_restart()
 {}
 
 /// A call comes after each answer that its caller had heard of when it began, also if it was stopped
-/// and went on: an announced one at a higher sequence, a read at no lower one.
+/// and went on: an announced one at a higher sequence, a read at no lower one. And among the events
+/// that lead to any later moment of the row it begins after that call has ended.
 pub fn answers_are_behind<W: Work>()
-    ensures { ComesBehind W.meaning W.lawful }
+    ensures behind { ComesBehind W.meaning W.lawful }
+    ensures events { EndsFirst W.meaning W.lawful }
 {}
 
 /// The report of what a schedule of a plan leaves respects the schedule's real time: each entry comes

@@ -117,6 +117,7 @@ fn gather(
             brake: _,
             answers,
             ending,
+            apart: _,
         } = lanes.remove(0);
         pass = row.join(pass, caller.leave());
         put(all, answers);

@@ -66,6 +66,7 @@ fn seat_one(
                     brake,
                     answers,
                     ending: Ending::Stopped { asked: 1 },
+                    apart: [0; 16],
                 },
             );
             Ok(pass)

@@ -27,23 +27,3 @@ pub fn payload_of(word: u64) -> u32
 {
     (word % PAYLOADS) as u32
 }
-
-#[cfg(test)]
-mod tests {
-    use super::*;
-
-    #[test]
-    fn words(rt: HostRuntime) {
-        let rows = [
-            (0, 0, 0),
-            (1, 0, 4_294_967_296),
-            (1, 1, 4_294_967_297),
-            (u32::MAX, u32::MAX, u64::MAX),
-        ];
-        for (seq, payload, word) in rows {
-            assert_eq!(rt; pack(seq, payload), word);
-            assert_eq!(rt; seq_of(word), seq);
-            assert_eq!(rt; payload_of(word), payload);
-        }
-    }
-}

@@ -1,13 +1,13 @@
 -- How far a replay of claims has come, call by call.
 use Rattle.std.proofs.Common.{◌≡◌, ℕ, List, [], ◌∷◌, ◌++◌, refl, sym, ap, subst, ◌∙◌}
 use Rattle.of_plan.specs.Plan.{Plan}
-use Rattle.of_plan.specs.Report.{CallEntry, Report}
+use Rattle.of_plan.specs.Report.{CallEntry, Start, Report}
 use Rattle.of_report.specs.ReportText.{report_text}
 use Rattle.of_check.specs.declared.claims.CallClaim.{CallClaim}
 use Rattle.of_check.specs.declared.claims.EndClaim.{EndClaim}
 use Rattle.of_check.specs.declared.replay.Replay.{Replay}
 use Rattle.of_check.specs.Claims.{calls_in, ends_in}
-use Rattle.of_check.specs.Verdict.{IsLegalText, IsClaimed}
+use Rattle.of_check.specs.Verdict.{IsClaimed}
 use Rattle.of_check.specs.Causes.{DifferFirst, DiffersAt}
 use Rattle.of_check.specs.Course.{Course, begun, entry_for, entries_from, course_end, after, Follows, AllFollow, course_of, entries_so_far, Took, TookAll}
 
@@ -25,25 +25,22 @@ entries_more : (p : Plan) (c : Course) (qs : List CallClaim) (q : CallClaim) →
 entries_more p c [] q = refl
 entries_more p c (r ∷ qs) q = ap (λ (es : List CallEntry). entry_for p c r ∷ es) (entries_more p (after p c r) qs q)
 
-pub took_none : (p : Plan) (r : Replay) → course_of r ≡ begun p → entries_so_far r ≡ [] → TookAll p [] r
-took_none p r course entries = record { follow = tt; course = course; entries = entries }
+pub took_none : (p : Plan) (s : Start) (r : Replay) → course_of r ≡ begun s → entries_so_far r ≡ [] → TookAll p s [] r
+took_none p s r course entries = record { follow = tt; course = course; entries = entries }
 
-pub took_more : (p : Plan) (qs : List CallClaim) (q : CallClaim) (r now : Replay) → TookAll p qs r → Took p r now q → TookAll p (qs ++ q ∷ []) now
-took_more p qs q r now all took = record {
-  follow = follow_more p (begun p) qs q all.follow (subst (λ (c : Course). Follows p c q) all.course took.follows);
-  course = took.course ∙ ap (λ (c : Course). after p c q) all.course ∙ sym (end_more p (begun p) qs q);
-  entries = took.entries ∙ (λ i. all.entries i ++ entry_for p (all.course i) q ∷ []) ∙ sym (entries_more p (begun p) qs q);
+pub took_more : (p : Plan) (s : Start) (qs : List CallClaim) (q : CallClaim) (r now : Replay) → TookAll p s qs r → Took p r now q → TookAll p s (qs ++ q ∷ []) now
+took_more p s qs q r now all took = record {
+  follow = follow_more p (begun s) qs q all.follow (subst (λ (c : Course). Follows p c q) all.course took.follows);
+  course = took.course ∙ ap (λ (c : Course). after p c q) all.course ∙ sym (end_more p (begun s) qs q);
+  entries = took.entries ∙ (λ i. all.entries i ++ entry_for p (all.course i) q ∷ []) ∙ sym (entries_more p (begun s) qs q);
 }
 
 -- ---- the one report that the claims can be
 
-pub legal_when : (p : Plan) (calls : List CallClaim) (ends : List EndClaim) (made : Report) (text wanted : List ℕ) → IsClaimed p calls ends made → wanted ≡ report_text made → text ≡ wanted → IsLegalText p text
-legal_when p calls ends made text wanted is printed same = record { report = made; legal = is.legal; is = same ∙ printed }
-
-pub differs_when : (p : Plan) (calls : List CallClaim) (ends : List EndClaim) (made : Report) (text wanted slice : List ℕ) (above : ℕ) → calls ≡ calls_in text → ends ≡ ends_in text → IsClaimed p calls ends made → wanted ≡ report_text made → slice ≡ wanted → DifferFirst text slice above → DiffersAt p text wanted above
-differs_when p calls ends made text wanted slice above a b is printed same first = record {
+pub differs_when : (p : Plan) (s : Start) (calls : List CallClaim) (ends : List EndClaim) (made : Report) (text wanted slice : List ℕ) (above : ℕ) → calls ≡ calls_in text → ends ≡ ends_in text → IsClaimed p s calls ends made → wanted ≡ report_text made → slice ≡ wanted → DifferFirst text slice above → DiffersAt p s text wanted above
+differs_when p s calls ends made text wanted slice above a b is printed same first = record {
   made = made;
   text_of = printed;
-  claimed = subst (λ (qs : List CallClaim). IsClaimed p qs (ends_in text) made) a (subst (λ (es : List EndClaim). IsClaimed p calls es made) b is);
+  claimed = subst (λ (qs : List CallClaim). IsClaimed p s qs (ends_in text) made) a (subst (λ (es : List EndClaim). IsClaimed p s calls es made) b is);
   line = subst (λ (w : List ℕ). DifferFirst text w above) same first;
 }

@@ -1,6 +1,6 @@
 -- Claimed calls of which each may come next: their entries are one history of the plan's scripts
--- from the empty start.
-use Rattle.std.proofs.Common.{◌≡◌, ℕ, suc, ◌+◌, ◌<◌, ◌≤◌, ◌⊎◌, inl, inr, Bool, true, false, List, [], ◌∷◌, length, get_or, map, refl, sym, ap, subst, ◌∙◌, arith, length-set}
+-- from a start.
+use Rattle.std.proofs.Common.{◌≡◌, ℕ, suc, ◌+◌, ◌-◌, ◌<◌, ◌≤◌, ◌⊎◌, inl, inr, Bool, true, false, List, [], ◌∷◌, length, get_or, map, refl, sym, ap, subst, ◌∙◌, arith, length-set}
 use Rattle.std.specs.Prelude.{IsTrue, All, Any}
 use Rattle.std.specs.Bool.{MatchBool}
 use Rattle.std.specs.List.{range_with_len, AllByRecursion as Each}
@@ -9,12 +9,12 @@ use Rattle.std.proofs.lemmas.Bool.Decides.{eqb_tells}
 use Rattle.of_script.specs.Language.{reads_only}
 use Rattle.of_store.specs.State.{Response, replies, last_store, run}
 use Rattle.of_plan.specs.Plan.{Plan, scripts_of}
-use Rattle.of_plan.specs.Report.{CallEntry, empty_start}
+use Rattle.of_plan.specs.Report.{CallEntry, Start}
 use Rattle.of_plan.specs.Legal.{script_of, StandsBefore, StandsBeforeWithin, HasSequence}
 use Rattle.of_plan.proofs.HistoriesLists.{InLine, each_weaker}
 use Rattle.of_check.specs.declared.claims.CallClaim.{CallClaim}
 use Rattle.of_check.specs.Claims.{call_claim}
-use Rattle.of_check.specs.Course.{Course, index_for, script_for, entry_for, after, entries_from, course_end, FollowsWithin, Follows, AllFollow}
+use Rattle.of_check.specs.Course.{Course, begun, index_for, script_for, entry_for, after, entries_from, course_end, FollowsWithin, Follows, AllFollow}
 use Rattle.of_check.proofs.Own.{own, own_first, own_other, count_same, count_other, still_wide}
 
 -- ---- the entries of a caller
@@ -22,18 +22,18 @@ use Rattle.of_check.proofs.Own.{own, own_first, own_other, count_same, count_oth
 -- the entries of a caller, between two counts of its calls
 pub record OwnFacts (p : Plan) (d low high : ℕ) (mine : List CallEntry) : Type 0 where
   pub indices : map (λ (e : CallEntry). e.index) mine ≡ range_with_len low (length mine)
-  pub few : low ≤ length (scripts_of p d) → low + length mine ≤ length (scripts_of p d)
+  pub few : length mine ≤ length (scripts_of p d) - low
   pub count : high ≡ low + length mine
 
 own_more : (p : Plan) (d low now high : ℕ) (e : CallEntry) (mine : List CallEntry) → e.index ≡ low → now ≡ low + 1 → low < length (scripts_of p d) → OwnFacts p d now high mine → OwnFacts p d low high (e ∷ mine)
 own_more p d low now high e mine first next room facts = record {
   indices = λ i. first i ∷ (facts.indices ∙ ap (λ (n : ℕ). range_with_len n (length mine)) next) i;
-  few = λ le. omega (arith, next, room, facts.few (omega (arith, next, room)));
+  few = omega (arith, next, room, facts.few);
   count = omega (arith, next, facts.count);
 }
 
 pub own_facts : (p : Plan) (c : Course) (qs : List CallClaim) (d : ℕ) → p.callers ≤ length c.counts → AllFollow p c qs → OwnFacts p d (get_or c.counts d 0) (get_or (course_end p c qs).counts d 0) (own d (entries_from p c qs))
-own_facts p c [] d wide all = record { indices = refl; few = λ le. omega arith; count = omega arith }
+own_facts p c [] d wide all = record { indices = refl; few = omega arith; count = omega arith }
 own_facts p c (q ∷ qs) d wide all =
     let again = own_facts p (after p c q) qs d (still_wide c.counts q.caller (index_for c q + 1) p.callers wide) all.1 in
     let high = get_or (course_end p c (q ∷ qs)).counts d 0 in
@@ -101,62 +101,67 @@ in_line p c (q ∷ r ∷ qs) wide all =
 
 -- ---- their sequences
 
--- an announced last call has a sequence above 0
-abbrev pub HasStarted : CallClaim → Type 0
-HasStarted l = l.announced ≡ true → 0 < l.seq
+-- the last call is no lower than the start, and above it where it was announced
+pub record IsSince (from : ℕ) (l : CallClaim) : Type 0 where
+  pub low : from ≤ l.seq
+  pub above : l.announced ≡ true → from < l.seq
 
-record Step (l q : CallClaim) : Type 0 where
-  pub starts : HasStarted q
+record Step (from : ℕ) (l q : CallClaim) : Type 0 where
+  pub since : IsSince from q
   pub on : l.seq ≤ q.seq
   pub one : q.seq ≤ l.seq + 1
   pub rises : l.seq < q.seq → q.announced ≡ true
 
-step : (a b : Bool) (l q : CallClaim) → q.announced ≡ b → FollowsWithin a b l q → (a ≡ true → 0 < l.seq) → Step l q
-step true true l q is (inl up) started = record { starts = λ t. omega (arith, up); on = omega (arith, up); one = omega (arith, up); rises = λ lt. is }
-step true true l q is (inr here) started = record { starts = λ t. omega (arith, here.0, started refl); on = omega (arith, here.0); one = omega (arith, here.0); rises = λ lt. is }
-step true false l q is here started = record { starts = λ t. absurd (cc); on = omega (arith, here); one = omega (arith, here); rises = λ lt. absurd (omega (arith, here, lt)) }
-step false true l q is up started = record { starts = λ t. omega (arith, up); on = omega (arith, up); one = omega (arith, up); rises = λ lt. is }
-step false false l q is here started = record { starts = λ t. absurd (cc); on = omega (arith, here.0); one = omega (arith, here.0); rises = λ lt. absurd (omega (arith, here.0, lt)) }
+step : (from : ℕ) (a b : Bool) (l q : CallClaim) → q.announced ≡ b → FollowsWithin a b l q → (a ≡ true → from < l.seq) → from ≤ l.seq → Step from l q
+step from true true l q is (inl up) above low = record { since = record { low = omega (arith, up, low); above = λ t. omega (arith, up, low) }; on = omega (arith, up); one = omega (arith, up); rises = λ lt. is }
+step from true true l q is (inr here) above low = record { since = record { low = omega (arith, here.0, low); above = λ t. omega (arith, here.0, above refl) }; on = omega (arith, here.0); one = omega (arith, here.0); rises = λ lt. is }
+step from true false l q is here above low = record { since = record { low = omega (arith, here, low); above = λ t. absurd (cc) }; on = omega (arith, here); one = omega (arith, here); rises = λ lt. absurd (omega (arith, here, lt)) }
+step from false true l q is up above low = record { since = record { low = omega (arith, up, low); above = λ t. omega (arith, up, low) }; on = omega (arith, up); one = omega (arith, up); rises = λ lt. is }
+step from false false l q is here above low = record { since = record { low = omega (arith, here.0, low); above = λ t. absurd (cc) }; on = omega (arith, here.0); one = omega (arith, here.0); rises = λ lt. absurd (omega (arith, here.0, lt)) }
 
-step_of : (p : Plan) (c : Course) (q : CallClaim) → Follows p c q → HasStarted c.last → Step c.last q
-step_of p c q follows started = step c.last.announced q.announced c.last q refl follows.place started
+step_of : (p : Plan) (from : ℕ) (c : Course) (q : CallClaim) → Follows p c q → IsSince from c.last → Step from c.last q
+step_of p from c q follows since = step from c.last.announced q.announced c.last q refl follows.place since.above since.low
 
 matched : (b : Bool) (P Q : Type 0) → (b ≡ true → P) → (b ≡ false → Q) → MatchBool b P Q
 matched true P Q one other = one refl
 matched false P Q one other = other refl
 
-pub last_up_to : (p : Plan) (c : Course) (qs : List CallClaim) → HasStarted c.last → AllFollow p c qs → c.last.seq ≤ (course_end p c qs).last.seq
-last_up_to p c [] started all = omega arith
-last_up_to p c (q ∷ qs) started all =
-    let s = step_of p c q all.0 started in
-    omega (arith, s.on, last_up_to p (after p c q) qs s.starts all.1)
+-- where a start stands
+pub since_start : (s : Start) → IsSince s.seq (begun s).last
+since_start s = record { low = omega arith; above = λ t. absurd (cc) }
 
-pub sequences_are : (p : Plan) (c : Course) (qs : List CallClaim) → HasStarted c.last → AllFollow p c qs → Each (λ (e : CallEntry). HasSequence p (empty_start p) e × (e.seq ≤ (course_end p c qs).last.seq)) (entries_from p c qs)
-sequences_are p c [] started all = tt
-sequences_are p c (q ∷ qs) started all =
-    let s = step_of p c q all.0 started in (
+pub last_up_to : (p : Plan) (from : ℕ) (c : Course) (qs : List CallClaim) → IsSince from c.last → AllFollow p c qs → c.last.seq ≤ (course_end p c qs).last.seq
+last_up_to p from c [] since all = omega arith
+last_up_to p from c (q ∷ qs) since all =
+    let s = step_of p from c q all.0 since in
+    omega (arith, s.on, last_up_to p from (after p c q) qs s.since all.1)
+
+pub sequences_are : (p : Plan) (s : Start) (c : Course) (qs : List CallClaim) → IsSince s.seq c.last → AllFollow p c qs → Each (λ (e : CallEntry). HasSequence p s e × (e.seq ≤ (course_end p c qs).last.seq)) (entries_from p c qs)
+sequences_are p s c [] since all = tt
+sequences_are p s c (q ∷ qs) since all =
+    let t = step_of p s.seq c q all.0 since in (
       (
-        matched q.announced (0 < q.seq) ((0 ≤ q.seq) × All (λ i. IsTrue (reads_only i)) (script_for p c q)) s.starts (λ read. (omega arith, all.0.reads read)),
-        last_up_to p (after p c q) qs s.starts all.1,
+        matched q.announced (s.seq < q.seq) ((s.seq ≤ q.seq) × All (λ i. IsTrue (reads_only i)) (script_for p c q)) t.since.above (λ read. (t.since.low, all.0.reads read)),
+        last_up_to p s.seq (after p c q) qs t.since all.1,
       ),
-      sequences_are p (after p c q) qs s.starts all.1,
+      sequences_are p s (after p c q) qs t.since all.1,
     )
 
-pub each_there : (p : Plan) (c : Course) (qs : List CallClaim) → HasStarted c.last → AllFollow p c qs → (k : ℕ) → c.last.seq < k → k ≤ (course_end p c qs).last.seq → Any (λ (e : CallEntry). IsTrue e.announced × (e.seq ≡ k)) (entries_from p c qs)
-each_there p c [] started all k low high = absurd (omega (arith, low, high))
-each_there p c (q ∷ qs) started all k low high =
-    let s = step_of p c q all.0 started in
+pub each_there : (p : Plan) (from : ℕ) (c : Course) (qs : List CallClaim) → IsSince from c.last → AllFollow p c qs → (k : ℕ) → c.last.seq < k → k ≤ (course_end p c qs).last.seq → Any (λ (e : CallEntry). IsTrue e.announced × (e.seq ≡ k)) (entries_from p c qs)
+each_there p from c [] since all k low high = absurd (omega (arith, low, high))
+each_there p from c (q ∷ qs) since all k low high =
+    let s = step_of p from c q all.0 since in
     elim (eqb_tells q.seq k) [
       | inl here ↦ (0, entry_for p c q, omega arith, refl, (s.rises (omega (arith, here.1)), here.1))
-      | inr other ↦ (let found = each_there p (after p c q) qs s.starts all.1 k (omega (arith, s.one, other.1)) high in (suc found.0, found.1, omega (arith, found.2), found.3, found.4))
+      | inr other ↦ (let found = each_there p from (after p c q) qs s.since all.1 k (omega (arith, s.one, other.1)) high in (suc found.0, found.1, omega (arith, found.2), found.3, found.4))
     ]
 
 -- no more sequences than calls
-pub few_sequences : (p : Plan) (c : Course) (qs : List CallClaim) → HasStarted c.last → AllFollow p c qs → (course_end p c qs).last.seq ≤ c.last.seq + length qs
-few_sequences p c [] started all = omega arith
-few_sequences p c (q ∷ qs) started all =
-    let s = step_of p c q all.0 started in
-    omega (arith, s.one, few_sequences p (after p c q) qs s.starts all.1)
+pub few_sequences : (p : Plan) (from : ℕ) (c : Course) (qs : List CallClaim) → IsSince from c.last → AllFollow p c qs → (course_end p c qs).last.seq ≤ c.last.seq + length qs
+few_sequences p from c [] since all = omega arith
+few_sequences p from c (q ∷ qs) since all =
+    let s = step_of p from c q all.0 since in
+    omega (arith, s.one, few_sequences p from (after p c q) qs s.since all.1)
 
 -- ---- their replies
 

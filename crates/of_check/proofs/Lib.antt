@@ -9,3 +9,4 @@ pub mod Readings
 pub mod Verdicts
 pub mod Causes
 pub mod Differences
+pub mod Stores

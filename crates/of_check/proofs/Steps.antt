@@ -1,33 +1,33 @@
 -- How far a replay of claims has come, and a list that is read piece by piece.
 use Rattle.std.proofs.Common.{◌≡◌, ℕ, ◌+◌, List, [], ◌∷◌, ◌++◌, length, sym, ap, subst, ◌∙◌, append_assoc, length-set}
 use Rattle.std.specs.Prelude.{flat_map}
-use Rattle.std.proofs.lemmas.List.{append-nil, length-replicate}
+use Rattle.std.proofs.lemmas.List.{append-nil}
 use Rattle.std.proofs.lemmas.List.Concat.{flat_map-cons}
 use Rattle.of_plan.specs.Plan.{Plan}
-use Rattle.of_plan.specs.Report.{CallEntry}
+use Rattle.of_plan.specs.Report.{CallEntry, Start}
 use Rattle.of_check.specs.declared.claims.CallClaim.{CallClaim}
 use Rattle.of_check.specs.declared.replay.Replay.{Replay}
 use Rattle.of_check.specs.Course.{Course, begun, index_for, entry_for, entries_from, course_end, Follows, AllFollow, course_of, entries_so_far, Took, TookAll}
 
 -- the claims that are left lead from the replay where all lead from the start
-pub record Comes (p : Plan) (qs : List CallClaim) (r : Replay) (rest : List CallClaim) : Type 0 where
+pub record Comes (p : Plan) (s : Start) (qs : List CallClaim) (r : Replay) (rest : List CallClaim) : Type 0 where
   pub wide : length r.counts.items ≡ p.callers
-  pub back : AllFollow p (course_of r) rest → AllFollow p (begun p) qs
-  pub on : AllFollow p (begun p) qs → AllFollow p (course_of r) rest
-  pub course : course_end p (course_of r) rest ≡ course_end p (begun p) qs
-  pub entries : entries_so_far r ++ entries_from p (course_of r) rest ≡ entries_from p (begun p) qs
+  pub back : AllFollow p (course_of r) rest → AllFollow p (begun s) qs
+  pub on : AllFollow p (begun s) qs → AllFollow p (course_of r) rest
+  pub course : course_end p (course_of r) rest ≡ course_end p (begun s) qs
+  pub entries : entries_so_far r ++ entries_from p (course_of r) rest ≡ entries_from p (begun s) qs
 
-pub comes_first : (p : Plan) (qs : List CallClaim) (r : Replay) → course_of r ≡ begun p → entries_so_far r ≡ [] → Comes p qs r qs
-comes_first p qs r same none = record {
-  wide = ap (λ (c : Course). length c.counts) same ∙ length-replicate {A = ℕ} p.callers 0;
+pub comes_first : (p : Plan) (s : Start) (qs : List CallClaim) (r : Replay) → length s.finished ≡ p.callers → course_of r ≡ begun s → entries_so_far r ≡ [] → Comes p s qs r qs
+comes_first p s qs r knows same none = record {
+  wide = ap (λ (c : Course). length c.counts) same ∙ knows;
   back = λ all. subst (λ (c : Course). AllFollow p c qs) same all;
   on = λ all. subst (λ (c : Course). AllFollow p c qs) (sym same) all;
   course = ap (λ (c : Course). course_end p c qs) same;
   entries = ap (λ (es : List CallEntry). es ++ entries_from p (course_of r) qs) none ∙ ap (λ (c : Course). entries_from p c qs) same;
 }
 
-pub comes_on : (p : Plan) (qs rest : List CallClaim) (q : CallClaim) (r now : Replay) → Comes p qs r (q ∷ rest) → Took p r now q → Comes p qs now rest
-comes_on p qs rest q r now comes took = record {
+pub comes_on : (p : Plan) (s : Start) (qs rest : List CallClaim) (q : CallClaim) (r now : Replay) → Comes p s qs r (q ∷ rest) → Took p r now q → Comes p s qs now rest
+comes_on p s qs rest q r now comes took = record {
   wide = ap (λ (c : Course). length c.counts) took.course ∙ length-set r.counts.items q.caller (index_for (course_of r) q + 1) ∙ comes.wide;
   back = λ all. comes.back (took.follows, subst (λ (c : Course). AllFollow p c rest) took.course all);
   on = λ all. subst (λ (c : Course). AllFollow p c rest) (sym took.course) (comes.on all).1;
@@ -39,11 +39,11 @@ comes_on p qs rest q r now comes took = record {
       ∙ comes.entries;
 }
 
-pub comes_stuck : (p : Plan) (qs rest : List CallClaim) (q : CallClaim) (r : Replay) → Comes p qs r (q ∷ rest) → (Follows p (course_of r) q → ⊥) → AllFollow p (begun p) qs → ⊥
-comes_stuck p qs rest q r comes none all = none (comes.on all).0
+pub comes_stuck : (p : Plan) (s : Start) (qs rest : List CallClaim) (q : CallClaim) (r : Replay) → Comes p s qs r (q ∷ rest) → (Follows p (course_of r) q → ⊥) → AllFollow p (begun s) qs → ⊥
+comes_stuck p s qs rest q r comes none all = none (comes.on all).0
 
-pub comes_last : (p : Plan) (qs : List CallClaim) (r : Replay) → Comes p qs r [] → TookAll p qs r
-comes_last p qs r comes = record { follow = comes.back tt; course = comes.course; entries = sym (append-nil (entries_so_far r)) ∙ comes.entries }
+pub comes_last : (p : Plan) (s : Start) (qs : List CallClaim) (r : Replay) → Comes p s qs r [] → TookAll p s qs r
+comes_last p s qs r comes = record { follow = comes.back tt; course = comes.course; entries = sym (append-nil (entries_so_far r)) ∙ comes.entries }
 
 -- ---- a list that is read piece by piece
 

@@ -1,6 +1,6 @@
 -- The entries of a legal report are those that its claims make, and each of its calls may come
 -- next.
-use Rattle.std.proofs.Common.{◌≡◌, ℕ, zero, suc, ◌+◌, ◌<◌, ◌≤◌, ◌⊎◌, inl, inr, Bool, true, false, List, [], ◌∷◌, length, get_or, drop, map, refl, sym, ap, subst, ◌∙◌, arith}
+use Rattle.std.proofs.Common.{◌≡◌, ℕ, zero, suc, ◌+◌, ◌-◌, ◌<◌, ◌≤◌, ◌⊎◌, inl, inr, Bool, true, false, List, [], ◌∷◌, length, get_or, drop, map, refl, sym, ap, subst, ◌∙◌, arith}
 use Rattle.std.specs.Prelude.{IsTrue, All, Any}
 use Rattle.std.specs.Bool.{MatchBool}
 use Rattle.std.specs.List.{range_with_len, AllByRecursion as Each}
@@ -10,7 +10,7 @@ use Rattle.of_script.specs.declared.instr.Instr.{Instr}
 use Rattle.of_script.specs.Language.{reads_only}
 use Rattle.of_store.specs.State.{Response, replies, run}
 use Rattle.of_plan.specs.Plan.{Plan, scripts_of}
-use Rattle.of_plan.specs.Report.{CallEntry, empty_start}
+use Rattle.of_plan.specs.Report.{CallEntry, Start}
 use Rattle.of_plan.specs.Legal.{script_of, StandsBefore, StandsBeforeWithin, HasSequence}
 use Rattle.of_plan.proofs.HistoriesLists.{InLine, each_weaker}
 use Rattle.of_check.specs.declared.claims.CallClaim.{CallClaim}
@@ -44,13 +44,13 @@ abbrev IsRunAt : ℕ → CallEntry → Type 0
 IsRunAt k e = IsTrue e.announced × (e.seq ≡ k)
 
 -- entries that are legal from a course on, up to a last sequence
-pub record GoOn (p : Plan) (c : Course) (seq : ℕ) (es : List CallEntry) : Type 0 where
+pub record GoOn (p : Plan) (s : Start) (c : Course) (seq : ℕ) (es : List CallEntry) : Type 0 where
   pub callers : Each (λ (e : CallEntry). e.caller < p.callers) es
   pub indices : (d : ℕ) → d < p.callers → map (λ (e : CallEntry). e.index) (own d es) ≡ range_with_len (get_or c.counts d 0) (length (own d es))
-  pub few : (d : ℕ) → d < p.callers → get_or c.counts d 0 + length (own d es) ≤ length (scripts_of p d)
+  pub few : (d : ℕ) → d < p.callers → length (own d es) ≤ length (scripts_of p d) - get_or c.counts d 0
   pub order : InLine StandsBefore es
   pub behind_last : Each (Behind c.last) es
-  pub sequences : Each (λ (e : CallEntry). HasSequence p (empty_start p) e × (e.seq ≤ seq)) es
+  pub sequences : Each (λ (e : CallEntry). HasSequence p s e × (e.seq ≤ seq)) es
   pub within : c.last.seq ≤ seq
   pub none_left_out : (k : ℕ) → c.last.seq < k → k ≤ seq → Any (IsRunAt k) es
   pub told : map (λ (e : CallEntry). e.reply) es ≡ replies c.store (map (script_of p) es)
@@ -87,7 +87,7 @@ reads_when : (b : Bool) (P Q : Type 0) → b ≡ false → MatchBool b P Q → Q
 reads_when true P Q is h = absurd cc
 reads_when false P Q is h = h
 
-module _ (p : Plan) (c : Course) (seq : ℕ) (e : CallEntry) (es : List CallEntry) (wide : p.callers ≤ length c.counts) (go : GoOn p c seq (e ∷ es)) where
+module _ (p : Plan) (s : Start) (c : Course) (seq : ℕ) (e : CallEntry) (es : List CallEntry) (wide : p.callers ≤ length c.counts) (go : GoOn p s c seq (e ∷ es)) where
   below : e.caller < p.callers
   below = go.callers.0
 
@@ -115,7 +115,7 @@ module _ (p : Plan) (c : Course) (seq : ℕ) (e : CallEntry) (es : List CallEntr
     caller = below;
     script = room;
     place = placed c.last.announced e.announced c.last e refl rises go.behind_last.0;
-    reads = λ read. subst (λ (script : List Instr). All (λ i. IsTrue (reads_only i)) script) (sym script_is) (reads_when e.announced (0 < e.seq) ((0 ≤ e.seq) × All (λ i. IsTrue (reads_only i)) (script_of p e)) read go.sequences.0.0).1;
+    reads = λ read. subst (λ (script : List Instr). All (λ i. IsTrue (reads_only i)) script) (sym script_is) (reads_when e.announced (s.seq < e.seq) ((s.seq ≤ e.seq) × All (λ i. IsTrue (reads_only i)) (script_of p e)) read go.sequences.0.0).1;
   }
 
   reply_is : e.reply ≡ (run c.store (script_of p e)).1
@@ -144,7 +144,7 @@ module _ (p : Plan) (c : Course) (seq : ℕ) (e : CallEntry) (es : List CallEntr
         | inr other ↦ subst Are (own_other d e es other.1) (go.indices d lt) ∙ ap (λ (n : ℕ). range_with_len n (length (own d es))) (sym (count_other c.counts e.caller d (index_for c (call_claim e) + 1) other.1))
       ]
 
-  few_on : (d : ℕ) → d < p.callers → get_or next.counts d 0 + length (own d es) ≤ length (scripts_of p d)
+  few_on : (d : ℕ) → d < p.callers → length (own d es) ≤ length (scripts_of p d) - get_or next.counts d 0
   few_on d lt = elim (eqb_tells e.caller d) [
     | inl same ↦ omega (arith, raised d same.1, ap length (own_first d e es same.1), go.few d lt)
     | inr other ↦ omega (arith, count_other c.counts e.caller d (index_for c (call_claim e) + 1) other.1, ap length (own_other d e es other.1), go.few d lt)
@@ -163,7 +163,7 @@ module _ (p : Plan) (c : Course) (seq : ℕ) (e : CallEntry) (es : List CallEntr
   told_on : map (λ (f : CallEntry). f.reply) es ≡ replies next.store (map (script_of p) es)
   told_on = ap (drop 1) go.told ∙ ap (λ (script : List Instr). replies (run c.store script).0 (map (script_of p) es)) (sym script_is)
 
-  pub go_on : GoOn p (after p c (call_claim e)) seq es
+  pub go_on : GoOn p s (after p c (call_claim e)) seq es
   go_on = record {
     callers = go.callers.1;
     indices = indices_on;
@@ -182,17 +182,17 @@ pub record Remade (p : Plan) (c : Course) (seq : ℕ) (es : List CallEntry) : Ty
   pub entries : entries_from p c (map call_claim es) ≡ es
   pub last : (course_end p c (map call_claim es)).last.seq ≡ seq
 
-pub remade : (p : Plan) (c : Course) (seq : ℕ) (es : List CallEntry) → p.callers ≤ length c.counts → GoOn p c seq es → Remade p c seq es
-remade p c seq [] wide go = record {
+pub remade : (p : Plan) (s : Start) (c : Course) (seq : ℕ) (es : List CallEntry) → p.callers ≤ length c.counts → GoOn p s c seq es → Remade p c seq es
+remade p s c seq [] wide go = record {
   follow = tt;
   entries = refl;
   last = elim (eq-or-lt_of_le go.within) [ inl same ↦ same | inr less ↦ absurd (let found = go.none_left_out seq less (omega arith) in let lt = found.2 in omega (arith, lt)) ];
 }
-remade p c seq (e ∷ es) wide go =
-    let again = remade p (after p c (call_claim e)) seq es (still_wide c.counts e.caller (index_for c (call_claim e) + 1) p.callers wide) (go_on p c seq e es wide go) in
-    let first = entry_is p c seq e es wide go in
+remade p s c seq (e ∷ es) wide go =
+    let again = remade p s (after p c (call_claim e)) seq es (still_wide c.counts e.caller (index_for c (call_claim e) + 1) p.callers wide) (go_on p s c seq e es wide go) in
+    let first = entry_is p s c seq e es wide go in
     record {
-      follow = (may_follow p c seq e es wide go, again.follow);
+      follow = (may_follow p s c seq e es wide go, again.follow);
       entries = λ i. first i ∷ again.entries i;
       last = again.last;
     }

@@ -1,9 +1,9 @@
--- What a cause says of a text that is no legal report of a plan.
+-- What a cause says of a text that is no legal report of a plan from a start.
 use Rattle.std.specs.Prelude.{◌≡◌, ◌≢◌, ℕ, ◌+◌, ◌<◌, List, length, take, false, All, IsTrue, slice_index_or}
 use Rattle.of_script.specs.Language.{reads_only}
 use Rattle.of_plan.specs.Plan.{Plan, scripts_of}
 use Rattle.of_plan.specs.Lines.{lines}
-use Rattle.of_plan.specs.Report.{Report, CallerLine}
+use Rattle.of_plan.specs.Report.{Report, CallerLine, Start, empty_start}
 use Rattle.of_plan.specs.Legal.{HasOpenCall, HasEnded, IsWithinBound}
 use Rattle.of_report.specs.ReportText.{report_text}
 use Rattle.of_check.specs.declared.claims.CallClaim.{CallClaim}
@@ -16,7 +16,7 @@ use Rattle.of_check.specs.declared.cause.Cause.{Cause}
 use Rattle.of_check.specs.declared.cause.Cause.TheVariants.{Callers, Entry, Caller, Line}
 use Rattle.of_check.specs.Claims.{calls_in, ends_in}
 use Rattle.of_check.specs.Course.{Course, begun, index_for, script_for, course_end, FollowsWithin, AllFollow}
-use Rattle.of_check.specs.Endings.{IsEnding, claimed_line_at}
+use Rattle.of_check.specs.Endings.{left_of, IsEnding, claimed_line_at}
 use Rattle.of_check.specs.Verdict.{IsClaimed}
 
 -- the claimed call breaks this rule, and none before it
@@ -31,27 +31,27 @@ abbrev pub call_at : List CallClaim → ℕ → CallClaim
 call_at calls index = slice_index_or calls index (record { seq = 0; caller = 0; announced = false })
 
 -- the claimed calls before this one may come one after another, and this one breaks the rule
-pub record BreaksAt (p : Plan) (calls : List CallClaim) (index : ℕ) (rule : EntryRule) : Type 0 where
+pub record BreaksAt (p : Plan) (s : Start) (calls : List CallClaim) (index : ℕ) (rule : EntryRule) : Type 0 where
   pub there : index < length calls
-  pub before : AllFollow p (begun p) (take index calls)
-  pub breaks : BreaksEntry rule p (course_end p (begun p) (take index calls)) (call_at calls index)
+  pub before : AllFollow p (begun s) (take index calls)
+  pub breaks : BreaksEntry rule p (course_end p (begun s) (take index calls)) (call_at calls index)
 
--- the line of a caller with so many scripts breaks this rule, and none before it
+-- the line of a caller that had so many scripts to do breaks this rule, and none before it
 abbrev pub BreaksEnd : EndRule → Plan → (scripts seq : ℕ) → CallerLine → Type 0
 BreaksEnd Answered p scripts seq l = HasOpenCall l.state l.answered l.entries → ⊥
 BreaksEnd Ending p scripts seq l = HasOpenCall l.state l.answered l.entries × (HasEnded l.state l.answered scripts seq p.limit → ⊥)
 BreaksEnd Steps p scripts seq l = HasOpenCall l.state l.answered l.entries × HasEnded l.state l.answered scripts seq p.limit × (IsWithinBound p l → ⊥)
 
 -- the callers before this one may end so, and this one breaks the rule
-pub record BreaksFirst (p : Plan) (seq : ℕ) (counts : List ℕ) (ends : List EndClaim) (caller : ℕ) (rule : EndRule) : Type 0 where
+pub record BreaksFirst (p : Plan) (done : List ℕ) (seq : ℕ) (counts : List ℕ) (ends : List EndClaim) (caller : ℕ) (rule : EndRule) : Type 0 where
   pub there : caller < p.callers
-  pub before : (c : ℕ) → c < caller → IsEnding p (length (scripts_of p c)) seq (claimed_line_at counts ends c)
-  pub breaks : BreaksEnd rule p (length (scripts_of p caller)) seq (claimed_line_at counts ends caller)
+  pub before : (c : ℕ) → c < caller → IsEnding p (left_of p done c) seq (claimed_line_at done counts ends c)
+  pub breaks : BreaksEnd rule p (left_of p done caller) seq (claimed_line_at done counts ends caller)
 
 -- all claimed calls may come one after another, and behind them this caller breaks the rule
-pub record BreaksCaller (p : Plan) (calls : List CallClaim) (ends : List EndClaim) (caller : ℕ) (rule : EndRule) : Type 0 where
-  pub all : AllFollow p (begun p) calls
-  pub first : (let c = course_end p (begun p) calls in BreaksFirst p c.last.seq c.counts ends caller rule)
+pub record BreaksCaller (p : Plan) (s : Start) (calls : List CallClaim) (ends : List EndClaim) (caller : ℕ) (rule : EndRule) : Type 0 where
+  pub all : AllFollow p (begun s) calls
+  pub first : (let c = course_end p (begun s) calls in BreaksFirst p s.finished c.last.seq c.counts ends caller rule)
 
 -- the first line at which two texts differ is the one with so many lines above it
 pub record DifferFirst (one other : List ℕ) (above : ℕ) : Type 0 where
@@ -59,15 +59,19 @@ pub record DifferFirst (one other : List ℕ) (above : ℕ) : Type 0 where
   pub differ : take (above + 1) (lines one) ≢ take (above + 1) (lines other)
 
 -- the text differs there from that of the one legal report that its claims can be
-pub record DiffersAt (p : Plan) (text wanted : List ℕ) (above : ℕ) : Type 0 where
+pub record DiffersAt (p : Plan) (s : Start) (text wanted : List ℕ) (above : ℕ) : Type 0 where
   pub made : Report
-  pub claimed : IsClaimed p (calls_in text) (ends_in text) made
+  pub claimed : IsClaimed p s (calls_in text) (ends_in text) made
   pub text_of : wanted ≡ report_text made
   pub line : DifferFirst text wanted above
 
--- why the text is no legal report of the plan
+-- why the text is no legal report of the plan from the start
+abbrev pub IsCauseFrom : Plan → Start → (text : List ℕ) → Cause → Type 0
+IsCauseFrom p s text (Callers count) = (length (ends_in text) ≡ count) × (count ≢ p.callers)
+IsCauseFrom p s text (Entry index rule) = BreaksAt p s (calls_in text) index rule
+IsCauseFrom p s text (Caller caller rule) = BreaksCaller p s (calls_in text) (ends_in text) caller rule
+IsCauseFrom p s text (Line above wanted) = DiffersAt p s text wanted.items above
+
+-- and from the empty start
 abbrev pub IsCause : Plan → (text : List ℕ) → Cause → Type 0
-IsCause p text (Callers count) = (length (ends_in text) ≡ count) × (count ≢ p.callers)
-IsCause p text (Entry index rule) = BreaksAt p (calls_in text) index rule
-IsCause p text (Caller caller rule) = BreaksCaller p (calls_in text) (ends_in text) caller rule
-IsCause p text (Line above wanted) = DiffersAt p text wanted.items above
+IsCause p text cause = IsCauseFrom p (empty_start p) text cause

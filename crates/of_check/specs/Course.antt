@@ -1,10 +1,10 @@
 -- How claimed calls run one after another on the store, and which claim may come next.
-use Rattle.std.specs.Prelude.{◌≡◌, ℕ, ◌+◌, ◌≤◌, ◌<◌, ◌⊎◌, Bool, true, false, IsTrue, List, [], ◌∷◌, ◌++◌, length, map, replicate, slice_index, slice_index_or, slice_set, All}
+use Rattle.std.specs.Prelude.{◌≡◌, ℕ, ◌+◌, ◌≤◌, ◌<◌, ◌⊎◌, Bool, true, false, IsTrue, List, [], ◌∷◌, ◌++◌, length, map, slice_index, slice_index_or, slice_set, All}
 use Rattle.of_script.specs.declared.instr.Instr.{Instr}
 use Rattle.of_script.specs.Language.{reads_only}
-use Rattle.of_store.specs.State.{State, empty_store, run}
+use Rattle.of_store.specs.State.{State, run}
 use Rattle.of_plan.specs.Plan.{Plan, scripts_of}
-use Rattle.of_plan.specs.Report.{CallEntry}
+use Rattle.of_plan.specs.Report.{CallEntry, Start}
 use Rattle.of_report.specs.Report.{entry_of}
 use Rattle.of_check.specs.declared.claims.CallClaim.{CallClaim}
 use Rattle.of_check.specs.declared.replay.Replay.{Replay}
@@ -15,12 +15,12 @@ pub record Course : Type 0 where
   pub last : CallClaim
   pub store : State
 
--- at the empty start: nothing has run, and only a read may come at sequence 0
-abbrev pub begun : Plan → Course
-begun p = record {
-  counts = replicate p.callers 0;
-  last = record { seq = 0; caller = 0; announced = false };
-  store = empty_store p.blocks;
+-- at a start: what was done before has run, and only a read may come at the start's sequence
+abbrev pub begun : Start → Course
+begun s = record {
+  counts = s.finished;
+  last = record { seq = s.seq; caller = 0; announced = false };
+  store = s.store;
 }
 
 -- how many calls of a claim's caller have run: the index of the claimed call
@@ -97,8 +97,8 @@ pub record Took (p : Plan) (before now : Replay) (q : CallClaim) : Type 0 where
   pub course : course_of now ≡ after p (course_of before) q
   pub entries : entries_so_far now ≡ entries_so_far before ++ entry_for p (course_of before) q ∷ []
 
--- all have run
-pub record TookAll (p : Plan) (qs : List CallClaim) (r : Replay) : Type 0 where
-  pub follow : AllFollow p (begun p) qs
-  pub course : course_of r ≡ course_end p (begun p) qs
-  pub entries : entries_so_far r ≡ entries_from p (begun p) qs
+-- all have run, from a start
+pub record TookAll (p : Plan) (s : Start) (qs : List CallClaim) (r : Replay) : Type 0 where
+  pub follow : AllFollow p (begun s) qs
+  pub course : course_of r ≡ course_end p (begun s) qs
+  pub entries : entries_so_far r ≡ entries_from p (begun s) qs

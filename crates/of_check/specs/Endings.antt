@@ -1,5 +1,5 @@
--- The lines of callers, from what they claim and from how many calls have run.
-use Rattle.std.specs.Prelude.{◌≡◌, ℕ, ◌<◌, List, length, map, slice_index, slice_index_or}
+-- The lines of callers, from what they claim and from how many calls have run since the start.
+use Rattle.std.specs.Prelude.{◌≡◌, ℕ, ◌-◌, ◌<◌, List, length, map, slice_index, slice_index_or}
 use Rattle.std.specs.List.{range_with_len}
 use Rattle.of_plan.specs.Plan.{Plan, scripts_of}
 use Rattle.of_plan.specs.Report.{CallerLine}
@@ -17,7 +17,11 @@ claimed_line entries e = record {
   longest = e.longest;
 }
 
--- a caller with so many scripts may end so, at the last sequence
+-- how many scripts a caller has to do, where so many of each are done
+abbrev pub left_of : Plan → (done : List ℕ) → ℕ → ℕ
+left_of p done c = length (scripts_of p c) - slice_index done c
+
+-- a caller that had so many scripts to do may end so, at the last sequence
 pub record IsEnding (p : Plan) (scripts seq : ℕ) (l : CallerLine) : Type 0 where
   pub open_call : HasOpenCall l.state l.answered l.entries
   pub ended : HasEnded l.state l.answered scripts seq p.limit
@@ -27,20 +31,21 @@ pub record IsEnding (p : Plan) (scripts seq : ℕ) (l : CallerLine) : Type 0 whe
 abbrev pub end_at : List EndClaim → ℕ → EndClaim
 end_at ends c = slice_index_or ends c (record { state = Done; answered = 0; longest = 0 })
 
--- the line of a caller
-abbrev pub claimed_line_at : List ℕ → List EndClaim → ℕ → CallerLine
-claimed_line_at counts ends c = claimed_line (slice_index counts c) (end_at ends c)
+-- the line of a caller, of whose scripts so many were done at the start and so many are done now
+abbrev pub claimed_line_at : (done counts : List ℕ) → List EndClaim → ℕ → CallerLine
+claimed_line_at done counts ends c =
+    claimed_line (slice_index counts c - slice_index done c) (end_at ends c)
 
 -- there is a claim for each caller, and each may end so
-pub record AreEndings (p : Plan) (seq : ℕ) (counts : List ℕ) (ends : List EndClaim) : Type 0 where
+pub record AreEndings (p : Plan) (done : List ℕ) (seq : ℕ) (counts : List ℕ) (ends : List EndClaim) : Type 0 where
   pub each_caller : length ends ≡ p.callers
-  pub each : (c : ℕ) → c < p.callers → IsEnding p (length (scripts_of p c)) seq (claimed_line_at counts ends c)
+  pub each : (c : ℕ) → c < p.callers → IsEnding p (left_of p done c) seq (claimed_line_at done counts ends c)
 
 -- the lines of all callers
-abbrev pub claimed_lines : Plan → List ℕ → List EndClaim → List CallerLine
-claimed_lines p counts ends = map (claimed_line_at counts ends) (range_with_len 0 p.callers)
+abbrev pub claimed_lines : Plan → (done counts : List ℕ) → List EndClaim → List CallerLine
+claimed_lines p done counts ends = map (claimed_line_at done counts ends) (range_with_len 0 p.callers)
 
 -- these are the lines, and each caller may end so
-pub record AreLines (p : Plan) (seq : ℕ) (counts : List ℕ) (ends : List EndClaim) (lines : List CallerLine) : Type 0 where
-  pub endings : AreEndings p seq counts ends
-  pub are : lines ≡ claimed_lines p counts ends
+pub record AreLines (p : Plan) (done : List ℕ) (seq : ℕ) (counts : List ℕ) (ends : List EndClaim) (lines : List CallerLine) : Type 0 where
+  pub endings : AreEndings p done seq counts ends
+  pub are : lines ≡ claimed_lines p done counts ends

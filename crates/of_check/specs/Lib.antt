@@ -1,5 +1,7 @@
+pub mod Starts
 pub mod Claims
 pub mod Course
 pub mod Endings
 pub mod Verdict
 pub mod Causes
+pub mod Ends

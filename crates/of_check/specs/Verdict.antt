@@ -1,7 +1,7 @@
 -- When a text is a legal report of a plan, and what the check answers.
-use Rattle.std.specs.Prelude.{◌≡◌, ℕ, List, map}
+use Rattle.std.specs.Prelude.{◌≡◌, ℕ, ◌≤◌, List, map}
 use Rattle.of_plan.specs.Plan.{Plan}
-use Rattle.of_plan.specs.Report.{Report, empty_start}
+use Rattle.of_plan.specs.Report.{Report, Start, empty_start}
 use Rattle.of_plan.specs.Legal.{IsLegal}
 use Rattle.of_report.specs.ReportText.{report_text}
 use Rattle.of_check.specs.declared.claims.CallClaim.{CallClaim}
@@ -21,16 +21,37 @@ abbrev pub IsVerdict : Plan → List ℕ → Verdict → Type 0
 IsVerdict p text Legal = IsLegalText p text
 IsVerdict p text Illegal = IsLegalText p text → ⊥
 
+-- a sequence is a number of 32 bits
+abbrev pub greatest_seq : ℕ
+greatest_seq = 4294967295
+
+-- the text is that of this report, which is legal for the plan from the start, and whose sequence
+-- is one
+pub record IsTextOf (p : Plan) (s : Start) (text : List ℕ) (report : Report) : Type 0 where
+  pub legal : IsLegal p s report
+  pub in_range : report.seq ≤ greatest_seq
+  pub is : text ≡ report_text report
+
+-- the text is that of some such report
+pub record IsLegalFrom (p : Plan) (s : Start) (text : List ℕ) : Type 0 where
+  pub report : Report
+  pub of_it : IsTextOf p s text report
+
+-- legal exactly where the text is that of such a report
+abbrev pub IsVerdictFrom : Plan → Start → List ℕ → Verdict → Type 0
+IsVerdictFrom p s text Legal = IsLegalFrom p s text
+IsVerdictFrom p s text Illegal = IsLegalFrom p s text → ⊥
+
 -- the report makes these claims
 pub record Makes (r : Report) (calls : List CallClaim) (ends : List EndClaim) : Type 0 where
   pub of_entries : map call_claim r.entries ≡ calls
   pub of_callers : map end_claim r.callers ≡ ends
 
 -- no legal report makes these claims
-abbrev pub NoneMakes : Plan → List CallClaim → List EndClaim → Type 0
-NoneMakes p calls ends = (r : Report) → IsLegal p (empty_start p) r → Makes r calls ends → ⊥
+abbrev pub NoneMakes : Plan → Start → List CallClaim → List EndClaim → Type 0
+NoneMakes p s calls ends = (r : Report) → IsLegal p s r → Makes r calls ends → ⊥
 
 -- a legal report, and the only one that can make these claims
-pub record IsClaimed (p : Plan) (calls : List CallClaim) (ends : List EndClaim) (made : Report) : Type 0 where
-  pub legal : IsLegal p (empty_start p) made
-  pub only : (r : Report) → IsLegal p (empty_start p) r → Makes r calls ends → made ≡ r
+pub record IsClaimed (p : Plan) (s : Start) (calls : List CallClaim) (ends : List EndClaim) (made : Report) : Type 0 where
+  pub legal : IsLegal p s made
+  pub only : (r : Report) → IsLegal p s r → Makes r calls ends → made ≡ r

@@ -1,4 +1,4 @@
-//! The lines of callers, from what they claim and from how many calls have run.
+//! The lines of callers, from what they claim and from how many calls have run since the start.
 
 ghost use Rattle.std.specs.Prelude.{◌≡◌, ◌↔◌, ◌≤◌, IsTrue, length, map, IfOk, MatchOption};
 ghost use Rattle.of_plan.specs.Plan.{bound_of};
@@ -28,7 +28,7 @@ pub(crate) fn is_within(bound: u32, end: EndClaim) -> bool
     end.longest <= bound && (end.answered != 0 || end.longest == 0)
 }
 
-// Whether a caller with so many scripts and entries may end so.
+// Whether a caller with so many scripts to do, and so many entries, may end so.
 fn may_end(plan: &Plan, scripts: u32, entries: u32, seq: u32, end: EndClaim) -> bool
     ensures { IsTrue result ↔ IsEnding plan.now scripts seq (claimed_line entries end) }
 {
@@ -46,27 +46,30 @@ fn may_end(plan: &Plan, scripts: u32, entries: u32, seq: u32, end: EndClaim) -> 
     }
 }
 
-/// The lines of callers that have run so many calls, up to the last sequence; None where one of
-/// them may not end as it claims. The error is want of memory.
+// The lines of callers of whose scripts so many were done at the start and so many are done at the
+// last sequence; None where one of them may not end as it claims. The error is want of memory.
 pub(crate) fn lines(
     alloc: Global,
     plan: &Plan,
+    done: &[u32],
     counts: &[u32],
     seq: u32,
     ends: &[EndClaim],
 ) -> Result<Option<Vec<Line>>, AllocError>
+    requires done { length done.now ≡ plan.now.callers }
     requires counts { length counts.now ≡ plan.now.callers }
     requires ends { length ends.now ≡ plan.now.callers }
     ensures { IfOk result (λ found. MatchOption found
-        (AreEndings plan.now seq counts.now ends.now → ⊥)
-        (λ lines. AreLines plan.now seq counts.now ends.now (map line_of lines.items))) }
+        (AreEndings plan.now done.now seq counts.now ends.now → ⊥)
+        (λ lines. AreLines plan.now done.now seq counts.now ends.now (map line_of lines.items))) }
 {
     let mut lines = Vec::new(alloc);
     for caller in 0..plan.callers() {
         let end = ends[caller as usize];
-        let entries = counts[caller as usize];
+        let entries = counts[caller as usize].saturating_sub(done[caller as usize]);
         let scripts = plan.scripts(caller).len() as u32;
-        if !may_end(plan, scripts, entries, seq, end) {
+        let to_do = scripts.saturating_sub(done[caller as usize]);
+        if !may_end(plan, to_do, entries, seq, end) {
             return Ok(None);
         }
         lines.push(Line {

@@ -2,9 +2,11 @@
 
 ghost use Rattle.std.specs.Prelude.{◌≡◌, ◌↔◌, [], IsTrue, length, IfOk, MatchOption};
 ghost use Rattle.std.specs.Bool.{MatchBool};
+ghost use Rattle.of_check.specs.Starts.{start_of};
 ghost use Rattle.of_check.specs.Course.{FollowsWithin, Follows, AllFollow, Took, TookAll, begun, course_of, entries_so_far};
 
 use crate::claims::CallClaim;
+use crate::start::Start;
 use of_plan::Plan;
 use of_report::Entry;
 use of_store::Store;
@@ -35,22 +37,26 @@ pub(crate) fn follows(last: CallClaim, next: CallClaim) -> bool
 }
 
 impl Replay {
-    // No call has run. The error is want of memory.
-    pub(crate) fn new(alloc: Global, plan: &Plan) -> Result<Replay, AllocError>
-        ensures course { IfOk result (λ replay. course_of replay ≡ begun plan.now) }
-        ensures entries { IfOk result (λ replay. entries_so_far replay ≡ []) }
+    // No call has run since the start.
+    pub(crate) fn new(alloc: Global, start: Start) -> Replay
+        ensures course { course_of result ≡ begun (start_of start) }
+        ensures entries { entries_so_far result ≡ [] }
     {
-        let counts = vec![in alloc; 0; plan.callers() as usize]?;
-        Ok(Replay {
+        let Start {
+            seq,
+            finished,
+            store,
+        } = start;
+        Replay {
             entries: Vec::new(alloc),
-            counts,
+            counts: finished,
             last: CallClaim {
-                seq: 0,
+                seq,
                 caller: 0,
                 announced: false,
             },
-            store: Store::new(alloc, plan.blocks())?,
-        })
+            store,
+        }
     }
 
     // Runs a claimed call and answers true, where it may come next; else false. The error is want
@@ -89,18 +95,20 @@ impl Replay {
         Ok(true)
     }
 
-    /// Runs claimed calls from the empty start; None where one of them may not come next. The error
-    /// is want of memory.
+    // Runs claimed calls from a start; None where one of them may not come next. The error is want
+    // of memory.
     pub(crate) fn all(
         alloc: Global,
         plan: &Plan,
+        start: Start,
         calls: &[CallClaim],
     ) -> Result<Option<Replay>, AllocError>
+        requires { length start.finished.items ≡ plan.now.callers }
         ensures { IfOk result (λ found. MatchOption found
-            (AllFollow plan.now (begun plan.now) calls.now → ⊥)
-            (TookAll plan.now calls.now)) }
+            (AllFollow plan.now (begun (start_of start)) calls.now → ⊥)
+            (TookAll plan.now (start_of start) calls.now)) }
     {
-        let mut replay = Replay::new(alloc, plan)?;
+        let mut replay = Replay::new(alloc, start);
         for call in calls {
             if !replay.take(plan, *call)? {
                 return Ok(None);

@@ -4,16 +4,19 @@ ghost use Rattle.std.specs.Prelude.{◌≡◌, ◌↔◌, ◌<◌, ℕ, IsTrue, 
 ghost use Rattle.of_plan.specs.Plan.{scripts_of};
 ghost use Rattle.of_plan.specs.Lines.{lines as lines_of};
 ghost use Rattle.of_plan.specs.Legal.{HasOpenCall, HasEnded};
-ghost use Rattle.of_report.specs.Report.{state_of};
+ghost use Rattle.of_report.specs.Report.{report_of, state_of};
+ghost use Rattle.of_check.specs.Starts.{start_of};
 ghost use Rattle.of_check.specs.Course.{Follows, TookAll, course_of};
 ghost use Rattle.of_check.specs.Endings.{IsEnding, AreEndings, claimed_line};
-ghost use Rattle.of_check.specs.Verdict.{IsLegalText};
-ghost use Rattle.of_check.specs.Causes.{BreaksEntry, BreaksAt, BreaksEnd, BreaksFirst, IsCause, DifferFirst};
+ghost use Rattle.of_check.specs.Verdict.{IsLegalText, IsTextOf};
+ghost use Rattle.of_check.specs.Causes.{BreaksEntry, BreaksAt, BreaksEnd, BreaksFirst, IsCause, DifferFirst, IsCauseFrom};
 
 use crate::cause::{Cause, EndRule, EntryRule};
 use crate::claims::{CallClaim, Claims, EndClaim};
 use crate::endings::{is_within, lines, step_bound};
 use crate::replay::{Replay, follows};
+use crate::start::Start;
+use crate::verdict::has_32_bits;
 use of_plan::Plan;
 use of_report::{EndState, Report};
 use of_script::text::cut;
@@ -42,17 +45,19 @@ fn broken_entry(plan: &Plan, replay: &Replay, call: CallClaim) -> Option<EntryRu
     None
 }
 
-// Runs claimed calls from the empty start, up to the first that may not come next.
+// Runs claimed calls from a start, up to the first that may not come next.
 fn replayed(
     alloc: Global,
     plan: &Plan,
+    start: Start,
     calls: &[CallClaim],
 ) -> Result<Result<Replay, (usize, EntryRule)>, AllocError>
+    requires { length start.finished.items ≡ plan.now.callers }
     ensures { IfOk result (λ found. MatchResult found
-        (TookAll plan.now calls.now)
-        (λ x. BreaksAt plan.now calls.now x.0 x.1)) }
+        (TookAll plan.now (start_of start) calls.now)
+        (λ x. BreaksAt plan.now (start_of start) calls.now x.0 x.1)) }
 {
-    let mut replay = Replay::new(alloc, plan)?;
+    let mut replay = Replay::new(alloc, start);
     for index in 0..calls.len() {
         if let Some(rule) = broken_entry(plan, &replay, calls[index]) {
             return Ok(Err((index, rule)));
@@ -103,16 +108,25 @@ fn broken_end(plan: &Plan, scripts: u32, entries: u32, seq: u32, end: EndClaim) 
 }
 
 // The first caller whose line breaks a rule; None where all may end so.
-fn first_end(plan: &Plan, counts: &[u32], seq: u32, ends: &[EndClaim]) -> Option<(u32, EndRule)>
+fn first_end(
+    plan: &Plan,
+    done: &[u32],
+    counts: &[u32],
+    seq: u32,
+    ends: &[EndClaim],
+) -> Option<(u32, EndRule)>
+    requires done { length done.now ≡ plan.now.callers }
     requires counts { length counts.now ≡ plan.now.callers }
     requires ends { length ends.now ≡ plan.now.callers }
-    ensures { MatchOption result (AreEndings plan.now seq counts.now ends.now)
-        (λ x. BreaksFirst plan.now seq counts.now ends.now x.0 x.1) }
+    ensures { MatchOption result (AreEndings plan.now done.now seq counts.now ends.now)
+        (λ x. BreaksFirst plan.now done.now seq counts.now ends.now x.0 x.1) }
 {
     for caller in 0..plan.callers() {
-        let scripts = plan.scripts(caller).len() as u32;
         let at = caller as usize;
-        if let Some(rule) = broken_end(plan, scripts, counts[at], seq, ends[at]) {
+        let entries = counts[at].saturating_sub(done[at]);
+        let scripts = plan.scripts(caller).len() as u32;
+        let to_do = scripts.saturating_sub(done[at]);
+        if let Some(rule) = broken_end(plan, to_do, entries, seq, ends[at]) {
             return Some((caller, rule));
         }
     }
@@ -148,26 +162,34 @@ fn first_difference(one: &[u8], other: &[u8]) -> Option<u64>
     }
 }
 
-/// Why a text is no legal report of the plan from the empty start; nothing exactly where it is one,
-/// so where `check` says `Legal`. The error is want of memory.
-pub fn why(alloc: Global, plan: &Plan, text: &[u8]) -> Result<Option<Cause>, AllocError>
-    ensures { IfOk result (λ found. MatchOption found
-        (IsLegalText plan.now text.now) (IsCause plan.now text.now)) }
+/// The report that is legal for the plan from a start and has this text, or why the text is none of
+/// such a report. The error is want of memory.
+pub fn report_or_cause(
+    alloc: Global,
+    plan: &Plan,
+    start: Start,
+    text: &[u8],
+) -> Result<Result<Report, Cause>, AllocError>
+    requires { length start.finished.items ≡ plan.now.callers }
+    ensures { IfOk result (λ found. MatchResult found
+        (λ report. IsTextOf plan.now (start_of start) text.now (report_of report))
+        (IsCauseFrom plan.now (start_of start) text.now)) }
 {
+    let done = Vec::from_slice(alloc, &start.finished)?;
     let claims = Claims::read(alloc, text)?;
     let count = claims.ends.len();
     if count != plan.callers() as usize {
-        return Ok(Some(Cause::Callers { lines: count }));
+        return Ok(Err(Cause::Callers { lines: count }));
     }
-    let replay = match replayed(alloc, plan, &claims.calls)? {
+    let replay = match replayed(alloc, plan, start, &claims.calls)? {
         Ok(replay) => replay,
-        Err((index, rule)) => return Ok(Some(Cause::Entry { index, rule })),
+        Err((index, rule)) => return Ok(Err(Cause::Entry { index, rule })),
     };
     let seq = replay.last.seq;
-    if let Some((caller, rule)) = first_end(plan, &replay.counts, seq, &claims.ends) {
-        return Ok(Some(Cause::Caller { caller, rule }));
+    if let Some((caller, rule)) = first_end(plan, &done, &replay.counts, seq, &claims.ends) {
+        return Ok(Err(Cause::Caller { caller, rule }));
     }
-    let Some(callers) = lines(alloc, plan, &replay.counts, seq, &claims.ends)? else {
+    let Some(callers) = lines(alloc, plan, &done, &replay.counts, seq, &claims.ends)? else {
         unreachable!();
     };
     let report = Report {
@@ -176,9 +198,23 @@ pub fn why(alloc: Global, plan: &Plan, text: &[u8]) -> Result<Option<Cause>, All
         seq,
         store: replay.store,
     };
+    has_32_bits(report.seq);
     let wanted = report.print(alloc)?;
     match first_difference(text, wanted.as_slice()) {
-        None => Ok(None),
-        Some(above) => Ok(Some(Cause::Line { above, wanted })),
+        None => Ok(Ok(report)),
+        Some(above) => Ok(Err(Cause::Line { above, wanted })),
+    }
+}
+
+/// Why a text is no legal report of the plan from the empty start; nothing exactly where it is one,
+/// so where `check` says `Legal`. The error is want of memory.
+pub fn why(alloc: Global, plan: &Plan, text: &[u8]) -> Result<Option<Cause>, AllocError>
+    ensures { IfOk result (λ found. MatchOption found
+        (IsLegalText plan.now text.now) (IsCause plan.now text.now)) }
+{
+    let start = Start::empty(alloc, plan.callers(), plan.blocks())?;
+    match report_or_cause(alloc, plan, start, text)? {
+        Ok(_) => Ok(None),
+        Err(cause) => Ok(Some(cause)),
     }
 }

@@ -20,7 +20,7 @@ use Rattle.of_core.proofs.Tests.{same_number, other_number}
 
 module _ (S : Setup) (Lawful : List ℕ → Type 0) (sound : Sound S.meaning Lawful (base S) S.cells) (B : Start) where
   module _ (i : ℕ) (h : i < S.callers) where
-    of_machine : (w : World) → Good S Lawful B w → get_or w.machines i (machine w i) ≡ machine w i
+    pub of_machine : (w : World) → Good S Lawful B w → get_or w.machines i (machine w i) ≡ machine w i
     of_machine w g = get_or_default w.machines i (machine w i) no_machine (omega (arith, g.core.members))
 
     own_turn : (w : World) → Good S Lawful B w → IsOpen (machine w i).place → IsOpen (machine (happens S w (Turns i)) i).place → (machine (happens S w (Turns i)) i).steps ≡ (machine w i).steps + counted (i == i)
@@ -31,7 +31,7 @@ module _ (S : Setup) (Lawful : List ℕ → Type 0) (sound : Sound S.meaning Law
         ap (λ (d : Data). d.steps) x ∙ (t.goes_on now).0 ∙ ap (λ (k : ℕ). (machine w i).steps + k) (sym (ap counted (same_number i)))
 
     -- each turn of the caller is a step of its open call, and no other event changes its machine
-    steps_rise : (w : World) (g : Good S Lawful B w) (e : Event) → MayHappen S w e → IsOpen (machine w i).place → IsOpen (machine (happens S w e) i).place → (machine (happens S w e) i).steps ≡ (machine w i).steps + one_turn i e
+    pub steps_rise : (w : World) (g : Good S Lawful B w) (e : Event) → MayHappen S w e → IsOpen (machine w i).place → IsOpen (machine (happens S w e) i).place → (machine (happens S w e) i).steps ≡ (machine w i).steps + one_turn i e
     steps_rise w g (Loads c) m o q = omega arith
     steps_rise w g (Evicts k) m o q = omega arith
     steps_rise w g (Raises c) m o q = omega arith
@@ -94,7 +94,7 @@ module _ (S : Setup) (Lawful : List ℕ → Type 0) (sound : Sound S.meaning Law
         let l = some_left w g (machine w i) (machine w i).place o (g.core.each i (machine w i) h (of_machine w g)) (rest_at S (machine w i) (machine w i).place) refl in
         fewer (machine w i).steps (rest_at S (machine w i) (machine w i).place) (bound S) (g.within i (machine w i) h (of_machine w g)).steps l
 
-    now_open : (w : World) (es : List Event) → StaysOpen S w es i → IsOpen (machine w i).place
+    pub now_open : (w : World) (es : List Event) → StaysOpen S w es i → IsOpen (machine w i).place
     now_open w [] q = q
     now_open w (e ∷ es) q = q.0
 

@@ -7,7 +7,7 @@ use Rattle.of_core.specs.declared.place.Outcome.TheVariants.{Answered, Spent}
 use Rattle.of_core.specs.Table.{current_word, cell}
 use Rattle.of_core.specs.Steps.{want, took}
 use Rattle.of_core.specs.World.{Start, added, answered}
-use Rattle.of_core.specs.History.{state}
+use Rattle.of_core.specs.History.{state, no_batch}
 use Rattle.of_core.specs.Events.{machine, turns, zeros}
 use Rattle.of_core.specs.Starts.{first_cells, first_words, recovered_start}
 use Rattle.of_core.specs.Calls.{operations, steps_told, Beyond}
@@ -22,6 +22,11 @@ store_exchanges = (refl, refl)
 store_ends : ((machine (alone 1 registers (7 ∷ []) 47) 0).place ≡ RaiseClosed) × ((machine (alone 1 registers (7 ∷ []) 48) 0).answer ≡ Some (Answered 1 true (reply_with (0 ∷ [])) 48))
 unfolding want took added answered word seq pay marked first_cells first_words
 store_ends = (refl, refl)
+
+-- what it commits is the register and its own cells: the reply, the shape and the ticket
+store_logs : (get_or (alone 1 registers (7 ∷ []) 29).batches 0 no_batch).log ≡ (19, 7) ∷ (2, 0) ∷ (1, 1) ∷ (0, 1) ∷ []
+unfolding want took added answered word seq pay marked first_cells first_words
+store_logs = refl
 
 -- with two callers it is 31 and 50, where the other has announced nothing
 other_scanned : (current_word (alone 2 registers (7 ∷ []) 30).words ≡ 0) × (current_word (alone 2 registers (7 ∷ []) 31).words ≡ word 1 0)

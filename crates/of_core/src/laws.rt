@@ -10,6 +10,11 @@ ghost use Rattle.of_core.specs.Laws.{EventKept, ScheduleKept, EveryDurable, Ever
 ghost use Rattle.of_core.specs.Laws.{EveryCall, EveryTurn, CallsKept, EndsInTime};
 ghost use Rattle.of_core.specs.Laws.{EveryOrder, Detectable, RealTime, LateCalls, OwnTime, EveryLife};
 ghost use Rattle.of_core.specs.Commits.{DoneAfterTwoCommits, GivenUp, LostToCommits, OutcomesAreNew};
+ghost use Rattle.of_core.specs.Footprint.{ByFootprint};
+ghost use Rattle.of_core.specs.Written.{LogsAreWrites, OwnersTakePart, CellsRise};
+ghost use Rattle.of_core.specs.Needed.{LoadsNeeded, CopiesOpenLogs};
+ghost use Rattle.of_core.specs.SpentRound.{SpentInRounds};
+ghost use Rattle.of_core.specs.Grounds.{GoodGrounds};
 ghost use Rattle.of_core.specs.Raised.{RaisesHeld, RaisesAreShort, EvictionsAreShort, CellsLevel};
 ghost use Rattle.of_core.specs.Raised.{RaisesUndisturbed, EvictionsUndisturbed, RaisesStand};
 ghost use Rattle.of_core.specs.Laws.{FirstWords, FirstMachines, ZerosMayStart};
@@ -24,7 +29,8 @@ use of_mem::Work;
 /// From whatever meets the invariant each step, each begin of a call and each eviction leads to
 /// what meets it. A fresh machine may begin an idle one's next call in its place, with as many
 /// calls behind it: all else that the protocol needs stands on the table. A table at a start meets
-/// the invariant, and whatever meets it has what every moment claims.
+/// the invariant, and whatever meets it has what every moment claims: it has begun at a start that
+/// a table may have, and its states are lawful.
 pub fn step_kept<W: Work>(limit: u32, work: W)
     ensures kept { StepKept (setup_for W.many W.size W.meaning limit work) (W.lawful work) }
     ensures moves { StepMoves (setup_for W.many W.size W.meaning limit work) (W.lawful work) }
@@ -40,6 +46,7 @@ pub fn step_kept<W: Work>(limit: u32, work: W)
     ensures beside { BesideKept (setup_for W.many W.size W.meaning limit work) (W.lawful work) }
     ensures start { StartKept (setup_for W.many W.size W.meaning limit work) (W.lawful work) }
     ensures sound { GoodIsSound (setup_for W.many W.size W.meaning limit work) (W.lawful work) }
+    ensures grounds { GoodGrounds (setup_for W.many W.size W.meaning limit work) (W.lawful work) }
 {}
 
 /// The calls of one caller, from a start on: a step ends its caller's open call or none, a begin
@@ -87,14 +94,30 @@ pub fn every_order<W: Work>(limit: u32, work: W)
 {}
 
 /// Every call is answered or spent within the step bound of its own steps, in three rounds at most.
-/// An announced call is done after at most two commits that follow its announcement. A try or a
-/// round is lost only to a commit: if nobody commits, a read ends in its first try and any other
-/// call in its first round.
+/// It also ends within a bound that doesn't grow with the memory. That one is by the longest log that
+/// the call writes, copies or applies, the most cells that one of its tries or rounds loads, and the
+/// tries and rounds that it has begun. These load a cell only if a run needs it, and copy a log only
+/// if its transaction is open. An announced call is done after at most two commits that follow its
+/// announcement. A try or a round is lost only to a commit: if nobody commits, a read ends in its
+/// first try and any other call in its first round. A call is spent only in one of its rounds.
 pub fn ends_in_time<W: Work>(limit: u32, work: W)
     ensures in_time { EndsInTime (setup_for W.many W.size W.meaning limit work) (W.lawful work) }
+    ensures footprint { ByFootprint (setup_for W.many W.size W.meaning limit work) (W.lawful work) }
+    ensures needed { LoadsNeeded (setup_for W.many W.size W.meaning limit work) (W.lawful work) }
+    ensures helped { CopiesOpenLogs (setup_for W.many W.size W.meaning limit work) (W.lawful work) }
     ensures two_commits { DoneAfterTwoCommits (setup_for W.many W.size W.meaning limit work) (W.lawful work) }
     ensures given_up { GivenUp (setup_for W.many W.size W.meaning limit work) (W.lawful work) }
     ensures lost { LostToCommits (setup_for W.many W.size W.meaning limit work) (W.lawful work) }
+    ensures spent { SpentInRounds (setup_for W.many W.size W.meaning limit work) (W.lawful work) }
+{}
+
+/// What batches write, in every schedule. A batch's log is the writes of its calls, in order, with
+/// their callers' own cells, and nothing besides. One of the calls is its owner's. A data cell
+/// keeps its word or gets one of a later transaction, so no helper writes an older number.
+pub fn batches<W: Work>(limit: u32, work: W)
+    ensures logs { LogsAreWrites (setup_for W.many W.size W.meaning limit work) (W.lawful work) }
+    ensures owners { OwnersTakePart (setup_for W.many W.size W.meaning limit work) (W.lawful work) }
+    ensures rise { CellsRise (setup_for W.many W.size W.meaning limit work) (W.lawful work) }
 {}
 
 /// A raise is a loop of a load and an exchange. While a caller is about to raise a durable word, no

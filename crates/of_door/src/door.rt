@@ -129,6 +129,7 @@ impl<W: Work> Door<W> {
         ensures number { IfOk result (λ m. m.number ≡ number_at self.now) }
         ensures idle { IfOk result HasNoCall }
         ensures seen { IfOk result (λ m. IsPrefix pass.seat.me.0.seen m.seat.me.0.seen) }
+        ensures past { IfOk result (λ m. IsPrefix pass.seat.me.0.past m.seat.me.0.past) }
         ensures own { IfOk result (λ m. HasOwnCalls W.meaning row.now m.seat) }
         ensures once { IfOk result (λ m. HasCallsOnce W.meaning row.now m.seat) }
         ensures made { IfOk result (TicketsUpTo W.meaning row.now) }

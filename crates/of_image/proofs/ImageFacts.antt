@@ -27,7 +27,9 @@ use Rattle.of_image.specs.ImageText.{SpellsImage}
 use Rattle.of_report.specs.ImageLaw.{IsLawfulRow}
 use Rattle.of_image.specs.RowFault.{IsRowFault}
 use Rattle.of_report.specs.Image.{Image, IsImage, image_of, IsRestored}
-use Rattle.of_image.specs.Parsed.{ReadsImage, IsRefused, IsUnlawful, IsFaulty}
+use Rattle.of_image.specs.declared.law.RowErr.{RowErr}
+use Rattle.of_image.specs.declared.law.RowErr.TheVariants.{Memory as NoMemory, Unlawful as UnlawfulRow}
+use Rattle.of_image.specs.Parsed.{ReadsImage, IsRefused, IsUnlawful, IsFaulty, image_err}
 use Rattle.of_report.specs.ImageRow.{recovered_row}
 use Rattle.of_image.proofs.ImageTexts.{one_row}
 use Rattle.of_image.proofs.RowLaw.{fault_excludes, one_lawful, one_row_fault}
@@ -131,14 +133,24 @@ only_image v text (Err (Bad line)) ok err image h = absurd (err.none (h.raw, h.s
 only_image v text (Err (Unlawful cell)) ok err image h = absurd (unlawful_excludes v text cell image err h)
 
 -- a row with a cell at fault is no image's
-pub faulty_refused : (v : Version) (text : List ℕ) (r : Row) → SpellsImage v text r → (e : ImageErr) → IsFaulty (instrs_of v) (recovered_row (instrs_of v) r) e → IsRefused v text e
-faulty_refused v text r s Memory h = tt
-faulty_refused v text r s (Bad line) h = absurd h
-faulty_refused v text r s (Unlawful cell) h = record { raw = r; spelled = s; fault = h }
+pub faulty_refused : (v : Version) (text : List ℕ) (r : Row) → SpellsImage v text r → (e : RowErr) → IsFaulty (instrs_of v) (recovered_row (instrs_of v) r) e → IsRefused v text (image_err e)
+faulty_refused v text r s NoMemory h = tt
+faulty_refused v text r s (UnlawfulRow cell law) h = record { raw = r; spelled = s; fault = record { law = law; breaks = h } }
 
 -- the same where the row's data cells stand as a plot says
-pub plot_refused : (v : Version) (text : List ℕ) (p : Plot) (r : Row) → p.instrs ≡ instrs_of v → row_in p r.words ≡ r → SpellsImage v text r → (e : ImageErr) → IsFaulty p.instrs (recovered_row p.instrs (row_in p r.words)) e → IsRefused v text e
-plot_refused v text p r instrs is s e h = faulty_refused v text r s e (subst (λ (n : ℕ). IsFaulty n (recovered_row n r) e) instrs (subst (λ (q : Row). IsFaulty p.instrs (recovered_row p.instrs q) e) is h))
+pub plot_faulty : (v : Version) (p : Plot) (r : Row) → p.instrs ≡ instrs_of v → row_in p r.words ≡ r → (e : RowErr) → IsFaulty p.instrs (recovered_row p.instrs (row_in p r.words)) e → IsFaulty (instrs_of v) (recovered_row (instrs_of v) r) e
+plot_faulty v p r instrs is e h = subst (λ (n : ℕ). IsFaulty n (recovered_row n r) e) instrs (subst (λ (q : Row). IsFaulty p.instrs (recovered_row p.instrs q) e) is h)
+
+pub plot_refused : (v : Version) (text : List ℕ) (p : Plot) (r : Row) → p.instrs ≡ instrs_of v → row_in p r.words ≡ r → SpellsImage v text r → (e : RowErr) → IsFaulty p.instrs (recovered_row p.instrs (row_in p r.words)) e → IsRefused v text (image_err e)
+plot_refused v text p r instrs is s e h = faulty_refused v text r s e (plot_faulty v p r instrs is e h)
+
+-- what recovery finds in it is the text's image
+pub plot_read : (v : Version) (text : List ℕ) (p : Plot) (r : Row) (i : Image) → p.instrs ≡ instrs_of v → row_in p r.words ≡ r → SpellsImage v text r → IsRestored p.instrs (row_in p r.words) i → ReadsImage v text i
+plot_read v text p r i instrs is s h = record {
+  raw = r;
+  spelled = s;
+  restored = subst (λ (n : ℕ). IsRestored n r i) instrs (subst (λ (q : Row). IsRestored p.instrs q i) is h);
+}
 
 -- ---- the durable words of a table are a row
 

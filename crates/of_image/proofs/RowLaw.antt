@@ -20,8 +20,9 @@ use Rattle.of_eval.proofs.OneStore.{one_store}
 use Rattle.of_report.proofs.Recovery.{part_at, part_long}
 use Rattle.of_report.specs.ImageRow.{Row, row_in, numbers_in}
 use Rattle.of_report.specs.ImageLaw.{NoneNewer, IsLawfulRow}
-use Rattle.of_image.specs.RowFault.{IsRowFault}
-use Rattle.of_image.specs.RowFault.IsRowFault.{Unowned, Newer, NoStore}
+use Rattle.of_image.specs.declared.law.Law.{Law}
+use Rattle.of_image.specs.declared.law.Law.TheVariants.{Owner, Newest, Store}
+use Rattle.of_image.specs.RowFault.{Breaks, IsRowFault}
 
 get_or_map_at : (f : ℕ → ℕ) (xs : List ℕ) (i : ℕ) → i < length xs → get_or (map f xs) i 0 ≡ f (get_or xs i 0)
 get_or_map_at f [] i l = absurd (omega arith)
@@ -38,9 +39,12 @@ numbers_are callers cells words size =
 
 -- a row with a first cell at fault is not lawful
 pub fault_excludes : (instrs : ℕ) (r : Row) (s : State) (cell : ℕ) → IsLawfulRow instrs r s → IsRowFault instrs r cell → ⊥
-fault_excludes instrs r s cell h (Unowned bad e) = omega (arith, bad, h.owned)
-fault_excludes instrs r s cell h (Newer owned a l n e) = omega (arith, n.newer, h.none_newer a l)
-fault_excludes instrs r s cell h (NoStore owned none a f e) = first_excludes _ _ _ _ s a h.stands f
+fault_excludes instrs r s cell h f = go f.law f.breaks
+  where
+    go : (law : Law) → Breaks law instrs r cell → ⊥
+    go Owner b = omega (arith, b.unowned, h.owned)
+    go Newest b = omega (arith, b.first.newer, h.none_newer b.at b.within)
+    go Store b = first_excludes _ _ _ _ s b.at h.stands b.first
 
 -- a row is lawful with one store
 pub one_lawful : (instrs : ℕ) (r : Row) (s t : State) → IsLawfulRow instrs r s → IsLawfulRow instrs r t → s ≡ t
@@ -48,21 +52,24 @@ one_lawful instrs r s t h k = one_store _ _ _ s t h.stands.stored k.stands.store
 
 -- and has one first cell at fault
 pub one_row_fault : (instrs : ℕ) (r : Row) (x y : ℕ) → IsRowFault instrs r x → IsRowFault instrs r y → x ≡ y
-one_row_fault instrs r x y (Unowned bad e) (Unowned bad' e') = e ∙ sym e'
-one_row_fault instrs r x y (Unowned bad e) (Newer owned a l n e') = absurd (omega (arith, bad, owned))
-one_row_fault instrs r x y (Unowned bad e) (NoStore owned none a f e') = absurd (omega (arith, bad, owned))
-one_row_fault instrs r x y (Newer owned a l n e) (Unowned bad e') = absurd (omega (arith, bad, owned))
-one_row_fault instrs r x y (Newer owned a l n e) (Newer owned' b k n' e') = elim (cases_lt a b) [
-  | inl i ↦ absurd (omega (arith, n.newer, n'.before a i))
-  | inr i ↦ elim (cases_lt b a) [
-    | inl j ↦ absurd (omega (arith, n'.newer, n.before b j))
-    | inr j ↦ (let s : a ≡ b = omega arith in e ∙ ap (data_cell r.callers) s ∙ sym e')
-  ]
-]
-one_row_fault instrs r x y (Newer owned a l n e) (NoStore owned' none b f e') = absurd (omega (arith, n.newer, none a l))
-one_row_fault instrs r x y (NoStore owned none a f e) (Unowned bad e') = absurd (omega (arith, bad, owned))
-one_row_fault instrs r x y (NoStore owned none a f e) (Newer owned' b k n e') = absurd (omega (arith, n.newer, none b k))
-one_row_fault instrs r x y (NoStore owned none a f e) (NoStore owned' none' b g e') = e ∙ ap (data_cell r.callers) (one_fault _ _ _ _ a b f g) ∙ sym e'
+one_row_fault instrs r x y f g = go f.law g.law f.breaks g.breaks
+  where
+    go : (l k : Law) → Breaks l instrs r x → Breaks k instrs r y → x ≡ y
+    go Owner Owner b c = b.is ∙ sym c.is
+    go Owner Newest b c = absurd (omega (arith, b.unowned, c.owned))
+    go Owner Store b c = absurd (omega (arith, b.unowned, c.owned))
+    go Newest Owner b c = absurd (omega (arith, c.unowned, b.owned))
+    go Newest Newest b c = elim (cases_lt b.at c.at) [
+      | inl i ↦ absurd (omega (arith, b.first.newer, c.first.before b.at i))
+      | inr i ↦ elim (cases_lt c.at b.at) [
+        | inl j ↦ absurd (omega (arith, c.first.newer, b.first.before c.at j))
+        | inr j ↦ (let s : b.at ≡ c.at = omega arith in b.is ∙ ap (data_cell r.callers) s ∙ sym c.is)
+      ]
+    ]
+    go Newest Store b c = absurd (omega (arith, b.first.newer, c.none_newer b.at b.within))
+    go Store Owner b c = absurd (omega (arith, c.unowned, b.owned))
+    go Store Newest b c = absurd (omega (arith, c.first.newer, b.none_newer c.at c.within))
+    go Store Store b c = b.is ∙ ap (data_cell r.callers) (one_fault _ _ _ _ b.at c.at b.first c.first) ∙ sym c.is
 
 -- the same where callers and data cells are a plot's
 pub law_numbers : (callers cells : ℕ) (p : Plot) (words numbers : List ℕ) → callers ≡ p.callers → cells ≡ size p → IsDurableRow p.callers (size p) words → numbers ≡ map pay (slice_range words (data_cell callers 0) (data_cell callers 0 + cells)) → numbers ≡ numbers_in p.instrs (row_in p words)

@@ -1,8 +1,11 @@
--- The durable words of a lawful record have an image, with the sequence and the store of its report.
-use Rattle.std.proofs.Common.{◌≡◌, ℕ, ◌<◌, List, get_or, refl, sym, ap, ◌∙◌, arith}
-use Rattle.std.proofs.lemmas.List.FromFn.{get_or-map-range_with_len}
+-- The durable words of a lawful record have an image, with the sequence and the store of its report, and the tickets that recovery finds.
+use Rattle.std.proofs.Common.{◌≡◌, ℕ, ◌<◌, List, get_or, map, refl, sym, ap, ◌∙◌, arith}
+use Rattle.std.specs.List.{range_with_len}
+use Rattle.std.proofs.lemmas.List.{ext_get_or}
+use Rattle.std.proofs.lemmas.List.FromFn.{get_or-map-range_with_len, length-map-range_with_len}
 use Rattle.of_cell.specs.Words.{seq, pay}
 use Rattle.of_cell.specs.Cells.{data_cell}
+use Rattle.of_mem.specs.Places.{ticket_at}
 use Rattle.of_mem.specs.ProgramWork.{memory}
 use Rattle.of_script.specs.declared.instr.TheConstants.{MOST_INSTRS}
 use Rattle.of_recover.specs.Row.{IsDurableRow, is_open}
@@ -20,6 +23,14 @@ use Rattle.of_report.proofs.Cells.{stands_for_same}
 use Rattle.of_image.specs.declared.version.Version.TheVariants.{Two}
 use Rattle.of_image.specs.ImageText.{image_text, SpellsImage}
 use Rattle.of_image.specs.RunImage.{durable_row, row_after, MayRestart, IsImageOf}
+
+-- functions that agree below a number
+map_range_same : (f g : ℕ → ℕ) (n : ℕ) → ((k : ℕ) → k < n → f k ≡ g k) → map f (range_with_len 0 n) ≡ map g (range_with_len 0 n)
+map_range_same f g n same =
+    ext_get_or 0 (map f (range_with_len 0 n)) (map g (range_with_len 0 n)) (length-map-range_with_len f 0 n ∙ sym (length-map-range_with_len g 0 n))
+    (λ k lt.
+    let l : k < n = omega (arith, lt, length-map-range_with_len f 0 n) in
+    get_or-map-range_with_len f 0 n k k 0 l (omega arith) ∙ same k l ∙ sym (get_or-map-range_with_len g 0 n k k 0 l (omega arith)))
 
 module _ (p : Plan) (s : Start) (e : Run) (r : Report) (plan : IsPlan p) (lawful : IsLawful p s e r) where
   abbrev N : ℕ
@@ -46,6 +57,14 @@ module _ (p : Plan) (s : Start) (e : Run) (r : Report) (plan : IsPlan p) (lawful
       (λ a l. sym (get_or-map-range_with_len (λ x. pay (get_or (recovered N M ws) (data_cell N x) 0)) 0 M a a 0 l (omega arith) ∙ ap pay (found a l)))
       r.store lawful.report.store
 
+  -- a ticket is a data cell
+  ticket_in_cells : (c : ℕ) → c < N → ticket_at MOST_INSTRS c < M
+  ticket_in_cells c l = omega (arith, l)
+
+  -- each caller's ticket is the one that recovery finds
+  tickets_are : map (λ c. pay (get_or (recovered N M ws) (data_cell N (ticket_at MOST_INSTRS c)) 0)) (range_with_len 0 N) ≡ map (λ c. recovered_number p e (ticket_at MOST_INSTRS c)) (range_with_len 0 N)
+  tickets_are = map_range_same (λ c. pay (get_or (recovered N M ws) (data_cell N (ticket_at MOST_INSTRS c)) 0)) (λ c. recovered_number p e (ticket_at MOST_INSTRS c)) N (λ c l. ap pay (found (ticket_at MOST_INSTRS c) (ticket_in_cells c l)))
+
   pub has_image : MayRestart p e → (text : List ℕ) → text ≡ image_text Two (durable_row p e) → SpellsImage Two text (durable_row p e) → IsImageOf p e r text
   has_image may text is spelled = record {
     text_is = is;
@@ -63,4 +82,5 @@ module _ (p : Plan) (s : Start) (e : Run) (r : Report) (plan : IsPlan p) (lawful
     row = refl;
     seq = refl;
     store = refl;
+    start = λ i. record { store = r.store; seq = r.seq; finished = tickets_are i };
   }

@@ -3,6 +3,10 @@ pub mod Version
 pub mod ImageText
 pub mod RowFault
 pub mod Parsed
+pub mod ReasonText
+pub mod Reasons
+pub mod Heading
+pub mod Faults
 pub mod ImageReading
 pub mod RecoveredText
 pub mod RenumberedImage

@@ -8,7 +8,9 @@ use Rattle.of_image.specs.declared.error.ImageErr.TheVariants.{Memory, Bad, Unla
 use Rattle.of_image.specs.declared.version.Version.{Version}
 use Rattle.of_image.specs.Version.{instrs_of}
 use Rattle.of_image.specs.ImageText.{SpellsImage, IsImageText}
-use Rattle.of_image.specs.RowFault.{IsRowFault}
+use Rattle.of_image.specs.declared.law.RowErr.{RowErr}
+use Rattle.of_image.specs.declared.law.RowErr.TheVariants.{Memory as NoMemory, Unlawful as UnlawfulRow}
+use Rattle.of_image.specs.RowFault.{Breaks, IsRowFault}
 
 -- the text is in the grammar, and what recovery finds in its row is the image
 pub record ReadsImage (v : Version) (text : List ℕ) (i : Image) : Type 0 where
@@ -35,10 +37,14 @@ IsNoImage v text (Bad line) = HasBadLine (IsImageText v) text line
 IsNoImage v text (Unlawful cell) = ⊥
 
 -- why no store is found in a row
-abbrev pub IsFaulty : (instrs : ℕ) → Row → ImageErr → Type 0
-IsFaulty instrs r Memory = Unit {0}
-IsFaulty instrs r (Bad line) = ⊥
-IsFaulty instrs r (Unlawful cell) = IsRowFault instrs r cell
+abbrev pub IsFaulty : (instrs : ℕ) → Row → RowErr → Type 0
+IsFaulty instrs r NoMemory = Unit {0}
+IsFaulty instrs r (UnlawfulRow cell law) = Breaks law instrs r cell
+
+-- the same as it is answered of a text
+abbrev pub image_err : RowErr → ImageErr
+image_err NoMemory = Memory
+image_err (UnlawfulRow cell law) = Unlawful cell
 
 -- an unlawful text has no image
 abbrev pub UnlawfulHaveNone : Type 0
@@ -47,3 +53,7 @@ UnlawfulHaveNone = (v : Version) (text : List ℕ) (cell : ℕ) (image : Image) 
 -- and one cell at fault
 abbrev pub OneFault : Type 0
 OneFault = (v : Version) (text : List ℕ) (c d : ℕ) → IsUnlawful v text c → IsUnlawful v text d → c ≡ d
+
+-- a text has one image
+abbrev pub OneImage : Type 0
+OneImage = (v : Version) (text : List ℕ) (i j : Image) → ReadsImage v text i → ReadsImage v text j → i ≡ j

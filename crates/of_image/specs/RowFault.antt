@@ -7,17 +7,42 @@ use Rattle.of_recover.specs.Row.{current_seq, current_owner}
 use Rattle.of_eval.specs.Faults.{IsFirstFault}
 use Rattle.of_report.specs.ImageRow.{Row, cells_in, numbers_in}
 use Rattle.of_report.specs.ImageLaw.{IsOwned, NoneNewer}
+use Rattle.of_image.specs.declared.law.Law.{Law}
+use Rattle.of_image.specs.declared.law.Law.TheVariants.{Owner, Newest, Store}
 
 -- this data cell is newer than the current transaction, and none before it
 pub record IsFirstNewer (callers : ℕ) (words : List ℕ) (a : ℕ) : Type 0 where
   pub before : NoneNewer callers words a
   pub newer : current_seq (slice_index words) < seq (slice_index words (data_cell callers a))
 
--- the first cell at fault. What is looked at before it is sound
-pub data IsRowFault (instrs : ℕ) (r : Row) (cell : ℕ) : Type 0 where
-  -- no caller owns the current transaction
-  Unowned : r.callers ≤ current_owner (slice_index r.words) → cell ≡ 0 → IsRowFault instrs r cell
-  -- a data cell is newer
-  Newer : IsOwned r → (a : ℕ) → a < cells_in instrs r → IsFirstNewer r.callers r.words a → cell ≡ data_cell r.callers a → IsRowFault instrs r cell
-  -- the data cells stand for no store
-  NoStore : IsOwned r → NoneNewer r.callers r.words (cells_in instrs r) → (a : ℕ) → IsFirstFault r.callers instrs r.blocks (memory (numbers_in instrs r)) a → cell ≡ data_cell r.callers a → IsRowFault instrs r cell
+-- no caller owns the current transaction, as cell 0 says
+pub record IsUnowned (r : Row) (cell : ℕ) : Type 0 where
+  pub unowned : r.callers ≤ current_owner (slice_index r.words)
+  pub is : cell ≡ 0
+
+-- the first data cell that is newer than the current transaction
+pub record IsNewer (instrs : ℕ) (r : Row) (cell : ℕ) : Type 0 where
+  pub owned : IsOwned r
+  pub at : ℕ
+  pub within : at < cells_in instrs r
+  pub first : IsFirstNewer r.callers r.words at
+  pub is : cell ≡ data_cell r.callers at
+
+-- the data cells stand for no store, and this is the first of them at fault
+pub record HasNoStore (instrs : ℕ) (r : Row) (cell : ℕ) : Type 0 where
+  pub owned : IsOwned r
+  pub none_newer : NoneNewer r.callers r.words (cells_in instrs r)
+  pub at : ℕ
+  pub first : IsFirstFault r.callers instrs r.blocks (memory (numbers_in instrs r)) at
+  pub is : cell ≡ data_cell r.callers at
+
+-- the first cell at fault and the law that it breaks. The laws before it are kept
+abbrev pub Breaks : Law → (instrs : ℕ) → Row → (cell : ℕ) → Type 0
+Breaks Owner instrs r cell = IsUnowned r cell
+Breaks Newest instrs r cell = IsNewer instrs r cell
+Breaks Store instrs r cell = HasNoStore instrs r cell
+
+-- the first cell at fault
+pub record IsRowFault (instrs : ℕ) (r : Row) (cell : ℕ) : Type 0 where
+  pub law : Law
+  pub breaks : Breaks law instrs r cell

@@ -1,13 +1,15 @@
 -- The image of what a run of a plan leaves.
-use Rattle.std.specs.Prelude.{◌≡◌, ℕ, List}
+use Rattle.std.specs.Prelude.{◌≡◌, ℕ, List, map}
+use Rattle.std.specs.List.{range_with_len}
 use Rattle.of_script.specs.declared.instr.TheConstants.{MOST_INSTRS}
+use Rattle.of_mem.specs.Places.{ticket_at}
 use Rattle.of_plan.specs.Plan.{Plan, IsPlan}
 use Rattle.of_plan.specs.Ended.{Run}
 use Rattle.of_plan.specs.Report.{Report, Start}
-use Rattle.of_eval.specs.Record.{cells_in, IsLawful}
+use Rattle.of_eval.specs.Record.{cells_in, recovered_number, IsLawful}
 use Rattle.of_report.specs.ImageRow.{Row, recovered_row}
 use Rattle.of_report.specs.ImageLaw.{IsOwned, NoneNewer}
-use Rattle.of_report.specs.Image.{Image}
+use Rattle.of_report.specs.Image.{Image, start_of}
 pub use Rattle.of_report.specs.Image.{durable_row}
 use Rattle.of_image.specs.declared.version.Version.TheVariants.{Two}
 use Rattle.of_image.specs.ImageText.{image_text, SpellsImage}
@@ -22,7 +24,11 @@ pub record MayRestart (p : Plan) (e : Run) : Type 0 where
   pub owned : IsOwned (row_after p e)
   pub none_newer : NoneNewer p.callers (row_after p e).words (cells_in p)
 
--- the text is that of the durable words that a run leaves, and its image has what the run's report says: the sequence and the store
+-- where a run is left: the store and the sequence of its report, and each caller's ticket that recovery finds
+abbrev pub start_left : Plan → Run → Report → Start
+start_left p e r = record { store = r.store; seq = r.seq; finished = map (λ c. recovered_number p e (ticket_at MOST_INSTRS c)) (range_with_len 0 p.callers) }
+
+-- the text is that of the durable words that a run leaves, and its image has what the run's report says: the sequence and the store. It starts where the run is left
 pub record IsImageOf (p : Plan) (e : Run) (r : Report) (text : List ℕ) : Type 0 where
   pub text_is : text ≡ image_text Two (durable_row p e)
   pub image : Image
@@ -30,6 +36,7 @@ pub record IsImageOf (p : Plan) (e : Run) (r : Report) (text : List ℕ) : Type 
   pub row : image.row ≡ row_after p e
   pub seq : image.seq ≡ r.seq
   pub store : image.store ≡ r.store
+  pub start : start_of image ≡ start_left p e r
 
 -- from whatever start: the text of the durable words of a lawful record has an image, where recovery leaves an owner and no newer cell
 abbrev pub RecordsHaveImages : Type 0

@@ -1,5 +1,6 @@
 //! Why a text is no image.
 
+use crate::law::RowErr;
 use std::alloc::AllocError;
 use std::fmt;
 
@@ -24,6 +25,20 @@ impl From<AllocError> for ImageErr {
 
     fn from(_e: AllocError) -> ImageErr {
         ImageErr::Memory
+    }
+}
+
+impl From<RowErr> for ImageErr {
+    ghost use Rattle.std.specs.Prelude.{◌≡◌};
+    ghost use Rattle.of_image.specs.Parsed.{image_err};
+
+    ghost from_gives = { λ r e. e ≡ image_err r };
+
+    fn from(e: RowErr) -> ImageErr {
+        match e {
+            RowErr::Memory => ImageErr::Memory,
+            RowErr::Unlawful { cell, .. } => ImageErr::Unlawful { cell },
+        }
     }
 }
 

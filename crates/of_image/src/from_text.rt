@@ -41,7 +41,7 @@ pub(crate) fn read_image(alloc: Global, version: Version, text: &[u8]) -> Result
 {
     let reading = read_row(alloc, version, text)?;
     let plot = plot_of(version, reading.callers, reading.blocks);
-    restore(alloc, &plot, reading.words)
+    Ok(restore(alloc, &plot, reading.words)?)
 }
 
 /// The image that a text has: what recovery finds in its durable words.

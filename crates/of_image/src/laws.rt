@@ -1,12 +1,17 @@
 //! Laws of images.
 
-ghost use Rattle.of_image.specs.Parsed.{OneFault, UnlawfulHaveNone};
+ghost use Rattle.of_image.specs.Parsed.{OneFault, OneImage, UnlawfulHaveNone};
 ghost use Rattle.of_image.specs.RunImage.{RecordsHaveImages};
 
 /// The text of the durable words that a run leaves has an image, with the sequence and the store of
-/// the run's report.
+/// the run's report. It starts there, and each caller with the ticket that recovery finds.
 pub fn records_have_images()
     ensures { RecordsHaveImages }
+{}
+
+/// A text has at most one image.
+pub fn one_image()
+    ensures { OneImage }
 {}
 
 /// A text with a first cell at fault has no image, and no other such cell.

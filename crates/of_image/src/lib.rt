@@ -2,20 +2,27 @@
 #![tactic(auto)]
 
 mod error;
+mod explaining;
 mod from_text;
+mod law;
 pub mod laws;
 mod line;
 mod migrating;
 mod parsing;
 mod printing;
 mod reading;
+mod reason;
+mod refusal;
 mod renumbering;
 mod restoring;
 mod version;
 
 pub use error::ImageErr;
 pub use from_text::image_parse;
+pub use law::Law;
 pub use migrating::migrate;
 pub use printing::{image_print, recovered_print};
+pub use reason::Reason;
+pub use refusal::{BadPiece, ImageFault, fault};
 pub use renumbering::renumbered_print;
 pub use version::Version;

@@ -33,8 +33,8 @@ fn begun(alloc: Global) -> Reading
     }
 }
 
-// The number of durable cells.
-fn cells(version: Version, callers: u32, blocks: u32) -> u32
+/// The number of durable cells.
+pub(crate) fn cells(version: Version, callers: u32, blocks: u32) -> u32
     requires callers { callers ≤ MOST_CALLERS }
     requires blocks { blocks ≤ MOST_BLOCKS }
     ensures { result ≡ durable_cells callers (cells_of (instrs_of version) callers blocks) }

@@ -12,7 +12,7 @@ ghost use Rattle.of_image.specs.Parsed.{IsFaulty};
 ghost use Rattle.of_report.specs.Image.{image_of, IsRestored};
 ghost use Rattle.of_report.specs.ImageRow.{recovered_row};
 
-use crate::error::ImageErr;
+use crate::law::{Law, RowErr};
 use of_cell::{Shape, payload_of, seq_of};
 use of_eval::{LawErr, lawful};
 use of_mem::Plot;
@@ -60,35 +60,40 @@ fn numbers(alloc: Global, shape: &Shape, words: &[u64]) -> Result<Vec<u32>, Allo
 }
 
 /// The store for which a recovered row stands.
-fn law(alloc: Global, plot: &Plot, words: &[u64]) -> Result<Store, ImageErr>
+fn law(alloc: Global, plot: &Plot, words: &[u64]) -> Result<Store, RowErr>
     requires { IsDurableRow plot.now.callers (size plot.now) words.now }
     ensures ok { IfOk result (IsLawfulRow plot.now.instrs (row_in plot.now words.now)) }
     ensures err { IfErr result (IsFaulty plot.now.instrs (row_in plot.now words.now)) }
 {
     let shape = shape_of(plot);
     if payload_of(words[shape.cur() as usize]) >= plot.callers {
-        return Err(ImageErr::Unlawful { cell: shape.cur() });
+        return Err(RowErr::Unlawful {
+            cell: shape.cur(),
+            law: Law::Owner,
+        });
     }
     match newer(&shape, words) {
         None => {}
         Some(a) => {
-            return Err(ImageErr::Unlawful {
+            return Err(RowErr::Unlawful {
                 cell: shape.data_cell(a),
+                law: Law::Newest,
             });
         }
     }
     let numbers = numbers(alloc, &shape, words)?;
     match lawful(alloc, plot, &numbers) {
         Ok(store) => Ok(store),
-        Err(LawErr::Memory) => Err(ImageErr::Memory),
-        Err(LawErr::Unlawful { cell }) => Err(ImageErr::Unlawful {
+        Err(LawErr::Memory) => Err(RowErr::Memory),
+        Err(LawErr::Unlawful { cell }) => Err(RowErr::Unlawful {
             cell: shape.data_cell(cell),
+            law: Law::Store,
         }),
     }
 }
 
 /// What recovery finds in a row.
-pub(crate) fn restore(alloc: Global, plot: &Plot, words: Vec<u64>) -> Result<Image, ImageErr>
+pub(crate) fn restore(alloc: Global, plot: &Plot, words: Vec<u64>) -> Result<Image, RowErr>
     requires { IsDurableRow plot.now.callers (size plot.now) words.items }
     ensures ok { IfOk result (λ image. IsRestored plot.now.instrs (row_in plot.now words.items) (image_of image)) }
     ensures err { IfErr result (IsFaulty plot.now.instrs (recovered_row plot.now.instrs (row_in plot.now words.items))) }

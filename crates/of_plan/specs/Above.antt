@@ -1,12 +1,13 @@
 -- What the lines above a line say.
-use Rattle.std.specs.Prelude.{◌≡◌, ℕ, ◌-◌, ◌<◌, List, [], ◌∷◌, slice_index_or, slice_index, if◌then◌else◌, ◌==◌, codes, Option, Some, None}
+use Rattle.std.specs.Prelude.{◌≡◌, ℕ, ◌-◌, ◌<◌, List, [], ◌∷◌, nat_lt, slice_index_or, slice_index, if◌then◌else◌, ◌==◌, codes, Option, Some, None}
 use Rattle.std.specs.Str.{bytes_eq}
 use Rattle.of_cell.specs.declared.shape.TheConstants.{MOST_CALLERS}
 use Rattle.of_store.specs.declared.store.TheConstants.{MOST_BLOCKS}
+use Rattle.of_plan.specs.declared.line.TheConstants.{GREATEST_CELL}
 use Rattle.of_script.specs.Text.{words}
 use Rattle.of_script.specs.Reading.{◌>>=◌, number_at, ended}
 use Rattle.of_plan.specs.declared.above.Wanted.{Wanted}
-use Rattle.of_plan.specs.declared.above.Wanted.TheVariants.{Kept, Callers, Blocks, End, Stop}
+use Rattle.of_plan.specs.declared.above.Wanted.TheVariants.{Kept, Callers, Blocks, End, Stop, Cell}
 
 -- the number behind the name of a line, where the line has this name and a number up to the most
 abbrev pub number_behind : (name wanted : List ℕ) → List (List ℕ) → (most : ℕ) → Option ℕ
@@ -18,6 +19,10 @@ number_behind name wanted ws most = if bytes_eq name wanted then (do
 abbrev pub only : ℕ → ℕ → Option ℕ
 only wanted n = if n == wanted then Some n else None
 
+-- the number, where it is no smaller
+abbrev pub at_least : ℕ → ℕ → Option ℕ
+at_least least n = if nat_lt n least then None else Some n
+
 -- the number that the words of a line say, where it is a line that is wanted; 0 where it says none
 abbrev pub said : Wanted → List (List ℕ) → Option ℕ
 said wanted [] = None
@@ -26,6 +31,7 @@ said Callers (name ∷ ws) = number_behind name (codes "callers") ws MOST_CALLER
 said Blocks (name ∷ ws) = number_behind name (codes "blocks") ws MOST_BLOCKS
 said End (name ∷ ws) = if bytes_eq name (codes "end") then ended 0 ws else None
 said (Stop c) (name ∷ ws) = number_behind name (codes "stop") ws (MOST_CALLERS - 1) >>= only c
+said (Cell least) (name ∷ ws) = number_behind name (codes "cell") ws GREATEST_CELL >>= at_least least
 
 -- the line with so many lines above it, and nothing where there is none
 abbrev pub line_at : List (List ℕ) → ℕ → List ℕ

@@ -1,26 +1,20 @@
 -- The reasons in words.
 use Rattle.std.specs.Prelude.{ℕ, List, ◌++◌, codes, decimal}
 use Rattle.of_plan.specs.declared.reason.Reason.{Reason}
-use Rattle.of_plan.specs.declared.reason.Reason.TheVariants.{ByteOrderMark, CarriageReturn, Tab, TitleExpected, CallersExpected, BlocksExpected, AfterEnd, UnknownLine, UnknownInstruction, NumberMissing, NoNumber, TooGreat, Zero, NoCaller, NoCell, WordTooMany, InstructionMissing, TooManyInstructions, SecondStop, HeadingOver, EndMissing, NotHere}
+use Rattle.of_plan.specs.declared.reason.Reason.TheVariants.{Flawed, TitleExpected, CallersExpected, BlocksExpected, AfterEnd, UnknownLine, UnknownInstruction, NoCaller, NoCell, InstructionMissing, TooManyInstructions, SecondStop, HeadingOver, EndMissing, NotHere}
+use Rattle.of_plan.specs.FlawText.{flaw_text}
 
 -- what is printed of a reason
 abbrev pub reason_text : Reason → List ℕ
-reason_text ByteOrderMark = codes "a byte order mark at the start of the text"
-reason_text CarriageReturn = codes "a carriage return at the end of the line"
-reason_text Tab = codes "a tab, where only spaces part words"
+reason_text (Flawed flaw) = flaw_text flaw
 reason_text TitleExpected = codes "the first line of a plan is `onefile plan 1`"
 reason_text CallersExpected = codes "the second line of a plan is `callers N`, N from 1 to 16"
 reason_text BlocksExpected = codes "the third line of a plan is `blocks B`, B from 0 to 512"
 reason_text AfterEnd = codes "a line after `end`"
 reason_text UnknownLine = codes "no line of a plan begins with this word"
 reason_text UnknownInstruction = codes "no instruction has this name"
-reason_text NumberMissing = codes "a number is missing here"
-reason_text NoNumber = codes "not a number: digits alone, no 0 before others"
-reason_text (TooGreat most) = codes "a number above " ++ decimal most
-reason_text Zero = codes "a number below 1"
 reason_text (NoCaller caller callers) = codes "caller " ++ (decimal caller ++ (codes " of a plan with " ++ (decimal callers ++ codes "; the first is 0")))
 reason_text (NoCell cell cells) = codes "cell " ++ (decimal cell ++ (codes " of a plan with " ++ (decimal cells ++ codes "; the first is 0")))
-reason_text WordTooMany = codes "a word too many"
 reason_text InstructionMissing = codes "an instruction is missing here"
 reason_text TooManyInstructions = codes "a script has at most 16 instructions"
 reason_text (SecondStop line) = codes "this caller has a stop already, in line " ++ decimal line

@@ -2,34 +2,25 @@
 use Rattle.std.specs.Prelude.{◌≡◌, ◌⊎◌, ℕ, ◌+◌, ◌-◌, ◌<◌, ◌≤◌, List, [], ◌∷◌, length, slice_range, codes, Some, None, IfSome, IfErr, Option, Result}
 use Rattle.of_cell.specs.Cells.{durable_cells}
 use Rattle.of_script.specs.declared.instr.TheConstants.{MOST_INSTRS}
-use Rattle.of_script.specs.Text.{words, mark, IsFault as IsScriptFault}
-use Rattle.of_script.specs.Reading.{number_of}
-use Rattle.of_plan.specs.declared.line.TheConstants.{GREATEST_CELL}
+use Rattle.of_script.specs.Text.{IsFault as IsScriptFault}
 use Rattle.of_plan.specs.declared.above.Wanted.{Wanted}
 use Rattle.of_plan.specs.declared.above.Wanted.TheVariants.{Kept, Callers, Blocks, End, Stop}
-use Rattle.of_plan.specs.declared.pieces.Finding.{Finding}
+use Rattle.of_plan.specs.declared.explaining.Finding.{Finding}
 use Rattle.of_plan.specs.declared.refusal.BadPiece.{BadPiece}
 use Rattle.of_plan.specs.declared.reason.Reason.{Reason}
-use Rattle.of_plan.specs.declared.reason.Reason.TheVariants.{ByteOrderMark, CarriageReturn, Tab, TitleExpected, CallersExpected, BlocksExpected, AfterEnd, UnknownLine, UnknownInstruction, NumberMissing, NoNumber, TooGreat, Zero, NoCaller, NoCell, WordTooMany, InstructionMissing, TooManyInstructions, SecondStop, HeadingOver, EndMissing, NotHere}
+use Rattle.of_plan.specs.declared.reason.Reason.TheVariants.{Flawed, TitleExpected, CallersExpected, BlocksExpected, AfterEnd, UnknownLine, UnknownInstruction, NoCaller, NoCell, InstructionMissing, TooManyInstructions, SecondStop, HeadingOver, EndMissing, NotHere}
 use Rattle.of_plan.specs.Plan.{data_cells}
 use Rattle.of_plan.specs.Lines.{lines}
 use Rattle.of_plan.specs.LineTable.{form_named}
 use Rattle.of_plan.specs.BadLine.{HasBadLine}
 use Rattle.of_plan.specs.Grammar.{IsPlanText}
 use Rattle.of_plan.specs.Above.{line_at, Says, NoneSays}
-use Rattle.of_plan.specs.Numerals.{IsNumeral, mosts}
+use Rattle.of_plan.specs.Numerals.{mosts}
+use Rattle.of_plan.specs.Flaws.{IsNumber, IsNoWord, HasFlaw}
 
 -- a line above says it
 abbrev pub SaidAbove : List (List ℕ) → ℕ → Wanted → ℕ → Type 0
 SaidAbove ls above wanted number = (at : ℕ) × Says ls above wanted at number
-
--- the number that a piece of a line is
-abbrev pub IsNumber : List ℕ → ℕ → Type 0
-IsNumber piece n = number_of GREATEST_CELL piece ≡ Some n
-
--- nothing is there, or a semicolon
-abbrev pub IsNoWord : List ℕ → Type 0
-IsNoWord piece = (piece ≡ []) ⊎ (piece ≡ mark)
 
 -- the caller that the piece names is none of the plan's
 pub record IsNoCaller (ls : List (List ℕ)) (above : ℕ) (piece : List ℕ) (caller callers : ℕ) : Type 0 where
@@ -62,22 +53,15 @@ pub record HasNoEnd (ls : List (List ℕ)) (above : ℕ) : Type 0 where
 
 -- what a reason says of a line of a text, of the lines above it, and of the piece at fault
 abbrev pub IsTrueOf : Reason → (ls : List (List ℕ)) (above : ℕ) (piece : List ℕ) → Type 0
-IsTrueOf ByteOrderMark ls above piece = (above ≡ 0) × (piece ≡ 239 ∷ 187 ∷ 191 ∷ [])
-IsTrueOf CarriageReturn ls above piece = piece ≡ 13 ∷ []
-IsTrueOf Tab ls above piece = piece ≡ 9 ∷ []
+IsTrueOf (Flawed flaw) ls above piece = HasFlaw flaw above piece
 IsTrueOf TitleExpected ls above piece = NoneSays ls above Kept
 IsTrueOf CallersExpected ls above piece = NoneSays ls above Callers × (piece ≡ codes "callers" → ⊥)
 IsTrueOf BlocksExpected ls above piece = NoneSays ls above Blocks × (piece ≡ codes "blocks" → ⊥)
 IsTrueOf AfterEnd ls above piece = (number : ℕ) × SaidAbove ls above End number
 IsTrueOf UnknownLine ls above piece = form_named piece ≡ None
 IsTrueOf UnknownInstruction ls above piece = mosts piece ≡ None
-IsTrueOf NumberMissing ls above piece = IsNoWord piece
-IsTrueOf NoNumber ls above piece = IsNumeral piece → ⊥
-IsTrueOf (TooGreat most) ls above piece = IsNumeral piece × (number_of most piece ≡ None)
-IsTrueOf Zero ls above piece = IsNumber piece 0
 IsTrueOf (NoCaller caller callers) ls above piece = IsNoCaller ls above piece caller callers
 IsTrueOf (NoCell cell cells) ls above piece = IsNoCell ls above piece cell cells
-IsTrueOf WordTooMany ls above piece = piece ≡ [] → ⊥
 IsTrueOf InstructionMissing ls above piece = IsNoWord piece
 IsTrueOf TooManyInstructions ls above piece = IsScriptFault piece MOST_INSTRS
 IsTrueOf (SecondStop line) ls above piece = HasStop ls above piece line

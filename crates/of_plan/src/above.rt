@@ -5,13 +5,14 @@ ghost use Rattle.of_script.specs.Text.{words};
 ghost use Rattle.of_plan.specs.Lines.{lines};
 ghost use Rattle.of_plan.specs.Above as lines_above;
 
+use crate::line::GREATEST_CELL;
 use of_cell::MOST_CALLERS;
 use of_script::text::{cut, next_number, word};
 use of_store::MOST_BLOCKS;
 
 /// What a line is asked for.
 #[derive(Clone, Copy, Debug, PartialEq, Eq)]
-pub(crate) enum Wanted {
+pub enum Wanted {
     /// Any line that isn't skipped.
     Kept,
     /// The number of callers.
@@ -22,6 +23,8 @@ pub(crate) enum Wanted {
     End,
     /// The stop of this caller.
     Stop { caller: u32 },
+    /// In the text of an image, the number of a cell from this one on.
+    Cell { least: u32 },
 }
 
 // The number behind the name of a line.
@@ -60,11 +63,18 @@ pub(crate) fn said(wanted: Wanted, line: &[u8]) -> Option<u32>
             }
             Some(found)
         }
+        Wanted::Cell { least } => {
+            let found = number_behind(name, b"cell".as_slice(), rest, GREATEST_CELL)?;
+            if found < least {
+                return None;
+            }
+            Some(found)
+        }
     }
 }
 
 /// The line with so many lines above it, nothing where there is none, and whether it is the last.
-pub(crate) fn line_at(text: &[u8], above: u64) -> (&[u8], bool)
+pub fn line_at(text: &[u8], above: u64) -> (&[u8], bool)
     ensures line { result.0.now ≡ lines_above.line_at (lines text.now) above }
     ensures last { IsTrue result.1 → length (lines text.now) ≡ above + 1 }
 {
@@ -85,7 +95,7 @@ pub(crate) fn line_at(text: &[u8], above: u64) -> (&[u8], bool)
 
 /// The first of so many lines that says what is wanted, by the number of lines above it, and the
 /// number that it says.
-pub(crate) fn find(text: &[u8], above: u64, wanted: Wanted) -> Option<(u64, u32)>
+pub fn find(text: &[u8], above: u64, wanted: Wanted) -> Option<(u64, u32)>
     ensures { MatchOption result (lines_above.NoneSays (lines text.now) above wanted)
         (λ x. lines_above.Says (lines text.now) above wanted x.0 x.1) }
 {

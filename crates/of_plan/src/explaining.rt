@@ -3,14 +3,18 @@
 ghost use Rattle.std.specs.Prelude.{◌≡◌, ◌≤◌, ◌-◌, ℕ, length, List, IfSome, MatchResult};
 ghost use Rattle.of_plan.specs.Lines.{lines};
 ghost use Rattle.of_plan.specs.Above.{line_at as the_line};
+ghost use Rattle.of_plan.specs.Flaws.{IsFlawed};
 ghost use Rattle.of_plan.specs.Reasons.{IsFinding, SaidAbove};
 ghost use Rattle.of_plan.specs.Sizes.{AreSizes};
 ghost use Rattle.of_plan.specs.declared.above.Wanted.TheVariants.{Callers as TheCallers};
 
 use crate::above::{Wanted, find, line_at};
+use crate::flaw::Flaw;
 use crate::line::{Form, GREATEST_CELL, first_most, form_named, second_most};
 use crate::numerals::mosts;
-use crate::pieces::{Finding, is_no_word, past_numbers, word_from};
+use crate::pieces::{
+    FlawedPiece, hidden, is_no_word, no_count, no_numbers, past_numbers, word_from, zero,
+};
 use crate::reason::Reason;
 use crate::taking::cells;
 use of_cell::MOST_CALLERS;
@@ -25,80 +29,23 @@ pub(crate) struct Sizes {
     blocks: u32,
 }
 
-// A byte that looks like nothing: a byte order mark, a carriage return at the end, a tab.
-fn hidden(line: &[u8], above: u64) -> Option<Finding>
-    ensures { IfSome result (λ f. (ls : List (List ℕ)) → IsFinding ls above line.now f) }
-{
-    if above == 0 && line.len() >= 3 && &line[0..3] == [239, 187, 191].as_slice() {
-        return Some(Finding {
-            start: 0,
-            end: 3,
-            reason: Reason::ByteOrderMark,
-        });
-    }
-    if !line.is_empty() && line[line.len() - 1] == b'\r' {
-        return Some(Finding {
-            start: line.len() - 1,
-            end: line.len(),
-            reason: Reason::CarriageReturn,
-        });
-    }
-    for at in 0..line.len() {
-        if line[at] == b'\t' {
-            return Some(Finding {
-                start: at,
-                end: at + 1,
-                reason: Reason::Tab,
-            });
-        }
-    }
-    None
+/// The piece of a line at fault, from `start` to before `end`, and why.
+#[derive(Clone, Copy, Debug, PartialEq, Eq)]
+pub(crate) struct Finding {
+    pub start: usize,
+    pub end: usize,
+    pub reason: Reason,
 }
 
-// A word where the line should end.
-fn word_too_many(line: &[u8], from: usize) -> Option<Finding>
-    requires { from ≤ length line.now }
-    ensures { IfSome result (λ f. (ls : List (List ℕ)) (above : ℕ) → IsFinding ls above line.now f) }
+// The finding that a piece is wrong by itself.
+fn flawed(piece: FlawedPiece) -> Finding
+    ensures { (ls : List (List ℕ)) (above : ℕ) (line : List ℕ) →
+        IsFlawed above line piece → IsFinding ls above line result }
 {
-    let (start, end) = word_from(line, from);
-    if line[start..end].is_empty() {
-        return None;
-    }
-    Some(Finding {
-        start,
-        end,
-        reason: Reason::WordTooMany,
-    })
-}
-
-// A number that is 0.
-fn zero(line: &[u8], from: usize) -> Option<Finding>
-    requires { from ≤ length line.now }
-    ensures { IfSome result (λ f. (ls : List (List ℕ)) (above : ℕ) → IsFinding ls above line.now f) }
-{
-    let (start, end) = word_from(line, from);
-    let found = number(&line[start..end], GREATEST_CELL)?;
-    if found != 0 {
-        return None;
-    }
-    Some(Finding {
-        start,
-        end,
-        reason: Reason::Zero,
-    })
-}
-
-// Why a line with one number is none.
-fn counted(line: &[u8], from: usize, most: u32) -> Option<Finding>
-    requires { from ≤ length line.now }
-    ensures { IfSome result (λ f. (ls : List (List ℕ)) (above : ℕ) → IsFinding ls above line.now f) }
-{
-    match past_numbers(line, from, most, 0) {
-        Err(finding) => Some(finding),
-        Ok(at) => match word_too_many(line, at) {
-            Some(finding) => Some(finding),
-            None => zero(line, from),
-        },
+    Finding {
+        start: piece.start,
+        end: piece.end,
+        reason: Reason::Flawed { flaw: piece.flaw },
     }
 }
 
@@ -127,7 +74,7 @@ fn past_instruction(line: &[u8], from: usize) -> Result<Option<usize>, Finding>
     };
     let at = match past_numbers(line, end, first, second) {
         Ok(at) => at,
-        Err(finding) => return Err(finding),
+        Err(piece) => return Err(flawed(piece)),
     };
     let (start, end) = word_from(line, at);
     let next = &line[start..end];
@@ -140,7 +87,9 @@ fn past_instruction(line: &[u8], from: usize) -> Result<Option<usize>, Finding>
     Err(Finding {
         start,
         end,
-        reason: Reason::WordTooMany,
+        reason: Reason::Flawed {
+            flaw: Flaw::WordTooMany,
+        },
     })
 }
 
@@ -230,8 +179,23 @@ fn in_script(text: &[u8], above: u64, line: &[u8], from: usize, sizes: Sizes) ->
         return Some(finding);
     }
     match past_numbers(line, from, MOST_CALLERS - 1, 0) {
-        Err(finding) => Some(finding),
+        Err(piece) => Some(flawed(piece)),
         Ok(at) => no_script(line, at),
+    }
+}
+
+// A number of a line that is 0, where this form has none.
+fn zero_of(line: &[u8], from: usize, form: Form) -> Option<FlawedPiece>
+    requires { from ≤ length line.now }
+    ensures { IfSome result (λ f. (above : ℕ) → IsFlawed above line.now f) }
+{
+    match form {
+        Form::Limit => zero(line, from),
+        Form::Turns => {
+            let (_, end) = word_from(line, from);
+            zero(line, end)
+        }
+        _ => None,
     }
 }
 
@@ -240,19 +204,9 @@ fn in_numbers(line: &[u8], from: usize, form: Form) -> Option<Finding>
     requires { from ≤ length line.now }
     ensures { IfSome result (λ f. (ls : List (List ℕ)) (above : ℕ) → IsFinding ls above line.now f) }
 {
-    match past_numbers(line, from, first_most(form), second_most(form)) {
-        Err(finding) => Some(finding),
-        Ok(at) => match word_too_many(line, at) {
-            Some(finding) => Some(finding),
-            None => match form {
-                Form::Limit => zero(line, from),
-                Form::Turns => {
-                    let (_, end) = word_from(line, from);
-                    zero(line, end)
-                }
-                _ => None,
-            },
-        },
+    match no_numbers(line, from, first_most(form), second_most(form)) {
+        Some(piece) => Some(flawed(piece)),
+        None => Some(flawed(zero_of(line, from, form)?)),
     }
 }
 
@@ -353,7 +307,7 @@ fn in_heading(text: &[u8], above: u64, line: &[u8]) -> Option<Finding>
     }
     let Some((_, callers)) = find(text, above, Wanted::Callers) else {
         if name == b"callers".as_slice() {
-            return counted(line, end, MOST_CALLERS);
+            return Some(flawed(no_count(line, end, MOST_CALLERS)?));
         }
         return Some(Finding {
             start,
@@ -381,8 +335,8 @@ fn in_heading(text: &[u8], above: u64, line: &[u8]) -> Option<Finding>
 fn in_line(text: &[u8], above: u64, line: &[u8]) -> Option<Finding>
     ensures { IfSome result (IsFinding (lines text.now) above line.now) }
 {
-    if let Some(finding) = hidden(line, above) {
-        return Some(finding);
+    if let Some(piece) = hidden(line, above) {
+        return Some(flawed(piece));
     }
     let (start, end) = word_from(line, 0);
     if find(text, above, Wanted::End).is_some() {

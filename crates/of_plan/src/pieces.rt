@@ -1,18 +1,20 @@
-//! Pieces of a line, and what is wrong with one that should be a number.
+//! Pieces of a line, and what is wrong with one by itself: a byte that looks like nothing, a word that
+//! should be a number, a word too many.
 
-ghost use Rattle.std.specs.Prelude.{◌≡◌, ◌≤◌, ℕ, length, List, IsTrue, IfSome, MatchResult, slice_range};
-ghost use Rattle.of_plan.specs.Reasons.{IsFinding, IsTrueOf, IsNoWord};
+ghost use Rattle.std.specs.Prelude.{◌≡◌, ◌≤◌, ℕ, length, IsTrue, IfSome, MatchResult, slice_range};
+ghost use Rattle.of_plan.specs.Flaws.{HasFlaw, IsFlawed, IsNoWord};
 
+use crate::flaw::Flaw;
+use crate::line::GREATEST_CELL;
 use crate::numerals::is_numeral;
-use crate::reason::Reason;
 use of_script::text::number;
 
-/// The piece of a line at fault, from `start` to before `end`, and why.
+/// A piece of a line, from the byte `start` to before `end`, and what is wrong with it.
 #[derive(Clone, Copy, Debug, PartialEq, Eq)]
-pub(crate) struct Finding {
+pub struct FlawedPiece {
     pub start: usize,
     pub end: usize,
-    pub reason: Reason,
+    pub flaw: Flaw,
 }
 
 // The first place from there on that has no space.
@@ -43,7 +45,7 @@ fn past_word(line: &[u8], from: usize) -> usize
 
 /// The word that comes next: where it starts and where it ends. A semicolon is a word. Without a
 /// word both are the end of the line.
-pub(crate) fn word_from(line: &[u8], from: usize) -> (usize, usize)
+pub fn word_from(line: &[u8], from: usize) -> (usize, usize)
     requires { from ≤ length line.now }
     ensures from { from ≤ result.0 }
     ensures order { result.0 ≤ result.1 }
@@ -66,52 +68,133 @@ pub(crate) fn is_no_word(piece: &[u8]) -> bool
     piece == b";".as_slice()
 }
 
+/// A byte that looks like nothing: a byte order mark at the start of the text, a carriage return at
+/// the end of the line, a tab.
+pub fn hidden(line: &[u8], above: u64) -> Option<FlawedPiece>
+    ensures { IfSome result (IsFlawed above line.now) }
+{
+    if above == 0 && line.len() >= 3 && &line[0..3] == [239, 187, 191].as_slice() {
+        return Some(FlawedPiece {
+            start: 0,
+            end: 3,
+            flaw: Flaw::ByteOrderMark,
+        });
+    }
+    if !line.is_empty() && line[line.len() - 1] == b'\r' {
+        return Some(FlawedPiece {
+            start: line.len() - 1,
+            end: line.len(),
+            flaw: Flaw::CarriageReturn,
+        });
+    }
+    for at in 0..line.len() {
+        if line[at] == b'\t' {
+            return Some(FlawedPiece {
+                start: at,
+                end: at + 1,
+                flaw: Flaw::Tab,
+            });
+        }
+    }
+    None
+}
+
+/// A word where the line should end.
+pub fn word_too_many(line: &[u8], from: usize) -> Option<FlawedPiece>
+    requires { from ≤ length line.now }
+    ensures { IfSome result (λ f. (above : ℕ) → IsFlawed above line.now f) }
+{
+    let (start, end) = word_from(line, from);
+    if line[start..end].is_empty() {
+        return None;
+    }
+    Some(FlawedPiece {
+        start,
+        end,
+        flaw: Flaw::WordTooMany,
+    })
+}
+
+/// A number that is 0.
+pub fn zero(line: &[u8], from: usize) -> Option<FlawedPiece>
+    requires { from ≤ length line.now }
+    ensures { IfSome result (λ f. (above : ℕ) → IsFlawed above line.now f) }
+{
+    let (start, end) = word_from(line, from);
+    let found = number(&line[start..end], GREATEST_CELL)?;
+    if found != 0 {
+        return None;
+    }
+    Some(FlawedPiece {
+        start,
+        end,
+        flaw: Flaw::Zero,
+    })
+}
+
 // Why a piece is no number up to the most.
-fn number_reason(piece: &[u8], most: u32) -> Option<Reason>
-    ensures { IfSome result (λ r. (ls : List (List ℕ)) (above : ℕ) → IsTrueOf r ls above piece.now) }
+fn number_flaw(piece: &[u8], most: u32) -> Option<Flaw>
+    ensures { IfSome result (λ f. (above : ℕ) → HasFlaw f above piece.now) }
 {
     if is_no_word(piece) {
-        return Some(Reason::NumberMissing);
+        return Some(Flaw::NumberMissing);
     }
     if !is_numeral(piece) {
-        return Some(Reason::NoNumber);
+        return Some(Flaw::NoNumber);
     }
     match number(piece, most) {
-        None => Some(Reason::TooGreat { most }),
+        None => Some(Flaw::TooGreat { most }),
         Some(_) => None,
     }
 }
 
 // Where the number that comes next ends, or why there is none up to the most. A most of 0 wants no
 // number.
-fn past_number(line: &[u8], from: usize, most: u32) -> Result<usize, Finding>
+fn past_number(line: &[u8], from: usize, most: u32) -> Result<usize, FlawedPiece>
     requires { from ≤ length line.now }
     ensures { MatchResult result (λ end. end ≤ length line.now)
-        (λ f. (ls : List (List ℕ)) (above : ℕ) → IsFinding ls above line.now f) }
+        (λ f. (above : ℕ) → IsFlawed above line.now f) }
 {
     if most == 0 {
         return Ok(from);
     }
     let (start, end) = word_from(line, from);
-    match number_reason(&line[start..end], most) {
-        Some(reason) => Err(Finding { start, end, reason }),
+    match number_flaw(&line[start..end], most) {
+        Some(flaw) => Err(FlawedPiece { start, end, flaw }),
         None => Ok(end),
     }
 }
 
 /// Where two numbers end that come next, or why they are not there. A most of 0 wants no number.
-pub(crate) fn past_numbers(
-    line: &[u8],
-    from: usize,
-    first: u32,
-    second: u32,
-) -> Result<usize, Finding>
+pub fn past_numbers(line: &[u8], from: usize, first: u32, second: u32) -> Result<usize, FlawedPiece>
     requires { from ≤ length line.now }
     ensures { MatchResult result (λ end. end ≤ length line.now)
-        (λ f. (ls : List (List ℕ)) (above : ℕ) → IsFinding ls above line.now f) }
+        (λ f. (above : ℕ) → IsFlawed above line.now f) }
 {
     match past_number(line, from, first) {
         Ok(at) => past_number(line, at, second),
-        Err(finding) => Err(finding),
+        Err(flawed) => Err(flawed),
+    }
+}
+
+/// Why a line that should end after these two numbers doesn't.
+pub fn no_numbers(line: &[u8], from: usize, first: u32, second: u32) -> Option<FlawedPiece>
+    requires { from ≤ length line.now }
+    ensures { IfSome result (λ f. (above : ℕ) → IsFlawed above line.now f) }
+{
+    match past_numbers(line, from, first, second) {
+        Ok(at) => word_too_many(line, at),
+        Err(flawed) => Some(flawed),
+    }
+}
+
+/// Why a line that should end after a number from 1 to the most doesn't.
+pub fn no_count(line: &[u8], from: usize, most: u32) -> Option<FlawedPiece>
+    requires { from ≤ length line.now }
+    ensures { IfSome result (λ f. (above : ℕ) → IsFlawed above line.now f) }
+{
+    match no_numbers(line, from, most, 0) {
+        Some(flawed) => Some(flawed),
+        None => zero(line, from),
     }
 }

@@ -1,17 +1,14 @@
 //! Why a line is the bad line of a text, in words.
 
+use crate::flaw::Flaw;
 use std::fmt;
 
 /// Why a line is the bad line of a text. What each of them says of its line is defined in
 /// `specs/Reasons.antt`.
 #[derive(Clone, Copy, Debug, PartialEq, Eq)]
 pub enum Reason {
-    /// The text starts with a byte order mark.
-    ByteOrderMark,
-    /// The line ends with a carriage return.
-    CarriageReturn,
-    /// The line has a tab, which is a byte of a word.
-    Tab,
+    /// A piece of the line is wrong by itself.
+    Flawed { flaw: Flaw },
     /// The title should come here.
     TitleExpected,
     /// The number of callers should come here.
@@ -24,20 +21,10 @@ pub enum Reason {
     UnknownLine,
     /// No instruction begins with this word.
     UnknownInstruction,
-    /// A number should come here.
-    NumberMissing,
-    /// This word is no number.
-    NoNumber,
-    /// This number is greater than the most that it may be.
-    TooGreat { most: u32 },
-    /// This number may not be 0.
-    Zero,
     /// The plan has fewer callers.
     NoCaller { caller: u32, callers: u32 },
     /// The plan has fewer cells.
     NoCell { cell: u32, cells: u32 },
-    /// No word should come here.
-    WordTooMany,
     /// An instruction should come here.
     InstructionMissing,
     /// The script has more instructions than a script may have.
@@ -60,9 +47,7 @@ impl fmt::Display for Reason {
 
     fn fmt<W: fmt::Write>(&self, f: &mut fmt::Formatter<W>) -> fmt::Result {
         match self {
-            Reason::ByteOrderMark => f.write_str("a byte order mark at the start of the text"),
-            Reason::CarriageReturn => f.write_str("a carriage return at the end of the line"),
-            Reason::Tab => f.write_str("a tab, where only spaces part words"),
+            Reason::Flawed { flaw } => write!(f, "{flaw}"),
             Reason::TitleExpected => f.write_str("the first line of a plan is `onefile plan 1`"),
             Reason::CallersExpected => {
                 f.write_str("the second line of a plan is `callers N`, N from 1 to 16")
@@ -73,10 +58,6 @@ impl fmt::Display for Reason {
             Reason::AfterEnd => f.write_str("a line after `end`"),
             Reason::UnknownLine => f.write_str("no line of a plan begins with this word"),
             Reason::UnknownInstruction => f.write_str("no instruction has this name"),
-            Reason::NumberMissing => f.write_str("a number is missing here"),
-            Reason::NoNumber => f.write_str("not a number: digits alone, no 0 before others"),
-            Reason::TooGreat { most } => write!(f, "a number above {most}"),
-            Reason::Zero => f.write_str("a number below 1"),
             Reason::NoCaller { caller, callers } => {
                 write!(
                     f,
@@ -86,7 +67,6 @@ impl fmt::Display for Reason {
             Reason::NoCell { cell, cells } => {
                 write!(f, "cell {cell} of a plan with {cells}; the first is 0")
             }
-            Reason::WordTooMany => f.write_str("a word too many"),
             Reason::InstructionMissing => f.write_str("an instruction is missing here"),
             Reason::TooManyInstructions => f.write_str("a script has at most 16 instructions"),
             Reason::SecondStop { line } => {

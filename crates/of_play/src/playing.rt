@@ -34,7 +34,7 @@ struct Playing {
 }
 
 impl Playing {
-    ghost use Rattle.std.specs.Prelude.{◌≡◌, ◌+◌, ◌<◌, [], ◌∷◌, length, replicate, slice_index_or, IfOk, OnOk, if◌then◌else◌};
+    ghost use Rattle.std.specs.Prelude.{◌≡◌, ◌+◌, ◌<◌, [], ◌∷◌, length, replicate, slice_index_or, IfOk, OnOk, IsTrue, if◌then◌else◌};
     ghost use Rattle.of_plan.specs.Plan.{IsPlan, IsItem, scripts_of};
     ghost use Rattle.of_plan.specs.Ended.{run_of};
     ghost use Rattle.of_core.specs.Events.{Turns};
@@ -168,6 +168,23 @@ impl Playing {
         self.note(caller, turn)
     }
 
+    /// Whether a caller has no call open and begins no other, so that its turns change nothing.
+    #[inline(always)]
+    fn rests(&self, plan: &Plan, caller: u32) -> bool
+        requires caller { caller < plan.now.callers }
+        requires playing { IsPlaying plan.now self.now }
+        ensures { IsTrue result → GoesOn plan.now (Turns caller ∷ []) self.now self.now }
+    {
+        plan_keeps_laws(plan);
+        if !self.bank.is_idle(caller) {
+            return false;
+        }
+        if self.standings[caller as usize].spent.is_some() {
+            return true;
+        }
+        self.bank.made(caller) as usize >= plan.scripts(caller).len()
+    }
+
     /// Makes that many turns of a caller.
     fn turns(&mut self, plan: &Plan, caller: u32, count: u32) -> Result<(), AllocError>
         requires caller { caller < plan.now.callers }
@@ -175,6 +192,9 @@ impl Playing {
         ensures { OnOk result (GoesOn plan.now (replicate count (Turns caller)) self.old self.new) }
     {
         for _ in 0..count {
+            if self.rests(plan, caller) {
+                return Ok(());
+            }
             self.turn(plan, caller)?;
         }
         Ok(())

@@ -1,5 +1,5 @@
 -- Any moment of a row: the events that came lead to its words, and recovery of them finds all that was answered.
-use Rattle.std.proofs.Common.{◌≡◌, ℕ, ◌+◌, ◌<◌, ◌≤◌, ◌⊎◌, inl, inr, ⊎_elim, List, [], length, take, map, get_or, false, sym, ◌∙◌, ap, subst, arith}
+use Rattle.std.proofs.Common.{◌≡◌, ℕ, ◌+◌, ◌<◌, ◌≤◌, inl, inr, ⊎_elim, List, [], length, take, map, get_or, false, sym, ◌∙◌, ap, subst, arith}
 use Rattle.std.specs.List.{All}
 use Rattle.std.proofs.lemmas.List.{length-map, take-map, get_or-map, get_or_append_left}
 use Rattle.atomic_table.specs.Table.{State}
@@ -47,6 +47,7 @@ module _ (S : Setup) (L : List ℕ → Type 0) (B : Start) (s : State (Unit {0})
     schedule = l.schedule;
     words = l.agrees.words;
     seen = λ j v at live. front v (r.each j v at live).seen;
+    pasts = r.trail.pasts;
     callers = λ j v at live. runs_by S L B s r es [] l r.trail.came.tells j v at live;
   }
 

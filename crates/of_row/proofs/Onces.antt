@@ -57,8 +57,10 @@ module _ (S : Setup) (B : Start) (cs : List Committed) (bs : List Batch) (x : Ke
       low c (inr z) = omega (arith, z.1)
 
 -- after a join each of the two is how what is known begins
-pub joined_both : (v w u : Sight) → u ≡ joined v w → KnowsMet u → IsPrefix v.seen u.seen × IsPrefix w.seen u.seen
-joined_both v w u e m = let k : KnowsMet (joined v w) = subst KnowsMet e m in subst (λ (z : Sight). IsPrefix v.seen z.seen × IsPrefix w.seen z.seen) (sym e) (k.0, k.1.0)
+pub joined_both : (v w u : Sight) → u ≡ joined v w → KnowsMet u → IsPrefix v.seen u.seen × IsPrefix w.seen u.seen × IsPrefix v.past u.past × IsPrefix w.past u.past
+joined_both v w u e m =
+    let k : KnowsMet (joined v w) = subst KnowsMet e m in
+    subst (λ (z : Sight). IsPrefix v.seen z.seen × IsPrefix w.seen z.seen × IsPrefix v.past z.past × IsPrefix w.past z.past) (sym e) (k.0.0, k.1.0.0, k.0.1, k.1.0.1)
 
 -- with nobody taken in the callers stay
 pub same_callers : (v w u : Sight) → u ≡ joined v w → w.kept ≡ [] → u.kept ≡ v.kept

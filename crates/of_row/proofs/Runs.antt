@@ -8,7 +8,7 @@ use Rattle.atomic_table.specs.Table.{State}
 use Rattle.of_core.specs.Table.{Setup, table_size}
 use Rattle.of_core.specs.Machine.{Data, no_machine}
 use Rattle.of_core.specs.World.{Start}
-use Rattle.of_core.specs.Events.{Event, machine}
+use Rattle.of_core.specs.Events.{Event}
 use Rattle.of_core.specs.Claim.{IsSound}
 use Rattle.of_core.specs.Laws.{EveryMoment, EveryOrder}
 use Rattle.of_core.specs.Linear.{IsDurablyLinearizable}

@@ -1,35 +1,37 @@
 -- What leads from one moment of a row to the next: each kind of step is some events.
-use Rattle.std.proofs.Common.{◌≡◌, ◌≢◌, ◌==◌, ℕ, zero, suc, ◌+◌, ◌<◌, ◌≤◌, ◌⊎◌, inl, inr, ⊎_elim, max, Bool, true, false, Option, Some, List, [], ◌∷◌, ◌++◌, length, get_or, set, map, refl, sym, ◌∙◌, ap, subst, arith, length-set}
+use Rattle.std.proofs.Common.{◌≡◌, ◌≢◌, ◌==◌, ℕ, zero, suc, ◌+◌, ◌<◌, ◌≤◌, ◌⊎◌, inl, inr, ⊎_elim, max, Bool, true, false, Some, List, [], ◌∷◌, ◌++◌, length, get_or, set, map, refl, sym, ◌∙◌, ap, subst, arith, length-set}
 use Rattle.std.proofs.lemmas.Bool.{cases_eq}
-use Rattle.std.proofs.lemmas.List.{append_assoc, append-nil, length-append, map-append, get_or_append_left, get_or-set_same, get_or-set_other, get_or_default, get_or_push, set-set, set_comm}
+use Rattle.std.proofs.lemmas.List.{append_assoc, append-nil, length-append, map-append, get_or-set_same, get_or-set_other, get_or_default, get_or_push, set-set, set_comm}
+use mathlib.Core.List.{IsPrefix}
 use mathlib.Core.Option.{some}
 use lib.ListN.{get_elem?}
 use Rattle.atomic_table.proofs.Lists.{at_set}
 use Rattle.of_cell.specs.Words.{word}
 use Rattle.of_core.specs.declared.place.Place.{Place}
-use Rattle.of_core.specs.declared.place.Place.TheVariants.{Idle, ExchangeCurrent}
+use Rattle.of_core.specs.declared.place.Place.TheVariants.{ExchangeCurrent}
 use Rattle.of_core.specs.declared.place.Op.{Op}
 use Rattle.of_core.specs.declared.place.Op.TheVariants.{Load, Store, Exchange, Raise}
 use Rattle.of_core.specs.declared.place.Outcome.{Outcome}
 use Rattle.of_core.specs.Table.{Setup, size, table_size, durable_at}
-use Rattle.of_core.specs.Machine.{Data, IsOpen, TakesPlace, is_idle, idle, no_machine, opened}
+use Rattle.of_core.specs.Machine.{Data, IsOpen, TakesPlace, is_idle, no_machine, opened}
 use Rattle.of_core.specs.Steps.{want, took, word_of, left, words_after, FoundBy}
-use Rattle.of_core.specs.World.{World, Start, Batch, Read, added, answered, one_batch, commits_at, stepped}
-use Rattle.of_core.specs.Events.{Event, Begins, Turns, Loads, Evicts, Raises, machine, begun, evicted, happens, run, IsSchedule, turns, one_turn, counted, MayHappen}
+use Rattle.of_core.specs.World.{World, Start, Read, added, answered, one_batch, commits_at, stepped}
+use Rattle.of_core.specs.Events.{Event, Begins, Turns, Loads, Evicts, Raises, machine, evicted, happens, run, IsSchedule, turns, counted}
 use Rattle.of_core.specs.Calls.{only, operations, outcomes, ended_in, NeverIdle}
 use Rattle.of_core.specs.Laws.{TurnIsStep, IsRaise, GoesBlindly}
 use Rattle.of_core.specs.Turn.{IsIdle}
 use Rattle.of_core.proofs.Tests.{same_number, other_number}
 use Rattle.of_core.proofs.Parts.{run_append, operations_append, outcomes_append}
 use Rattle.of_row.specs.Views.{Committed, Ended, Kept, Sight, bare, Each}
-use Rattle.of_row.specs.Turned.{Opens, StandsFor, kept_after}
-use Rattle.of_row.specs.Told.{begun_of, outcomes_of, put}
-use Rattle.of_row.specs.Trail.{first_of, moment, lifted, Agrees, TurnIsNext, IsPrompt, Leaves, IsToldBy, TellAll, IsAmong, Came, eviction_in, evictions, EvictsSo, EachView, Trail}
+use Rattle.of_row.specs.Turned.{StandsFor, kept_after}
+use Rattle.of_row.specs.Told.{begun_of, put}
+use Rattle.of_row.specs.Trail.{first_of, moment, lifted, Agrees, TurnIsNext, IsPrompt, Leaves, IsToldBy, TellAll, IsAmong, Came, eviction_in, evictions, EvictsSo, HasPast, EachView, Trail}
+use Rattle.of_row.proofs.Pasts.{prefix_more}
 use Rattle.of_row.proofs.Tellings.{put_at, put_else, at_last, begun_idle, begun_open, begun_after, outcomes_after}
 
 -- ---- schedules in two parts
 
-schedule_append : (S : Setup) (w : World) (es ds : List Event) → IsSchedule S w es → IsSchedule S (run S w es) ds → IsSchedule S w (es ++ ds)
+pub schedule_append : (S : Setup) (w : World) (es ds : List Event) → IsSchedule S w es → IsSchedule S (run S w es) ds → IsSchedule S w (es ++ ds)
 schedule_append S w [] ds a b = b
 schedule_append S w (e ∷ es) ds a b = (a.0, schedule_append S (happens S w e) es ds a.1 b)
 
@@ -355,6 +357,10 @@ module _ (S : Setup) (B : Start) (es : List Event) (pending : List (ℕ × ℕ))
     pub step_prompt : IsPrompt es → IsPrompt after
     step_prompt before = prompt_append es more before p.prompt
 
+    -- each past is still how they begin
+    pub step_past : (u : Sight) → HasPast es u → HasPast after u
+    step_past u past = prefix_more u.past es more past
+
     -- nothing is loaded for an eviction
     pub step_loaded : (moment S B after).loaded ≡ W.loaded
     step_loaded = ap (λ (z : World). z.loaded) to ∙ p.loaded
@@ -443,8 +449,8 @@ pub evicts_none : (es : List Event) (pending : List (ℕ × ℕ)) (v : Sight) �
 evicts_none es pending v ne = record { loaded = λ f. absurd (ne f); evicted = λ f. absurd (ne f) }
 
 -- the same events have led to other views
-pub other_views : (S : Setup) (B : Start) (w : World) (told : ℕ → Kept) (vs us : List Sight) (t : Trail S B w told vs) → EachView (EvictsSo t.events t.pending) us → Trail S B w told us
-other_views S B w told vs us t views = record { pending = t.pending; made = t.made; came = t.came; events = t.events; leaves = t.leaves; prompt = t.prompt; tells = t.tells; views = views }
+pub other_views : (S : Setup) (B : Start) (w : World) (told : ℕ → Kept) (vs us : List Sight) (t : Trail S B w told vs) → EachView (EvictsSo t.events t.pending) us → EachView (HasPast t.made) us → Trail S B w told us
+other_views S B w told vs us t views pasts = record { pending = t.pending; made = t.made; came = t.came; events = t.events; leaves = t.leaves; prompt = t.prompt; tells = t.tells; views = views; pasts = pasts }
 
 -- ---- evictions
 
@@ -518,7 +524,7 @@ came_load S B es w told c inside f =
 
 -- and what was loaded is raised later
 pub came_raise : (S : Setup) (B : Start) (es : List Event) (w : World) (told : ℕ → Kept) (c x : ℕ) → c < size S → length w.words ≡ table_size S + 1 → Came S B es ((c, x) ∷ []) w told
-    → (ds : List Event) × Came S B ds [] (record w { words = set w.words (durable_at S c) (max (get_or w.words (durable_at S c) 0) x) }) told
+    → (ds : List Event) × Came S B ds [] (record w { words = set w.words (durable_at S c) (max (get_or w.words (durable_at S c) 0) x) }) told × IsPrefix es ds
 came_raise S B es w told c x inside long f =
     let U : World = moment S B es in
     let l = f.leaves in
@@ -543,6 +549,7 @@ came_raise S B es w told c x inside long f =
         tells = eviction_tells S B es (Evicts k) told tt f.tells;
         waits = tt;
       },
+      (Evicts k ∷ [], refl),
     )
 
 -- a cell is loaded: its durable word is raised to what is found

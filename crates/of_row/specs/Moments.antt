@@ -12,7 +12,7 @@ use Rattle.of_core.specs.Events.{Event, IsSchedule}
 use Rattle.of_core.specs.Linear.{Explains, Linearizes, IsRecovered}
 use Rattle.of_row.specs.Views.{Kept, Sight, IsFront, Each}
 use Rattle.of_row.specs.Rule.{Ruled, Meets, ticket_at, op_at, outcome_at}
-use Rattle.of_row.specs.Trail.{first_of, moment, EachView}
+use Rattle.of_row.specs.Trail.{first_of, moment, HasPast, EachView}
 use Rattle.of_row.specs.Runs.{IsRunBy}
 
 -- The events lead from the row's start to this moment. A step of a member is a turn of its caller; a
@@ -23,6 +23,8 @@ pub record IsReachedBy (S : Setup) (B : Start) (s : State (Unit {0}) Sight) (es 
   pub words : (c : ℕ) → c < table_size S → get_or s.words c 0 ≡ get_or (moment S B es).words c 0
   -- what a pass or a member has seen is how the history begins
   pub seen : EachView (λ v. IsFront v.seen (moment S B es).batches) s.views
+  -- its past is how the events begin
+  pub pasts : EachView (HasPast es) s.views
   -- each caller that it keeps has had as many turns as it has made steps, and its calls began and ended so
   pub callers : EachView (λ v. Each (IsRunBy S B es) v.kept) s.views
 

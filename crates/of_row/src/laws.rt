@@ -4,9 +4,10 @@ ghost use Rattle.of_row.specs.Laws.{SeesWhole, SeesOwn, NewRuns, StillRuns};
 ghost use Rattle.of_core.specs.Laws.{setup_for};
 ghost use Rattle.of_row.specs.Runs.{RunsAreSchedules, RunsAreLinearizable};
 ghost use Rattle.of_row.specs.Moments.{StopsLoseNothing, ClosedHoldsCalls};
+ghost use Rattle.of_row.specs.ShortRaises.{MomentsHaveShortRaises, RunsHaveShortRaises};
 ghost use Rattle.of_row.specs.Laws.{FreshMember, IdleMember, MemberInRange, NewMember, BegunMember};
 
-use of_core::laws::{every_moment, every_order, starts};
+use of_core::laws::{every_moment, every_order, starts, step_kept};
 use of_mem::Work;
 
 /// Whoever keeps every number that is taken has seen the whole history.
@@ -69,4 +70,19 @@ pub fn stops_lose_nothing<W: Work>(limit: u32, work: W)
 {
     every_order(limit, work);
     starts(limit, work);
+}
+
+/// The raises of a run are short. While a caller or an eviction is about to raise a durable word, no
+/// event puts a lower word there. So the loop of a load and an exchange that makes the raise fails at
+/// most once. It is so up to each moment between two steps on a row, with evictions as they came, and
+/// in the schedule that the run of a closed row is, with evictions made at once.
+pub fn raises_are_short<W: Work>(limit: u32, work: W)
+    ensures moments { MomentsHaveShortRaises (W.lawful work)
+        (setup_for W.many W.size W.meaning limit work) }
+    ensures runs { RunsHaveShortRaises (W.lawful work)
+        (setup_for W.many W.size W.meaning limit work) }
+{
+    step_kept(limit, work);
+    every_moment(limit, work);
+    of_core::laws::raises_are_short(limit, work);
 }

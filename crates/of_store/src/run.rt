@@ -1,19 +1,74 @@
 //! What scripts do to a store.
 
-ghost use Rattle.std.specs.Prelude.{◌≡◌, IfOk, OnOk, OnErr, length};
+ghost use Rattle.std.specs.Prelude.{◌≡◌, ◌≤◌, IfOk, OnOk, OnErr, IsTrue, IsFalse, IsNone, true, length};
+ghost use Rattle.of_script.specs.declared.instr.TheConstants.{MOST_INSTRS};
 ghost use Rattle.of_script.specs.Language.{InRange};
 ghost use Rattle.of_store.specs.State.{run, effect, IsEffect};
 ghost use Rattle.of_store.specs.Replies.{response_of, IsReply};
+ghost use Rattle.of_store.specs.Changes.{takes_out, may_fail, FailsFirst, HasFailed, HasEnded, Leads};
 
+use crate::change::Changes;
 use crate::store::{Answer, Store};
 use of_script::{Abort, Cause, GREATEST, Instr, MOST_INSTRS, Reply, Script};
 use std::alloc::AllocError;
 
+// Whether nothing of a script can fail behind what takes something out, so that it can be taken
+// back without memory.
+fn fails_first(script: &Script) -> bool
+    ensures { IsTrue result → FailsFirst script.now }
+{
+    let mut has_taken = false;
+    for i in 0..script.len() {
+        let instr = script.at(i);
+        if has_taken && may_fail(instr) {
+            return false;
+        }
+        has_taken = has_taken || takes_out(instr);
+    }
+    true
+}
+
+fn takes_out(instr: Instr) -> bool
+    ensures { result ≡ takes_out instr }
+{
+    matches!(
+        instr,
+        Instr::Del { key: _ } | Instr::Pop { queue: _ } | Instr::DropBelow { key: _ }
+    )
+}
+
+fn may_fail(instr: Instr) -> bool
+    ensures { result ≡ may_fail instr }
+{
+    matches!(
+        instr,
+        Instr::Add { reg: _, value: _ }
+            | Instr::Sub { reg: _, value: _ }
+            | Instr::Put { key: _, value: _ }
+            | Instr::Need { key: _, value: _ }
+            | Instr::Push { queue: _, value: _ }
+            | Instr::DropBelow { key: _ }
+    )
+}
+
+// Whether a script has aborted, or memory was wanting.
+fn has_failed(ran: &Result<Reply, AllocError>) -> bool
+    ensures yes { IsTrue result → HasFailed ran.now }
+    ensures no { IsFalse result → HasEnded ran.now }
+{
+    match ran {
+        Ok(reply) => reply.abort.is_some(),
+        Err(_) => true,
+    }
+}
+
 impl Store {
-    // One instruction.
+    // One instruction. Where it aborts, or memory is wanting, the store is what it was.
     fn step(&mut self, instr: Instr) -> Result<Answer, AllocError>
         requires { InRange instr }
-        ensures { IfOk result (IsEffect (effect self.old instr) self.new) }
+        ensures effect { IfOk result (IsEffect (effect self.old instr) self.new) }
+        ensures aborted { IfOk result (λ a. OnErr a (self.new ≡ self.old)) }
+        ensures err { OnErr result ((self.new ≡ self.old) × (may_fail instr ≡ true)) }
     {
         match instr {
             Instr::Load { reg } => Ok(Ok(Some(self.register(u32::from(reg))))),
@@ -56,19 +111,26 @@ impl Store {
         }
     }
 
-    /// Runs a script, and answers its reply. After an abort the store is what it was before the
-    /// script, and after want of memory too.
-    pub fn run(&mut self, script: &Script) -> Result<Reply, AllocError>
-        ensures store { OnOk result (self.new ≡ (run self.old script.now).0) }
+    // Runs a script until it ends or fails, and notes its changes. Where it fails and nothing was
+    // taken out, they lead from the store as it was to what is there now.
+    fn forward(&mut self, script: &Script, changes: &mut Changes) -> Result<Reply, AllocError>
+        requires none { changes.old.count ≡ 0 }
+        requires room { length changes.old.list ≡ MOST_INSTRS }
+        ensures store { IfOk result (λ r. IsNone r.abort → self.new ≡ (run self.old script.now).0) }
         ensures reply { IfOk result (λ r. response_of r ≡ (run self.old script.now).1) }
         ensures shape { IfOk result (IsReply (length script.now)) }
-        ensures err { OnErr result (self.new ≡ self.old) }
+        ensures few { changes.new.count ≤ MOST_INSTRS }
+        ensures back { FailsFirst script.now → HasFailed result
+            → Leads changes.new.list changes.new.count self.old self.new }
     {
-        let mut work = self.copy()?;
+        // what holds of every store
+        let _ = self.room();
         let mut values = [None; MOST_INSTRS];
         let len = script.len();
         for i in 0..len {
-            match work.step(script.at(i))? {
+            let instr = script.at(i);
+            let change = self.change_of(instr);
+            match self.step(instr)? {
                 Ok(value) => values[i as usize] = value,
                 Err(cause) => {
                     return Ok(Reply {
@@ -81,12 +143,37 @@ impl Store {
                     });
                 }
             }
+            changes.list[i as usize] = change;
+            changes.count = i + 1;
         }
-        *self = work;
         Ok(Reply {
             len: len as u8,
             values,
             abort: None,
         })
+    }
+
+    /// Runs a script, and answers its reply. After an abort the store is what it was before the
+    /// script, and after want of memory too.
+    pub fn run(&mut self, script: &Script) -> Result<Reply, AllocError>
+        ensures store { OnOk result (self.new ≡ (run self.old script.now).0) }
+        ensures reply { IfOk result (λ r. response_of r ≡ (run self.old script.now).1) }
+        ensures shape { IfOk result (IsReply (length script.now)) }
+        ensures err { OnErr result (self.new ≡ self.old) }
+    {
+        let mut changes = Changes::new();
+        if !fails_first(script) {
+            let mut work = self.copy()?;
+            let reply = work.forward(script, &mut changes)?;
+            if reply.abort.is_none() {
+                *self = work;
+            }
+            return Ok(reply);
+        }
+        let ran = self.forward(script, &mut changes);
+        if has_failed(&ran) {
+            self.take_back(&changes);
+        }
+        ran
     }
 }

@@ -1,7 +1,7 @@
 //! What is said of a report that is not a legal one.
 
 use of_check::{Cause, EndRule, EntryRule};
-use of_script::text::cut;
+use of_plan::above::line_at;
 use std::alloc::{AllocError, Global};
 
 // The rule that an entry breaks, by its number in the list of docs/TEXTS.md, and what is wrong.
@@ -35,18 +35,6 @@ fn end_rule(rule: EndRule) -> (u32, &'static str) {
     }
 }
 
-// The line with so many lines above it, and nothing where there is none.
-fn line_at(text: &[u8], above: u64) -> &[u8] {
-    let mut rest = text;
-    for _ in 0..above {
-        match cut(rest, b'\n').1 {
-            Some(more) => rest = more,
-            None => return b"".as_slice(),
-        }
-    }
-    cut(rest, b'\n').0
-}
-
 // The rule that a line breaks which is not the expected one.
 fn line_rule(wanted: &[u8]) -> &'static str {
     if wanted.starts_with(b"entry".as_slice()) {
@@ -68,12 +56,12 @@ fn print_line(
     above: u64,
     text: &[u8],
 ) -> Result<Vec<u8>, AllocError> {
-    let wanted = line_at(text, above);
+    let (wanted, _) = line_at(text, above);
     let number = u128::from(above) + 1;
     let head = format!(in alloc; "line {number} of the report, {}\n    ", line_rule(wanted))?;
     let mut out = Vec::new(alloc);
     out.extend_from_slice(head.as_bytes())?;
-    out.extend_from_slice(line_at(report, above))?;
+    out.extend_from_slice(line_at(report, above).0)?;
     out.extend_from_slice(b"\nexpected\n    ".as_slice())?;
     out.extend_from_slice(wanted)?;
     out.push(b'\n')?;

@@ -4,6 +4,7 @@
 use crate::causes::print_cause;
 use crate::guide::GUIDE;
 use of_check::why;
+use of_image::Version;
 use of_plan::{fault, parse, parts};
 use of_tool::status;
 use std::alloc::{AllocError, Global};
@@ -97,6 +98,26 @@ fn bad_plan(alloc: Global, text: &[u8]) -> Result<Vec<u8>, AllocError> {
     found.print(alloc, text)
 }
 
+// The part of an input that is an image, and the version that is read.
+fn image_part<'a>(words: &[String], input: &'a [u8]) -> (&'a [u8], Version) {
+    match words {
+        [word] => match word.as_str() {
+            "continue" => (parts(input).0, Version::Two),
+            "migrate" => (input, Version::One),
+            _ => (input, Version::Two),
+        },
+        _ => (input, Version::Two),
+    }
+}
+
+// Why a text has no image.
+fn bad_image(alloc: Global, text: &[u8], version: Version) -> Result<Vec<u8>, AllocError> {
+    let Some(found) = of_image::fault(alloc, version, text)? else {
+        return Ok(Vec::new(alloc));
+    };
+    found.print(alloc, text)
+}
+
 // Why a report is not a legal one of its plan.
 fn illegal(alloc: Global, input: &[u8]) -> Result<Vec<u8>, AllocError> {
     let (text, report) = parts(input);
@@ -129,6 +150,10 @@ pub(crate) fn reasons(
     };
     if status == status::BAD_PLAN {
         return bad_plan(alloc, plan_part(words, input));
+    }
+    if status == status::BAD_IMAGE {
+        let (text, version) = image_part(words, input);
+        return bad_image(alloc, text, version);
     }
     if status == status::ILLEGAL {
         return illegal(alloc, input);

@@ -1,8 +1,13 @@
-//! Worked cases of the program, through the top call, and through the calls that make its reports.
+//! Worked cases of the program, through the top call, and through the calls that make its reports;
+//! reads and writes of memory ends.
 #![tactic(auto)]
 
 #[cfg(test)]
+mod brakes;
+#[cfg(test)]
 mod checks;
+#[cfg(test)]
+mod ends;
 #[cfg(test)]
 mod faults;
 #[cfg(test)]

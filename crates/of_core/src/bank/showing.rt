@@ -1,15 +1,19 @@
-//! What a bank shows: its words, and the step that a caller makes next.
+//! What a bank shows: its words, the step that a caller makes next, and the batch that it would
+//! commit.
 
-ghost use Rattle.std.specs.Prelude.{◌≡◌, ◌≢◌, ◌<◌};
+ghost use Rattle.std.specs.Prelude.{◌≡◌, ◌≢◌, ◌<◌, map};
 ghost use Rattle.std.proofs.Common.{get_or};
 ghost use Rattle.of_core.specs.declared.place.Place.TheVariants.{Idle};
 ghost use Rattle.of_core.specs.Table.{table_size};
 ghost use Rattle.of_core.specs.Seen.{ended};
+ghost use Rattle.of_core.specs.Helping.{helped};
+ghost use Rattle.of_core.specs.Inside.{call_of};
 ghost use Rattle.of_core.specs.Steps.{want, word_of};
 ghost use Rattle.of_core.specs.Moment.{machine_of, table, table_words};
 
 use crate::bank::Bank;
 use crate::place::{Op, Outcome, Place};
+use crate::ran::RanCall;
 use of_mem::Work;
 
 impl<W: Work> Bank<W> {
@@ -37,6 +41,22 @@ impl<W: Work> Bank<W> {
         ensures { result ≡ ended (machine_of self.now caller) }
     {
         self.machines[caller as usize].answer()
+    }
+
+    /// Whose log a caller's call copies or applies, where it helps another caller.
+    pub fn helped(&self, caller: u32) -> Option<u32>
+        requires { caller < self.now.callers }
+        ensures { result ≡ helped (machine_of self.now caller) }
+    {
+        self.machines[caller as usize].helped()
+    }
+
+    /// The calls that a caller's scan has run so far: those of its batch, where it commits them.
+    pub fn calls(&self, caller: u32) -> &[RanCall]
+        requires { caller < self.now.callers }
+        ensures { map call_of result.now ≡ (machine_of self.now caller).calls }
+    {
+        self.machines[caller as usize].calls()
     }
 
     /// A word of the table, by its place.

@@ -1,9 +1,12 @@
-//! What a machine shows of the step that it makes next.
+//! What a machine shows of the step that it makes next, and of the batch that it would commit.
 
-ghost use Rattle.std.specs.Prelude.{◌≡◌};
+ghost use Rattle.std.specs.Prelude.{◌≡◌, map};
+ghost use Rattle.of_core.specs.Helping.{helped};
+ghost use Rattle.of_core.specs.Inside.{call_of};
 
 use crate::machine::Machine;
 use crate::place::Place;
+use crate::ran::RanCall;
 use of_mem::Work;
 
 impl<W: Work> Machine<W> {
@@ -13,5 +16,19 @@ impl<W: Work> Machine<W> {
         ensures { result ≡ self.now.call.place }
     {
         self.place
+    }
+
+    /// Whose log the call copies or applies, where it helps another caller.
+    pub fn helped(&self) -> Option<u32>
+        ensures { result ≡ helped self.now.call }
+    {
+        if self.helps { Some(self.owner) } else { None }
+    }
+
+    /// The calls that the scan has run so far: those of the batch, where it is committed.
+    pub fn calls(&self) -> &[RanCall]
+        ensures { map call_of result.now ≡ self.now.call.calls }
+    {
+        &self.calls
     }
 }

@@ -1,6 +1,7 @@
 use Rattle.std.proofs.Common.{[], false, List, take, sym, subst}
 use Rattle.std.proofs.lemmas.List.{take_more}
 use Rattle.of_check.specs.declared.claims.CallClaim.{CallClaim}
+use Rattle.of_check.specs.Starts.{start_of}
 use Rattle.of_check.specs.Course.{TookAll}
 use Rattle.of_check.specs.Causes.{call_at}
 use Rattle.of_check.proofs.Causes.{took_more}
@@ -8,16 +9,17 @@ use Rattle.of_check.proofs.Verdicts.{counts_wide}
 use Rattle.of_check.proofs.searching.replayed.Goals as goal
 
 pub broken_entry-requires : goal.broken_entry-requires
-broken_entry-requires c = counts_wide c.args.plan.now (take c.loop-index.index c.args.calls.now) [] c.loop-index.replay c.loop-index.invariant
+broken_entry-requires c = counts_wide c.args.plan.now (start_of c.args.start) c.requires (take c.loop-index.index c.args.calls.now) [] c.loop-index.replay c.loop-index.invariant
 
 pub take-requires : goal.take-requires
-take-requires c = counts_wide c.args.plan.now (take c.loop-index.index c.args.calls.now) [] c.loop-index.replay c.loop-index.invariant
+take-requires c = counts_wide c.args.plan.now (start_of c.args.start) c.requires (take c.loop-index.index c.args.calls.now) [] c.loop-index.replay c.loop-index.invariant
 
 pub loop-index-preserved : goal.loop-index-preserved
 loop-index-preserved c =
     let p = c.args.plan.now in
+    let s = start_of c.args.start in
     let calls = c.args.calls.now in
     let i = c.loop-index.index in
     let more = take_more calls i (record { seq = 0; caller = 0; announced = false }) c.loop-index-test.true in
-    subst (λ (qs : List CallClaim). TookAll p qs c.take.new.self) (sym more)
-    (took_more p (take i calls) (call_at calls i) c.loop-index.replay c.take.new.self c.loop-index.invariant (rw c.if-not-branch.false at c.in_ok-take.ensures))
+    subst (λ (qs : List CallClaim). TookAll p s qs c.take.new.self) (sym more)
+    (took_more p s (take i calls) (call_at calls i) c.loop-index.replay c.take.new.self c.loop-index.invariant (rw c.if-not-branch.false at c.in_ok-take.ensures))

@@ -1,42 +1,16 @@
-use Rattle.std.proofs.Common.{◌≡◌, List, ℕ, sym, ap, length, ◌∙◌, subst, arith}
-use Rattle.of_plan.specs.Plan.{Plan}
-use Rattle.of_plan.specs.Report.{Report}
-use Rattle.of_report.specs.Report.{report_of}
-use Rattle.of_check.specs.declared.claims.CallClaim.{CallClaim}
-use Rattle.of_check.specs.declared.claims.EndClaim.{EndClaim}
-use Rattle.of_check.specs.Claims.{calls_in, ends_in}
-use Rattle.of_check.specs.Verdict.{NoneMakes, IsClaimed}
-use Rattle.of_check.proofs.Verdicts.{no_report, claims_each, same_text, differs, same_bytes}
+use Rattle.std.proofs.Common.{◌≡◌, List, length, replicate, sym, ap, ◌∙◌, subst}
+use Rattle.std.proofs.lemmas.List.{length-replicate}
+use Rattle.std.proofs.lemmas.Result.{IfOk-weaker}
+use Rattle.of_store.specs.State.{empty_store}
+use Rattle.of_plan.specs.Report.{Start, empty_start}
+use Rattle.of_check.specs.Starts.{start_at, start_of}
+use Rattle.of_check.specs.Verdict.{IsVerdictFrom}
+use Rattle.of_check.proofs.Verdicts.{verdict_empty}
 use Rattle.of_check.proofs.verdict.check.Goals as goal
-
--- what is claimed is what was read
-read_none : (p : Plan) (text : List ℕ) (calls : List CallClaim) (ends : List EndClaim) → calls ≡ calls_in text → ends ≡ ends_in text → NoneMakes p calls ends → NoneMakes p (calls_in text) (ends_in text)
-read_none p text calls ends a b none = subst (λ (qs : List CallClaim). NoneMakes p qs (ends_in text)) a (subst (NoneMakes p calls) b none)
-
-read_one : (p : Plan) (text : List ℕ) (calls : List CallClaim) (ends : List EndClaim) (made : Report) → calls ≡ calls_in text → ends ≡ ends_in text → IsClaimed p calls ends made → IsClaimed p (calls_in text) (ends_in text) made
-read_one p text calls ends made a b is = subst (λ (qs : List CallClaim). IsClaimed p qs (ends_in text) made) a (subst (λ (es : List EndClaim). IsClaimed p calls es made) b is)
-
-pub returns-then-len-callers : goal.returns-then-len-callers
-returns-then-len-callers c legal =
-    let each = claims_each c.args.plan.now c.callers.ensures.plan c.args.text.now legal in
-    absurd (omega (arith, each, ap length c.in_ok-claims.ensures.ends, c.if-len-callers.true, c.callers.ensures.value, c.len.ensures))
-
-pub returns-in_default : goal.returns-in_default
-returns-in_default c =
-    let p = c.args.plan.now in
-    let claims = c.in_ok-claims.claims in
-    no_report p c.callers.ensures.plan c.args.text.now (read_none p c.args.text.now claims.calls.items claims.ends.items c.in_ok-claims.ensures.calls c.in_ok-claims.ensures.ends (rw c.in_default.is at c.in_ok-report.ensures))
-
-pub returns-then-ne : goal.returns-then-ne
-returns-then-ne c legal =
-    let p = c.args.plan.now in
-    let claims = c.in_ok-claims.claims in
-    let one = read_one p c.args.text.now claims.calls.items claims.ends.items (report_of c.in-Some.report) c.in_ok-claims.ensures.calls c.in_ok-claims.ensures.ends (rw c.in-Some.is at c.in_ok-report.ensures) in
-    let same = same_text p c.callers.ensures.plan c.args.text.now (report_of c.in-Some.report) one legal in
-    differs c.as_slice.result.now c.args.text.now c.ne.result c.ne.ensures c.if-ne.true (c.as_slice.ensures.value ∙ c.in_ok-printed.ensures ∙ same)
 
 pub returns : goal.returns
 returns c =
-    let is = rw c.in-Some.is at c.in_ok-report.ensures in
-    let same = same_bytes c.as_slice.result.now c.args.text.now c.ne.result c.ne.ensures c.if-ne.false in
-    record { report = report_of c.in-Some.report; legal = is.legal; is = sym same ∙ c.as_slice.ensures.value ∙ c.in_ok-printed.ensures }
+    let p = c.args.plan.now in
+    let text = c.args.text.now in
+    let start : start_of c.in_ok-start.start ≡ empty_start p = c.in_ok-start.ensures ∙ (λ i. start_at 0 (replicate (c.callers.ensures.value i) 0) (empty_store (c.blocks-2.ensures.value i))) in
+    IfOk-weaker c.check_from.result _ _ (λ v h. verdict_empty p c.callers.ensures.plan text v (subst (λ (s : Start). IsVerdictFrom p s text v) start h)) c.check_from.ensures

@@ -11,6 +11,7 @@ use Rattle.of_core.proofs.Happenings.{begin_kept, rests_not, load_kept, evict_ke
 use Rattle.of_core.proofs.Beside.{beside_kept, beside_stays}
 use Rattle.of_core.proofs.Openings.{start_good, idle_rests}
 use Rattle.of_core.proofs.Claims.{is_sound}
+use Rattle.of_core.proofs.Grounds.{has_grounds}
 
 pub returns : goal.returns
 returns g c =
@@ -34,4 +35,5 @@ returns g c =
       beside = λ B w h c v f. (beside_kept S L B w h c v f, beside_stays S L B w h c v f);
       start = λ B may n room. (start_good S L sound B may fits.some (omega (arith, fits.few)) fits.own n room (omega arith) (omega (arith, fits.small)), idle_rests S);
       sound = λ B w h. is_sound S L sound B w h.core h.within h.late h.order;
+      grounds = has_grounds S L;
     }

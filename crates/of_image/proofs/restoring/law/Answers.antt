@@ -4,7 +4,6 @@ use Rattle.of_cell.specs.Cells.{data_cell}
 use Rattle.of_mem.specs.Plots.{size}
 use Rattle.of_recover.specs.Row.{current_owner}
 use Rattle.of_image.specs.RowFault.{IsFirstNewer}
-use Rattle.of_image.specs.RowFault.IsRowFault.{Newer, NoStore}
 use Rattle.of_image.proofs.FaultCells.{fault_below}
 use Rattle.of_image.proofs.RowLaw.{law_numbers, law_stands, law_fault, law_newer}
 use Rattle.of_image.proofs.restoring.law.Goals as goal
@@ -15,9 +14,13 @@ returns-in-Some-clause-err c =
     let ws = c.args.words.now in
     let owner : c.payload_of.result ≡ current_owner (λ n. get_or ws n 0) = c.payload_of.ensures ∙ ap (λ (n : ℕ). pay (get_or ws n 0)) c.cur.ensures.value in
     let within : c.in-Some.a < size p = omega (arith, c.in-Some.ensures.0, c.shape_of-shape.ensures.cells) in
-    Newer (omega (arith, owner, c.if-payload_of-plot.false)) c.in-Some.a within
-    (subst (λ (n : ℕ). IsFirstNewer n ws c.in-Some.a) c.shape_of-shape.ensures.callers c.in-Some.ensures.1)
-    (c.data_cell.ensures.value ∙ ap (λ (n : ℕ). data_cell n c.in-Some.a) c.shape_of-shape.ensures.callers)
+    record {
+      owned = omega (arith, owner, c.if-payload_of-plot.false);
+      at = c.in-Some.a;
+      within = within;
+      first = subst (λ (n : ℕ). IsFirstNewer n ws c.in-Some.a) c.shape_of-shape.ensures.callers c.in-Some.ensures.1;
+      is = c.data_cell.ensures.value ∙ ap (λ (n : ℕ). data_cell n c.in-Some.a) c.shape_of-shape.ensures.callers;
+    }
 
 pub returns-in-Ok-clause-ok : goal.returns-in-Ok-clause-ok
 returns-in-Ok-clause-ok c =
@@ -43,6 +46,10 @@ returns-clause-err c =
     let bad = rw c.in-Err-Unlawful.field-0-is at c.in-Err-Unlawful.ensures in
     let owner : c.payload_of.result ≡ current_owner (λ n. get_or ws n 0) = c.payload_of.ensures ∙ ap (λ (n : ℕ). pay (get_or ws n 0)) c.cur.ensures.value in
     let numbers = law_numbers c.shape_of-shape.result.callers c.shape_of-shape.result.cells p ws c.deref.result.now c.shape_of-shape.ensures.callers c.shape_of-shape.ensures.cells c.requires (c.deref.ensures.value ∙ c.in_ok-numbers.ensures) in
-    NoStore (omega (arith, owner, c.if-payload_of-plot.false)) (law_newer _ _ p ws c.shape_of-shape.ensures.callers c.shape_of-shape.ensures.cells c.in-None.ensures) c.in-Err-Unlawful.cell
-    (law_fault p ws c.deref.result.now numbers c.in-Err-Unlawful.cell bad.unlawful)
-    (c.data_cell-in-Err-Unlawful.ensures.value ∙ ap (λ (n : ℕ). data_cell n c.in-Err-Unlawful.cell) c.shape_of-shape.ensures.callers)
+    record {
+      owned = omega (arith, owner, c.if-payload_of-plot.false);
+      none_newer = law_newer _ _ p ws c.shape_of-shape.ensures.callers c.shape_of-shape.ensures.cells c.in-None.ensures;
+      at = c.in-Err-Unlawful.cell;
+      first = law_fault p ws c.deref.result.now numbers c.in-Err-Unlawful.cell bad.unlawful;
+      is = c.data_cell-in-Err-Unlawful.ensures.value ∙ ap (λ (n : ℕ). data_cell n c.in-Err-Unlawful.cell) c.shape_of-shape.ensures.callers;
+    }

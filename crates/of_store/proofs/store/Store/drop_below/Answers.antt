@@ -25,8 +25,8 @@ invariant_of-self-2 c =
     (omega (arith, old, new, c.len-before.ensures.len, c.len.ensures.len, c.in_ok-self-inside.ensures.len, c.self.invariant.used)) in
     record { state = r.state; used = r.used }
 
-pub returns : goal.returns
-returns c =
+pub returns-clause-effect : goal.returns-clause-effect
+returns-clause-effect c =
     let old = len_is c.self.inside.keys.entries c.len-before.ensures.ordered in
     let new = len_is c.in_ok-self-inside.field-0.entries c.len.ensures.ordered in
     let left = entries_left c.args.key c.self.inside.keys.entries c.in_ok-self-inside.field-0.entries c.in_ok-self-inside.ensures.from in

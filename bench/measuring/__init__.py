@@ -1,0 +1,1 @@
+"""What bench/run measures, and what bench/plot draws of it."""

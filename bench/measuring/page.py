@@ -1,0 +1,187 @@
+"""The results as lines, as the tables of docs/BENCH.md, and as its pictures."""
+import re
+
+from . import chart
+from .runs import CALLERS, KEYS, KINDS, by_callers, by_keys
+from .threads import CALLS, NAMES
+
+LACKING = "-"
+COMMAND = "`bench/run --write`"
+
+
+def short(count):
+    """A count of instructions."""
+    return LACKING if count is None else f"{count / 1e6:,.1f} M"
+
+
+def each(run):
+    """The instructions of a run for each of its units."""
+    if run["instructions"] is None:
+        return None
+    return run["instructions"] / run["units"]
+
+
+def each_text(run):
+    if run["instructions"] is None:
+        return LACKING
+    return f"{each(run):,.1f} {'an' if run['unit'][0] in 'aeiou' else 'a'} {run['unit']}"
+
+
+def memory(run):
+    return LACKING if run["megabytes"] is None else f"{run['megabytes']:.1f} MB"
+
+
+def run_line(name, run):
+    line = f"{name:48}{1e3 * run['seconds'][0]:7.1f} ms {memory(run):>8} {run['faults']:5d} faults"
+    if run["instructions"] is not None:
+        line += f" {short(run['instructions']):>9} instructions, {each_text(run)}"
+    return line
+
+
+def spread(values):
+    middle, low, high = (f"{round(it):,}" for it in values)
+    return f"{middle} ({low} to {high})"
+
+
+def thread_lines(found):
+    for name, by in found.items():
+        for callers, spent in by.items():
+            line = f"load, callers {callers}: {NAMES[name]}"
+            yield f"{line:48} processor {spread(spent['processor'])} ns a call, by the clock " \
+                  f"{spread(spent['clock'])}"
+
+
+def table(head, rows):
+    rows = [head, ["---"] * len(head), *rows]
+    return "\n".join("| " + " | ".join(row) + " |" for row in rows)
+
+
+def about(results):
+    it = results["about"]
+    program = "the proved program" if it["proved"] else "a build without proofs, which is slower"
+    return (f"Taken on {it['date']} of {program} at commit {it['commit']}, on "
+            f"{it['processors']} processors \"{it['processor']}\"; times are medians of "
+            f"{it['rounds']}.")
+
+
+def runs_table(results, wanted):
+    """The runs whose names begin so."""
+    head = ["What", "Instructions", "Each", "Processor time", "Memory", "Page faults"]
+    rows = []
+    for name, run in results["runs"].items():
+        if name.startswith(wanted):
+            name = f"{name}, {run['read']:,} bytes" if name.startswith("recover") else name
+            took = f"{1e3 * run['seconds'][0]:,.1f} ms"
+            rows.append([name, short(run["instructions"]), each_text(run), took, memory(run),
+                         f"{run['faults']:,}"])
+    return table(head, rows)
+
+
+def threads_table(results, kind, cell):
+    found = results["threads"]
+    head = ["Callers", *[NAMES[name] for name in found]]
+    rows = [[str(it), *[cell(by[str(it)][kind]) for by in found.values()]] for it in CALLERS]
+    return table(head, rows)
+
+
+def calls_a_second(spent):
+    return f"{round(1e9 / spent[0], -3):,.0f}" if spent[0] else LACKING
+
+
+def exact(value):
+    """What doesn't change from run to run is its own least and greatest."""
+    return value, value, value
+
+
+def turns_picture(results):
+    lines = [chart.Line(name, [exact(each(results["runs"][by_callers(kind, it)]))
+                               for it in CALLERS]) for kind, name in KINDS.items()]
+    return [chart.Panel("Instructions a turn of play", "callers", CALLERS, lines)]
+
+
+def check_picture(results):
+    line = chart.Line("check", [exact(each(results["runs"][by_keys(it)])) for it in KEYS])
+    return [chart.Panel("Instructions an entry of check", "keys", KEYS, [line])]
+
+
+def threads_picture(results):
+    titles = {"processor": "Processor nanoseconds a call",
+              "clock": "Nanoseconds a call, by the clock"}
+    # Both have one axis.
+    every = [it for by in results["threads"].values() for spent in by.values()
+             for values in spent.values() for it in values]
+    for kind, title in titles.items():
+        lines = [chart.Line(NAMES[name], [by[str(it)][kind] for it in CALLERS])
+                 for name, by in results["threads"].items()]
+        yield chart.Panel(title, "callers", CALLERS, lines, True, every)
+
+
+# Each picture: its file, its width, what draws it, and its text for who doesn't see it.
+PICTURES = {
+    "turns": ("bench_turns.svg", 620, turns_picture, "Instructions a turn, by callers"),
+    "check": ("bench_check.svg", 620, check_picture, "Instructions an entry, by keys"),
+    "threads": ("bench_threads.svg", 1100, lambda it: [*threads_picture(it)],
+                "Processor time and time by the clock a call, by callers"),
+}
+
+
+def has(results, name):
+    """Whether there is what a picture shows."""
+    if name == "threads":
+        return bool(results["threads"])
+    wanted = {"turns": [by_callers(kind, it) for kind in KINDS for it in CALLERS],
+              "check": [by_keys(it) for it in KEYS]}[name]
+    found = results["runs"]
+    return all(it in found and found[it]["instructions"] is not None for it in wanted)
+
+
+def draw(results, folder):
+    """Writes the pictures, and gives the names of those that it has written."""
+    for name, (file, width, panels, _) in PICTURES.items():
+        if has(results, name):
+            (folder / file).write_text(chart.draw(panels(results), width))
+            yield name
+
+
+def threads_text(results):
+    if not results["threads"]:
+        return ""
+    return "\n\n".join([
+        f"Processor nanoseconds a call, with the least and the greatest of all rounds, {CALLS:,} "
+        "calls a burst:",
+        threads_table(results, "processor", spread),
+        "By the clock, nanoseconds a call:",
+        threads_table(results, "clock", spread),
+        "Calls a second, by the clock:",
+        threads_table(results, "clock", calls_a_second)])
+
+
+PARTS = {
+    "about": about,
+    "plays": lambda it: runs_table(it, "play"),
+    "commands": lambda it: runs_table(it, ("serial", "check", "recover", "run", "load")),
+    "texts": lambda it: runs_table(it, ("reading", "printing")),
+    "threads": threads_text,
+}
+
+
+def filled(text, results, drawn):
+    """The page with its parts between `<!-- results NAME -->` and `<!-- end -->` made anew."""
+    def part(found):
+        name = found[1]
+        if name.startswith("picture "):
+            name = name.removeprefix("picture ")
+            file, _, _, words = PICTURES[name]
+            made = f"![{words}](pictures/{file})" if name in drawn else ""
+        else:
+            made = PARTS[name](results)
+        body = f"{made}\n" if made else ""
+        return f"<!-- results {found[1]} -->\n{body}<!-- end -->"
+
+    return re.sub(r"<!-- results ([\w ]+) -->\n.*?<!-- end -->", part, text, flags=re.S)
+
+
+def write(results, path, pictures):
+    """Draws the pictures, and writes the tables into a page."""
+    drawn = [*draw(results, pictures)]
+    path.write_text(filled(path.read_text(), results, drawn))

@@ -1,0 +1,71 @@
+//! Where a report begins.
+
+ghost use Rattle.std.specs.Prelude.{◌≡◌, ◌≤◌, IfOk, map, replicate};
+ghost use Rattle.std.specs.List.{range_with_len};
+ghost use Rattle.of_script.specs.declared.instr.TheConstants.{MOST_INSTRS};
+ghost use Rattle.of_store.specs.declared.store.TheConstants.{MOST_BLOCKS};
+ghost use Rattle.of_store.specs.State.{empty_store};
+ghost use Rattle.of_report.specs.Image.{IsImage, image_of, ticket_in, start_of as image_start};
+ghost use Rattle.of_check.specs.Starts.{start_at, start_of};
+
+use of_report::Image;
+use of_store::Store;
+use std::alloc::{AllocError, Global};
+
+/// Where a report begins: what was there before its first entry.
+#[derive(Drop)]
+pub struct Start {
+    /// The sequence.
+    pub seq: u32,
+    /// For each caller how many of its scripts are done.
+    pub finished: Vec<u32>,
+    /// The store.
+    pub store: Store,
+}
+
+/// The tickets of an image, caller by caller. The error is want of memory.
+pub fn tickets(alloc: Global, image: &Image) -> Result<Vec<u32>, AllocError>
+    requires { IsImage MOST_INSTRS (image_of image.now) }
+    ensures { IfOk result (λ tickets. tickets.items
+        ≡ map (ticket_in (image_of image.now)) (range_with_len 0 image.now.callers)) }
+{
+    let mut tickets = Vec::new(alloc);
+    for caller in 0..image.callers {
+        tickets.push(image.ticket(caller))?;
+    }
+    Ok(tickets)
+}
+
+impl Start {
+    /// Where a plan with so many callers and blocks begins: nothing is stored, and nothing is done.
+    /// The error is want of memory.
+    pub fn empty(alloc: Global, callers: u32, blocks: u32) -> Result<Start, AllocError>
+        requires { blocks ≤ MOST_BLOCKS }
+        ensures { IfOk result (λ start. start_of start
+            ≡ start_at 0 (replicate callers 0) (empty_store blocks)) }
+    {
+        Ok(Start {
+            seq: 0,
+            finished: vec![in alloc; 0; callers as usize]?,
+            store: Store::new(alloc, blocks)?,
+        })
+    }
+
+    /// Where an image left: its sequence, its tickets and its store. The error is want of memory.
+    pub fn behind(alloc: Global, image: Image) -> Result<Start, AllocError>
+        requires { IsImage MOST_INSTRS (image_of image) }
+        ensures { IfOk result (λ start. start_of start ≡ image_start (image_of image)) }
+    {
+        let finished = tickets(alloc, &image)?;
+        let Image {
+            recovered,
+            store,
+            ..
+        } = image;
+        Ok(Start {
+            seq: recovered.seq,
+            finished,
+            store,
+        })
+    }
+}

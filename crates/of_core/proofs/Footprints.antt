@@ -1,0 +1,699 @@
+-- No call makes more steps than what it touches allows.
+use Rattle.std.proofs.Common.{◌≡◌, ◌⊎◌, inl, inr, ℕ, zero, suc, ◌+◌, ◌*◌, ◌-◌, ◌<◌, ◌≤◌, ◌==◌, List, [], ◌∷◌, length, get_or, set, replicate, refl, sym, ◌∙◌, ap, subst, arith, Option, Some, None, Bool, true, false, nat_lt}
+use Rattle.std.proofs.lemmas.Bool.{cases_eq}
+use Rattle.std.proofs.lemmas.Bool.Decides.{nat_tests}
+use Rattle.std.proofs.lemmas.List.{get_or-set_same, get_or-set_other}
+use Rattle.of_core.specs.declared.machine.trying.TheConstants.{MOST_TRIES}
+use Rattle.of_cell.specs.Words.{word, seq, pay}
+use Rattle.of_mem.specs.Meaning.{Walked, Needs, Gives, Sound}
+use Rattle.of_mem.specs.Pad.{over}
+use Rattle.of_core.specs.declared.place.Place.{Place}
+use Rattle.of_core.specs.declared.place.Place.TheVariants.{Idle, TryCurrent, TryRequest, TryCell, StoreScript, StoreAnnouncement, LoadCurrent, LoadRequest, CopyLog, LookAgain, LoadOwnTicket, LoadShape, LoadReply, LoadAnnouncement, LoadTicket, LoadScript, LoadCell, RaiseOld, StoreLog, RaiseLog, StoreRequest, RaiseRequest, ExchangeCurrent, RaiseCurrent, LoadTarget, ExchangeTarget, ReloadTarget, RaiseTarget, CloseRequest, RaiseClosed}
+use Rattle.of_core.specs.Table.{Setup, base, ticket_cell, shape_cell, reply_cell, cell}
+use Rattle.of_core.specs.Machine.{Data, IsOpen, is_idle, no_machine, unknown, learned, log_words, opened, first_place}
+use Rattle.of_core.specs.Steps.{read_on, read_ran, tried, resumed, after_try_request, over_try, after_try_cell, want, want_at, word_of, finds, took, took_at, counted_at, after_store_script, after_load_request, after_copy_log, after_look_again, after_own_ticket, after_load_shape, shape_read, after_load_reply, reply_read, asks_more, first_mark, after_announcement, weighed, after_load_ticket, after_load_script, script_more, ran, next_call, with_run, after_load_cell, after_raise_log, after_exchange, after_raise_current, after_load_target, next_entry, after_raise_closed, is_open, copy_more}
+use Rattle.of_core.specs.World.{World, Start}
+use Rattle.of_core.specs.Invariant.{At, Core, Good}
+use Rattle.of_core.specs.Events.{Event, Begins, Turns, Loads, Evicts, Raises, happens, MayHappen, machine, run, turns, one_turn, IsSchedule, StaysOpen}
+use Rattle.of_core.specs.Footprint.{knowns, next_load, Touches, TouchesOnly, apply_steps, help_steps, store_steps, try_steps, round_steps, footprint, HasFootprint}
+use Rattle.of_core.proofs.Logs.{room_for, length-log_words}
+use Rattle.of_core.proofs.Tests.{differ, mark_some, is_newer}
+use Rattle.of_core.proofs.Rounds.{own_row_old}
+use Rattle.of_core.proofs.OwnReply.{done_now}
+use Rattle.of_core.proofs.Scans.{ticket_in_cells}
+use Rattle.of_core.proofs.Happenings.{event_good}
+use Rattle.of_core.proofs.InTime.{steps_rise, of_machine, now_open}
+
+-- nothing is known at first
+knowns_none : (n : ℕ) → knowns (replicate n None) ≡ 0
+knowns_none zero = refl
+knowns_none (suc n) = knowns_none n
+
+-- one more cell is known
+knowns_set : (ks : List (Option ℕ)) (a v : ℕ) → a < length ks → get_or ks a None ≡ None → knowns (set ks a (Some v)) ≡ knowns ks + 1
+knowns_set [] a v l e = absurd (omega arith)
+knowns_set (None ∷ ks) zero v l e = omega arith
+knowns_set (Some x ∷ ks) zero v l e = cc
+knowns_set (None ∷ ks) (suc a) v l e = knowns_set ks a v (omega arith) e
+knowns_set (Some x ∷ ks) (suc a) v l e = omega (arith, knowns_set ks a v (omega arith) e)
+
+one_more : (r q : ℕ) → (r + 1) * q ≡ r * q + q
+one_more r q = grind arith
+
+row_cost : (n s q : ℕ) → s + 1 < n → (n - (s + 1) - 1) * q + q ≡ (n - s - 1) * q
+row_cost n s q l = let e : n - s - 1 ≡ n - (s + 1) - 1 + 1 = omega arith in rw e (sym (one_more (n - (s + 1) - 1) q))
+
+-- What is left of a try or a round, and behind it.
+module _ (S : Setup) (W R : ℕ) where
+  -- what the call may make, with the tries and rounds that it has begun
+  abbrev pub allowed : Data → ℕ
+  allowed m = footprint S m.op W R m.tries m.rounds
+
+  -- behind a try: the announcement, and an apply of one's own
+  abbrev pub announced : Data → ℕ
+  announced m = length m.op + 1 + apply_steps W
+
+  abbrev pub behind_help : ℕ
+  behind_help = R + S.callers * (S.instrs + 1) + store_steps W
+
+  abbrev pub helped : Data → (in_try : Bool) → ℕ
+  helped m true = R + announced m
+  helped m false = behind_help + apply_steps W
+
+  abbrev pub behind_apply : Data → Bool → ℕ
+  behind_apply m true = helped m (m.rounds == 0)
+  behind_apply m false = 0
+
+  abbrev pub scan_left : Data → ℕ
+  scan_left m = (S.callers - m.scan - 1) * (S.instrs + 1) + (R - knowns m.known) + store_steps W + apply_steps W
+
+  -- what is left at a place, without further tries and rounds
+  abbrev pub left_at : Data → Place → ℕ
+  left_at m Idle = 0
+  left_at m TryCurrent = announced m
+  left_at m TryRequest = 1 + help_steps W + R + announced m
+  left_at m (TryCell a) = R - knowns m.known + announced m
+  left_at m (StoreScript j) = length m.op - j + 1 + apply_steps W
+  left_at m StoreAnnouncement = 1 + apply_steps W
+  left_at m LoadCurrent = apply_steps W
+  left_at m LoadRequest = 1 + help_steps W + (behind_help + apply_steps W)
+  left_at m (CopyLog x) = 2 * W + 1 - x + 1 + apply_steps W + helped m (m.rounds == 0)
+  left_at m LookAgain = 1 + apply_steps W + helped m (m.rounds == 0)
+  left_at m LoadOwnTicket = behind_help + apply_steps W
+  left_at m LoadShape = S.instrs + 1
+  left_at m (LoadReply j) = S.instrs - j
+  left_at m LoadAnnouncement = S.instrs + 1 + scan_left m
+  left_at m LoadTicket = S.instrs + scan_left m
+  left_at m (LoadScript j) = S.instrs - j + scan_left m
+  left_at m (LoadCell a) = scan_left m
+  left_at m RaiseOld = store_steps W + apply_steps W
+  left_at m (StoreLog x) = 2 * (2 * W + 1 - x) + 3 + apply_steps W
+  left_at m (RaiseLog x) = 2 * (2 * W + 1 - x) + 2 + apply_steps W
+  left_at m StoreRequest = 3 + apply_steps W
+  left_at m RaiseRequest = 2 + apply_steps W
+  left_at m ExchangeCurrent = 1 + apply_steps W
+  left_at m RaiseCurrent = apply_steps W + behind_apply m m.helps
+  left_at m (LoadTarget j) = 4 * (W - j) + 2 + behind_apply m m.helps
+  left_at m (ExchangeTarget j f) = 4 * (W - j) + 1 + behind_apply m m.helps
+  left_at m (ReloadTarget j) = 4 * (W - j) + behind_apply m m.helps
+  left_at m (RaiseTarget j f) = 4 * (W - j) - 1 + behind_apply m m.helps
+  left_at m CloseRequest = 2 + behind_apply m m.helps
+  left_at m RaiseClosed = 1 + behind_apply m m.helps
+
+-- the tries and rounds of a call
+abbrev Few : Setup → Data → Type 0
+Few S m = (m.tries ≤ MOST_TRIES) × (m.rounds ≤ 3) × (S.meaning.reads_only m.op ≡ false → m.tries ≡ 0)
+
+-- a helper copies no more words than its log has
+abbrev CopiesUpto : ℕ → Place → Type 0
+CopiesUpto W (CopyLog x) = x < 2 * W + 1
+CopiesUpto W p = Unit {0}
+
+-- the steps made and those left are at most what is allowed
+record Spares (S : Setup) (W R : ℕ) (m : Data) (p : Place) : Type 0 where
+  pub steps : m.steps + left_at S W R m p ≤ allowed S W R m
+  pub few : Few S m
+  pub copies : CopiesUpto W p
+
+-- a call that opens
+opens_sparing : (S : Setup) (W R : ℕ) (m : Data) (op : List ℕ) → Spares S W R (opened S m op) (opened S m op).place
+opens_sparing S W R m op = go (S.meaning.reads_only op)
+  where
+    few : Few S (opened S m op)
+    few = (omega arith, omega arith, λ q. refl)
+
+    first : (o a q r : ℕ) → 0 + (o + 1 + a) ≤ 0 * q + (o + 1) + (0 * r + a)
+    first o a q r = omega arith
+
+    sum : (o a q r : ℕ) → 0 + (o - 0 + 1 + a) ≤ 0 * q + (o + 1) + (0 * r + a)
+    sum o a q r = omega arith
+
+    go : (b : Bool) → Spares S W R (record (opened S m op) { place = first_place b }) (first_place b)
+    go true = record { copies = tt; few = few; steps = first (length op) (apply_steps W) (try_steps W R) (round_steps S W R) }
+    go false = record { copies = tt; few = few; steps = sum (length op) (apply_steps W) (try_steps W R) (round_steps S W R) }
+
+next_sum : (st k x y u t r l : ℕ) → x + k ≡ y → st + (y + u + t + r) ≤ l → st + (k + (x + u + t + r)) ≤ l
+next_sum st k x y u t r l e h = omega arith
+
+done_sum : (st y u t r l : ℕ) → st + (y + u + t + r) ≤ l → st + (t + r) ≤ l
+done_sum st y u t r l h = omega arith
+
+-- one cell more is known
+known_sum : (st a y u v t r l : ℕ) → v + 1 ≡ u → st + (a + (y + u + t + r)) ≤ l → st + 1 + (a + (y + v + t + r)) ≤ l
+known_sum st a y u v t r l e h = omega arith
+
+known_sum0 : (st y u v t r l : ℕ) → v + 1 ≡ u → st + (y + u + t + r) ≤ l → st + 1 + (y + v + t + r) ≤ l
+known_sum0 st y u v t r l e h = omega arith
+
+-- the round begins again
+again_sum : (st a y u t r l : ℕ) → 1 ≤ t → st + (a + (y + u + t + r)) ≤ l → st + 1 + r ≤ l
+again_sum st a y u t r l k h = omega arith
+
+again_sum0 : (st y u t r l : ℕ) → 1 ≤ t → st + (y + u + t + r) ≤ l → st + 1 + r ≤ l
+again_sum0 st y u t r l k h = omega arith
+
+-- one step less is left
+fewer : (s a b l : ℕ) → s + a ≤ l → b + 1 ≤ a → s + 1 + b ≤ l
+fewer s a b l h k = omega arith
+
+module _ (S : Setup) (W R : ℕ) where
+  -- the scan goes on behind the caller that it has come to
+  next_sparing : (n : Data) → Few S n → n.scan < S.callers → n.steps + scan_left S W R n ≤ allowed S W R n → (b : Bool) → nat_lt (n.scan + 1) S.callers ≡ b → Spares S W R (next_call n b) (next_call n b).place
+  next_sparing n f l h true e = record {
+    copies = tt;
+    few = f;
+    steps = next_sum n.steps (S.instrs + 1) ((S.callers - (n.scan + 1) - 1) * (S.instrs + 1)) ((S.callers - n.scan - 1) * (S.instrs + 1)) (R - knowns n.known) (store_steps W) (apply_steps W) (allowed S W R n)
+        (row_cost S.callers n.scan (S.instrs + 1) (is_newer (n.scan + 1) S.callers e)) h;
+  }
+  next_sparing n f l h false e = record { copies = tt; few = f; steps = done_sum n.steps ((S.callers - n.scan - 1) * (S.instrs + 1)) (R - knowns n.known) (store_steps W) (apply_steps W) (allowed S W R n) h }
+
+  weighed_sparing : (n : Data) → Few S n → n.scan < S.callers → n.steps + (S.instrs + scan_left S W R n) ≤ allowed S W R n → (b : Bool) → Spares S W R (weighed S n b) (weighed S n b).place
+  weighed_sparing n f l h true = record { copies = tt; few = f; steps = same n.steps S.instrs (scan_left S W R n) (allowed S W R n) h }
+    where
+      same : (s k x l : ℕ) → s + (k + x) ≤ l → s + (k - 0 + x) ≤ l
+      same s k x l h = omega arith
+  weighed_sparing n f l h false = next_sparing n f l (less n.steps S.instrs (scan_left S W R n) (allowed S W R n) h) (nat_lt (n.scan + 1) S.callers) refl
+    where
+      less : (s k x l : ℕ) → s + (k + x) ≤ l → s + x ≤ l
+      less s k x l h = omega arith
+
+  ran_sparing : (n : Data) → Few S n → n.scan < S.callers → n.steps + scan_left S W R n ≤ allowed S W R n → (r : Walked) → Spares S W R (ran S n r) (ran S n r).place
+  ran_sparing n f l h (Needs a) = record { copies = tt; few = f; steps = h }
+  ran_sparing n f l h (Gives es r) = next_sparing (with_run S n es r) f l h (nat_lt (n.scan + 1) S.callers) refl
+
+  asks_sparing : (n : Data) (x : ℕ) → Few S n → n.steps + (S.instrs - x) ≤ allowed S W R n → (r : Option ℕ) → ((k : ℕ) → r ≡ Some k → x ≤ k) → Spares S W R (asks_more n r) (asks_more n r).place
+  asks_sparing n x f h None g = record { copies = tt; few = f; steps = none n.steps (S.instrs - x) (allowed S W R n) h }
+    where
+      none : (s y l : ℕ) → s + y ≤ l → 0 + 0 ≤ l
+      none s y l h = omega arith
+  asks_sparing n x f h (Some k) g = record { copies = tt; few = f; steps = sum n.steps S.instrs x k (allowed S W R n) h (g k refl) }
+    where
+      sum : (s i x k l : ℕ) → s + (i - x) ≤ l → x ≤ k → s + (i - k) ≤ l
+      sum s i x k l h f = omega arith
+
+  reads_sparing : (n : Data) → Few S n → n.steps + (R - knowns n.known + announced S W R n) ≤ allowed S W R n → Spares S W R (read_on S n) (read_on S n).place
+  reads_sparing n f h = go (S.meaning.walk n.known n.op)
+    where
+      go : (r : Walked) → Spares S W R (read_ran n r) (read_ran n r).place
+      go (Needs a) = record { copies = tt; few = f; steps = h }
+      go (Gives es r) = record { copies = tt; few = f; steps = omega arith }
+
+  tried_sparing : (n : Data) → Few S n → n.steps + (R + announced S W R n) ≤ allowed S W R n → Spares S W R (tried S n) (tried S n).place
+  tried_sparing n f h = reads_sparing (record n { known = unknown S; helps = false }) f (all n.steps R (knowns (unknown S)) (announced S W R n) (allowed S W R n) (knowns_none S.cells) h)
+    where
+      all : (s r k a l : ℕ) → k ≡ 0 → s + (r + a) ≤ l → s + (r - k + a) ≤ l
+      all s r k a l e h = omega arith
+
+  entered_sum : (s x l : ℕ) → s + x ≤ l → s + x ≤ l
+  entered_sum s x l h = h
+
+  resumed_sparing : (n : Data) (b : Bool) → Few S n → n.steps + helped S W R n b ≤ allowed S W R n → Spares S W R (resumed S n b) (resumed S n b).place
+  resumed_sparing n true f h = tried_sparing n f h
+  resumed_sparing n false f h = record { copies = tt; few = f; steps = h }
+
+  module _ (Lawful : List ℕ → Type 0) (B : Start) (w : World) (g : Core S Lawful B w) (i : ℕ) (m : Data) (h : i < S.callers) (u : Touches m W R) where
+    -- with the step counted
+    abbrev now : Data
+    now = record m { steps = m.steps + 1 }
+
+    words_row : S.instrs + 1 ≤ S.callers * (S.instrs + 1)
+    words_row = let r : i * (S.instrs + 1) + (S.instrs + 1) ≤ S.callers * (S.instrs + 1) = room_for i S.callers (S.instrs + 1) h in omega arith
+
+    -- the cells that are known, and the one that the place loads
+    loads_upto : (p : Place) → m.place ≡ p → knowns m.known + next_load p ≤ R
+    loads_upto p e = subst (λ (q : Place). knowns m.known + next_load q ≤ R) e u.cells
+
+    -- a cell that is loaded leaves one less to load
+    learns : (p : Place) (a v : ℕ) → m.place ≡ p → next_load p ≡ 1 → a < length m.known → get_or m.known a None ≡ None → R - knowns (learned S m a v) + 1 ≡ R - knowns m.known
+    learns p a v e one l n = sum R (knowns m.known) (next_load p) (knowns (learned S m a v)) one (loads_upto p e) (knowns_set m.known a (pay v) l n)
+      where
+        sum : (r k o x : ℕ) → o ≡ 1 → k + o ≤ r → x ≡ k + 1 → r - x + 1 ≡ r - k
+        sum r k o x q z y = omega arith
+
+    -- the step from the place p, which leads to this machine
+    abbrev stepped_to : Place → Data
+    stepped_to p = took_at S (counted_at p m) (get_or w.words (word_of (want_at S m p)) 0) p
+
+    -- each step leaves one less
+    sparing : (p : Place) → IsOpen p → At S B w.words w.batches i m p → Spares S W R m p → m.place ≡ p → Touches (stepped_to p) W R → Spares S W R (stepped_to p) (stepped_to p).place
+    sparing Idle o a t e v = cc
+    sparing TryCurrent o a t e v = record {
+      copies = tt;
+      few = (omega (arith, a.3), t.few.1, λ q. let z : true ≡ false = sym a.2 ∙ q in cc);
+      steps = sum m.steps W R (m.tries * try_steps W R) ((m.tries + 1) * try_steps W R) (length m.op + 1) (m.rounds * round_steps S W R) (one_more m.tries (try_steps W R)) t.steps;
+    }
+      where
+        sum : (s c r x y k q : ℕ) → y ≡ x + try_steps c r → s + (k + apply_steps c) ≤ x + k + (q + apply_steps c)
+            → s + 1 + (1 + help_steps c + r + (k + apply_steps c)) ≤ y + k + (q + apply_steps c)
+        sum s c r x y k q e h = omega arith
+    sparing TryRequest o a t e v = go (is_open m.seq (get_or w.words (m.owner + 1) 0))
+      where
+        opens : (s c r x l : ℕ) → s + (1 + help_steps c + r + x) ≤ l → s + 1 + (2 * c + 1 - 0 + 1 + apply_steps c + (r + x)) ≤ l
+        opens s c r x l h = omega arith
+
+        closed : (s k r x l : ℕ) → s + (1 + k + r + x) ≤ l → s + 1 + (r + x) ≤ l
+        closed s k r x l h = omega arith
+
+        trying : (b : Bool) → (m.rounds == 0) ≡ b → m.steps + 1 + (2 * W + 1 - 0 + 1 + apply_steps W + helped S W R m b) ≤ allowed S W R m
+        trying true q = opens m.steps W R (announced S W R m) (allowed S W R m) t.steps
+        trying false q = absurd (differ m.rounds 0 q a.0.fresh.rounds)
+
+        go : (b : Bool) → Spares S W R (after_try_request S now b) (after_try_request S now b).place
+        go true = record { copies = omega arith; few = t.few; steps = trying (m.rounds == 0) refl }
+        go false = tried_sparing now t.few (closed m.steps (help_steps W) R (announced S W R m) (allowed S W R m) t.steps)
+    sparing (TryCell x) o a t e v = go (nat_lt m.seq (seq found))
+      where
+        found : ℕ
+        found = get_or w.words (word_of (want_at S m (TryCell x))) 0
+
+        one : R - knowns (learned S m x found) + 1 ≡ R - knowns m.known
+        one = learns (TryCell x) x found e refl (omega (arith, a.3.all, a.4)) a.5
+
+        again : (s u v r l : ℕ) → v + 1 ≡ u → s + (u + r) ≤ l → s + 1 + r ≤ l
+        again s u v r l e h = omega arith
+
+        aloud : (s u v y r l : ℕ) → v + 1 ≡ u → s + (u + (y + 1 + r)) ≤ l → s + 1 + (y - 0 + 1 + r) ≤ l
+        aloud s u v y r l e h = omega arith
+
+        less : (s u v r l : ℕ) → v + 1 ≡ u → s + (u + r) ≤ l → s + 1 + (v + r) ≤ l
+        less s u v r l e h = omega arith
+
+        over : (b : Bool) → Spares S W R (over_try now b) (over_try now b).place
+        over true = record { copies = tt; few = t.few; steps = again m.steps (R - knowns m.known) (R - knowns (learned S m x found)) (announced S W R m) (allowed S W R m) one t.steps }
+        over false = record { copies = tt; few = t.few; steps = aloud m.steps (R - knowns m.known) (R - knowns (learned S m x found)) (length m.op) (apply_steps W) (allowed S W R m) one t.steps }
+
+        go : (b : Bool) → Spares S W R (after_try_cell S now x found b) (after_try_cell S now x found b).place
+        go true = over (nat_lt m.tries MOST_TRIES)
+        go false = reads_sparing (record now { known = learned S m x found }) t.few (less m.steps (R - knowns m.known) (R - knowns (learned S m x found)) (announced S W R m) (allowed S W R m) one t.steps)
+    sparing (StoreScript j) o a t e v = go (nat_lt (j + 1) (length m.op))
+      where
+        more : (s i j x l : ℕ) → j < i → s + (i - j + 1 + x) ≤ l → s + 1 + (i - (j + 1) + 1 + x) ≤ l
+        more s i j x l k h = omega arith
+
+        last : (s i j x l : ℕ) → j < i → s + (i - j + 1 + x) ≤ l → s + 1 + (1 + x) ≤ l
+        last s i j x l k h = omega arith
+
+        go : (b : Bool) → Spares S W R (after_store_script now j b) (after_store_script now j b).place
+        go true = record { copies = tt; few = t.few; steps = more m.steps (length m.op) j (apply_steps W) (allowed S W R m) a.2 t.steps }
+        go false = record { copies = tt; few = t.few; steps = last m.steps (length m.op) j (apply_steps W) (allowed S W R m) a.2 t.steps }
+    sparing StoreAnnouncement o a t e v = record { copies = tt; few = t.few; steps = fewer m.steps (1 + apply_steps W) (apply_steps W) (allowed S W R m) t.steps (omega arith) }
+    sparing LoadCurrent o a t e v = record {
+      copies = tt;
+      few = (t.few.0, omega (arith, a.2.few), t.few.2);
+      steps = sum m.steps W R (S.callers * (S.instrs + 1)) (m.tries * try_steps W R + (length m.op + 1)) (m.rounds * round_steps S W R) ((m.rounds + 1) * round_steps S W R) (one_more m.rounds (round_steps S W R)) t.steps;
+    }
+      where
+        sum : (s c r p k x y : ℕ) → y ≡ x + (2 + help_steps c + r + p + store_steps c) → s + apply_steps c ≤ k + (x + apply_steps c)
+            → s + 1 + (1 + help_steps c + (r + p + store_steps c + apply_steps c)) ≤ k + (y + apply_steps c)
+        sum s c r p k x y e h = omega arith
+    sparing LoadRequest o a t e v = go (is_open m.seq (get_or w.words (m.owner + 1) 0))
+      where
+        opens : (s c x l : ℕ) → s + (1 + help_steps c + x) ≤ l → s + 1 + (2 * c + 1 - 0 + 1 + apply_steps c + x) ≤ l
+        opens s c x l h = omega arith
+
+        closed : (s k x l : ℕ) → s + (1 + k + x) ≤ l → s + 1 + x ≤ l
+        closed s k x l h = omega arith
+
+        round : (b : Bool) → (m.rounds == 0) ≡ b → m.steps + 1 + (2 * W + 1 - 0 + 1 + apply_steps W + helped S W R m b) ≤ allowed S W R m
+        round false q = opens m.steps W (behind_help S W R + apply_steps W) (allowed S W R m) t.steps
+        round true q = let z : m.rounds ≡ 0 = grind (arith, nat_tests) in absurd (omega (arith, a.0.begun_one))
+
+        go : (b : Bool) → Spares S W R (after_load_request S now b) (after_load_request S now b).place
+        go true = record { copies = omega arith; few = t.few; steps = round (m.rounds == 0) refl }
+        go false = record { copies = tt; few = t.few; steps = closed m.steps (help_steps W) (behind_help S W R + apply_steps W) (allowed S W R m) t.steps }
+    sparing (CopyLog x) o a t e v = go (nat_lt (x + 1) (2 * get_or (copy_more m found) 0 0 + 1)) refl v
+      where
+        found : ℕ
+        found = get_or w.words (word_of (want_at S m (CopyLog x))) 0
+
+        more : (s c x k r l : ℕ) → x < c → s + (c - x + 1 + k + r) ≤ l → s + 1 + (c - (x + 1) + 1 + k + r) ≤ l
+        more s c x k r l z h = omega arith
+
+        last : (s c x k r l : ℕ) → x < c → s + (c - x + 1 + k + r) ≤ l → s + 1 + (1 + k + r) ≤ l
+        last s c x k r l z h = omega arith
+
+        under : (x n c : ℕ) → x < 2 * n + 1 → n ≤ c → x < 2 * c + 1
+        under x n c l k = omega arith
+
+        go : (b : Bool) → nat_lt (x + 1) (2 * get_or (copy_more m found) 0 0 + 1) ≡ b → Touches (after_copy_log now x found b) W R → Spares S W R (after_copy_log now x found b) (after_copy_log now x found b).place
+        go true q v = record {
+          copies = under (x + 1) (get_or (copy_more m found) 0 0) W (is_newer (x + 1) (2 * get_or (copy_more m found) 0 0 + 1) q) v.copy;
+          few = t.few;
+          steps = more m.steps (2 * W + 1) x (apply_steps W) (helped S W R m (m.rounds == 0)) (allowed S W R m) t.copies t.steps;
+        }
+        go false q v = record { copies = tt; few = t.few; steps = last m.steps (2 * W + 1) x (apply_steps W) (helped S W R m (m.rounds == 0)) (allowed S W R m) t.copies t.steps }
+    sparing LookAgain o a t e v = go (get_or w.words (m.owner + 1) 0 == word m.seq 0) (m.rounds == 0) t.steps
+      where
+        opens : (s k r l : ℕ) → s + (1 + k + r) ≤ l → s + 1 + (k + r) ≤ l
+        opens s k r l h = omega arith
+
+        closed : (s k r l : ℕ) → s + (1 + k + r) ≤ l → s + 1 + r ≤ l
+        closed s k r l h = omega arith
+
+        helping : (b : Bool) → b ≡ true → m.steps + 1 + (apply_steps W + behind_apply S W R m b) ≤ allowed S W R m
+        helping true q = opens m.steps (apply_steps W) (helped S W R m (m.rounds == 0)) (allowed S W R m) t.steps
+        helping false q = cc
+
+        go : (b d : Bool) → m.steps + (1 + apply_steps W + helped S W R m d) ≤ allowed S W R m → Spares S W R (after_look_again S now b d) (after_look_again S now b d).place
+        go true d z = record { copies = tt; few = t.few; steps = helping m.helps a.0.helps }
+        go false d z = resumed_sparing now d t.few (closed m.steps (apply_steps W) (helped S W R m d) (allowed S W R m) z)
+    sparing LoadOwnTicket o a t e v = go (nat_lt m.seq (seq found)) (pay found == m.made) (m.seq == S.limit)
+      where
+        found : ℕ
+        found = get_or w.words (word_of (want_at S m LoadOwnTicket)) 0
+
+        newer : (s x r l : ℕ) → 1 ≤ x → s + (x + r) ≤ l → s + 1 + r ≤ l
+        newer s x r l z h = omega arith
+
+        shape : (s k r p d x l : ℕ) → k + 1 ≤ p → 1 ≤ d → s + (r + p + d + x) ≤ l → s + 1 + (k + 1) ≤ l
+        shape s k r p d x l z q h = omega arith
+
+        call : (s k r p u y d x l : ℕ) → u + 1 ≡ r → k + y ≡ p → s + (r + p + d + x) ≤ l → s + 1 + (k + (y + u + d + x)) ≤ l
+        call s k r p u y d x l z q h = omega arith
+
+        one_row : (n s q : ℕ) → s ≡ 0 → 0 < n → q + (n - s - 1) * q ≡ n * q
+        one_row (suc n) s q e l = rw e (grind arith)
+        one_row zero s q e l = absurd (omega arith)
+
+        none : (s x l : ℕ) → s + x ≤ l → 0 + 0 ≤ l
+        none s x l h = omega arith
+
+        cells_in : ticket_cell S m.caller < S.cells
+        cells_in = rw a.0.round.begun.caller (ticket_in_cells S Lawful B w g i m h i h)
+
+        none_of : (n y : ℕ) → get_or {A = Option ℕ} (replicate n None) y None ≡ None
+        none_of zero y = refl
+        none_of (suc n) zero = refl
+        none_of (suc n) (suc y) = none_of n y
+
+        none_at : (ks : List (Option ℕ)) → ks ≡ unknown S → get_or ks (ticket_cell S m.caller) None ≡ None
+        none_at ks q = rw q (none_of S.cells (ticket_cell S m.caller))
+
+        known_one : R - knowns (learned S m (ticket_cell S m.caller) found) + 1 ≡ R
+        known_one = learns LoadOwnTicket (ticket_cell S m.caller) found e refl (omega (arith, a.0.all, cells_in)) (none_at m.known a.2) ∙ all (knowns m.known) (ap knowns a.2 ∙ knowns_none S.cells)
+          where
+            all : (k : ℕ) → k ≡ 0 → R - k ≡ R
+            all k e = omega arith
+
+        go : (b c d : Bool) → Spares S W R (after_own_ticket S now found b c d) (after_own_ticket S now found b c d).place
+        go true c d = record { copies = tt; few = t.few; steps = newer m.steps (behind_help S W R) (apply_steps W) (allowed S W R m) (omega arith) t.steps }
+        go false true d = record { copies = tt; few = t.few; steps = shape m.steps S.instrs R (S.callers * (S.instrs + 1)) (store_steps W) (apply_steps W) (allowed S W R m) words_row (omega arith) t.steps }
+        go false false true = record { copies = tt; few = t.few; steps = none m.steps (behind_help S W R + apply_steps W) (allowed S W R m) t.steps }
+        go false false false = record {
+          copies = tt;
+          few = t.few;
+          steps = call m.steps (S.instrs + 1) R (S.callers * (S.instrs + 1)) (R - knowns (learned S m (ticket_cell S m.caller) found)) ((S.callers - m.scan - 1) * (S.instrs + 1)) (store_steps W) (apply_steps W) (allowed S W R m)
+              known_one (one_row S.callers m.scan (S.instrs + 1) a.5 (omega arith)) t.steps;
+        }
+    sparing LoadShape o a t e v = go (nat_lt m.seq (seq found)) refl
+      where
+        found : ℕ
+        found = cell S w.words (shape_cell S m.caller)
+
+        same : (s i l : ℕ) → s + (i + 1) ≤ l → s + 1 + (i - 0) ≤ l
+        same s i l h = omega arith
+
+        fresh : seq (cell S w.words (shape_cell S m.caller)) ≤ m.seq
+        fresh = rw a.0.round.begun.caller (own_row_old S Lawful B w g i m h m a.0 (done_now S Lawful B w g i m h m a.2) (shape_cell S i) (omega arith, omega arith))
+
+        go : (b : Bool) → nat_lt m.seq (seq found) ≡ b → Spares S W R (after_load_shape S now found b) (after_load_shape S now found b).place
+        go true q = let z : m.seq < seq found = is_newer m.seq (seq found) q in absurd (omega (arith, fresh))
+        go false q = asks_sparing (shape_read S now found) 0 t.few (same m.steps S.instrs (allowed S W R m) t.steps) (first_mark (pay found) 0 S.instrs) (λ k z. omega arith)
+    sparing (LoadReply j) o a t e v = go (nat_lt m.seq (seq found)) refl
+      where
+        found : ℕ
+        found = cell S w.words (reply_cell S m.caller j)
+
+        fresh : seq (cell S w.words (reply_cell S m.caller j)) ≤ m.seq
+        fresh = rw a.0.round.begun.caller (own_row_old S Lawful B w g i m h m a.0 (done_now S Lawful B w g i m h m a.2) (reply_cell S i j) (omega arith, omega (arith, a.4)))
+
+        less : (s i j l : ℕ) → j < i → s + (i - j) ≤ l → s + 1 + (i - (j + 1)) ≤ l
+        less s i j l z h = omega arith
+
+        go : (b : Bool) → nat_lt m.seq (seq found) ≡ b → Spares S W R (after_load_reply S now j found b) (after_load_reply S now j found b).place
+        go true q = let z : m.seq < seq found = is_newer m.seq (seq found) q in absurd (omega (arith, fresh))
+        go false q = asks_sparing (reply_read now j found) (j + 1) t.few (less m.steps S.instrs j (allowed S W R m) a.4 t.steps) (first_mark m.raw.shape (j + 1) (S.instrs - j - 1)) (λ k z. (mark_some m.raw.shape (j + 1) (S.instrs - j - 1) k z).0)
+    sparing LoadAnnouncement o a t e v = go (get_or m.known (ticket_cell S m.scan) None)
+      where
+        found : ℕ
+        found = get_or w.words (word_of (want_at S m LoadAnnouncement)) 0
+
+        less : (s k x l : ℕ) → s + (k + 1 + x) ≤ l → s + 1 + (k + x) ≤ l
+        less s k x l h = omega arith
+
+        go : (r : Option ℕ) → Spares S W R (after_announcement S now found r) (after_announcement S now found r).place
+        go None = record { copies = tt; few = t.few; steps = less m.steps S.instrs (scan_left S W R m) (allowed S W R m) t.steps }
+        go (Some x) = weighed_sparing (record now { heard = found }) t.few a.3 (less m.steps S.instrs (scan_left S W R m) (allowed S W R m) t.steps) (nat_lt x (seq found))
+    sparing LoadTicket o a t e v = go (nat_lt m.seq (seq found))
+      where
+        found : ℕ
+        found = get_or w.words (word_of (want_at S m LoadTicket)) 0
+
+        go : (b : Bool) → Spares S W R (after_load_ticket S now found b) (after_load_ticket S now found b).place
+        go true = record { copies = tt; few = t.few; steps = again_sum m.steps S.instrs ((S.callers - m.scan - 1) * (S.instrs + 1)) (R - knowns m.known) (store_steps W) (apply_steps W) (allowed S W R m) (omega arith) t.steps }
+        go false = weighed_sparing (record now { known = learned S m (ticket_cell S m.scan) found }) t.few a.3
+            (known_sum m.steps S.instrs ((S.callers - m.scan - 1) * (S.instrs + 1)) (R - knowns m.known) (R - knowns (learned S m (ticket_cell S m.scan) found)) (store_steps W) (apply_steps W) (allowed S W R m)
+            (learns LoadTicket (ticket_cell S m.scan) found e refl (omega (arith, a.0.looks.all, ticket_in_cells S Lawful B w g i m h m.scan a.3)) a.5) t.steps)
+            (nat_lt (pay found) (seq m.heard))
+    sparing (LoadScript j) o a t e v = go (nat_lt (j + 1) (pay m.heard))
+      where
+        found : ℕ
+        found = get_or w.words (word_of (want_at S m (LoadScript j))) 0
+
+        j_in : j < S.instrs
+        j_in = omega (arith, a.6, a.4.small)
+
+        more : (s i j x l : ℕ) → j < i → s + (i - j + x) ≤ l → s + 1 + (i - (j + 1) + x) ≤ l
+        more s i j x l z h = omega arith
+
+        last : (s i j x l : ℕ) → j < i → s + (i - j + x) ≤ l → s + 1 + x ≤ l
+        last s i j x l z h = omega arith
+
+        go : (b : Bool) → Spares S W R (after_load_script S now j found b) (after_load_script S now j found b).place
+        go true = record { copies = tt; few = t.few; steps = more m.steps S.instrs j (scan_left S W R m) (allowed S W R m) j_in t.steps }
+        go false = ran_sparing (record now { script = script_more m found }) t.few a.3 (last m.steps S.instrs j (scan_left S W R m) (allowed S W R m) j_in t.steps) (S.meaning.walk (over m.known m.log) (script_more m found))
+    sparing (LoadCell x) o a t e v = go (nat_lt m.seq (seq found))
+      where
+        found : ℕ
+        found = get_or w.words (word_of (want_at S m (LoadCell x))) 0
+
+        go : (b : Bool) → Spares S W R (after_load_cell S now x found b) (after_load_cell S now x found b).place
+        go true = record { copies = tt; few = t.few; steps = again_sum0 m.steps ((S.callers - m.scan - 1) * (S.instrs + 1)) (R - knowns m.known) (store_steps W) (apply_steps W) (allowed S W R m) (omega arith) t.steps }
+        go false = ran_sparing (record now { known = learned S m x found }) t.few a.3
+            (known_sum0 m.steps ((S.callers - m.scan - 1) * (S.instrs + 1)) (R - knowns m.known) (R - knowns (learned S m x found)) (store_steps W) (apply_steps W) (allowed S W R m)
+            (learns (LoadCell x) x found e refl (omega (arith, a.0.looks.all, a.6)) a.7) t.steps)
+            (S.meaning.walk (over (learned S m x found) m.log) m.script)
+    sparing RaiseOld o a t e v = record { copies = tt; few = t.few; steps = sum m.steps W (apply_steps W) (allowed S W R m) t.steps }
+      where
+        sum : (s c r l : ℕ) → s + (store_steps c + r) ≤ l → s + 1 + (2 * (2 * c + 1 - 0) + 3 + r) ≤ l
+        sum s c r l h = omega arith
+    sparing (StoreLog x) o a t e v = record { copies = tt; few = t.few; steps = sum m.steps (2 * (2 * W + 1 - x)) (apply_steps W) (allowed S W R m) t.steps }
+      where
+        sum : (s y r l : ℕ) → s + (y + 3 + r) ≤ l → s + 1 + (y + 2 + r) ≤ l
+        sum s y r l h = omega arith
+    sparing (RaiseLog x) o a t e v = go (nat_lt (x + 1) (length (log_words m.log)))
+      where
+        x_in : x < 2 * W + 1
+        x_in = sum x (length m.log) (length (log_words m.log)) W (length-log_words m.log) u.log a.1
+          where
+            sum : (x n k c : ℕ) → k ≡ 2 * n + 1 → n ≤ c → x < k → x < 2 * c + 1
+            sum x n k c e l z = omega arith
+
+        more : (s c x r l : ℕ) → x < c → s + (2 * (c - x) + 2 + r) ≤ l → s + 1 + (2 * (c - (x + 1)) + 3 + r) ≤ l
+        more s c x r l z h = omega arith
+
+        last : (s c x r l : ℕ) → x < c → s + (2 * (c - x) + 2 + r) ≤ l → s + 1 + (3 + r) ≤ l
+        last s c x r l z h = omega arith
+
+        go : (b : Bool) → Spares S W R (after_raise_log now x b) (after_raise_log now x b).place
+        go true = record { copies = tt; few = t.few; steps = more m.steps (2 * W + 1) x (apply_steps W) (allowed S W R m) x_in t.steps }
+        go false = record { copies = tt; few = t.few; steps = last m.steps (2 * W + 1) x (apply_steps W) (allowed S W R m) x_in t.steps }
+    sparing StoreRequest o a t e v = record { copies = tt; few = t.few; steps = fewer m.steps (3 + apply_steps W) (2 + apply_steps W) (allowed S W R m) t.steps (omega arith) }
+    sparing RaiseRequest o a t e v = record { copies = tt; few = t.few; steps = fewer m.steps (2 + apply_steps W) (1 + apply_steps W) (allowed S W R m) t.steps (omega arith) }
+    sparing ExchangeCurrent o a t e v = go (get_or w.words 0 0 == word m.seq m.owner)
+      where
+        won : (s k l : ℕ) → s + (1 + k) ≤ l → s + 1 + (k + 0) ≤ l
+        won s k l h = omega arith
+
+        go : (b : Bool) → Spares S W R (after_exchange now b) (after_exchange now b).place
+        go true = record { copies = tt; few = t.few; steps = won m.steps (apply_steps W) (allowed S W R m) t.steps }
+        go false = record { copies = tt; few = t.few; steps = fewer m.steps (1 + apply_steps W) (apply_steps W) (allowed S W R m) t.steps (omega arith) }
+    sparing RaiseCurrent o a t e v = go (nat_lt 0 (length m.log))
+      where
+        more : (s c r l : ℕ) → s + (apply_steps c + r) ≤ l → s + 1 + (4 * (c - 0) + 2 + r) ≤ l
+        more s c r l h = omega arith
+
+        none : (s c r l : ℕ) → s + (apply_steps c + r) ≤ l → s + 1 + (2 + r) ≤ l
+        none s c r l h = omega arith
+
+        go : (b : Bool) → Spares S W R (after_raise_current now b) (after_raise_current now b).place
+        go true = record { copies = tt; few = t.few; steps = more m.steps W (behind_apply S W R m m.helps) (allowed S W R m) t.steps }
+        go false = record { copies = tt; few = t.few; steps = none m.steps W (behind_apply S W R m m.helps) (allowed S W R m) t.steps }
+    sparing (LoadTarget j) o a t e v = go (nat_lt (seq found) m.seq)
+      where
+        found : ℕ
+        found = get_or w.words (word_of (want_at S m (LoadTarget j))) 0
+
+        older : (s y r l : ℕ) → s + (y + 2 + r) ≤ l → s + 1 + (y + 1 + r) ≤ l
+        older s y r l h = omega arith
+
+        newer : (s y r l : ℕ) → s + (y + 2 + r) ≤ l → s + 1 + (y - 1 + r) ≤ l
+        newer s y r l h = omega arith
+
+        go : (b : Bool) → Spares S W R (after_load_target now j found b) (after_load_target now j found b).place
+        go true = record { copies = tt; few = t.few; steps = older m.steps (4 * (W - j)) (behind_apply S W R m m.helps) (allowed S W R m) t.steps }
+        go false = record { copies = tt; few = t.few; steps = newer m.steps (4 * (W - j)) (behind_apply S W R m m.helps) (allowed S W R m) t.steps }
+    sparing (ExchangeTarget j f) o a t e v = record { copies = tt; few = t.few; steps = sum m.steps (4 * (W - j)) (behind_apply S W R m m.helps) (allowed S W R m) t.steps }
+      where
+        sum : (s y r l : ℕ) → s + (y + 1 + r) ≤ l → s + 1 + (y + r) ≤ l
+        sum s y r l h = omega arith
+    sparing (ReloadTarget j) o a t e v = record { copies = tt; few = t.few; steps = sum m.steps W j (length m.log) (behind_apply S W R m m.helps) (allowed S W R m) a.1 u.log t.steps }
+      where
+        sum : (s c j n r l : ℕ) → j < n → n ≤ c → s + (4 * (c - j) + r) ≤ l → s + 1 + (4 * (c - j) - 1 + r) ≤ l
+        sum s c j n r l z q h = omega arith
+    sparing (RaiseTarget j f) o a t e v = go (nat_lt (j + 1) (length m.log))
+      where
+        j_in : j < W
+        j_in = omega (arith, a.1, u.log)
+
+        more : (s c j r l : ℕ) → j < c → s + (4 * (c - j) - 1 + r) ≤ l → s + 1 + (4 * (c - (j + 1)) + 2 + r) ≤ l
+        more s c j r l z h = omega arith
+
+        last : (s c j r l : ℕ) → j < c → s + (4 * (c - j) - 1 + r) ≤ l → s + 1 + (2 + r) ≤ l
+        last s c j r l z h = omega arith
+
+        go : (b : Bool) → Spares S W R (next_entry now j b) (next_entry now j b).place
+        go true = record { copies = tt; few = t.few; steps = more m.steps W j (behind_apply S W R m m.helps) (allowed S W R m) j_in t.steps }
+        go false = record { copies = tt; few = t.few; steps = last m.steps W j (behind_apply S W R m m.helps) (allowed S W R m) j_in t.steps }
+    sparing CloseRequest o a t e v = record { copies = tt; few = t.few; steps = sum m.steps (behind_apply S W R m m.helps) (allowed S W R m) t.steps }
+      where
+        sum : (s r l : ℕ) → s + (2 + r) ≤ l → s + 1 + (1 + r) ≤ l
+        sum s r l h = omega arith
+    sparing RaiseClosed o a t e v = go m.helps (m.rounds == 0) refl t.steps
+      where
+        sum : (s r l : ℕ) → s + (1 + r) ≤ l → s + 1 + r ≤ l
+        sum s r l h = omega arith
+
+        none : (l : ℕ) → 0 + 0 ≤ l
+        none l = omega arith
+
+        go : (b d : Bool) → (m.rounds == 0) ≡ d → m.steps + (1 + behind_apply S W R m b) ≤ allowed S W R m → Spares S W R (after_raise_closed S now b d) (after_raise_closed S now b d).place
+        go true d q z = resumed_sparing now d t.few (subst (λ (x : Bool). m.steps + 1 + helped S W R m x ≤ allowed S W R m) q (sum m.steps (helped S W R m (m.rounds == 0)) (allowed S W R m) z))
+        go false d q z = record { copies = tt; few = t.few; steps = none (allowed S W R m) }
+
+    -- an open call has a step left
+    some_left : (p : Place) → IsOpen p → At S B w.words w.batches i m p → Spares S W R m p → (x : ℕ) → left_at S W R m p ≡ x → 1 ≤ x
+    some_left Idle o a t x e = cc
+    some_left TryCurrent o a t x e = omega arith
+    some_left TryRequest o a t x e = omega arith
+    some_left (TryCell c) o a t x e = omega arith
+    some_left (StoreScript j) o a t x e = omega arith
+    some_left StoreAnnouncement o a t x e = omega arith
+    some_left LoadCurrent o a t x e = omega arith
+    some_left LoadRequest o a t x e = omega arith
+    some_left (CopyLog k) o a t x e = omega arith
+    some_left LookAgain o a t x e = omega arith
+    some_left LoadOwnTicket o a t x e = omega arith
+    some_left LoadShape o a t x e = omega arith
+    some_left (LoadReply j) o a t x e = omega (arith, a.4)
+    some_left LoadAnnouncement o a t x e = omega arith
+    some_left LoadTicket o a t x e = omega arith
+    some_left (LoadScript j) o a t x e = omega arith
+    some_left (LoadCell c) o a t x e = omega arith
+    some_left RaiseOld o a t x e = omega arith
+    some_left (StoreLog k) o a t x e = omega arith
+    some_left (RaiseLog k) o a t x e = omega arith
+    some_left StoreRequest o a t x e = omega arith
+    some_left RaiseRequest o a t x e = omega arith
+    some_left ExchangeCurrent o a t x e = omega arith
+    some_left RaiseCurrent o a t x e = omega arith
+    some_left (LoadTarget j) o a t x e = omega arith
+    some_left (ExchangeTarget j f) o a t x e = omega arith
+    some_left (ReloadTarget j) o a t x e = omega (arith, a.1, u.log)
+    some_left (RaiseTarget j f) o a t x e = omega (arith, a.1, u.log)
+    some_left CloseRequest o a t x e = omega arith
+    some_left RaiseClosed o a t x e = omega arith
+
+module _ (S : Setup) (Lawful : List ℕ → Type 0) (sound : Sound S.meaning Lawful (base S) S.cells) (B : Start) (i : ℕ) (h : i < S.callers) (W R : ℕ) where
+  abbrev Sparing : World → Type 0
+  Sparing w = Spares S W R (machine w i) (machine w i).place
+
+  own_turn : (w : World) → Good S Lawful B w → (m : Data) → get_or w.machines i m ≡ m → IsOpen m.place → Touches m W R
+      → Touches (took S m (finds S w.words m)) W R → Spares S W R m m.place → Spares S W R (took S m (finds S w.words m)) (took S m (finds S w.words m)).place
+  unfolding want took
+  own_turn w g m e o u v t = sparing S W R Lawful B w g.core i m h u m.place o (g.core.each i m h e) t refl v
+
+  own_kept : (w : World) → Good S Lawful B w → IsOpen (machine w i).place → Touches (machine w i) W R
+      → Touches (machine (happens S w (Turns i)) i) W R → Sparing w → Sparing (happens S w (Turns i))
+  own_kept w g o u v t =
+      let x : machine (happens S w (Turns i)) i ≡ took S (machine w i) (finds S w.words (machine w i)) = get_or-set_same w.machines i _ no_machine (omega (arith, g.core.members)) in
+      subst (λ (d : Data). Spares S W R d d.place) (sym x) (own_turn w g (machine w i) (of_machine S Lawful sound B i h w g) o u (subst (λ (d : Data). Touches d W R) x v) t)
+
+  -- no event of a schedule lets the call make more
+  kept : (w : World) → Good S Lawful B w → (e : Event) → MayHappen S w e → IsOpen (machine w i).place → Touches (machine w i) W R
+      → Touches (machine (happens S w e) i) W R → Sparing w → Sparing (happens S w e)
+  kept w g (Loads c) may o u v t = t
+  kept w g (Evicts k) may o u v t = t
+  kept w g (Raises c) may o u v t = t
+  kept w g (Begins j op) may o u v t = go (cases_eq j i)
+    where
+      go : (j ≡ i) ⊎ (j ≡ i → ⊥) → Sparing (happens S w (Begins j op))
+      go (inl e) = let z : true ≡ false = sym (ap is_idle may.1) ∙ ap (λ (k : ℕ). is_idle (machine w k).place) e ∙ o in cc
+      go (inr n) = subst (λ (d : Data). Spares S W R d d.place) (sym (get_or-set_other w.machines j i _ no_machine (λ e. n (sym e)))) t
+  kept w g (Turns j) may o u v t = go (cases_eq j i)
+    where
+      go : (j ≡ i) ⊎ (j ≡ i → ⊥) → Sparing (happens S w (Turns j))
+      go (inl e) = subst (λ (k : ℕ). Sparing (happens S w (Turns k))) (sym e) (own_kept w g o u (subst (λ (k : ℕ). Touches (machine (happens S w (Turns k)) i) W R) e v) t)
+      go (inr n) = subst (λ (d : Data). Spares S W R d d.place) (sym (get_or-set_other w.machines j i _ no_machine (λ e. n (sym e)))) t
+
+  touches_now : (w : World) (es : List Event) → TouchesOnly S w es i W R → Touches (machine w i) W R
+  touches_now w [] u = u
+  touches_now w (e ∷ es) u = u.0
+
+  fewer_than : (s x y : ℕ) → s + x ≤ y → 1 ≤ x → s < y
+  fewer_than s x y l u = omega arith
+
+  at_end : (w : World) → Good S Lawful B w → (m : Data) → get_or w.machines i m ≡ m → IsOpen m.place → Touches m W R → Spares S W R m m.place → HasFootprint S W R m m.steps
+  at_end w g m e o u t = record {
+    within = fewer_than m.steps (left_at S W R m m.place) (allowed S W R m) t.steps (some_left S W R Lawful B w g.core i m h u m.place o (g.core.each i m h e) t (left_at S W R m m.place) refl);
+    tries = t.few.0;
+    rounds = t.few.1;
+    untried = t.few.2;
+  }
+
+  -- so it is at the end
+  at_last : (es : List Event) (w : World) → Good S Lawful B w → IsSchedule S w es → StaysOpen S w es i → TouchesOnly S w es i W R → Sparing w
+      → HasFootprint S W R (machine (run S w es) i) ((machine w i).steps + turns i es)
+  at_last [] w g s o u t = subst (HasFootprint S W R (machine w i)) (plus_none (machine w i).steps) (at_end w g (machine w i) (of_machine S Lawful sound B i h w g) o u t)
+    where
+      plus_none : (x : ℕ) → x ≡ x + 0
+      plus_none x = omega arith
+  at_last (e ∷ es) w g s o u t =
+      let good : Good S Lawful B (happens S w e) = event_good S Lawful B w g sound e s.0 in
+      let still : IsOpen (machine (happens S w e) i).place = now_open S Lawful sound B i h (happens S w e) es o.1 in
+      let more : (machine (happens S w e) i).steps ≡ (machine w i).steps + one_turn i e = steps_rise S Lawful sound B i h w g e s.0 o.0 still in
+      subst (HasFootprint S W R (machine (run S (happens S w e) es) i)) (sum (machine w i).steps (one_turn i e) (turns i es) (machine (happens S w e) i).steps more)
+      (at_last es (happens S w e) good s.1 o.1 u.1 (kept w g e s.0 o.0 u.0 (touches_now (happens S w e) es u.1) t))
+    where
+      sum : (x y z v : ℕ) → v ≡ x + y → v + z ≡ x + (y + z)
+      sum x y z v e = omega arith
+
+pub by_footprint : (S : Setup) (Lawful : List ℕ → Type 0) → Sound S.meaning Lawful (base S) S.cells → (B : Start) (w : World) → Good S Lawful B w
+    → (i : ℕ) (op : List ℕ) → MayHappen S w (Begins i op) → (es : List Event) → IsSchedule S (happens S w (Begins i op)) es → StaysOpen S (happens S w (Begins i op)) es i
+    → (W R : ℕ) → TouchesOnly S (happens S w (Begins i op)) es i W R → HasFootprint S W R (machine (run S (happens S w (Begins i op)) es) i) (turns i es)
+by_footprint S Lawful sound B w g i op may es s o W R u =
+    subst (HasFootprint S W R (machine (run S v es) i)) (none (machine v i).steps (turns i es) (ap (λ (d : Data). d.steps) new))
+    (at_last S Lawful sound B i may.0 W R es v (event_good S Lawful B w g sound (Begins i op) may) s o u (subst (λ (d : Data). Spares S W R d d.place) (sym new) (opens_sparing S W R (machine w i) op)))
+  where
+    v : World
+    v = happens S w (Begins i op)
+
+    new : machine v i ≡ opened S (machine w i) op
+    new = get_or-set_same w.machines i (opened S (machine w i) op) no_machine (omega (arith, g.core.members, may.0))
+
+    none : (x y : ℕ) → x ≡ 0 → x + y ≡ y
+    none x y e = omega arith
+
+-- one caller that stores to one register, in one round, with a log of four entries and one load
+worked : (S : Setup) → S.callers ≡ 1 → S.instrs ≡ 16 → footprint S (7 ∷ []) 4 1 0 1 ≡ 92
+worked S e d = rw (e, d) refl

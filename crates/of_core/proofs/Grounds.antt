@@ -1,0 +1,28 @@
+-- Whatever meets the invariant has begun at a start that may be, and its states are lawful.
+use Rattle.std.proofs.Common.{ℕ, List, subst, arith, map}
+use Rattle.of_cell.specs.Words.{pay}
+use Rattle.of_core.specs.Table.{Setup}
+use Rattle.of_core.specs.World.{World, Start}
+use Rattle.of_core.specs.Shared.{Shared}
+use Rattle.of_core.specs.Invariant.{Good}
+use Rattle.of_core.specs.Grounds.{HasGrounds}
+use Rattle.of_core.proofs.States.{state_start}
+
+pub has_grounds : (S : Setup) (Lawful : List ℕ → Type 0) (B : Start) (w : World) → Good S Lawful B w → HasGrounds S Lawful B w
+has_grounds S Lawful B w g = record {
+  may_start = record {
+    start = shared.start;
+    lawful = subst (λ (st : List ℕ). Lawful (map pay st)) (state_start B w.batches) (shared.stands.lawful B.seq (omega arith) (omega arith));
+    limit = omega (arith, shared.counted.count, shared.counted.limit);
+  };
+  states = shared.stands.lawful;
+  logs = λ k l u. shared.counted.logs k l (omega (arith, u, shared.counted.count));
+  room = omega (arith, shared.room);
+  callers = shared.few;
+  instrs = shared.narrow;
+  cells = shared.little;
+  own_in = shared.own_in;
+}
+  where
+    shared : Shared S Lawful B w.words w.batches
+    shared = g.core.shared

@@ -1,0 +1,96 @@
+-- How many steps a call makes at most, by what it touches: the longest log that it writes, copies
+-- or applies, and the most data cells that one of its tries or rounds loads.
+use Rattle.std.specs.Prelude.{ℕ, ◌+◌, ◌*◌, List, [], ◌∷◌, length, Option, Some, None, false, ◌≡◌, ◌≤◌, ◌<◌}
+use Rattle.std.proofs.Common.{get_or, suc}
+use Rattle.of_core.specs.declared.machine.trying.TheConstants.{MOST_TRIES}
+use Rattle.of_core.specs.declared.place.Place.{Place}
+use Rattle.of_core.specs.declared.place.Place.TheVariants.{TryCell, LoadOwnTicket, LoadTicket, LoadCell}
+use Rattle.of_core.specs.Table.{Setup}
+use Rattle.of_core.specs.Machine.{Data}
+use Rattle.of_core.specs.World.{World, Start}
+use Rattle.of_core.specs.Invariant.{Good}
+use Rattle.of_core.specs.Events.{Event, Begins, happens, MayHappen, run, turns, IsSchedule, StaysOpen, machine}
+
+-- how many cells are known
+abbrev pub knowns : List (Option ℕ) → ℕ
+knowns [] = 0
+knowns (None ∷ ks) = knowns ks
+knowns (Some v ∷ ks) = suc (knowns ks)
+
+-- 1 where the next step loads a data cell that the try or the round is to know, and 0 elsewhere.
+-- The loads of one's own shape and reply are not among them: they come in place of a scan, and are
+-- no more than the words that it loads of one caller.
+abbrev pub next_load : Place → ℕ
+next_load (TryCell a) = 1
+next_load LoadOwnTicket = 1
+next_load LoadTicket = 1
+next_load (LoadCell a) = 1
+next_load p = 0
+
+-- what a machine touches at a moment: no log of it has more than `longest` entries, and its try or
+-- round has loaded no more than `most` data cells
+pub record Touches (m : Data) (longest most : ℕ) : Type 0 where
+  -- its write-set, or the log that it applies
+  pub log : length m.log ≤ longest
+  -- the log that it copies: the first word is the number of entries
+  pub copy : get_or m.copy 0 0 ≤ longest
+  -- the cells that are known, and the one that is loaded next
+  pub cells : knowns m.known + next_load m.place ≤ most
+
+-- so it is of caller i now and after each of the events
+abbrev pub TouchesOnly : Setup → World → List Event → (i longest most : ℕ) → Type 0
+TouchesOnly S w [] i longest most = Touches (machine w i) longest most
+TouchesOnly S w (e ∷ es) i longest most =
+    Touches (machine w i) longest most × TouchesOnly S (happens S w e) es i longest most
+
+-- The steps of each part of a call.
+
+-- to apply a log: raise the current-transaction word, load, exchange, load again and raise the cell
+-- of each entry, and exchange and raise the request
+abbrev pub apply_steps : (longest : ℕ) → ℕ
+apply_steps longest = 1 + 4 * longest + 2
+
+-- to help: copy the count and the two words of each entry, look at the request again, and apply
+abbrev pub help_steps : (longest : ℕ) → ℕ
+help_steps longest = 1 + 2 * longest + 1 + apply_steps longest
+
+-- to store a log and try to commit it: raise the old request, store and raise the count and the two
+-- words of each entry, store and raise the new request, and exchange the current-transaction word
+abbrev pub store_steps : (longest : ℕ) → ℕ
+store_steps longest = 1 + 2 * (1 + 2 * longest) + 2 + 1
+
+-- a try: load the current-transaction word and the request, help, and load the data cells
+abbrev pub try_steps : (longest most : ℕ) → ℕ
+try_steps longest most = 2 + help_steps longest + most
+
+-- a round: the same, the announcement and the script words of each caller, and the log. A round
+-- that finds its call in the history loads its reply in place of these
+abbrev pub round_steps : Setup → (longest most : ℕ) → ℕ
+round_steps S longest most =
+    2 + help_steps longest + most + S.callers * (S.instrs + 1) + store_steps longest
+
+-- a call with these words that has begun so many tries and rounds: these, its announcement, and the
+-- apply of its own log
+abbrev pub footprint : Setup → List ℕ → (longest most tries rounds : ℕ) → ℕ
+footprint S op longest most tries rounds =
+    tries * try_steps longest most + (length op + 1)
+    + (rounds * round_steps S longest most + apply_steps longest)
+
+-- The open call of the machine m has made this many steps: fewer than what it touches allows, in at
+-- most four tries and three rounds. A call that may write makes no try.
+pub record HasFootprint (S : Setup) (longest most : ℕ) (m : Data) (steps : ℕ) : Type 0 where
+  pub within : steps < footprint S m.op longest most m.tries m.rounds
+  pub tries : m.tries ≤ MOST_TRIES
+  pub rounds : m.rounds ≤ 3
+  pub untried : S.meaning.reads_only m.op ≡ false → m.tries ≡ 0
+
+-- a call that has begun and stays open has made fewer steps than what it touches allows, whatever
+-- the size of the memory, so its last one comes in time
+abbrev pub ByFootprint : Setup → (List ℕ → Type 0) → Type 0
+ByFootprint S Lawful =
+    (B : Start) (w : World) → Good S Lawful B w
+    → (i : ℕ) (op : List ℕ) → MayHappen S w (Begins i op) →
+    let v : World = happens S w (Begins i op) in
+    (es : List Event) → IsSchedule S v es → StaysOpen S v es i
+    → (longest most : ℕ) → TouchesOnly S v es i longest most
+    → HasFootprint S longest most (machine (run S v es) i) (turns i es)

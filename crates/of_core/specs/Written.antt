@@ -1,0 +1,69 @@
+-- What a batch writes, and what becomes of it: its log is the writes of its calls, its owner's call
+-- is among them, and no data cell goes back to an older word.
+use Rattle.std.specs.Prelude.{ℕ, ◌+◌, ◌-◌, List, [], ◌∷◌, ◌++◌, length, Option, ◌≡◌, ◌≤◌, ◌<◌, ◌⊎◌}
+use Rattle.std.proofs.Common.{get_or}
+use Rattle.of_cell.specs.Words.{seq}
+use Rattle.of_mem.specs.Meaning.{Gives, Agrees}
+use Rattle.of_mem.specs.Pad.{over}
+use Rattle.of_mem.specs.Pairs.{put_all}
+use Rattle.of_core.specs.Table.{Setup, ticket_cell, cell}
+use Rattle.of_core.specs.Machine.{Call, no_call, own_cells}
+use Rattle.of_core.specs.World.{Batch, Start, World}
+use Rattle.of_core.specs.History.{batch, numbers}
+use Rattle.of_core.specs.Shared.{IsLog}
+use Rattle.of_core.specs.Invariant.{Good}
+use Rattle.of_core.specs.Events.{Event, IsSchedule, opening, run}
+use Rattle.of_core.specs.Laws.{EachSchedule}
+
+-- how the call has run on a state, with the log so far over it
+pub record RunOf (S : Setup) (state : List ℕ) (before : List (ℕ × ℕ)) (c : Call) : Type 0 where
+  -- what was known of the state's cells
+  pub known : List (Option ℕ)
+  pub agrees : Agrees known state
+  -- what the run wrote; its reply is the call's
+  pub writes : List (ℕ × ℕ)
+  pub gives : S.meaning.walk (over known before) c.op ≡ Gives writes c.raw
+
+-- the log after a call: over what was there its writes, and then its caller's own cells
+abbrev pub with_call : Setup → (before writes : List (ℕ × ℕ)) → Call → List (ℕ × ℕ)
+with_call S before writes c =
+    put_all before (writes ++ own_cells (ticket_cell S c.caller) c.ticket (length c.op) c.raw)
+
+-- the calls, run one after the other on the state, lead from one log to another
+abbrev pub LeadTo : Setup → (state : List ℕ) → (before : List (ℕ × ℕ)) → List Call
+    → (after : List (ℕ × ℕ)) → Type 0
+LeadTo S state before [] after = before ≡ after
+LeadTo S state before (c ∷ cs) after =
+    (r : RunOf S state before c) × LeadTo S state (with_call S before r.writes c) cs after
+
+-- the log is what the calls write, in order, and nothing besides; it has no cell twice
+pub record IsLogOf (S : Setup) (state : List ℕ) (cs : List Call) (log : List (ℕ × ℕ)) : Type 0 where
+  pub writes : LeadTo S state [] cs log
+  pub is_log : IsLog S log
+
+-- in every schedule from every start each batch's log is what its calls write on the state before
+abbrev pub LogsAreWrites : Setup → (List ℕ → Type 0) → Type 0
+LogsAreWrites S Lawful = EachSchedule S Lawful (λ B n es.
+    let bs : List Batch = (run S (opening S B n) es).batches in
+    (k : ℕ) → B.seq < k → k ≤ B.seq + length bs
+    → IsLogOf S (numbers B bs (k - 1)) (batch B bs k).calls (batch B bs k).log)
+
+-- the batch has a call of its owner
+abbrev pub HasOwnCall : Batch → Type 0
+HasOwnCall b =
+    (y : ℕ) × (y < length b.calls) × ((get_or b.calls y no_call).caller ≡ b.owner)
+
+-- and each batch has a call of its owner, who committed it
+abbrev pub OwnersTakePart : Setup → (List ℕ → Type 0) → Type 0
+OwnersTakePart S Lawful = EachSchedule S Lawful (λ B n es.
+    let bs : List Batch = (run S (opening S B n) es).batches in
+    (k : ℕ) → B.seq < k → k ≤ B.seq + length bs → HasOwnCall (batch B bs k))
+
+-- between any two moments a data cell keeps its word, or gets one of a later transaction: a helper
+-- never writes an older number, however late it comes
+abbrev pub CellsRise : Setup → (List ℕ → Type 0) → Type 0
+CellsRise S Lawful =
+    (B : Start) (w : World) → Good S Lawful B w → (es : List Event) → IsSchedule S w es →
+    let v : World = run S w es in
+    (a : ℕ) → a < S.cells
+    → (cell S v.words a ≡ cell S w.words a) ⊎ (seq (cell S w.words a) < seq (cell S v.words a))

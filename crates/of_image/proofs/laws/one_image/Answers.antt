@@ -1,0 +1,5 @@
+use Rattle.of_image.proofs.ImageFacts.{one_image}
+use Rattle.of_image.proofs.laws.one_image.Goals as goal
+
+pub returns : goal.returns
+returns c = one_image

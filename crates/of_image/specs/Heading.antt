@@ -1,0 +1,14 @@
+-- What the heading of an image says.
+use Rattle.std.specs.Prelude.{ℕ, ◌≤◌, List}
+use Rattle.of_cell.specs.declared.shape.TheConstants.{MOST_CALLERS}
+use Rattle.of_store.specs.declared.store.TheConstants.{MOST_BLOCKS}
+use Rattle.of_plan.specs.declared.above.Wanted.TheVariants.{Callers, Blocks}
+use Rattle.of_plan.specs.Reasons.{SaidAbove}
+use Rattle.of_image.specs.declared.explaining.Heading.{Heading}
+
+-- lines above say these numbers of callers and blocks, and both are in their ranges
+pub record IsHeading (ls : List (List ℕ)) (above : ℕ) (h : Heading) : Type 0 where
+  pub callers : SaidAbove ls above Callers h.callers
+  pub blocks : SaidAbove ls above Blocks h.blocks
+  pub few_callers : h.callers ≤ MOST_CALLERS
+  pub few_blocks : h.blocks ≤ MOST_BLOCKS

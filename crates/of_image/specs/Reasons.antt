@@ -1,0 +1,84 @@
+-- When a reason is true of a line of an image's text.
+use Rattle.std.specs.Prelude.{◌≡◌, ◌⊎◌, ℕ, ◌+◌, ◌≤◌, List, ◌∷◌, length, slice_range, codes}
+use Rattle.of_cell.specs.Cells.{durable_cells}
+use Rattle.of_script.specs.Text.{words}
+use Rattle.of_plan.specs.declared.above.Wanted.TheVariants.{Kept, Callers, Blocks, End, Cell}
+use Rattle.of_plan.specs.Above.{Says, NoneSays}
+use Rattle.of_plan.specs.Flaws.{IsNumber, HasFlaw}
+use Rattle.of_plan.specs.Reasons.{SaidAbove, HasNoEnd}
+use Rattle.of_report.specs.ImageRow.{cells_of}
+use Rattle.of_image.specs.declared.explaining.Finding.{Finding}
+use Rattle.of_image.specs.declared.reason.Reason.{Reason}
+use Rattle.of_image.specs.declared.reason.Reason.TheVariants.{Flawed, TitleExpected, OtherVersion, CallersExpected, BlocksExpected, AfterEnd, UnknownLine, NoCell, OutOfOrder, EmptyCell, HeadingOver, EndMissing, NotHere}
+use Rattle.of_image.specs.declared.version.Version.{Version}
+use Rattle.of_image.specs.declared.line.Line.TheVariants.{Cell as CellLine}
+use Rattle.of_image.specs.ImageText.{line_words}
+use Rattle.of_image.specs.Version.{number_of, instrs_of}
+
+-- no line above is kept, and this one does not begin with the two words of a title
+pub record IsNoTitle (v : Version) (ls : List (List ℕ)) (above : ℕ) (line : List ℕ) (version : ℕ) : Type 0 where
+  pub first : NoneSays ls above Kept
+  pub read : version ≡ number_of v
+  pub other : (ws : List (List ℕ)) → words line ≡ codes "onefile" ∷ codes "image" ∷ ws → ⊥
+
+-- no line above is kept, and the number in this one is of another version than is read
+pub record IsOtherVersion (v : Version) (ls : List (List ℕ)) (above : ℕ) (piece : List ℕ) (found read : ℕ) : Type 0 where
+  pub first : NoneSays ls above Kept
+  pub is : IsNumber piece found
+  pub read_is : read ≡ number_of v
+  pub other : found ≡ read → ⊥
+
+-- the piece begins a line of the heading
+abbrev pub IsHeadingName : List ℕ → Type 0
+IsHeadingName piece = (piece ≡ codes "onefile") ⊎ ((piece ≡ codes "callers") ⊎ (piece ≡ codes "blocks"))
+
+-- the piece begins no line of an image
+pub record IsNoName (piece : List ℕ) : Type 0 where
+  pub heading : IsHeadingName piece → ⊥
+  pub cell : piece ≡ codes "cell" → ⊥
+  pub «end» : piece ≡ codes "end" → ⊥
+
+-- the cell that the piece names is none of the image's
+pub record IsNoCell (v : Version) (ls : List (List ℕ)) (above : ℕ) (piece : List ℕ) (cell cells : ℕ) : Type 0 where
+  pub named : IsNumber piece cell
+  pub callers : ℕ
+  pub blocks : ℕ
+  pub said_callers : SaidAbove ls above Callers callers
+  pub said_blocks : SaidAbove ls above Blocks blocks
+  pub count : cells ≡ durable_cells callers (cells_of (instrs_of v) callers blocks)
+  pub past : cells ≤ cell
+
+-- the line of this number, which stands above, has the cell that the piece names or a later one
+pub record IsOutOfOrder (ls : List (List ℕ)) (above : ℕ) (piece : List ℕ) (number : ℕ) : Type 0 where
+  pub cell : ℕ
+  pub named : IsNumber piece cell
+  pub at : ℕ
+  pub other : ℕ
+  pub says : Says ls above (Cell cell) at other
+  pub is : number ≡ at + 1
+
+-- the line is that of a cell whose word is 0
+abbrev pub IsEmptyCell : List ℕ → Type 0
+IsEmptyCell line = (cell : ℕ) × (words line ≡ line_words (CellLine cell 0 0))
+
+-- what a reason says of a line of a text, of the lines above it, and of the piece at fault
+abbrev pub IsTrueOf : Version → Reason → (ls : List (List ℕ)) (above : ℕ) (line piece : List ℕ) → Type 0
+IsTrueOf v (Flawed flaw) ls above line piece = HasFlaw flaw above piece
+IsTrueOf v (TitleExpected version) ls above line piece = IsNoTitle v ls above line version
+IsTrueOf v (OtherVersion found read) ls above line piece = IsOtherVersion v ls above piece found read
+IsTrueOf v CallersExpected ls above line piece = NoneSays ls above Callers × (piece ≡ codes "callers" → ⊥)
+IsTrueOf v BlocksExpected ls above line piece = NoneSays ls above Blocks × (piece ≡ codes "blocks" → ⊥)
+IsTrueOf v AfterEnd ls above line piece = (number : ℕ) × SaidAbove ls above End number
+IsTrueOf v UnknownLine ls above line piece = IsNoName piece
+IsTrueOf v (NoCell cell cells) ls above line piece = IsNoCell v ls above piece cell cells
+IsTrueOf v (OutOfOrder number) ls above line piece = IsOutOfOrder ls above piece number
+IsTrueOf v EmptyCell ls above line piece = IsEmptyCell line
+IsTrueOf v HeadingOver ls above line piece = IsHeadingName piece × ((number : ℕ) × SaidAbove ls above Blocks number)
+IsTrueOf v EndMissing ls above line piece = HasNoEnd ls above
+IsTrueOf v NotHere ls above line piece = Unit {0}
+
+-- a piece of a line, and a reason that is true of it
+pub record IsFinding (v : Version) (ls : List (List ℕ)) (above : ℕ) (line : List ℕ) (f : Finding) : Type 0 where
+  pub order : f.start ≤ f.end
+  pub within : f.end ≤ length line
+  pub is : IsTrueOf v f.reason ls above line (slice_range line f.start f.end)

@@ -1,0 +1,327 @@
+//! Why a line is the bad line of an image's text.
+
+ghost use Rattle.std.specs.Prelude.{◌≡◌, ◌≤◌, ◌-◌, ℕ, length, List, ◌∷◌, IfSome, false, codes};
+ghost use Rattle.std.specs.Bool.{MatchBool};
+ghost use Rattle.of_script.specs.Text.{words};
+ghost use Rattle.of_plan.specs.Lines.{lines};
+ghost use Rattle.of_plan.specs.Above.{NoneSays, line_at as the_line};
+ghost use Rattle.of_plan.specs.Flaws.{IsFlawed};
+ghost use Rattle.of_plan.specs.declared.above.Wanted.TheVariants.{Kept};
+ghost use Rattle.of_image.specs.declared.version.Version.{Version as TheVersion};
+ghost use Rattle.of_image.specs.Reasons.{IsFinding, IsHeadingName};
+ghost use Rattle.of_image.specs.Heading.{IsHeading};
+
+use crate::line::{Line, read_line};
+use crate::parsing::cells;
+use crate::reason::Reason;
+use crate::version::Version;
+use of_cell::MOST_CALLERS;
+use of_plan::above::{Wanted, find, line_at};
+use of_plan::pieces::{
+    FlawedPiece, hidden, no_count, no_numbers, past_numbers, word_from, word_too_many,
+};
+use of_script::text::{number, word};
+use of_store::MOST_BLOCKS;
+
+/// What the lines of the heading say.
+#[derive(Clone, Copy, Debug, PartialEq, Eq)]
+pub(crate) struct Heading {
+    version: Version,
+    callers: u32,
+    blocks: u32,
+}
+
+/// The piece of the line at fault, from `start` to before `end`, and why.
+#[derive(Clone, Copy, Debug, PartialEq, Eq)]
+pub(crate) struct Finding {
+    pub start: usize,
+    pub end: usize,
+    pub reason: Reason,
+}
+
+// The finding that a piece is wrong by itself.
+fn flawed(piece: FlawedPiece) -> Finding
+    ensures { (v : TheVersion) (ls : List (List ℕ)) (above : ℕ) (line : List ℕ) →
+        IsFlawed above line piece → IsFinding v ls above line result }
+{
+    Finding {
+        start: piece.start,
+        end: piece.end,
+        reason: Reason::Flawed { flaw: piece.flaw },
+    }
+}
+
+// Whether a line begins with the two words of a title.
+fn begins_title(line: &[u8]) -> bool
+    ensures { result ≡ false → (ws : List (List ℕ)) →
+        words line.now ≡ codes "onefile" ∷ codes "image" ∷ ws → ⊥ }
+{
+    let Some((name, rest)) = word(line) else {
+        return false;
+    };
+    if name != b"onefile".as_slice() {
+        return false;
+    }
+    match word(rest) {
+        Some((kind, _)) => kind == b"image".as_slice(),
+        None => false,
+    }
+}
+
+// A number that is another version's.
+fn other_version(
+    text: &[u8],
+    above: u64,
+    line: &[u8],
+    from: usize,
+    version: Version,
+) -> Option<Finding>
+    requires from { from ≤ length line.now }
+    requires first { NoneSays (lines text.now) above Kept }
+    ensures { IfSome result (IsFinding version (lines text.now) above line.now) }
+{
+    let (start, end) = word_from(line, from);
+    let found = number(&line[start..end], u32::MAX)?;
+    let read = version.number();
+    if found == read {
+        return None;
+    }
+    Some(Finding {
+        start,
+        end,
+        reason: Reason::OtherVersion { found, read },
+    })
+}
+
+// Why the first line is no title.
+fn in_title(text: &[u8], above: u64, line: &[u8], version: Version) -> Option<Finding>
+    requires { NoneSays (lines text.now) above Kept }
+    ensures { IfSome result (IsFinding version (lines text.now) above line.now) }
+{
+    let (start, end) = word_from(line, 0);
+    let (next, last) = word_from(line, end);
+    if !begins_title(line) {
+        let version = version.number();
+        let reason = Reason::TitleExpected { version };
+        if &line[start..end] == b"onefile".as_slice() {
+            return Some(Finding {
+                start: next,
+                end: last,
+                reason,
+            });
+        }
+        return Some(Finding { start, end, reason });
+    }
+    match no_numbers(line, last, u32::MAX, 0) {
+        Some(piece) => Some(flawed(piece)),
+        None => other_version(text, above, line, last, version),
+    }
+}
+
+// A cell that the image hasn't.
+fn no_cell(text: &[u8], above: u64, line: &[u8], from: usize, heading: Heading) -> Option<Finding>
+    requires from { from ≤ length line.now }
+    requires heading { IsHeading (lines text.now) above heading }
+    ensures { IfSome result (IsFinding heading.version (lines text.now) above line.now) }
+{
+    let (start, end) = word_from(line, from);
+    let cell = number(&line[start..end], u32::MAX)?;
+    let cells = cells(heading.version, heading.callers, heading.blocks);
+    if cell < cells {
+        return None;
+    }
+    Some(Finding {
+        start,
+        end,
+        reason: Reason::NoCell { cell, cells },
+    })
+}
+
+// A cell that a line above has, or comes before.
+fn out_of_order(text: &[u8], above: u64, line: &[u8], from: usize) -> Option<Finding>
+    requires { from ≤ length line.now }
+    ensures { IfSome result (λ f. (v : TheVersion) →
+        IsFinding v (lines text.now) above line.now f) }
+{
+    let (start, end) = word_from(line, from);
+    let least = number(&line[start..end], u32::MAX)?;
+    let (at, _) = find(text, above, Wanted::Cell { least })?;
+    Some(Finding {
+        start,
+        end,
+        reason: Reason::OutOfOrder { line: at + 1 },
+    })
+}
+
+// A cell whose word is 0.
+fn empty_cell(line: &[u8], from: usize) -> Option<Finding>
+    requires { from ≤ length line.now }
+    ensures { IfSome result (λ f. (v : TheVersion) (ls : List (List ℕ)) (above : ℕ) →
+        IsFinding v ls above line.now f) }
+{
+    match read_line(line) {
+        Some(Some(Line::Cell { seq, payload, .. })) => {
+            if seq != 0 || payload != 0 {
+                return None;
+            }
+        }
+        _ => return None,
+    }
+    let (_, after) = word_from(line, from);
+    let (start, middle) = word_from(line, after);
+    let (_, end) = word_from(line, middle);
+    Some(Finding {
+        start,
+        end,
+        reason: Reason::EmptyCell,
+    })
+}
+
+// Why the line of a cell is none.
+fn in_cell(text: &[u8], above: u64, line: &[u8], from: usize, heading: Heading) -> Option<Finding>
+    requires from { from ≤ length line.now }
+    requires heading { IsHeading (lines text.now) above heading }
+    ensures { IfSome result (IsFinding heading.version (lines text.now) above line.now) }
+{
+    let after = match past_numbers(line, from, u32::MAX, u32::MAX) {
+        Ok(after) => after,
+        Err(piece) => return Some(flawed(piece)),
+    };
+    if let Some(piece) = no_numbers(line, after, u32::MAX, 0) {
+        return Some(flawed(piece));
+    }
+    if let Some(finding) = no_cell(text, above, line, from, heading) {
+        return Some(finding);
+    }
+    match out_of_order(text, above, line, from) {
+        Some(finding) => Some(finding),
+        None => empty_cell(line, from),
+    }
+}
+
+// Whether a word begins a line of the heading.
+fn is_heading_name(name: &[u8]) -> bool
+    ensures { MatchBool result (IsHeadingName name.now) (IsHeadingName name.now → ⊥) }
+{
+    if name == b"onefile".as_slice() {
+        return true;
+    }
+    if name == b"callers".as_slice() {
+        return true;
+    }
+    name == b"blocks".as_slice()
+}
+
+// Why a line below the heading is none.
+fn below_heading(text: &[u8], above: u64, line: &[u8], heading: Heading) -> Option<Finding>
+    requires { IsHeading (lines text.now) above heading }
+    ensures { IfSome result (IsFinding heading.version (lines text.now) above line.now) }
+{
+    let (start, end) = word_from(line, 0);
+    let name = &line[start..end];
+    if name == b"cell".as_slice() {
+        return in_cell(text, above, line, end, heading);
+    }
+    if name == b"end".as_slice() {
+        return Some(flawed(word_too_many(line, end)?));
+    }
+    if is_heading_name(name) {
+        return Some(Finding {
+            start,
+            end,
+            reason: Reason::HeadingOver,
+        });
+    }
+    Some(Finding {
+        start,
+        end,
+        reason: Reason::UnknownLine,
+    })
+}
+
+// Why a line of the heading is none, or one below it.
+fn in_heading(text: &[u8], above: u64, line: &[u8], version: Version) -> Option<Finding>
+    ensures { IfSome result (IsFinding version (lines text.now) above line.now) }
+{
+    if find(text, above, Wanted::Kept).is_none() {
+        return in_title(text, above, line, version);
+    }
+    let (start, end) = word_from(line, 0);
+    let name = &line[start..end];
+    let Some((_, callers)) = find(text, above, Wanted::Callers) else {
+        if name == b"callers".as_slice() {
+            return Some(flawed(no_count(line, end, MOST_CALLERS)?));
+        }
+        return Some(Finding {
+            start,
+            end,
+            reason: Reason::CallersExpected,
+        });
+    };
+    let Some((_, blocks)) = find(text, above, Wanted::Blocks) else {
+        if name == b"blocks".as_slice() {
+            return Some(flawed(no_numbers(line, end, MOST_BLOCKS, 0)?));
+        }
+        return Some(Finding {
+            start,
+            end,
+            reason: Reason::BlocksExpected,
+        });
+    };
+    if callers > MOST_CALLERS || blocks > MOST_BLOCKS {
+        return None;
+    }
+    let heading = Heading {
+        version,
+        callers,
+        blocks,
+    };
+    below_heading(text, above, line, heading)
+}
+
+// Why a line is none that an image can have there.
+fn in_line(text: &[u8], above: u64, line: &[u8], version: Version) -> Option<Finding>
+    ensures { IfSome result (IsFinding version (lines text.now) above line.now) }
+{
+    if let Some(piece) = hidden(line, above) {
+        return Some(flawed(piece));
+    }
+    let (start, end) = word_from(line, 0);
+    if find(text, above, Wanted::End).is_some() {
+        return Some(Finding {
+            start,
+            end,
+            reason: Reason::AfterEnd,
+        });
+    }
+    let name = &line[start..end];
+    if name.is_empty() || name[0] == b'#' {
+        return None;
+    }
+    in_heading(text, above, line, version)
+}
+
+/// Why this line of the text is its bad line.
+pub(crate) fn explain(version: Version, text: &[u8], number: u64) -> Finding
+    requires { 1 ≤ number }
+    ensures { let above = number - 1 in
+        IsFinding version (lines text.now) above (the_line (lines text.now) above) result }
+{
+    let above = number - 1;
+    let (line, last) = line_at(text, above);
+    if let Some(finding) = in_line(text, above, line, version) {
+        return finding;
+    }
+    if last && find(text, number, Wanted::End).is_none() {
+        return Finding {
+            start: line.len(),
+            end: line.len(),
+            reason: Reason::EndMissing,
+        };
+    }
+    Finding {
+        start: 0,
+        end: line.len(),
+        reason: Reason::NotHere,
+    }
+}

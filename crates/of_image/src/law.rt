@@ -1,0 +1,53 @@
+//! What makes a recovered row lawful, and why one is not.
+
+use std::alloc::AllocError;
+use std::fmt;
+
+/// A law of recovered rows that a cell breaks. What each of them says of its cell is defined in
+/// `specs/RowFault.antt`.
+#[derive(Clone, Copy, Debug, PartialEq, Eq)]
+pub enum Law {
+    /// A caller owns the current transaction.
+    Owner,
+    /// No data cell is newer than the current transaction.
+    Newest,
+    /// The data cells stand for a store.
+    Store,
+}
+
+impl fmt::Display for Law {
+    ghost use Rattle.std.specs.Prelude.{Some};
+    ghost use Rattle.of_image.specs.Messages.{law_text};
+
+    ghost output = { λ l. Some (law_text l) };
+
+    fn fmt<W: fmt::Write>(&self, f: &mut fmt::Formatter<W>) -> fmt::Result {
+        match self {
+            Law::Owner => f.write_str("its payload is no caller's number"),
+            Law::Newest => f.write_str("its sequence is above that of cell 0"),
+            Law::Store => f.write_str(
+                "the data cells stand for no store, and this is the first at fault",
+            ),
+        }
+    }
+}
+
+/// Why no store is found in a recovered row.
+#[derive(Clone, Copy, Debug, PartialEq, Eq)]
+pub(crate) enum RowErr {
+    /// Memory ran out.
+    Memory,
+    /// This is the first cell at fault, and the law that it breaks.
+    Unlawful { cell: u32, law: Law },
+}
+
+impl From<AllocError> for RowErr {
+    ghost use Rattle.std.specs.Prelude.{◌≡◌};
+    ghost use Rattle.of_image.specs.declared.law.RowErr.TheVariants.{Memory};
+
+    ghost from_gives = { λ _ e. e ≡ Memory };
+
+    fn from(_e: AllocError) -> RowErr {
+        RowErr::Memory
+    }
+}

@@ -1,0 +1,76 @@
+//! Why a line is the bad line of an image's text, in words.
+
+use of_plan::Flaw;
+use std::fmt;
+
+/// Why a line is the bad line of an image's text. What each of them says of its line is defined in
+/// `specs/Reasons.antt`.
+#[derive(Clone, Copy, Debug, PartialEq, Eq)]
+pub enum Reason {
+    /// A piece of the line is wrong by itself.
+    Flawed { flaw: Flaw },
+    /// The title of this version should come here.
+    TitleExpected { version: u32 },
+    /// The title is that of another version than is read.
+    OtherVersion { found: u32, read: u32 },
+    /// The number of callers should come here.
+    CallersExpected,
+    /// The number of blocks should come here.
+    BlocksExpected,
+    /// The image has ended before.
+    AfterEnd,
+    /// No line begins with this word.
+    UnknownLine,
+    /// The image has fewer cells.
+    NoCell { cell: u32, cells: u32 },
+    /// That line above has this cell or one after it.
+    OutOfOrder { line: u64 },
+    /// The cell's sequence and payload are both 0.
+    EmptyCell,
+    /// A line of the heading, after the heading.
+    HeadingOver,
+    /// The text is at its end, and no line of it is `end`.
+    EndMissing,
+    /// None of the others.
+    NotHere,
+}
+
+impl fmt::Display for Reason {
+    ghost use Rattle.std.specs.Prelude.{Some};
+    ghost use Rattle.of_image.specs.ReasonText.{reason_text};
+
+    ghost output = { λ r. Some (reason_text r) };
+
+    fn fmt<W: fmt::Write>(&self, f: &mut fmt::Formatter<W>) -> fmt::Result {
+        match self {
+            Reason::Flawed { flaw } => write!(f, "{flaw}"),
+            Reason::TitleExpected { version } => {
+                write!(f, "the first line of an image is `onefile image {version}`")
+            }
+            Reason::OtherVersion { found, read } => {
+                write!(f, "an image of version {found}; version {read} is read")
+            }
+            Reason::CallersExpected => {
+                f.write_str("the second line of an image is `callers N`, N from 1 to 16")
+            }
+            Reason::BlocksExpected => {
+                f.write_str("the third line of an image is `blocks B`, B from 0 to 512")
+            }
+            Reason::AfterEnd => f.write_str("a line after `end`"),
+            Reason::UnknownLine => f.write_str("no line of an image begins with this word"),
+            Reason::NoCell { cells, .. } => {
+                write!(f, "this image has {cells} cells, from cell 0 on")
+            }
+            Reason::OutOfOrder { line } => {
+                write!(
+                    f,
+                    "cells ascend, and line {line} has this one or a later one"
+                )
+            }
+            Reason::EmptyCell => f.write_str("a cell of sequence 0 and payload 0 has no line"),
+            Reason::HeadingOver => f.write_str("this line comes once, in the heading of an image"),
+            Reason::EndMissing => f.write_str("the text ends before `end`"),
+            Reason::NotHere => f.write_str("no image goes on with this line"),
+        }
+    }
+}

@@ -1,0 +1,97 @@
+//! What instructions have changed in a store, so that it can be taken back without memory.
+
+ghost use Rattle.std.specs.Prelude.{◌≡◌, ◌≤◌, length};
+ghost use Rattle.of_script.specs.Language.{InRange};
+ghost use Rattle.of_script.specs.declared.instr.TheConstants.{MOST_INSTRS};
+ghost use Rattle.of_store.specs.Changes.{change_of, without, undone, IsChange, AreThere};
+
+use crate::store::Store;
+use of_script::{Instr, MOST_INSTRS};
+
+/// What takes an instruction back.
+#[derive(Clone, Copy)]
+pub(crate) enum Change {
+    /// Nothing has to be taken back, or it is never asked for.
+    Nothing,
+    /// A register had this number.
+    Register { reg: u8, before: u32 },
+    /// A key had this number, or was absent.
+    Key { key: u32, before: Option<u32> },
+    /// A queue has one item more at its back.
+    Pushed { queue: u8 },
+}
+
+/// The changes of a script so far, in order: the first `count` of the list.
+#[derive(Drop)]
+pub(crate) struct Changes {
+    pub(crate) list: [Change; MOST_INSTRS],
+    pub(crate) count: u32,
+}
+
+impl Changes {
+    /// No change.
+    pub(crate) fn new() -> Changes
+        ensures count { result.count ≡ 0 }
+        ensures room { length result.list ≡ MOST_INSTRS }
+    {
+        Changes {
+            list: [Change::Nothing; MOST_INSTRS],
+            count: 0,
+        }
+    }
+}
+
+impl Store {
+    /// What will take an instruction back once it has run.
+    pub(crate) fn change_of(&self, instr: Instr) -> Change
+        requires { InRange instr }
+        ensures { result ≡ change_of self.now instr }
+    {
+        match instr {
+            Instr::Store { reg, value: _ }
+            | Instr::Add { reg, value: _ }
+            | Instr::Sub { reg, value: _ } => Change::Register {
+                reg,
+                before: self.register(u32::from(reg)),
+            },
+            Instr::Put { key, value: _ } => Change::Key {
+                key,
+                before: self.key(key),
+            },
+            Instr::Push { queue, value: _ } => Change::Pushed { queue },
+            _ => Change::Nothing,
+        }
+    }
+
+    /// Takes a change back.
+    fn undo(&mut self, change: Change)
+        requires { IsChange change self.old }
+        ensures { self.new ≡ without change self.old }
+    {
+        match change {
+            Change::Nothing => {}
+            Change::Register { reg, before } => self.set_register(reg, before),
+            Change::Key { key, before: None } => {
+                let _ = self.del(key);
+            }
+            Change::Key {
+                key,
+                before: Some(value),
+            } => self.set_key(key, value),
+            Change::Pushed { queue } => self.unpush(queue),
+        }
+    }
+
+    /// Takes all changes back, the last one first.
+    pub(crate) fn take_back(&mut self, changes: &Changes)
+        requires few { changes.now.count ≤ MOST_INSTRS }
+        requires there { AreThere changes.now.list changes.now.count self.old }
+        ensures { self.new ≡ undone changes.now.list changes.now.count self.old }
+    {
+        let mut left = changes.count;
+        while left > 0 {
+            left -= 1;
+            self.undo(changes.list[left as usize]);
+        }
+    }
+}
