@@ -41,11 +41,22 @@ class Event:
         self.line, self.at, self.step = line, int(parts["at"]), parts["step"]
         self.word, self.found, self.left = parts["word"], parts["found"], parts["left"]
         self.end, self.parts = parts["end"], (parts["parts"] or "").split("; ")
-        self.owner = None
         caller = parts["caller"] or parts["idle"]
         self.caller = int(caller) if caller else None
         self.script = int(parts["script"]) if parts["script"] else None
         self.kind = KIND_OF[self.step] if self.step else "nothing" if caller else "evict"
+        self.owner = self.find_owner()
+
+    def find_owner(self):
+        """Whose word the step is on; of a step that applies a log, whose log it is."""
+        helped = self.part("helps")
+        if self.kind == "apply":
+            self.kind = "assist" if helped else "apply"
+            return int(helped or self.caller)
+        if not self.word or self.step in ("load cell", "try cell"):
+            return None
+        named = re.search(r"(\d+)\)?$", self.word)
+        return int(named[1]) if named else None
 
     def part(self, name):
         """What follows this word in a part, or None; an empty text if nothing follows."""
@@ -86,21 +97,4 @@ def read_trace(text, count):
     for at in range(0, count, MOST_LINES):
         printed = answer(text, "trace", str(at), str(min(MOST_LINES, count - at)))
         events += map(Event, printed.splitlines())
-    name_owners(events)
     return events
-
-
-def name_owners(events):
-    """Finds whose log each step applies: a helper's is the log that it has copied just before."""
-    copied = {}
-    for event in events:
-        if event.kind == "apply":
-            event.owner = copied.get(event.caller, event.caller)
-            event.kind = "apply" if event.owner == event.caller else "assist"
-        elif event.word and event.step not in ("load cell", "try cell"):
-            named = re.search(r"(\d+)\)?$", event.word)
-            event.owner = int(named[1]) if named else None
-        if event.step == "copy log":
-            copied[event.caller] = event.owner
-        elif event.kind not in ("help", "assist"):
-            copied.pop(event.caller, None)

@@ -12,3 +12,4 @@ pub mod RecoveredText
 pub mod RenumberedImage
 pub mod MovedRow
 pub mod RunImage
+pub mod PrintedAgain

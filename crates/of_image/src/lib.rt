@@ -1,6 +1,7 @@
 //! Images and their texts: what is left of a table when all but its durable words is lost.
 #![tactic(auto)]
 
+mod again;
 mod error;
 mod explaining;
 mod from_text;
@@ -17,6 +18,7 @@ mod renumbering;
 mod restoring;
 mod version;
 
+pub use again::image_again;
 pub use error::ImageErr;
 pub use from_text::image_parse;
 pub use law::Law;

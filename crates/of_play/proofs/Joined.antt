@@ -16,13 +16,6 @@ five_joined (Ok x) o a b c d e s t u v w p q r n h =
         ∙ ap (λ (xs : List ℕ). (xs ++ c) ++ d) (append_assoc o a b) ∙ ap (λ (xs : List ℕ). xs ++ d) (append_assoc o (a ++ b) c) ∙ append_assoc o ((a ++ b) ++ c) d
 five_joined (Err x) o a b c d e s t u v w p q r n h = tt
 
--- three pieces, of which the last has its own contract
-pub three_written : {A E : Type 0} (r : Result A E) (o a b c s t u : List ℕ) → s ≡ o ++ a → t ≡ s ++ b → OnOk r (u ≡ t ++ c) → OnOk r (u ≡ o ++ ((a ++ b) ++ c))
-three_written (Ok x) o a b c s t u p q n =
-    n ∙ ap (λ (xs : List ℕ). xs ++ c) q ∙ ap (λ (xs : List ℕ). (xs ++ b) ++ c) p
-    ∙ ap (λ (xs : List ℕ). xs ++ c) (append_assoc o a b) ∙ append_assoc o (a ++ b) c
-three_written (Err x) o a b c s t u p q n = tt
-
 -- four pieces, of which the last has its own contract
 pub four_written : {A E : Type 0} (r : Result A E) (o a b c d s t u v : List ℕ) → s ≡ o ++ a → t ≡ s ++ b → u ≡ t ++ c → OnOk r (v ≡ u ++ d) → OnOk r (v ≡ o ++ (((a ++ b) ++ c) ++ d))
 four_written (Ok x) o a b c d s t u v p q r n =

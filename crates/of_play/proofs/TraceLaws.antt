@@ -55,7 +55,7 @@ pub ends_as_play : (p : Plan) → world_after p (opening_for p) (moves_for p) �
 ends_as_play p = world_is p (opening_for p) (moves_for p)
 
 line_is : (p : Plan) (j k : ℕ) (w : World) (ms : List Event) (e : Event) → k < length ms
-    → get_or (lines_from p j w ms) k [] ≡ line_at p (j + k) (world_after p w (take k ms)) (get_or ms k e)
+    → get_or (lines_from (line_at p) p j w ms) k [] ≡ line_at p (j + k) (world_after p w (take k ms)) (get_or ms k e)
 line_is p j k w [] e l = absurd (omega (arith, l))
 line_is p j zero w (m ∷ ms) e l = ap (λ (n : ℕ). line_at p n w m) (omega arith)
 line_is p j (suc k) w (m ∷ ms) e l =
@@ -64,7 +64,7 @@ line_is p j (suc k) w (m ∷ ms) e l =
     ∙ ap (λ (n : ℕ). line_at p n (world_after p v (take k ms)) (get_or ms k e)) (omega arith)
 
 pub lines_are : (p : Plan) (k : ℕ) (e : Event) → k < length (moves_for p)
-    → get_or (lines_from p 0 (opening_for p) (moves_for p)) k [] ≡ line_at p k (world_after p (opening_for p) (take k (moves_for p))) (get_or (moves_for p) k e)
+    → get_or (lines_from (line_at p) p 0 (opening_for p) (moves_for p)) k [] ≡ line_at p k (world_after p (opening_for p) (take k (moves_for p))) (get_or (moves_for p) k e)
 lines_are p k e l =
     line_is p 0 k (opening_for p) (moves_for p) e l
     ∙ ap (λ (n : ℕ). line_at p n (world_after p (opening_for p) (take k (moves_for p))) (get_or (moves_for p) k e)) (omega arith)

@@ -8,35 +8,35 @@ use Rattle.of_core.specs.World.{World}
 use Rattle.of_core.specs.Events.{Event, run}
 use Rattle.of_caller.specs.Tables.{setup_for}
 use Rattle.of_play.specs.Play.{with_begin, events_from}
-use Rattle.of_play.specs.Trace.{line_at, lines_from}
+use Rattle.of_play.specs.Trace.{lines_from}
 use Rattle.of_play.specs.Tracing.{shown}
 use Rattle.of_play.proofs.PlaysEvents.{run_append}
 
-pub lines_length : (p : Plan) (k : ℕ) (w : World) (ms : List Event) → length (lines_from p k w ms) ≡ length ms
-lines_length p k w [] = refl
-lines_length p k w (m ∷ ms) = ap suc (lines_length p (k + 1) (run (setup_for p) w (with_begin p w m)) ms)
+pub lines_length : (l : ℕ → World → Event → List ℕ) (p : Plan) (k : ℕ) (w : World) (ms : List Event) → length (lines_from l p k w ms) ≡ length ms
+lines_length l p k w [] = refl
+lines_length l p k w (m ∷ ms) = ap suc (lines_length l p (k + 1) (run (setup_for p) w (with_begin p w m)) ms)
 
 -- one event more
-pub lines_more : (p : Plan) (k : ℕ) (w : World) (ms : List Event) (e : Event)
-    → lines_from p k w (ms ++ e ∷ []) ≡ lines_from p k w ms ++ line_at p (k + length ms) (run (setup_for p) w (events_from p w ms)) e ∷ []
-lines_more p k w [] e = ap (λ (n : ℕ). line_at p n w e ∷ []) (omega arith)
-lines_more p k w (m ∷ ms) e =
+pub lines_more : (l : ℕ → World → Event → List ℕ) (p : Plan) (k : ℕ) (w : World) (ms : List Event) (e : Event)
+    → lines_from l p k w (ms ++ e ∷ []) ≡ lines_from l p k w ms ++ l (k + length ms) (run (setup_for p) w (events_from p w ms)) e ∷ []
+lines_more l p k w [] e = ap (λ (n : ℕ). l n w e ∷ []) (omega arith)
+lines_more l p k w (m ∷ ms) e =
     let v = run (setup_for p) w (with_begin p w m) in
     let number : k + 1 + length ms ≡ k + suc (length ms) = omega arith in
     let world = sym (run_append (setup_for p) w (with_begin p w m) (events_from p v ms)) in
-    ap (λ (ls : List (List ℕ)). line_at p k w m ∷ ls) (lines_more p (k + 1) v ms e
-    ∙ (λ i. lines_from p (k + 1) v ms ++ line_at p (number i) (world i) e ∷ []))
+    ap (λ (ls : List (List ℕ)). l k w m ∷ ls) (lines_more l p (k + 1) v ms e
+    ∙ (λ i. lines_from l p (k + 1) v ms ++ l (number i) (world i) e ∷ []))
 
 -- the lines of more events begin with those before
-pub lines_begin : (p : Plan) (k : ℕ) (w : World) (ms ns : List Event)
-    → lines_from p k w (ms ++ ns) ≡ lines_from p k w ms ++ lines_from p (k + length ms) (run (setup_for p) w (events_from p w ms)) ns
-lines_begin p k w [] ns = ap (λ (n : ℕ). lines_from p n w ns) (omega arith)
-lines_begin p k w (m ∷ ms) ns =
+pub lines_begin : (l : ℕ → World → Event → List ℕ) (p : Plan) (k : ℕ) (w : World) (ms ns : List Event)
+    → lines_from l p k w (ms ++ ns) ≡ lines_from l p k w ms ++ lines_from l p (k + length ms) (run (setup_for p) w (events_from p w ms)) ns
+lines_begin l p k w [] ns = ap (λ (n : ℕ). lines_from l p n w ns) (omega arith)
+lines_begin l p k w (m ∷ ms) ns =
     let v = run (setup_for p) w (with_begin p w m) in
     let number : k + 1 + length ms ≡ k + suc (length ms) = omega arith in
     let world = sym (run_append (setup_for p) w (with_begin p w m) (events_from p v ms)) in
-    ap (λ (ls : List (List ℕ)). line_at p k w m ∷ ls) (lines_begin p (k + 1) v ms ns
-    ∙ (λ i. lines_from p (k + 1) v ms ++ lines_from p (number i) (world i) ns))
+    ap (λ (ls : List (List ℕ)). l k w m ∷ ls) (lines_begin l p (k + 1) v ms ns
+    ∙ (λ i. lines_from l p (k + 1) v ms ++ lines_from l p (number i) (world i) ns))
 
 -- no line is shown before the first,
 pub shown_none : (f c : ℕ) (xs ys : List (List ℕ)) → length xs ≤ f → length ys ≤ f → shown f c xs ≡ shown f c ys

@@ -1,19 +1,23 @@
 -- What the code reads before and after an event, and writes as its line.
 use Rattle.std.proofs.Common.{◌≡◌, ℕ, ◌+◌, ◌-◌, ◌<◌, ◌==◌, List, [], ◌∷◌, ◌++◌, length, get_or, refl, sym, ◌∙◌, ap, subst, Option, Some, None, Bool, true, false}
 use Rattle.std.specs.Prelude.{IfSome}
+use Rattle.std.specs.List.{flat_map}
+use Rattle.std.proofs.Math.Seq.{drop-append_seam}
 use Rattle.std.proofs.lemmas.List.{append_assoc, append-nil, get_or-set_same}
 use Rattle.of_eval.specs.Scripts.{scripts_meaning}
 use Rattle.of_plan.specs.Plan.{Plan, scripts_of, data_cells}
 use Rattle.of_core.specs.declared.place.Place.{Place}
-use Rattle.of_core.specs.declared.place.Place.TheVariants.{Idle}
+use Rattle.of_core.specs.declared.place.Place.TheVariants.{Idle, ExchangeCurrent}
 use Rattle.of_core.specs.declared.place.Op.{Op}
 use Rattle.of_core.specs.declared.place.Outcome.{Outcome}
-use Rattle.of_core.specs.Table.{Setup, durable_at}
-use Rattle.of_core.specs.Machine.{Data, is_idle, no_machine, opened, first_place}
+use Rattle.of_cell.specs.Words.{word, seq}
+use Rattle.of_core.specs.Table.{Setup, durable_at, last}
+use Rattle.of_core.specs.Machine.{Call, Data, is_idle, no_machine, opened, first_place}
 use Rattle.of_core.specs.Seen.{ended}
+use Rattle.of_core.specs.Helping.{helped}
 use Rattle.of_core.specs.Turn.{told, turn_of}
-use Rattle.of_core.specs.Steps.{want, word_of}
-use Rattle.of_core.specs.World.{World}
+use Rattle.of_core.specs.Steps.{want, want_at, word_of, finds}
+use Rattle.of_core.specs.World.{World, added, one_batch, commits_at}
 use Rattle.of_core.specs.Moment.{after, table, machine_of}
 use Rattle.of_core.specs.Events.{Event, Begins, Turns, Raises, machine, happens}
 use Rattle.of_caller.specs.Tables.{setup_for, opening_for, operation_of}
@@ -23,7 +27,8 @@ use Rattle.of_caller.specs.Runs.{RepliesAreHeld}
 use Rattle.of_play.specs.Play.{begins_call, next_call}
 use Rattle.of_play.specs.Playing.{StandsAfter, GoesOn, BeginsNext, IsReplied}
 use Rattle.of_play.specs.TraceLine.{step_line, rest_line, evict_line}
-use Rattle.of_play.specs.Trace.{turn_line, ready, line_at}
+use Rattle.of_play.specs.Trace.{turn_line, ready, line_at, committed_at, batch_line}
+use Rattle.of_play.specs.Committing.{commits_by_step, commit_line}
 use Rattle.of_play.specs.declared.playing.Playing.{Playing}
 use Rattle.of_play.specs.declared.trace_line.Step.{Step}
 use Rattle.of_play.proofs.PlaysMoments.{IsPlayable}
@@ -48,19 +53,44 @@ read c T m d ws vs = record {
   index = m.made - 1;
   place = m.place;
   op = want T m;
+  helps = helped m;
   change = record { word = word_of (want T m); found = get_or ws (word_of (want T m)) 0; left = get_or vs (word_of (want T m)) 0 };
   outcome = ended d;
 }
 
 -- it has been read part by part
-pub read_is : (c : ℕ) (T : Setup) (m d : Data) (ws vs : List ℕ) (index : ℕ) (place : Place) (op : Op) (word found left : ℕ) (outcome : Option Outcome)
-    → index ≡ m.made - 1 → place ≡ m.place → op ≡ want T m → word ≡ word_of op → found ≡ get_or ws word 0 → left ≡ get_or vs word 0 → outcome ≡ ended d
-    → ◌≡◌ {A = Step} (record { caller = c; index = index; place = place; op = op; change = record { word = word; found = found; left = left }; outcome = outcome }) (read c T m d ws vs)
-read_is c T m d ws vs index place op word found left outcome is_index is_place is_op is_word is_found is_left is_outcome =
+pub read_is : (c : ℕ) (T : Setup) (m d : Data) (ws vs : List ℕ) (index : ℕ) (place : Place) (op : Op) (helps : Option ℕ) (word found left : ℕ) (outcome : Option Outcome)
+    → index ≡ m.made - 1 → place ≡ m.place → op ≡ want T m → helps ≡ helped m → word ≡ word_of op → found ≡ get_or ws word 0 → left ≡ get_or vs word 0 → outcome ≡ ended d
+    → ◌≡◌ {A = Step} (record { caller = c; index = index; place = place; op = op; helps = helps; change = record { word = word; found = found; left = left }; outcome = outcome }) (read c T m d ws vs)
+read_is c T m d ws vs index place op helps word found left outcome is_index is_place is_op is_helps is_word is_found is_left is_outcome =
     let w : word ≡ word_of (want T m) = is_word ∙ ap word_of is_op in
     let f : found ≡ get_or ws (word_of (want T m)) 0 = is_found ∙ ap (λ (x : ℕ). get_or ws x 0) w in
     let l : left ≡ get_or vs (word_of (want T m)) 0 = is_left ∙ ap (λ (x : ℕ). get_or vs x 0) w in
-    λ i. record { caller = c; index = is_index i; place = is_place i; op = is_op i; change = record { word = w i; found = f i; left = l i }; outcome = is_outcome i }
+    λ i. record { caller = c; index = is_index i; place = is_place i; op = is_op i; helps = is_helps i; change = record { word = w i; found = f i; left = l i }; outcome = is_outcome i }
+
+-- ---- what a step commits
+
+-- an idle machine's turn commits nothing
+added_idle : (S : Setup) (ws : List ℕ) (m : Data) (n : ℕ) → m.place ≡ Idle → added S ws m n ≡ []
+unfolding added
+added_idle S ws m n e = ap (commits_at S ws m n) e
+
+one_line : (S : Setup) (ws : List ℕ) (m : Data) (k c s : ℕ) (b : Bool) → commit_line b k c s m.calls ≡ flat_map (λ x. batch_line k c s x.calls) (one_batch S ws m b)
+one_line S ws m k c s true = sym (append-nil (batch_line k c s m.calls))
+one_line S ws m k c s false = refl
+
+-- the line of a step is that of what it commits
+commits_from : (S : Setup) (ws : List ℕ) (m : Data) (k c : ℕ) (q : Place)
+    → commit_line (commits_by_step q (want_at S m q) (get_or ws (word_of (want_at S m q)) 0)) k c (seq (get_or ws (word_of (want_at S m q)) 0) + 1) m.calls
+    ≡ flat_map (λ x. batch_line k c (last ws + 1) x.calls) (commits_at S ws m (get_or ws (word_of (want_at S m q)) 0) q)
+commits_from S ws m k c ExchangeCurrent = one_line S ws m k c (last ws + 1) (get_or ws 0 0 == word m.seq m.owner)
+commits_from S ws m k c q = refl
+
+step_commits : (S : Setup) (ws : List ℕ) (m : Data) (k c : ℕ)
+    → commit_line (commits_by_step m.place (want S m) (finds S ws m)) k c (seq (finds S ws m) + 1) m.calls
+    ≡ flat_map (λ x. batch_line k c (last ws + 1) x.calls) (added S ws m (finds S ws m))
+unfolding want added
+step_commits S ws m k c = commits_from S ws m k c m.place
 
 -- how a call has ended that a turn has ended
 told_holds : (o : Option Outcome) → IsReplied (told o) → IfSome o HoldsReply
@@ -159,6 +189,29 @@ module _ (p : Plan) (plan : IsPlayable p) where
           let now : machine (happens S w (Turns c)) c ≡ machine_of u.bank c = ap (λ (v : World). machine (happens S v (Turns c)) c) is_ready ∙ sym machine_after in
           let all : r ≡ told (ended (machine_of u.bank c)) = is ∙ (λ i. turn_of (before i) (now i)) ∙ turn_open (machine_of t.bank c).place (machine_of u.bank c) (open_is (machine_of t.bank c).place busy) in
           told_holds (ended (machine_of u.bank c)) (subst IsReplied all said)
+
+      -- what the turn has committed
+      committed : committed_at p k (moment_after p es) (Turns c) ≡ flat_map (λ b. batch_line k c (last at.words + 1) b.calls) (added S at.words (machine at c) (finds S at.words (machine at c)))
+      committed = ap (flat_map (λ b. batch_line k c (last at.words + 1) b.calls)) (drop-append_seam at.batches (added S at.words (machine at c) (finds S at.words (machine at c))))
+
+      -- nothing, where no call is open,
+      pub commits_none : (machine_of t.bank c).place ≡ Idle → committed_at p k (moment_after p es) (Turns c) ≡ []
+      commits_none idle =
+          let e : (machine at c).place ≡ Idle = ap (λ (d : Data). d.place) (sym machine_at) ∙ idle in
+          committed ∙ ap (flat_map (λ b. batch_line k c (last at.words + 1) b.calls)) (added_idle S at.words (machine at c) (finds S at.words (machine at c)) e)
+
+      -- and else what is read off the bank
+      pub commits_are : (place : Place) (op : Op) (found : ℕ) (calls : List Call) → place ≡ (machine_of t.bank c).place → op ≡ want (table scripts_meaning t.bank) (machine_of t.bank c) → found ≡ get_or t.bank.words (word_of op) 0 → calls ≡ (machine_of t.bank c).calls
+          → commit_line (commits_by_step place op found) k c (seq found + 1) calls ≡ committed_at p k (moment_after p es) (Turns c)
+      commits_are place op found calls is_place is_op is_found is_calls =
+          let m = machine at c in
+          let q : place ≡ m.place = is_place ∙ ap (λ (d : Data). d.place) machine_at in
+          let o : op ≡ want S m = is_op ∙ (λ i. want ((begins es st).table i) (machine_at i)) in
+          let f : found ≡ finds S at.words m = is_found ∙ (λ i. get_or (words_at i) (word_of (o i)) 0) in
+          let cs : calls ≡ m.calls = is_calls ∙ ap (λ (d : Data). d.calls) machine_at in
+          (λ i. commit_line (commits_by_step (q i) (o i) (f i)) k c (seq (f i) + 1) (cs i))
+          ∙ step_commits S at.words m k c
+          ∙ sym committed
 
   -- an eviction is made
   module _ (a : ℕ) (s u : Playing) (goes : GoesOn p (Raises a ∷ []) s u) where

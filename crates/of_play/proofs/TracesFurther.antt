@@ -10,8 +10,9 @@ use Rattle.of_core.specs.Events.{Event, Turns, run}
 use Rattle.of_caller.specs.Tables.{setup_for, opening_for}
 use Rattle.of_play.specs.Play.{moves_in, moves_for, events_from}
 use Rattle.of_play.specs.Playing.{StandsAfter, IsPlaying, GoesOn}
-use Rattle.of_play.specs.Trace.{line_at, lines_from, trace_text}
-use Rattle.of_play.specs.Tracing.{WritesLine, shown, TracesAfter, IsTracing, TracesOn}
+use Rattle.of_play.specs.Trace.{lines_from, trace_text, commits_text}
+use Rattle.of_play.specs.Tracing.{line_as, WritesLine, shown, TracesAfter, IsTracing, TracesOn}
+use Rattle.of_play.specs.declared.playing.tracing.Form.TheVariants.{Events, Commits}
 use Rattle.of_play.specs.declared.playing.tracing.Tracing.{Tracing}
 use Rattle.of_play.proofs.PlaysEvents.{events_append}
 use Rattle.of_play.proofs.TraceLines.{lines_length, lines_more, shown_none, shown_more, shown_over, shown_nothing}
@@ -23,13 +24,14 @@ runs_on p t r h = record { plan = r.plan; events = events_from p (opening_for p)
 -- moves after moves, and none
 pub traces_further : (p : Plan) (ms ns : List Event) (r s t : Tracing) → TracesOn p ms r s → TracesOn p ns s t → TracesOn p (ms ++ ns) r t
 traces_further p ms ns r s t f g = record {
+  form = g.form ∙ f.form;
   first = g.first ∙ f.first;
   end = g.end ∙ f.end;
   stands = λ os st. subst (λ (es : List Event). TracesAfter p es t) (append_assoc os ms ns) (g.stands (os ++ ms) (f.stands os st));
 }
 
 pub traces_nowhere : (p : Plan) (t : Tracing) → TracesOn p [] t t
-traces_nowhere p t = record { first = refl; end = refl; stands = λ ms st. subst (λ (es : List Event). TracesAfter p es t) (sym (append-nil ms)) st }
+traces_nowhere p t = record { form = refl; first = refl; end = refl; stands = λ ms st. subst (λ (es : List Event). TracesAfter p es t) (sym (append-nil ms)) st }
 
 pub traces_still : (p : Plan) (ms : List Event) (s t : Tracing) → IsTracing p s → TracesOn p ms s t → IsTracing p t
 traces_still p ms s t r f = record { plan = r.plan; first = omega (arith, r.first, f.first, f.end); moves = r.moves ++ ms; stands = f.stands r.moves r.stands }
@@ -49,6 +51,7 @@ module _ (p : Plan) (e : Event) (t : Tracing) (r : IsTracing p t) where
   -- where all is shown nothing is done
   pub trace_stays : t.number ≡ t.end → TracesOn p (e ∷ []) t t
   trace_stays h = record {
+    form = refl;
     first = refl;
     end = refl;
     stands = λ ms st.
@@ -59,15 +62,16 @@ module _ (p : Plan) (e : Event) (t : Tracing) (r : IsTracing p t) where
           number = λ l. absurd (omega (arith, l, h));
           stands = λ l. absurd (omega (arith, l, h));
           over = λ l. omega (arith, all, more);
-          text = st.text ∙ sym (ap (shown t.first (t.end - t.first)) (lines_more p 0 (opening_for p) ms e)
-              ∙ shown_over t.first (t.end - t.first) (lines_from p 0 (opening_for p) ms) _ (omega (arith, all, r.first, lines_length p 0 (opening_for p) ms)));
+          text = st.text ∙ sym (ap (shown t.first (t.end - t.first)) (lines_more (line_as t.form p) p 0 (opening_for p) ms e)
+              ∙ shown_over t.first (t.end - t.first) (lines_from (line_as t.form p) p 0 (opening_for p) ms) _ (omega (arith, all, r.first, lines_length (line_as t.form p) p 0 (opening_for p) ms)));
         };
   }
 
   -- an event is made, and a text is left that is that of one event more
-  module _ (h : t.number < t.end) (u : Tracing) (first : u.first ≡ t.first) (end : u.end ≡ t.end) (next : u.number ≡ t.number + 1) (goes : GoesOn p (e ∷ []) t.playing u.playing) where
-    goes_on : ((ms : List Event) → TracesAfter p ms t → string_bytes u.text ≡ shown t.first (t.end - t.first) (lines_from p 0 (opening_for p) (ms ++ e ∷ []))) → TracesOn p (e ∷ []) t u
+  module _ (h : t.number < t.end) (u : Tracing) (form : u.form ≡ t.form) (first : u.first ≡ t.first) (end : u.end ≡ t.end) (next : u.number ≡ t.number + 1) (goes : GoesOn p (e ∷ []) t.playing u.playing) where
+    goes_on : ((ms : List Event) → TracesAfter p ms t → string_bytes u.text ≡ shown t.first (t.end - t.first) (lines_from (line_as t.form p) p 0 (opening_for p) (ms ++ e ∷ []))) → TracesOn p (e ∷ []) t u
     goes_on text = record {
+      form = form;
       first = first;
       end = end;
       stands = λ ms st.
@@ -78,7 +82,7 @@ module _ (p : Plan) (e : Event) (t : Tracing) (r : IsTracing p t) where
             number = λ l. omega (arith, next, number, more);
             stands = λ l. subst (λ (es : List Event). StandsAfter p es u.playing) (sym (events_append p (opening_for p) ms (e ∷ []))) (goes (events_from p (opening_for p) ms) (st.stands h));
             over = λ l. omega (arith, l, next, number, more);
-            text = text ms st ∙ sym (λ i. shown (first i) (end i - first i) (lines_from p 0 (opening_for p) (ms ++ e ∷ [])));
+            text = text ms st ∙ sym (λ i. shown (first i) (end i - first i) (lines_from (line_as (form i) p) p 0 (opening_for p) (ms ++ e ∷ [])));
           };
     }
 
@@ -87,20 +91,20 @@ module _ (p : Plan) (e : Event) (t : Tracing) (r : IsTracing p t) where
     trace_passes early same = goes_on (λ ms st.
         let more : length (ms ++ e ∷ []) ≡ length ms + 1 = length-append ms (e ∷ []) in
         let number : t.number ≡ length ms = st.number h in
-        same ∙ st.text ∙ shown_none t.first (t.end - t.first) (lines_from p 0 (opening_for p) ms) (lines_from p 0 (opening_for p) (ms ++ e ∷ []))
-        (omega (arith, early, number, lines_length p 0 (opening_for p) ms)) (omega (arith, early, number, more, lines_length p 0 (opening_for p) (ms ++ e ∷ []))))
+        same ∙ st.text ∙ shown_none t.first (t.end - t.first) (lines_from (line_as t.form p) p 0 (opening_for p) ms) (lines_from (line_as t.form p) p 0 (opening_for p) (ms ++ e ∷ []))
+        (omega (arith, early, number, lines_length (line_as t.form p) p 0 (opening_for p) ms)) (omega (arith, early, number, more, lines_length (line_as t.form p) p 0 (opening_for p) (ms ++ e ∷ []))))
 
     -- and from there on
-    pub trace_shows : t.first ≤ t.number → WritesLine p t.number e t.playing (string_bytes t.text) (string_bytes u.text) → TracesOn p (e ∷ []) t u
+    pub trace_shows : t.first ≤ t.number → WritesLine t.form p t.number e t.playing (string_bytes t.text) (string_bytes u.text) → TracesOn p (e ∷ []) t u
     trace_shows late writes = goes_on (λ ms st.
         let number : t.number ≡ length ms = st.number h in
         let place : t.number ≡ 0 + length ms = omega (arith, number) in
-        let lines = lines_from p 0 (opening_for p) ms in
+        let lines = lines_from (line_as t.form p) p 0 (opening_for p) ms in
         let es = events_from p (opening_for p) ms in
         writes es (st.stands h)
-        ∙ (λ i. st.text i ++ line_at p (place i) (run (setup_for p) (opening_for p) es) e)
-        ∙ sym (ap (shown t.first (t.end - t.first)) (lines_more p 0 (opening_for p) ms e)
-        ∙ shown_more t.first (t.end - t.first) lines _ (omega (arith, late, number, lines_length p 0 (opening_for p) ms)) (omega (arith, h, r.first, number, lines_length p 0 (opening_for p) ms))))
+        ∙ (λ i. st.text i ++ line_as t.form p (place i) (run (setup_for p) (opening_for p) es) e)
+        ∙ sym (ap (shown t.first (t.end - t.first)) (lines_more (line_as t.form p) p 0 (opening_for p) ms e)
+        ∙ shown_more t.first (t.end - t.first) lines _ (omega (arith, late, number, lines_length (line_as t.form p) p 0 (opening_for p) ms)) (omega (arith, h, r.first, number, lines_length (line_as t.form p) p 0 (opening_for p) ms))))
 
 -- before anything has happened
 pub trace_begins : (p : Plan) (t : Tracing) → t.number ≡ 0 → StandsAfter p [] t.playing → string_bytes t.text ≡ [] → TracesAfter p [] t
@@ -127,7 +131,13 @@ pub trace_items_more : (p : Plan) (items : List Item) → items ≡ p.schedule �
 trace_items_more p items same k d s t l f st = subst (λ (ms : List Event). TracesAfter p ms t) (moves_more p items same k d l) (f.stands (flat_map moves_in (take k p.schedule)) st)
 
 -- what was written where the schedule has ended
-pub trace_ends : (p : Plan) (f c : ℕ) (t : Tracing) (ms : List Event) → ms ≡ moves_for p → t.first ≡ f → t.end ≡ f + c → TracesAfter p ms t → string_bytes t.text ≡ trace_text p f c
-trace_ends p f c t ms all first end st =
+pub trace_ends : (p : Plan) (f c : ℕ) (t : Tracing) (ms : List Event) → ms ≡ moves_for p → t.form ≡ Events → t.first ≡ f → t.end ≡ f + c → TracesAfter p ms t → string_bytes t.text ≡ trace_text p f c
+trace_ends p f c t ms all form first end st =
     let count : t.end - t.first ≡ c = omega (arith, first, end) in
-    st.text ∙ (λ i. shown (first i) (count i) (lines_from p 0 (opening_for p) (all i)))
+    st.text ∙ (λ i. shown (first i) (count i) (lines_from (line_as (form i) p) p 0 (opening_for p) (all i)))
+
+-- and so of commits
+pub commits_end : (p : Plan) (c : ℕ) (t : Tracing) (ms : List Event) → ms ≡ moves_for p → t.form ≡ Commits → t.first ≡ 0 → t.end ≡ c → TracesAfter p ms t → string_bytes t.text ≡ commits_text p c
+commits_end p c t ms all form first end st =
+    let count : t.end - t.first ≡ c = omega (arith, first, end) in
+    st.text ∙ (λ i. shown (first i) (count i) (lines_from (line_as (form i) p) p 0 (opening_for p) (all i)))

@@ -6,5 +6,6 @@ pub mod TraceText
 pub mod TraceParts
 pub mod TraceLine
 pub mod Trace
+pub mod Committing
 pub mod Tracing
 pub mod TraceLaws

@@ -1,11 +1,13 @@
--- The trace of a plan: a line for each event of its schedule, a turn or an eviction, of those that are asked for.
-use Rattle.std.specs.Prelude.{ℕ, ◌-◌, ◌+◌, List, [], ◌∷◌, Bool, true, false, get_or, take, drop, flat_map}
+-- The trace of a plan: a line for each event of its schedule, a turn or an eviction, of those that
+-- are asked for; and the lines of its commits.
+use Rattle.std.specs.Prelude.{ℕ, ◌-◌, ◌+◌, List, [], ◌∷◌, ◌++◌, Bool, true, false, length, get_or, take, drop, flat_map, codes, decimal}
 use Rattle.of_plan.specs.Plan.{Plan, data_cells}
-use Rattle.of_core.specs.Table.{durable_at}
-use Rattle.of_core.specs.Machine.{is_idle}
+use Rattle.of_core.specs.Table.{durable_at, last}
+use Rattle.of_core.specs.Machine.{Call, is_idle}
 use Rattle.of_core.specs.Seen.{ended}
+use Rattle.of_core.specs.Helping.{helped}
 use Rattle.of_core.specs.Steps.{want, word_of}
-use Rattle.of_core.specs.World.{World}
+use Rattle.of_core.specs.World.{World, Batch}
 use Rattle.of_core.specs.Events.{Event, Turns, Raises, machine, happens, run}
 use Rattle.of_caller.specs.Tables.{setup_for, opening_for}
 use Rattle.of_play.specs.declared.trace_text.Change.{Change}
@@ -24,6 +26,7 @@ step_of p i w v = record {
   index = (machine w i).made - 1;
   place = (machine w i).place;
   op = want (setup_for p) (machine w i);
+  helps = helped (machine w i);
   change = change_of (word_of (want (setup_for p) (machine w i))) w v;
   outcome = ended (machine v i);
 }
@@ -48,15 +51,47 @@ ready p w e = w
 abbrev pub line_at : Plan → (k : ℕ) → World → Event → List ℕ
 line_at p k w e = event_line p k (ready p w e) (happens (setup_for p) (ready p w e) e) e
 
--- the lines of events from number k on
-abbrev pub lines_from : Plan → (k : ℕ) → World → List Event → List (List ℕ)
-lines_from p k w [] = []
-lines_from p k w (e ∷ es) = line_at p k w e ∷ lines_from p (k + 1) (run (setup_for p) w (with_begin p w e)) es
+-- a line for each event, from number k on
+abbrev pub lines_from : (line : ℕ → World → Event → List ℕ) → Plan → (k : ℕ) → World → List Event → List (List ℕ)
+lines_from line p k w [] = []
+lines_from line p k w (e ∷ es) =
+    line k w e ∷ lines_from line p (k + 1) (run (setup_for p) w (with_begin p w e)) es
 
 -- of all events of a plan's schedule
 abbrev pub trace_lines : Plan → List (List ℕ)
-trace_lines p = lines_from p 0 (opening_for p) (moves_for p)
+trace_lines p = lines_from (line_at p) p 0 (opening_for p) (moves_for p)
 
 -- from event f on, of the next c of them
 abbrev pub trace_text : Plan → (f c : ℕ) → List ℕ
 trace_text p f c = flat_map (λ line. line) (take c (drop f (trace_lines p)))
+
+-- ---- commits
+
+-- a call of a batch: which script it is, and whose
+abbrev pub call_part : Call → List ℕ
+call_part c = codes ", script " ++ decimal (c.ticket - 1) ++ codes " of " ++ decimal c.caller
+
+-- event k, a turn of caller i, has committed these calls at the sequence s
+abbrev pub batch_line : (k i s : ℕ) → List Call → List ℕ
+batch_line k i s calls =
+    (decimal k ++ codes " " ++ decimal i ++ codes " commits " ++ decimal s)
+    ++ flat_map call_part calls ++ codes "\n"
+
+-- the batches that have come to the history from w to v
+abbrev pub added_by : (w v : World) → List Batch
+added_by w v = drop (length w.batches) v.batches
+
+-- the line of each batch that event k has committed, which leads from w to v: its sequence is the one
+-- after the last
+abbrev pub committed_by : (k : ℕ) → (w v : World) → Event → List ℕ
+committed_by k w v (Turns i) = flat_map (λ b. batch_line k i (last w.words + 1) b.calls) (added_by w v)
+committed_by k w v e = []
+
+-- what event k commits, where w is what the events before it leave
+abbrev pub committed_at : Plan → (k : ℕ) → World → Event → List ℕ
+committed_at p k w e = committed_by k (ready p w e) (happens (setup_for p) (ready p w e) e) e
+
+-- the lines of all commits among the first c events of a plan's schedule
+abbrev pub commits_text : Plan → (c : ℕ) → List ℕ
+commits_text p c =
+    flat_map (λ line. line) (take c (lines_from (committed_at p) p 0 (opening_for p) (moves_for p)))

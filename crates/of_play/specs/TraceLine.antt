@@ -6,7 +6,7 @@ use Rattle.of_play.specs.declared.trace_line.Step.{Step}
 use Rattle.of_play.specs.declared.trace_text.Change.{Change}
 use Rattle.of_play.specs.Names.{word_at}
 use Rattle.of_play.specs.TraceText.{step_text, change_text}
-use Rattle.of_play.specs.TraceParts.{did_part, word_part, reply_part}
+use Rattle.of_play.specs.TraceParts.{helper_part, did_part, word_part, reply_part}
 
 -- how the call has ended
 abbrev pub end_text : Option Outcome → List ℕ
@@ -25,10 +25,10 @@ head_text k s =
 abbrev pub means_part : (n m : ℕ) → Change → List ℕ
 means_part n m c = word_part n (word_at n m c.word) c.left
 
--- what became of the step, what it left, and the reply of a call that has ended
+-- whom the step helps, what became of it, what it left, and the reply of a call that has ended
 abbrev pub step_parts : (n m : ℕ) → Step → List ℕ
 step_parts n m s =
-    did_part s.op s.change.found ++ means_part n m s.change
+    helper_part s.helps ++ did_part s.op s.change.found ++ means_part n m s.change
     ++ reply_part s.outcome
 
 -- The line of event k. It is a turn of a caller that has made a step,

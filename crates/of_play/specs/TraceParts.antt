@@ -23,7 +23,12 @@ use Rattle.of_play.specs.declared.names.Word.TheVariants.{Now, Durable, Script, 
 use Rattle.of_play.specs.Names.{holding_at}
 use Rattle.of_play.specs.TraceText.{holding_text, pair_text}
 
--- ---- what the step did
+-- ---- whom the step helps, and what it did
+
+-- the owner of the log that a helper copies or applies
+abbrev pub helper_part : Option ℕ → List ℕ
+helper_part None = []
+helper_part (Some i) = codes "; helps " ++ decimal i
 
 -- an exchange has won, or another word than the expected one was there
 abbrev pub exchange_part : (won : Bool) → (old new : ℕ) → List ℕ

@@ -1,6 +1,7 @@
 //! What a plan's schedule does, step by step: the report of what it leaves, and a trace, a line for each event.
 #![tactic(auto)]
 
+mod commit_line;
 pub mod laws;
 mod names;
 mod played;
@@ -10,4 +11,4 @@ mod trace_parts;
 mod trace_text;
 
 pub use played::play_report;
-pub use playing::{play, trace};
+pub use playing::{ALL_EVENTS, commits, play, trace};

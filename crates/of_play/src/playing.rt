@@ -14,7 +14,7 @@ use std::alloc::{AllocError, Global};
 
 mod tracing;
 
-pub use tracing::trace;
+pub use tracing::{ALL_EVENTS, commits, trace};
 
 /// How a caller stands between its turns.
 #[derive(Clone, Copy)]

@@ -6,7 +6,7 @@ ghost use Rattle.of_caller.specs.Ends.{HoldsReply};
 ghost use Rattle.of_play.specs.TraceLine.{end_text, head_text, means_part, step_parts, step_line, rest_line, evict_line};
 
 use crate::names::Word;
-use crate::trace_parts::{put_did, put_meaning, put_reply_part};
+use crate::trace_parts::{put_did, put_help, put_meaning, put_reply_part};
 use crate::trace_text::{Change, put_change, step_name};
 use of_core::{Op, Outcome, Place};
 use of_plan::Plan;
@@ -23,6 +23,8 @@ pub struct Step {
     pub place: Place,
     /// What it did.
     pub op: Op,
+    /// Whose log it copied or applied, where it helped.
+    pub helps: Option<u32>,
     pub change: Change,
     /// How the call has ended, where it was its last step.
     pub outcome: Option<Outcome>,
@@ -73,6 +75,7 @@ fn put_parts(out: &mut String, plan: &Plan, step: &Step) -> Result<(), AllocErro
     requires { IfSome step.now.outcome HoldsReply }
     ensures { OnOk result (string_bytes out.new ≡ string_bytes out.old ++ step_parts plan.now.callers (data_cells plan.now.callers plan.now.blocks) step.now) }
 {
+    put_help(out, step.helps)?;
     put_did(out, step.op, step.change.found)?;
     put_left(out, plan, &step.change)?;
     put_reply_part(out, step.outcome)

@@ -7,7 +7,7 @@ ghost use Rattle.of_script.specs.declared.instr.Reply.{Reply};
 ghost use Rattle.of_script.specs.Reading.{instr_at};
 ghost use Rattle.of_eval.specs.Shapes.{IsHeldBy};
 ghost use Rattle.of_caller.specs.Ends.{HoldsReply};
-ghost use Rattle.of_play.specs.TraceParts.{exchange_part, raise_part, did_part, instr_part, pointer_part, shape_part, field_part, holding_part, request_part, log_part, cell_part, word_part, held_part, reply_part};
+ghost use Rattle.of_play.specs.TraceParts.{helper_part, exchange_part, raise_part, did_part, instr_part, pointer_part, shape_part, field_part, holding_part, request_part, log_part, cell_part, word_part, held_part, reply_part};
 
 use crate::names::{Cell, Holding, Word};
 use crate::trace_text::{put_holding, put_pair};
@@ -20,6 +20,16 @@ use of_report::put_reply;
 use of_script::{Script, from_word, put_script};
 use std::alloc::AllocError;
 use std::fmt::Write;
+
+/// Writes whom a step helps.
+pub fn put_help(out: &mut String, helps: Option<u32>) -> Result<(), AllocError>
+    ensures { OnOk result (string_bytes out.new ≡ string_bytes out.old ++ helper_part helps) }
+{
+    match helps {
+        None => Ok(()),
+        Some(owner) => write!(out, "; helps {owner}"),
+    }
+}
 
 // Writes that an exchange was lost, and what it would have done.
 fn put_lost(out: &mut String, old: u64, new: u64) -> Result<(), AllocError>

@@ -13,7 +13,7 @@ use Rattle.of_plan.specs.Allowance.{KeepsAllowance}
 use Rattle.of_plan.specs.Generated.{generated}
 use Rattle.of_row.specs.declared.member.Pass.{Pass}
 use Rattle.of_tool.specs.declared.command.Command.{Command}
-use Rattle.of_tool.specs.declared.command.Command.TheVariants.{Serial, Play, Trace, Run, Load, Check, Image, Recover, Renumber, Migrate, Continue, Help, Version}
+use Rattle.of_tool.specs.declared.command.Command.TheVariants.{Serial, Play, Trace, Commits, Run, Load, Check, CheckLife, Part, Image, Recover, Renumber, Migrate, Continue, Help, Version}
 use Rattle.of_tool.specs.declared.status.TheConstants.{DONE}
 use Rattle.of_tool.specs.declared.top.Answer.{Answer}
 use Rattle.of_tool.specs.Commands.{words_of, IsLoad, IsPlain, Are, IsNoCommand}
@@ -55,6 +55,14 @@ module _ {A : Type 0} (left : A → Option (Option ℕ)) (brakes : List A) (word
     none = λ h. refl;
   }
 
+  -- there is a record only with status 0
+  pub none_unless_done : (ran : Option (Ended × Pass)) → Carries left brakes words before after (answer, ran) → (answer.status ≡ DONE → ⊥) → ran ≡ None
+  none_unless_done None h failed = refl
+  none_unless_done (Some r) h failed = h.none (λ team. elim team [
+    | inl run ↦ failed (h.run run).0
+    | inr others ↦ elim others [ inl continued ↦ failed (h.continued continued).0 | inr load ↦ failed (h.load load.0 load.1 load.2).0 ]
+  ])
+
   module _ (ran : Option (Ended × Pass)) where
     -- what an answer to this load carries
     abbrev LoadOf : Command → Type 0
@@ -63,7 +71,10 @@ module _ {A : Type 0} (left : A → Option (Option ℕ)) (brakes : List A) (word
     LoadOf Play = Unit {0}
     LoadOf Run = Unit {0}
     LoadOf (Trace f c) = Unit {0}
+    LoadOf Commits = Unit {0}
     LoadOf Check = Unit {0}
+    LoadOf CheckLife = Unit {0}
+    LoadOf (Part n) = Unit {0}
     LoadOf Image = Unit {0}
     LoadOf Recover = Unit {0}
     LoadOf Renumber = Unit {0}

@@ -19,13 +19,13 @@ use Rattle.of_image.specs.declared.version.Version.{Version as Edition}
 use Rattle.of_image.specs.declared.version.Version.TheVariants.{One, Two}
 use Rattle.of_image.specs.Parsed.{ReadsImage, UnlawfulHaveNone}
 use Rattle.of_tool.specs.declared.command.Command.{Command}
-use Rattle.of_tool.specs.declared.command.Command.TheVariants.{Serial, Play, Trace, Run, Load, Check, Image, Recover, Renumber, Migrate, Continue, Help, Version}
+use Rattle.of_tool.specs.declared.command.Command.TheVariants.{Serial, Play, Trace, Commits, Run, Load, Check, CheckLife, Part, Image, Recover, Renumber, Migrate, Continue, Help, Version}
 use Rattle.of_tool.specs.declared.command.TheConstants.{HELP, VERSION}
 use Rattle.of_tool.specs.declared.status.TheConstants.{DONE, ILLEGAL, DOES_NOT_FIT}
-use Rattle.of_tool.specs.Commands.{words_of, IsInRange, IsTrace, IsLoad, SpellsUpTo, Are, IsNoCommand}
+use Rattle.of_tool.specs.Commands.{words_of, IsInRange, IsTrace, IsLoad, IsPartNumber, SpellsUpTo, Are, IsNoCommand}
 use Rattle.of_play.specs.Trace.{trace_text}
-use Rattle.of_tool.specs.Verdicts.{Verdict, ShowsHelp, ShowsVersion, Replayed, Played, Traced, Ran, Loaded, FoundLegal, FoundIllegal, Imaged, Recovered, Renumbered, Migrated, Continued, DoesNotFit, NoCommand, ReadFault, TooLong, BadPlan, BadImage, UnlawfulImage}
-use Rattle.of_tool.specs.Verdicts.{HasCause, status_of, text_of, SourceState, SinkState, IsAnswer, IsWritten, IsReplayed, PlaysPlan, TracesPlan, AskForPlan, AskForImage, limit_of, AsksUpTo, AskForInput, ReadsNoPlan, ReadsNoFirst, ReadsNoSecond, ReadsMisfit, ChecksReport, IsPlanInput, IsImageInput, ReadsBehind, IsValidInput}
+use Rattle.of_tool.specs.Verdicts.{Verdict, ShowsHelp, ShowsVersion, Replayed, Played, Traced, Committed, Ran, Loaded, FoundLegal, FoundIllegal, FoundLegalLife, FoundIllegalLife, CutsPart, Imaged, Recovered, Renumbered, Migrated, Continued, DoesNotFit, LifeDoesNotFit, NoCommand, ReadFault, TooLong, BadPlan, BadImage, UnlawfulImage}
+use Rattle.of_tool.specs.Verdicts.{HasCause, status_of, text_of, SourceState, SinkState, IsAnswer, IsWritten, IsReplayed, PlaysPlan, TracesPlan, TellsCommits, AskForPlan, AskForImage, limit_of, AsksUpTo, AskForInput, ReadsNoPlan, ReadsNoFirst, ReadsNoSecond, ReadsMisfit, ChecksReport, IsPlanInput, IsImageInput, ReadsBehind, IsValidInput, ReadsFour, ReadsNoLifePlan, ReadsPart, ChecksLife, WritesPart}
 use Rattle.of_tool.specs.Images.{ImagesPlan, RecoversImage, RenumbersImage, MigratesImage}
 
 -- ---- numbers
@@ -39,8 +39,11 @@ number_is most w (Some n) small e = let r = number_reads most w n small (sym e) 
 pub no_load : (a b : List ℕ) → ((n m : ℕ) → IsLoad n m → a ≡ decimal n → b ≡ decimal m → ⊥) → IsNoCommand (codes "load" ∷ a ∷ b ∷ [])
 no_load a b h Serial is = absurd (let e = ap length is.1 in omega (arith, e))
 no_load a b h Play is = absurd (let e = ap length is.1 in omega (arith, e))
+no_load a b h Commits is = absurd (let e = ap length is.1 in omega (arith, e))
 no_load a b h Run is = absurd (let e = ap length is.1 in omega (arith, e))
 no_load a b h Check is = absurd (let e = ap length is.1 in omega (arith, e))
+no_load a b h CheckLife is = absurd (let e = ap length is.1 in omega (arith, e))
+no_load a b h (Part n) is = absurd (let e = ap length is.1 in omega (arith, e))
 no_load a b h Image is = absurd (let e = ap length is.1 in omega (arith, e))
 no_load a b h Recover is = absurd (let e = ap length is.1 in omega (arith, e))
 no_load a b h Renumber is = absurd (let e = ap length is.1 in omega (arith, e))
@@ -62,8 +65,11 @@ out_of_range x y few each out = no_load (decimal x) (decimal y) (λ n m is first
 pub no_trace : (a b : List ℕ) → ((n m : ℕ) → IsTrace n m → a ≡ decimal n → b ≡ decimal m → ⊥) → IsNoCommand (codes "trace" ∷ a ∷ b ∷ [])
 no_trace a b h Serial is = absurd (let e = ap length is.1 in omega (arith, e))
 no_trace a b h Play is = absurd (let e = ap length is.1 in omega (arith, e))
+no_trace a b h Commits is = absurd (let e = ap length is.1 in omega (arith, e))
 no_trace a b h Run is = absurd (let e = ap length is.1 in omega (arith, e))
 no_trace a b h Check is = absurd (let e = ap length is.1 in omega (arith, e))
+no_trace a b h CheckLife is = absurd (let e = ap length is.1 in omega (arith, e))
+no_trace a b h (Part n) is = absurd (let e = ap length is.1 in omega (arith, e))
 no_trace a b h Image is = absurd (let e = ap length is.1 in omega (arith, e))
 no_trace a b h Recover is = absurd (let e = ap length is.1 in omega (arith, e))
 no_trace a b h Renumber is = absurd (let e = ap length is.1 in omega (arith, e))
@@ -80,13 +86,39 @@ no_events a b y none spelled = no_trace a b (λ n m is first second.
     let two : y ≡ m = decimal_injective y m (omega (arith, none)) (omega (arith, is.few)) (sym spelled ∙ second) in
     absurd (omega (arith, two, none, is.some)))
 
+pub no_part : (a : List ℕ) → ((n : ℕ) → IsPartNumber n → a ≡ decimal n → ⊥) → IsNoCommand (codes "part" ∷ a ∷ [])
+no_part a h Serial is = absurd (let e = ap length is.1 in omega (arith, e))
+no_part a h Play is = absurd (let e = ap length is.1 in omega (arith, e))
+no_part a h Commits is = absurd (let e = ap length is.1 in omega (arith, e))
+no_part a h Run is = absurd (let e = ap length is.1 in omega (arith, e))
+no_part a h Check is = absurd (let e = ap length is.1 in omega (arith, e))
+no_part a h CheckLife is = absurd (let e = ap length is.1 in omega (arith, e))
+no_part a h Image is = absurd (let e = ap length is.1 in omega (arith, e))
+no_part a h Recover is = absurd (let e = ap length is.1 in omega (arith, e))
+no_part a h Renumber is = absurd (let e = ap length is.1 in omega (arith, e))
+no_part a h Migrate is = absurd (let e = ap length is.1 in omega (arith, e))
+no_part a h Continue is = absurd (let e = ap length is.1 in omega (arith, e))
+no_part a h Help is = absurd (let e = ap length is.1 in omega (arith, e))
+no_part a h Version is = absurd (let e = ap length is.1 in omega (arith, e))
+no_part a h (Trace n m) is = absurd (let e = ap length is.1 in omega (arith, e))
+no_part a h (Load n m) is = absurd (let e = ap length is.1 in omega (arith, e))
+no_part a h (Part n) is = h n is.0 (ap (λ (ws : List (List ℕ)). get_or ws 1 []) is.1)
+
+-- no part has number 0
+pub no_number : (a : List ℕ) (x : ℕ) → x ≡ 0 → a ≡ decimal x → IsNoCommand (codes "part" ∷ a ∷ [])
+no_number a x none spelled = no_part a (λ n is first.
+    let one : x ≡ n = decimal_injective x n (omega (arith, none)) (omega (arith, is.few)) (sym spelled ∙ first) in
+    absurd (omega (arith, one, none, is.some)))
+
 -- the command of a word
 abbrev named_by : List ℕ → Option Command
 named_by w =
     if bytes_eq w (codes "serial") then Some Serial
     else if bytes_eq w (codes "play") then Some Play
+    else if bytes_eq w (codes "commits") then Some Commits
     else if bytes_eq w (codes "run") then Some Run
     else if bytes_eq w (codes "check") then Some Check
+    else if bytes_eq w (codes "check-life") then Some CheckLife
     else if bytes_eq w (codes "image") then Some Image
     else if bytes_eq w (codes "recover") then Some Recover
     else if bytes_eq w (codes "renumber") then Some Renumber
@@ -100,14 +132,16 @@ named_by w =
 abbrev command_of : List (List ℕ) → Option Command
 command_of [] = None
 command_of (w ∷ []) = named_by w
-command_of (w ∷ v ∷ []) = None
+command_of (w ∷ v ∷ []) = Some (Part (digits_value 10 v))
 command_of (w ∷ v ∷ u ∷ ws) = if bytes_eq w (codes "load") then Some (Load (digits_value 10 v) (digits_value 10 u)) else Some (Trace (digits_value 10 v) (digits_value 10 u))
 
 command_again : (c : Command) → IsInRange c → command_of (words_of c) ≡ Some c
 command_again Serial range = refl
 command_again Play range = refl
+command_again Commits range = refl
 command_again Run range = refl
 command_again Check range = refl
+command_again CheckLife range = refl
 command_again Image range = refl
 command_again Recover range = refl
 command_again Renumber range = refl
@@ -115,6 +149,9 @@ command_again Migrate range = refl
 command_again Continue range = refl
 command_again Help range = refl
 command_again Version range = refl
+command_again (Part number) range =
+    let one : digits_value 10 (decimal number) ≡ number = (decimal_is_IsNumeral number (omega (arith, range.few))).1 in
+    cc
 command_again (Trace first count) range =
     let one : digits_value 10 (decimal first) ≡ first = (decimal_is_IsNumeral first (omega (arith, range.begins))).1 in
     let two : digits_value 10 (decimal count) ≡ count = (decimal_is_IsNumeral count (omega (arith, range.few))).1 in
@@ -153,7 +190,8 @@ plan_asks words (inl h) = (Serial, (tt, h), refl)
 plan_asks words (inr (inl h)) = (Play, (tt, h), refl)
 plan_asks words (inr (inr (inl h))) = (Run, (tt, h), refl)
 plan_asks words (inr (inr (inr (inl h)))) = (Image, (tt, h), refl)
-plan_asks words (inr (inr (inr (inr h)))) = (Trace h.0 h.1, h.2, refl)
+plan_asks words (inr (inr (inr (inr (inl h))))) = (Commits, (tt, h), refl)
+plan_asks words (inr (inr (inr (inr (inr h))))) = (Trace h.0 h.1, h.2, refl)
 
 pub image_asks : (edition : Edition) (words : List (List ℕ)) → AskForImage edition words → AsksUpTo words MOST_IMAGE
 image_asks One words h = (Migrate, (tt, h), refl)
@@ -161,15 +199,17 @@ image_asks Two words (inl h) = (Recover, (tt, h), refl)
 image_asks Two words (inr h) = (Renumber, (tt, h), refl)
 
 bad_asks : {before after : SourceState} (words : List (List ℕ)) (line : ℕ)
-    → (AskForPlan words × ReadsNoPlan before after line) ⊎ (((words ≡ words_of Check) × ReadsNoFirst before after line) ⊎ ((words ≡ words_of Continue) × ReadsNoSecond before after line)) → AskForInput words
+    → (AskForPlan words × ReadsNoPlan before after line) ⊎ (((words ≡ words_of Check) × ReadsNoFirst before after line) ⊎ (((words ≡ words_of Continue) × ReadsNoSecond before after line) ⊎ ((words ≡ words_of CheckLife) × ReadsNoLifePlan before after line))) → AskForInput words
 bad_asks words line (inl h) = (MOST_INPUT, plan_asks words h.0)
 bad_asks words line (inr (inl h)) = (MOST_WITH_REPORT, (Check, (tt, h.0), refl))
-bad_asks words line (inr (inr h)) = (MOST_WITH_REPORT, (Continue, (tt, h.0), refl))
+bad_asks words line (inr (inr (inl h))) = (MOST_WITH_REPORT, (Continue, (tt, h.0), refl))
+bad_asks words line (inr (inr (inr h))) = (MOST_WITH_REPORT, (CheckLife, (tt, h.0), refl))
 
 -- a command that reads an image, alone or with a plan behind it
-no_image_asks : {P : Edition → Type 0} {Q : Type 0} (words : List (List ℕ)) → ((edition : Edition) × AskForImage edition words × P edition) ⊎ ((words ≡ words_of Continue) × Q) → AskForInput words
+no_image_asks : {P : Edition → Type 0} {Q R : Type 0} (words : List (List ℕ)) → ((edition : Edition) × AskForImage edition words × P edition) ⊎ (((words ≡ words_of Continue) × Q) ⊎ ((words ≡ words_of CheckLife) × R)) → AskForInput words
 no_image_asks words (inl h) = (MOST_IMAGE, image_asks h.0 words h.1)
-no_image_asks words (inr h) = (MOST_WITH_REPORT, (Continue, (tt, h.0), refl))
+no_image_asks words (inr (inl h)) = (MOST_WITH_REPORT, (Continue, (tt, h.0), refl))
+no_image_asks words (inr (inr h)) = (MOST_WITH_REPORT, (CheckLife, (tt, h.0), refl))
 
 -- ---- whose a verdict is
 
@@ -180,10 +220,15 @@ owner_of ShowsVersion = Some Version
 owner_of (Replayed plan) = Some Serial
 owner_of (Played plan report) = Some Play
 owner_of (Traced plan first count) = Some (Trace first count)
+owner_of (Committed plan) = Some Commits
 owner_of (Ran plan report) = Some Run
 owner_of (Loaded callers scripts report) = Some (Load callers scripts)
 owner_of FoundLegal = Some Check
 owner_of FoundIllegal = Some Check
+owner_of FoundLegalLife = Some CheckLife
+owner_of FoundIllegalLife = Some CheckLife
+owner_of LifeDoesNotFit = Some CheckLife
+owner_of (CutsPart number part) = Some (Part number)
 owner_of (Imaged plan text) = Some Image
 owner_of (Recovered image) = Some Recover
 owner_of (Renumbered image text) = Some Renumber
@@ -208,10 +253,15 @@ belongs words before after ShowsVersion c is h = inl (ap Some (same_command word
 belongs words before after (Replayed plan) c is h = inl (ap Some (same_command words Serial c (tt, h.0) is))
 belongs words before after (Played plan report) c is h = inl (ap Some (same_command words Play c (tt, h.0) is))
 belongs words before after (Traced plan first count) c is h = inl (ap Some (same_command words (Trace first count) c h.0 is))
+belongs words before after (Committed plan) c is h = inl (ap Some (same_command words Commits c (tt, h.0) is))
 belongs words before after (Ran plan report) c is h = inl (ap Some (same_command words Run c (tt, h.0) is))
 belongs words before after (Loaded callers scripts report) c is h = inl (ap Some (same_command words (Load callers scripts) c h.0 is))
 belongs words before after FoundLegal c is h = inl (ap Some (same_command words Check c (tt, h.0) is))
 belongs words before after FoundIllegal c is h = inl (ap Some (same_command words Check c (tt, h.0) is))
+belongs words before after FoundLegalLife c is h = inl (ap Some (same_command words CheckLife c (tt, h.0) is))
+belongs words before after FoundIllegalLife c is h = inl (ap Some (same_command words CheckLife c (tt, h.0) is))
+belongs words before after LifeDoesNotFit c is h = inl (ap Some (same_command words CheckLife c (tt, h.0) is))
+belongs words before after (CutsPart number part) c is h = inl (ap Some (same_command words (Part number) c h.0 is))
 belongs words before after (Imaged plan text) c is h = inl (ap Some (same_command words Image c (tt, h.0) is))
 belongs words before after (Recovered image) c is h = inl (ap Some (same_command words Recover c (tt, h.0) is))
 belongs words before after (Renumbered image text) c is h = inl (ap Some (same_command words Renumber c (tt, h.0) is))
@@ -297,6 +347,14 @@ pub trace_answer : (words : List (List ℕ)) (before after : SourceState) (f c :
     → TracesPlan f c before after old new
 trace_answer words before after f c old new status text is done a w = wrote (Trace f c) is.0 (TracesPlan f c) (traces f c) words before after old new status text is.1 done a w
 
+commits : (words : List (List ℕ)) (before after : SourceState) (old new : SinkState) (v : Verdict) → owner_of v ≡ Some Commits → HasCause words before after v → status_of v ≡ DONE → IsWritten old new (text_of v) → TellsCommits before after old new
+commits words before after old new (Committed plan) own h done w = record { plan = plan; read = h.1; written = w }
+commits words before after old new v own h done w = absurd cc
+
+pub commits_answer : (words : List (List ℕ)) (before after : SourceState) (old new : SinkState) (status : ℕ) (text : List ℕ) → words ≡ words_of Commits → status ≡ DONE → IsAnswer words before after status text → IsWritten old new text
+    → TellsCommits before after old new
+commits_answer = wrote Commits tt TellsCommits commits
+
 images : (words : List (List ℕ)) (before after : SourceState) (old new : SinkState) (v : Verdict) → owner_of v ≡ Some Image → HasCause words before after v → status_of v ≡ DONE → IsWritten old new (text_of v) → ImagesPlan before after old new
 images words before after old new (Imaged plan text) own h done w = record { plan = plan; read = h.1; text = text; played = h.2; written = w }
 images words before after old new v own h done w = absurd cc
@@ -329,6 +387,17 @@ pub migrate_answer : (words : List (List ℕ)) (before after : SourceState) (old
     → MigratesImage before after old new
 migrate_answer = wrote Migrate tt MigratesImage migrates
 
+cuts : (n : ℕ) (words : List (List ℕ)) (before after : SourceState) (old new : SinkState) (v : Verdict) → owner_of v ≡ Some (Part n) → HasCause words before after v → status_of v ≡ DONE → IsWritten old new (text_of v) → WritesPart n before after old new
+cuts n words before after old new (CutsPart m part) own h done w =
+    let same : m ≡ n = cc in
+    let P : ℕ → Type 0 = λ k. ReadsPart k before after part in
+    record { part = part; read = subst P same h.1; written = w }
+cuts n words before after old new v own h done w = absurd cc
+
+pub part_answer : (words : List (List ℕ)) (before after : SourceState) (n : ℕ) (old new : SinkState) (status : ℕ) (text : List ℕ) → Are words (Part n) → status ≡ DONE → IsAnswer words before after status text → IsWritten old new text
+    → WritesPart n before after old new
+part_answer words before after n old new status text is done a w = wrote (Part n) is.0 (WritesPart n) (cuts n) words before after old new status text is.1 done a w
+
 -- what `check` says
 judged : (words : List (List ℕ)) (before after : SourceState) (v : Verdict) → owner_of v ≡ Some Check → HasCause words before after v → ChecksReport before after (status_of v)
 judged words before after FoundLegal own h = record { legal = λ e. h.1; illegal = λ e. absurd (omega arith) }
@@ -344,6 +413,13 @@ checks words before after v is h = elim (belongs words before after v Check (tt,
 pub check_answer : (words : List (List ℕ)) (before after : SourceState) (status : ℕ) (text : List ℕ) → words ≡ words_of Check → IsAnswer words before after status text → ChecksReport before after status
 check_answer words before after status text is a = let P : ℕ → Type 0 = ChecksReport before after in subst P (sym a.status_is) (checks words before after a.verdict is a.cause)
 
+-- what `check-life` says
+lived : (words : List (List ℕ)) (before after : SourceState) (v : Verdict) → owner_of v ≡ Some CheckLife → HasCause words before after v → ChecksLife before after (status_of v)
+lived words before after FoundLegalLife own h = record { legal = λ e. h.1; illegal = λ e. absurd (omega arith); misfit = λ e. absurd (omega arith) }
+lived words before after FoundIllegalLife own h = record { legal = λ e. absurd (omega arith); illegal = λ e. h.1; misfit = λ e. absurd (omega arith) }
+lived words before after LifeDoesNotFit own h = record { legal = λ e. absurd (omega arith); illegal = λ e. absurd (omega arith); misfit = λ e. h.1 }
+lived words before after v own h = absurd cc
+
 -- ---- what doesn't fit
 
 -- a refusal has another status
@@ -354,6 +430,15 @@ refused_otherwise (BadPlan line) r = λ e. omega arith
 refused_otherwise (BadImage line) r = λ e. omega arith
 refused_otherwise (UnlawfulImage cell) r = λ e. omega arith
 refused_otherwise v r = absurd cc
+
+lives : (words : List (List ℕ)) (before after : SourceState) (v : Verdict) → words ≡ words_of CheckLife → HasCause words before after v → ChecksLife before after (status_of v)
+lives words before after v is h = elim (belongs words before after v CheckLife (tt, is) h) [
+  | inl own ↦ lived words before after v own h
+  | inr r ↦ (let undone = refused_undone v r.1 in record { legal = λ e. absurd (undone.0 e); illegal = λ e. absurd (undone.1 e); misfit = λ e. absurd (refused_otherwise v r.1 e) })
+]
+
+pub life_answer : (words : List (List ℕ)) (before after : SourceState) (status : ℕ) (text : List ℕ) → words ≡ words_of CheckLife → IsAnswer words before after status text → ChecksLife before after status
+life_answer words before after status text is a = let P : ℕ → Type 0 = ChecksLife before after in subst P (sym a.status_is) (lives words before after a.verdict is a.cause)
 
 misfits : (words : List (List ℕ)) (before after : SourceState) (v : Verdict) → owner_of v ≡ Some Continue → HasCause words before after v → status_of v ≡ DOES_NOT_FIT → ReadsMisfit before after
 misfits words before after (Continued image plan text) own h e = absurd (omega (arith, e))
@@ -384,7 +469,8 @@ valid_plan words command left is (inl asks) valid = valid_at words command Seria
 valid_plan words command left is (inr (inl asks)) valid = valid_at words command Play left is (tt, asks) valid
 valid_plan words command left is (inr (inr (inl asks))) valid = valid_at words command Run left is (tt, asks) valid
 valid_plan words command left is (inr (inr (inr (inl asks)))) valid = valid_at words command Image left is (tt, asks) valid
-valid_plan words command left is (inr (inr (inr (inr asks)))) valid = valid_at words command (Trace asks.0 asks.1) left is asks.2 valid
+valid_plan words command left is (inr (inr (inr (inr (inl asks))))) valid = valid_at words command Commits left is (tt, asks) valid
+valid_plan words command left is (inr (inr (inr (inr (inr asks))))) valid = valid_at words command (Trace asks.0 asks.1) left is asks.2 valid
 
 valid_image : (edition : Edition) (words : List (List ℕ)) (command : Command) (left : Option (List ℕ)) → Are words command → AskForImage edition words → IsValidInput command left → IsImageInput edition left
 valid_image One words command left is asks valid = valid_at words command Migrate left is (tt, asks) valid
@@ -399,9 +485,12 @@ valid_within : (c : Command) (left : Option (List ℕ)) (most : ℕ) → limit_o
 valid_within Serial left most is v = (v.0, v.2, subst (λ (n : ℕ). length v.0 ≤ n) (some_same MOST_INPUT most is) v.3)
 valid_within Play left most is v = (v.0, v.2, subst (λ (n : ℕ). length v.0 ≤ n) (some_same MOST_INPUT most is) v.3)
 valid_within (Trace first count) left most is v = (v.0, v.2, subst (λ (n : ℕ). length v.0 ≤ n) (some_same MOST_INPUT most is) v.3)
+valid_within Commits left most is v = (v.0, v.2, subst (λ (n : ℕ). length v.0 ≤ n) (some_same MOST_INPUT most is) v.3)
 valid_within Run left most is v = (v.0, v.2, subst (λ (n : ℕ). length v.0 ≤ n) (some_same MOST_INPUT most is) v.3)
 valid_within (Load callers scripts) left most is v = absurd cc
 valid_within Check left most is v = (v.bytes, v.is, subst (λ (n : ℕ). length v.bytes ≤ n) (some_same MOST_WITH_REPORT most is) v.few)
+valid_within CheckLife left most is v = (v.bytes, v.is, subst (λ (n : ℕ). length v.bytes ≤ n) (some_same MOST_WITH_REPORT most is) v.few)
+valid_within (Part number) left most is v = (v.0, v.1, subst (λ (n : ℕ). length v.0 ≤ n) (some_same MOST_WITH_REPORT most is) v.2)
 valid_within Image left most is v = (v.0, v.2, subst (λ (n : ℕ). length v.0 ≤ n) (some_same MOST_INPUT most is) v.3)
 valid_within Recover left most is v = (v.0, v.2, subst (λ (n : ℕ). length v.0 ≤ n) (some_same MOST_IMAGE most is) v.3)
 valid_within Renumber left most is v = (v.0, v.2, subst (λ (n : ℕ). length v.0 ≤ n) (some_same MOST_IMAGE most is) v.3)
@@ -432,12 +521,30 @@ not_bad one_cut words before after command line is valid (inr (inl h)) =
     let here : AreParts h.1.bytes v.first v.report = subst (λ (bytes : List ℕ). AreParts bytes v.first v.report) same v.parts in
     let Q : List ℕ → Type 0 = λ bytes. SpellsPlan bytes v.plan in
     h.1.bad.none (v.plan, subst Q (one_cut h.1.bytes v.first v.report h.1.first h.1.report here h.1.parts).0 v.spelled)
-not_bad one_cut words before after command line is valid (inr (inr h)) =
+not_bad one_cut words before after command line is valid (inr (inr (inl h))) =
     let v = valid_at words command Continue before.left is (tt, h.0) valid in
     let same = same_bytes v.bytes h.1.bytes before.left after.left v.is h.1.read.taken h.1.read.ended in
     let here : AreParts h.1.bytes v.first v.second = subst (λ (bytes : List ℕ). AreParts bytes v.first v.second) same v.parts in
     let Q : List ℕ → Type 0 = λ bytes. SpellsPlan bytes v.plan in
     h.1.bad.none (v.plan, subst Q (one_cut h.1.bytes v.first v.second h.1.first h.1.second here h.1.parts).1 v.spelled)
+not_bad one_cut words before after command line is valid (inr (inr (inr h))) =
+    let v = valid_at words command CheckLife before.left is (tt, h.0) valid in
+    let same = same_bytes v.bytes h.1.bytes before.left after.left v.is h.1.read.taken h.1.read.ended in
+    let here : AreParts h.1.bytes v.first v.behind = subst (λ (bytes : List ℕ). AreParts bytes v.first v.behind) same v.parts in
+    let behind = (one_cut h.1.bytes v.first v.behind h.1.first h.1.behind here h.1.parts).1 in
+    let there : AreParts h.1.behind v.second v.others = subst (λ (bytes : List ℕ). AreParts bytes v.second v.others) behind v.second_parts in
+    let Q : List ℕ → Type 0 = λ bytes. SpellsPlan bytes v.plan in
+    h.1.bad.none (v.plan, subst Q (one_cut h.1.behind v.second v.others h.1.second h.1.others there h.1.second_parts).0 v.spelled)
+
+-- the first part of a valid input of four parts has an image
+valid_lived : {Holds : List ℕ → Type 0} → OneCut → (words : List (List ℕ)) (before after : SourceState) (command : Command) (plan : Plan) (told left : List ℕ) → Are words command → words ≡ words_of CheckLife → IsValidInput command before.left
+    → (read : ReadsFour Holds before after plan told left) → (image : AnImage) × ReadsImage Two read.first image
+valid_lived one_cut words before after command plan told left is asks valid read =
+    let v = valid_at words command CheckLife before.left is (tt, asks) valid in
+    let same = same_bytes v.bytes read.bytes before.left after.left v.is read.read.taken read.read.ended in
+    let here : AreParts read.bytes v.first v.behind = subst (λ (bytes : List ℕ). AreParts bytes v.first v.behind) same v.parts in
+    let Q : List ℕ → Type 0 = λ bytes. ReadsImage Two bytes v.image in
+    (v.image, subst Q (one_cut read.bytes v.first v.behind read.first read.behind here read.parts).0 v.image_of)
 
 -- the first part of a valid input has an image
 valid_first : {Holds : List ℕ → Type 0} → OneCut → (words : List (List ℕ)) (before after : SourceState) (command : Command) (plan : Plan) → Are words command → words ≡ words_of Continue → IsValidInput command before.left
@@ -457,7 +564,10 @@ not_bad_image one_cut words before after command line is valid (inl h) =
     let Q : List ℕ → Type 0 = λ bytes. ReadsImage h.0 bytes v.1 in
     let read = subst Q same v.4 in
     h.2.bad.none (read.raw, read.spelled)
-not_bad_image one_cut words before after command line is valid (inr h) =
+not_bad_image one_cut words before after command line is valid (inr (inr h)) =
+    let found = valid_lived one_cut words before after command h.1.0 h.1.1 h.1.2 is h.0 valid h.1.3 in
+    h.1.3.holds.none (found.1.raw, found.1.spelled)
+not_bad_image one_cut words before after command line is valid (inr (inl h)) =
     let found = valid_first one_cut words before after command h.1.0 is h.0 valid h.1.1 in
     h.1.1.holds.none (found.1.raw, found.1.spelled)
 
@@ -467,18 +577,25 @@ not_unlawful one_cut none words before after command cell is valid (inl h) =
     let same = same_bytes v.0 h.2.bytes before.left after.left v.2 h.2.read.taken h.2.read.ended in
     let Q : List ℕ → Type 0 = λ bytes. ReadsImage h.0 bytes v.1 in
     none h.0 h.2.bytes cell v.1 h.2.unlawful (subst Q same v.4)
-not_unlawful one_cut none words before after command cell is valid (inr h) =
+not_unlawful one_cut none words before after command cell is valid (inr (inr h)) =
+    let found = valid_lived one_cut words before after command h.1.0 h.1.1 h.1.2 is h.0 valid h.1.3 in
+    none Two h.1.3.first cell found.0 h.1.3.holds found.1
+not_unlawful one_cut none words before after command cell is valid (inr (inl h)) =
     let found = valid_first one_cut words before after command h.1.0 is h.0 valid h.1.1 in
     none Two h.1.1.first cell found.0 h.1.1.holds found.1
 
--- done, or the report is found illegal, or the plan not to fit
+-- done, or the report or the life is found illegal, or the plan not to fit
 abbrev pub IsComplete : Command → ℕ → Type 0
-IsComplete command status = (status ≡ DONE) ⊎ (((command ≡ Check) × (status ≡ ILLEGAL)) ⊎ ((command ≡ Continue) × (status ≡ DOES_NOT_FIT)))
+IsComplete command status =
+    (status ≡ DONE) ⊎ (((command ≡ Check) × (status ≡ ILLEGAL)) ⊎ (((command ≡ Continue) × (status ≡ DOES_NOT_FIT))
+    ⊎ ((command ≡ CheckLife) × ((status ≡ ILLEGAL) ⊎ (status ≡ DOES_NOT_FIT)))))
 
 completed : OneCut → UnlawfulHaveNone → (words : List (List ℕ)) (before after : SourceState) (command : Command) (v : Verdict) → Are words command → IsValidInput command before.left → ¬ (Rose before.faults after.faults) → HasCause words before after v → IsComplete command (status_of v)
 completed one_cut none words before after command NoCommand is valid calm h = absurd (h command is)
 completed one_cut none words before after command FoundIllegal is valid calm h = inr (inl (same_command words command Check is (tt, h.0), refl))
-completed one_cut none words before after command DoesNotFit is valid calm h = inr (inr (same_command words command Continue is (tt, h.0), refl))
+completed one_cut none words before after command DoesNotFit is valid calm h = inr (inr (inl (same_command words command Continue is (tt, h.0), refl)))
+completed one_cut none words before after command FoundIllegalLife is valid calm h = inr (inr (inr (same_command words command CheckLife is (tt, h.0), inl refl)))
+completed one_cut none words before after command LifeDoesNotFit is valid calm h = inr (inr (inr (same_command words command CheckLife is (tt, h.0), inr refl)))
 completed one_cut none words before after command ReadFault is valid calm h = absurd (calm h.2)
 completed one_cut none words before after command TooLong is valid calm h = absurd (not_too_long words before after command h.0 is valid h.1 h.2)
 completed one_cut none words before after command (BadPlan line) is valid calm h = absurd (not_bad one_cut words before after command line is valid h)

@@ -1,5 +1,5 @@
 -- The answer to an input whose first part has no image.
-use Rattle.std.proofs.Common.{ℕ, List, inr, refl, arith}
+use Rattle.std.proofs.Common.{ℕ, List, inl, inr, refl, arith}
 use Rattle.of_plan.specs.Plan.{Plan}
 use Rattle.of_plan.specs.Grammar.{SpellsPlan}
 use Rattle.of_plan.specs.Parts.{AreParts}
@@ -19,7 +19,7 @@ first_refused before after bytes first second plan read are spelled Memory answe
 first_refused before after bytes first second plan read are spelled (Bad line) answer h t = (
   record {
     verdict = BadImage line;
-    cause = inr (refl, (plan, record { bytes = bytes; first = first; second = second; read = read; parts = are; holds = h; spelled = spelled }));
+    cause = inr (inl (refl, (plan, record { bytes = bytes; first = first; second = second; read = read; parts = are; holds = h; spelled = spelled })));
     status_is = t.0;
     text_is = t.1;
   },
@@ -28,7 +28,7 @@ first_refused before after bytes first second plan read are spelled (Bad line) a
 first_refused before after bytes first second plan read are spelled (Unlawful cell) answer h t = (
   record {
     verdict = UnlawfulImage cell;
-    cause = inr (refl, (plan, record { bytes = bytes; first = first; second = second; read = read; parts = are; holds = h; spelled = spelled }));
+    cause = inr (inl (refl, (plan, record { bytes = bytes; first = first; second = second; read = read; parts = are; holds = h; spelled = spelled })));
     status_is = t.0;
     text_is = t.1;
   },

@@ -9,3 +9,6 @@ pub mod LoadReports
 pub mod Carried
 pub mod PlayedImages
 pub mod Continuing
+pub mod Lives
+pub mod PartNumbers
+pub mod LifeAnswers

@@ -54,6 +54,12 @@ abbrev pub Judges : Verdict → Answer → Type 0
 Judges Legal answer = (answer.status ≡ DONE) × (answer.text.items ≡ codes "legal report\n")
 Judges Illegal answer = (answer.status ≡ ILLEGAL) × (answer.text.items ≡ codes "error: not a legal report\n")
 
+-- the answer of `check-life`
+abbrev pub JudgesLife : Verdict → Answer → Type 0
+JudgesLife Legal answer = (answer.status ≡ DONE) × (answer.text.items ≡ codes "legal life\n")
+JudgesLife Illegal answer =
+    (answer.status ≡ ILLEGAL) × (answer.text.items ≡ codes "error: not a legal life\n")
+
 -- ---- the record of a run beside an answer
 
 -- the text is that of the report of the record, which is of the plan that was read

@@ -4,8 +4,8 @@ use Rattle.std.specs.Global.{Global}
 use Rattle.of_cell.specs.declared.shape.TheConstants.{MOST_CALLERS}
 use Rattle.of_plan.specs.declared.plan.TheConstants.{MOST_SCRIPTS}
 use Rattle.of_tool.specs.declared.command.Command.{Command}
-use Rattle.of_tool.specs.declared.command.TheConstants.{MOST_FIRST, MOST_EVENTS}
-use Rattle.of_tool.specs.declared.command.Command.TheVariants.{Serial, Play, Trace, Run, Load, Check, Image, Recover, Renumber, Migrate, Continue, Help, Version}
+use Rattle.of_tool.specs.declared.command.TheConstants.{MOST_FIRST, MOST_EVENTS, MOST_PART}
+use Rattle.of_tool.specs.declared.command.Command.TheVariants.{Serial, Play, Trace, Commits, Run, Load, Check, CheckLife, Part, Image, Recover, Renumber, Migrate, Continue, Help, Version}
 
 -- the bytes of each word
 abbrev pub texts : List (String Global) → List (List ℕ)
@@ -20,9 +20,12 @@ abbrev pub words_of : Command → List (List ℕ)
 words_of Serial = codes "serial" ∷ []
 words_of Play = codes "play" ∷ []
 words_of (Trace first count) = codes "trace" ∷ decimal first ∷ decimal count ∷ []
+words_of Commits = codes "commits" ∷ []
 words_of Run = codes "run" ∷ []
 words_of (Load callers scripts) = codes "load" ∷ decimal callers ∷ decimal scripts ∷ []
 words_of Check = codes "check" ∷ []
+words_of CheckLife = codes "check-life" ∷ []
+words_of (Part number) = codes "part" ∷ decimal number ∷ []
 words_of Image = codes "image" ∷ []
 words_of Recover = codes "recover" ∷ []
 words_of Renumber = codes "renumber" ∷ []
@@ -44,14 +47,22 @@ pub record IsLoad (callers scripts : ℕ) : Type 0 where
   pub each : scripts ≤ MOST_SCRIPTS
   pub all : callers * scripts ≤ MOST_SCRIPTS
 
+-- a part has this number
+pub record IsPartNumber (number : ℕ) : Type 0 where
+  pub some : 1 ≤ number
+  pub few : number ≤ MOST_PART
+
 -- the numbers of a command are in range
 abbrev pub IsInRange : Command → Type 0
 IsInRange Serial = Unit {0}
 IsInRange Play = Unit {0}
 IsInRange (Trace first count) = IsTrace first count
+IsInRange Commits = Unit {0}
 IsInRange Run = Unit {0}
 IsInRange (Load callers scripts) = IsLoad callers scripts
 IsInRange Check = Unit {0}
+IsInRange CheckLife = Unit {0}
+IsInRange (Part number) = IsPartNumber number
 IsInRange Image = Unit {0}
 IsInRange Recover = Unit {0}
 IsInRange Renumber = Unit {0}
@@ -68,7 +79,10 @@ IsPlain (Load callers scripts) = ⊥
 IsPlain Serial = Unit {0}
 IsPlain Play = Unit {0}
 IsPlain (Trace first count) = Unit {0}
+IsPlain Commits = Unit {0}
 IsPlain Check = Unit {0}
+IsPlain CheckLife = Unit {0}
+IsPlain (Part number) = Unit {0}
 IsPlain Image = Unit {0}
 IsPlain Recover = Unit {0}
 IsPlain Renumber = Unit {0}

@@ -1,6 +1,8 @@
 pub mod Commands
 pub mod Ran
 pub mod Continued
+pub mod Lives
+pub mod Cutting
 pub mod PlayedImage
 pub mod Verdicts
 pub mod Headline

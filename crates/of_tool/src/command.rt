@@ -14,9 +14,12 @@ Runs scripts of transactions on a store of registers, keys and queues.
 serial      reads a plan, runs its scripts one after another, prints the report
 play        reads a plan, runs its schedule step by step, prints the report
 trace F C   reads a plan, prints what C events of its schedule do, from event F
+commits     reads a plan, prints at which events its schedule commits, and which calls
 run         reads a plan, runs its callers at once, prints the report
 load N S    reads nothing, runs N callers with S scripts each, prints a summary
 check       reads a plan and a report, says whether the report is a legal one
+check-life  reads an image, a plan and what `continue` printed, says whether it is a legal life
+part N      reads texts one after another, prints the one with number N, from 1
 image       reads a plan, runs its schedule step by step, prints the image of what it leaves
 recover     reads an image, prints what recovery finds in it
 renumber    reads an image, prints it recovered and with its sequences begun anew
@@ -38,6 +41,9 @@ pub const MOST_FIRST: u32 = 10_000_000;
 /// The most events of a trace.
 pub const MOST_EVENTS: u32 = 10_000;
 
+/// The greatest number of a part.
+pub const MOST_PART: u32 = 1_000_000;
+
 /// What the program can be told to do.
 #[derive(Clone, Copy, Debug, PartialEq, Eq)]
 pub enum Command {
@@ -47,12 +53,20 @@ pub enum Command {
     Play,
     /// Reads a plan, and prints what so many events of its schedule do, from one event on.
     Trace { first: u32, count: u32 },
+    /// Reads a plan, and prints the commits of its schedule.
+    Commits,
     /// Reads a plan, runs its callers at once, and prints the report of what they leave.
     Run,
     /// Runs a load of so many callers with so many scripts each, and prints a summary of the report.
     Load { callers: u32, scripts: u32 },
     /// Reads a plan and a report, and prints whether the report is a legal one of the plan.
     Check,
+    /// Reads an image, a plan, a report and an image, and prints whether report and image are those of a
+    /// life that goes on from the first image by the plan.
+    CheckLife,
+    /// Reads texts one after another, each up to its first line `end`, and prints the one with this
+    /// number, from 1.
+    Part { number: u32 },
     /// Reads a plan, runs its schedule step by step, and prints the image of what it leaves.
     Image,
     /// Reads an image, recovers it, and prints what recovery finds.
@@ -85,8 +99,10 @@ impl Command {
         match word {
             "serial" => Some(Command::Serial),
             "play" => Some(Command::Play),
+            "commits" => Some(Command::Commits),
             "run" => Some(Command::Run),
             "check" => Some(Command::Check),
+            "check-life" => Some(Command::CheckLife),
             "image" => Some(Command::Image),
             "recover" => Some(Command::Recover),
             "renumber" => Some(Command::Renumber),
@@ -126,12 +142,29 @@ impl Command {
         Some(Command::Trace { first, count })
     }
 
+    // The part with this number, where it is in range.
+    fn part(number: &str) -> Option<Command>
+        ensures { MatchOption result
+            (IsNoCommand (codes "part" ∷ number.now ∷ []))
+            (Are (codes "part" ∷ number.now ∷ [])) }
+    {
+        let number = self::number(number, MOST_PART)?;
+        if number == 0 {
+            return None;
+        }
+        Some(Command::Part { number })
+    }
+
     /// The command that the words are, where they are one. Numbers are spelled by digits alone, with no 0 in front of others.
     pub fn from_words(words: &[String]) -> Option<Command>
         ensures { MatchOption result (IsNoCommand (texts words.now)) (Are (texts words.now)) }
     {
         match words {
             [word] => Command::plain(word.as_str()),
+            [word, first] => match word.as_str() {
+                "part" => Command::part(first.as_str()),
+                _ => None,
+            },
             [word, first, second] => match word.as_str() {
                 "load" => Command::load(first.as_str(), second.as_str()),
                 "trace" => Command::trace(first.as_str(), second.as_str()),

@@ -1,7 +1,11 @@
 //! The numbers and fixed texts of the commands, and the laws of schedules and traces.
 
 ghost use Rattle.std.specs.Prelude.{◌≡◌, codes};
+ghost use Rattle.of_mem.specs.declared.work.TheConstants.{MOST_CALLERS, MOST_DATA_CELLS, MOST_INSTRS};
+ghost use Rattle.of_mem.specs.declared.plot.TheConstants.{BUCKETS, MOST_BLOCKS, QUEUES, REGISTERS};
+ghost use Rattle.of_plan.specs.Plan.{data_cells};
 ghost use Rattle.of_tool.specs.HelpText.{help_text};
+ghost use Rattle.of_tool.specs.declared.command.TheConstants.{MOST_EVENTS, MOST_FIRST};
 
 use crate::command::{HELP, VERSION};
 use crate::status::{
@@ -26,6 +30,21 @@ pub fn numbers()
     ensures input { MOST_INPUT ≡ 1048576 }
     ensures with_report { MOST_WITH_REPORT ≡ 4194304 }
     ensures image { MOST_IMAGE ≡ 4194304 }
+{}
+
+/// What a plan's memory has room for, and how far a trace reaches: callers, words of a script, cells
+/// of the greatest store, registers, buckets, queues, keys and items together.
+pub fn limits()
+    ensures callers { MOST_CALLERS ≡ 16 }
+    ensures instrs { MOST_INSTRS ≡ 16 }
+    ensures registers { REGISTERS ≡ 16 }
+    ensures buckets { BUCKETS ≡ 32 }
+    ensures queues { QUEUES ≡ 4 }
+    ensures blocks { MOST_BLOCKS ≡ 512 }
+    ensures cells { data_cells 16 512 ≡ 1887 }
+    ensures data_cells { MOST_DATA_CELLS ≡ 4096 }
+    ensures first { MOST_FIRST ≡ 10000000 }
+    ensures events { MOST_EVENTS ≡ 10000 }
 {}
 
 /// The texts of `--help` and `--version`; those of errors stand in the definition of what is written.

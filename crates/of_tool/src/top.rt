@@ -4,17 +4,19 @@ ghost use Rattle.std.specs.Prelude.{◌≡◌, ◌≤◌, ◌⊎◌, ⊤, ℕ, I
 ghost use Rattle.of_io.specs.Faults.{Rose};
 ghost use Rattle.of_plan.specs.Ended.{run_of};
 ghost use Rattle.of_tool.specs.declared.command.Command.{Command};
-ghost use Rattle.of_tool.specs.declared.command.Command.TheVariants.{Serial, Play, Trace, Run, Load, Check, Image, Recover, Renumber, Migrate, Continue, Help, Version};
+ghost use Rattle.of_tool.specs.declared.command.Command.TheVariants.{Serial, Play, Trace, Commits, Run, Load, Check, CheckLife, Part, Image, Recover, Renumber, Migrate, Continue, Help, Version};
 ghost use Rattle.of_tool.specs.declared.status.TheConstants.{DONE, OUT_OF_MEMORY, ILLEGAL, DOES_NOT_FIT};
 ghost use Rattle.of_tool.specs.Commands.{texts, words_of, IsTrace, IsLoad, IsInRange, IsPlain, Are, RunTeam};
-ghost use Rattle.of_tool.specs.Verdicts.{source_state, sink_state, limit_of, Answers, AskForInput, ReadsAll, ReadsPlan, IsReplayed, PlaysPlan, TracesPlan, ChecksReport, ReadsMisfit, Prints, IsValidInput};
+ghost use Rattle.of_tool.specs.Verdicts.{source_state, sink_state, limit_of, Answers, AskForInput, ReadsAll, ReadsPlan, IsReplayed, PlaysPlan, TracesPlan, TellsCommits, ChecksReport, ChecksLife, WritesPart, ReadsMisfit, Prints, IsValidInput};
 ghost use Rattle.of_tool.specs.Images.{ImagesPlan, RecoversImage, RenumbersImage, MigratesImage};
 ghost use Rattle.of_tool.specs.Headline.{RunsPlan, LoadsPlan, ContinuesImage, LeavesTable};
 ghost use Rattle.of_tool.specs.Answer.{Answered, Refuses, RefusesUpTo, Judges, CarriesRun, CarriesLoad, Carries};
 
 use crate::command::{Command, HELP, VERSION};
 use crate::continued::continue_answer;
+use crate::cutting::part_answer;
 use crate::images::{image_answer, migrate_answer, recover_answer, renumber_answer};
+use crate::life_check::life_answer;
 use crate::run::run_report;
 use crate::status;
 use of_brake::Brake;
@@ -23,7 +25,7 @@ use of_image::laws::unlawful_have_none;
 use of_io::{ReadErr, Sink, Source, read_all, write_all};
 use of_plan::texts::one_cut;
 use of_plan::{Ended, Plan, PlanErr, generate, parse, parts};
-use of_play::{play_report, trace};
+use of_play::{ALL_EVENTS, commits, play_report, trace};
 use of_row::Pass;
 use of_serial::serial;
 use std::alloc::{AllocError, Global};
@@ -32,8 +34,8 @@ use std::thread::Threads;
 /// The most bytes that a command reads which reads a plan alone.
 pub const MOST_INPUT: usize = 1 << 20;
 
-/// The most bytes that a command reads whose input has two parts: `check` a plan and a report,
-/// `continue` an image and a plan.
+/// The most bytes that a command reads whose input has parts: `check` a plan and a report, `continue`
+/// an image and a plan, `check-life` an image, a plan, a report and an image, and `part` any.
 pub const MOST_WITH_REPORT: usize = 1 << 22;
 
 /// The most bytes that a command reads which reads an image. The greatest that `image` prints has
@@ -213,6 +215,21 @@ fn trace_answer<S: Source>(
     }
 }
 
+// What `commits` answers.
+fn commits_answer<S: Source>(alloc: Global, source: &mut S) -> Result<Answer, AllocError>
+    ensures { IfOk result (Answered (words_of Commits)
+        (source_state (S.remaining source.old) (S.faults source.old))
+        (source_state (S.remaining source.new) (S.faults source.new))) }
+{
+    match read_plan(alloc, source)? {
+        Ok(plan) => Ok(Answer {
+            status: status::DONE,
+            text: commits(alloc, &plan, ALL_EVENTS)?,
+        }),
+        Err(answer) => Ok(answer),
+    }
+}
+
 // What `check` says of a report.
 fn judged(alloc: Global, verdict: Verdict) -> Result<Answer, AllocError>
     ensures { IfOk result (Judges verdict) }
@@ -268,7 +285,10 @@ fn plain_answer<S: Source>(
         Command::Serial => serial_answer(alloc, source),
         Command::Play => play_answer(alloc, source),
         Command::Trace { first, count } => trace_answer(alloc, source, first, count),
+        Command::Commits => commits_answer(alloc, source),
         Command::Check => check_answer(alloc, source),
+        Command::CheckLife => life_answer(alloc, source),
+        Command::Part { number } => part_answer(alloc, source, number),
         Command::Image => image_answer(alloc, source),
         Command::Recover => recover_answer(alloc, source),
         Command::Renumber => renumber_answer(alloc, source),
@@ -410,10 +430,31 @@ pub fn tool<R: Threads + Sync, S: Source, K: Sink>(
         (sink_state (K.written sink.old) (K.finished sink.old) (K.faults sink.old))
         (sink_state (K.written sink.new) (K.finished sink.new) (K.faults sink.new)) }
 
+    // With status 0 of `commits` the lines of the commits of that schedule were written.
+    ensures commits { texts words.now ≡ words_of Commits → result ≡ DONE → TellsCommits
+        (source_state (S.remaining source.old) (S.faults source.old))
+        (source_state (S.remaining source.new) (S.faults source.new))
+        (sink_state (K.written sink.old) (K.finished sink.old) (K.faults sink.old))
+        (sink_state (K.written sink.new) (K.finished sink.new) (K.faults sink.new)) }
+
     // `check` says of a plan and a report whether the report is a legal one: with status 0 it is, and with status 8 it isn't.
     ensures check { texts words.now ≡ words_of Check → ChecksReport
         (source_state (S.remaining source.old) (S.faults source.old))
         (source_state (S.remaining source.new) (S.faults source.new)) result }
+
+    // `check-life` says of an image, a plan, a report and an image whether report and image are those of a life that goes on from the
+    // first image by the plan: with status 0 they are, and with status 8 they aren't. With status 9 the plan does not fit the image.
+    ensures check_life { texts words.now ≡ words_of CheckLife → ChecksLife
+        (source_state (S.remaining source.old) (S.faults source.old))
+        (source_state (S.remaining source.new) (S.faults source.new)) result }
+
+    // With status 0 of `part` the part of the whole input with that number was written.
+    ensures part { (number : ℕ) → Are (texts words.now) (Part number) → result ≡ DONE
+        → WritesPart number
+        (source_state (S.remaining source.old) (S.faults source.old))
+        (source_state (S.remaining source.new) (S.faults source.new))
+        (sink_state (K.written sink.old) (K.finished sink.old) (K.faults sink.old))
+        (sink_state (K.written sink.new) (K.finished sink.new) (K.faults sink.new)) }
 
     // With status 0 of `image` the image of what the schedule of the plan that the whole input spells leaves was written.
     ensures image { texts words.now ≡ words_of Image → result ≡ DONE → ImagesPlan
@@ -460,7 +501,8 @@ pub fn tool<R: Threads + Sync, S: Source, K: Sink>(
         → ¬ (Rose (S.faults source.old) (S.faults source.new))
         → ¬ (Rose (K.faults sink.old) (K.faults sink.new))
         → (result ≡ DONE) ⊎ ((result ≡ OUT_OF_MEMORY) ⊎ (((command ≡ Check) × (result ≡ ILLEGAL))
-        ⊎ ((command ≡ Continue) × (result ≡ DOES_NOT_FIT)))) }
+        ⊎ (((command ≡ Continue) × (result ≡ DOES_NOT_FIT))
+        ⊎ ((command ≡ CheckLife) × ((result ≡ ILLEGAL) ⊎ (result ≡ DOES_NOT_FIT)))))) }
 {
     one_cut();
     unlawful_have_none();

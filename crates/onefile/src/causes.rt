@@ -1,7 +1,8 @@
-//! What is said of a report that is not a legal one.
+//! What is said of a report that is not a legal one, and of a life that is not.
 
-use of_check::{Cause, EndRule, EntryRule};
+use of_check::{Cause, EndRule, EntryRule, LeftRule};
 use of_plan::above::line_at;
+use of_tool::{LeftFault, LifeCause};
 use std::alloc::{AllocError, Global};
 
 // The rule that an entry breaks, by its number in the list of docs/TEXTS.md, and what is wrong.
@@ -95,4 +96,55 @@ pub(crate) fn print_cause(
         ),
     };
     Ok(text.into_bytes())
+}
+
+// What is said of the text after the report of a life, which is no image's.
+fn print_fault(alloc: Global, fault: LeftFault) -> Result<Vec<u8>, AllocError> {
+    let text = match fault {
+        LeftFault::Bad { line } => {
+            format!(in alloc; "after the report: bad image, line {line}\n")?
+        }
+        LeftFault::Unlawful { cell } => {
+            format!(in alloc; "after the report: unlawful image, cell {cell}\n")?
+        }
+        LeftFault::NotPrinted => {
+            format!(in alloc; "after the report: an image, not as a command prints it\n")?
+        }
+    };
+    Ok(text.into_bytes())
+}
+
+// What is said of an image in which the report does not end.
+fn print_rule(alloc: Global, rule: LeftRule) -> Result<Vec<u8>, AllocError> {
+    let text = match rule {
+        LeftRule::Callers => {
+            format!(in alloc; "the image after the report: not the plan's callers\n")?
+        }
+        LeftRule::Blocks => {
+            format!(in alloc; "the image after the report: not the plan's blocks\n")?
+        }
+        LeftRule::Sequence => {
+            format!(in alloc; "the image after the report: not the report's sequence\n")?
+        }
+        LeftRule::Ticket { caller } => format!(in alloc;
+            "the image after the report: the ticket of caller {caller} is another\n"
+        )?,
+        LeftRule::Store => {
+            format!(in alloc; "the image after the report: not the report's store\n")?
+        }
+    };
+    Ok(text.into_bytes())
+}
+
+/// What is said of the cause for which a life is not legal.
+pub(crate) fn print_life(
+    alloc: Global,
+    told: &[u8],
+    cause: &LifeCause,
+) -> Result<Vec<u8>, AllocError> {
+    match cause {
+        LifeCause::Told(cause) => print_cause(alloc, told, cause),
+        LifeCause::Left(fault) => print_fault(alloc, *fault),
+        LifeCause::Ends(rule) => print_rule(alloc, *rule),
+    }
 }

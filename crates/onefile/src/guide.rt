@@ -10,7 +10,7 @@ pub(crate) const GUIDE: &str = "A plan of one caller, and how it is run:
     onefile run < my.plan
 
 Exit status:
-    0  the work is done; the report is legal
+    0  the work is done; the report or the life is legal
     1  memory ran out
     2  the words are no command
     3  a read failed
@@ -18,7 +18,7 @@ Exit status:
     5  the input is no plan
     6  the input is too long
     7  the input is no image, or an unlawful one
-    8  the report is not a legal one of its plan
+    8  the report is not a legal one of its plan, or the life not one from its image
     9  the plan does not fit the image
 Errors have a fixed text on standard output, and their reason on standard error.
 

@@ -1,18 +1,28 @@
 //! What the program says on standard error: why a plan or an image is refused, and what to do about
 //! words that are no command.
 
-use crate::causes::print_cause;
+use crate::causes::{print_cause, print_life};
 use crate::guide::GUIDE;
 use of_check::why;
-use of_image::Version;
+use of_image::{Version, image_parse};
+use of_lives::fits;
 use of_plan::{fault, parse, parts};
-use of_tool::status;
+use of_tool::{status, why_life};
 use std::alloc::{AllocError, Global};
 use std::fmt::Write;
 
-// The commands that read something, but `trace`.
-const READERS: [&str; 9] = [
-    "serial", "play", "run", "check", "image", "recover", "renumber", "migrate", "continue",
+// The commands that read something, but `trace` and `part`.
+const READERS: [&str; 10] = [
+    "serial",
+    "play",
+    "run",
+    "check",
+    "check-life",
+    "image",
+    "recover",
+    "renumber",
+    "migrate",
+    "continue",
 ];
 
 // Whether a command of one word reads its input.
@@ -24,6 +34,7 @@ fn reads(word: &str) -> bool {
 pub(crate) fn read_input(words: &[String]) -> bool {
     match words {
         [word] => reads(word.as_str()),
+        [word, _] => word.as_str() == "part",
         [word, _, _] => word.as_str() == "trace",
         _ => false,
     }
@@ -45,6 +56,14 @@ fn put_redirected(out: &mut String, words: &[String]) -> Result<(), AllocError> 
                 writeln!(
                     out,
                     "input is read from standard input: onefile {word} < {file}"
+                )?;
+            }
+        }
+        [word, number, file] => {
+            if word.as_str() == "part" {
+                writeln!(
+                    out,
+                    "input is read from standard input: onefile part {number} < {file}"
                 )?;
             }
         }
@@ -84,6 +103,7 @@ fn plan_part<'a>(words: &[String], input: &'a [u8]) -> &'a [u8] {
         [word] => match word.as_str() {
             "check" => parts(input).0,
             "continue" => parts(input).1,
+            "check-life" => parts(parts(input).1).0,
             _ => input,
         },
         _ => input,
@@ -102,7 +122,7 @@ fn bad_plan(alloc: Global, text: &[u8]) -> Result<Vec<u8>, AllocError> {
 fn image_part<'a>(words: &[String], input: &'a [u8]) -> (&'a [u8], Version) {
     match words {
         [word] => match word.as_str() {
-            "continue" => (parts(input).0, Version::Two),
+            "continue" | "check-life" => (parts(input).0, Version::Two),
             "migrate" => (input, Version::One),
             _ => (input, Version::Two),
         },
@@ -127,6 +147,34 @@ fn illegal(alloc: Global, input: &[u8]) -> Result<Vec<u8>, AllocError> {
     match why(alloc, &plan, report)? {
         Some(cause) => print_cause(alloc, report, &cause),
         None => Ok(Vec::new(alloc)),
+    }
+}
+
+// Why a report and an image are not those of a life that goes on from the image before them.
+fn illegal_life(alloc: Global, input: &[u8]) -> Result<Vec<u8>, AllocError> {
+    let (first, behind) = parts(input);
+    let (text, others) = parts(behind);
+    let (told, left) = parts(others);
+    let Ok(plan) = parse(alloc, text) else {
+        return Ok(Vec::new(alloc));
+    };
+    let Ok(image) = image_parse(alloc, first) else {
+        return Ok(Vec::new(alloc));
+    };
+    if !fits(&image, &plan) {
+        return Ok(Vec::new(alloc));
+    }
+    match why_life(alloc, image, &plan, told, left)? {
+        Some(cause) => print_life(alloc, told, &cause),
+        None => Ok(Vec::new(alloc)),
+    }
+}
+
+// Whether the words ask about a life.
+fn asks_life(words: &[String]) -> bool {
+    match words {
+        [word] => word.as_str() == "check-life",
+        _ => false,
     }
 }
 
@@ -156,6 +204,9 @@ pub(crate) fn reasons(
         return bad_image(alloc, text, version);
     }
     if status == status::ILLEGAL {
+        if asks_life(words) {
+            return illegal_life(alloc, input);
+        }
         return illegal(alloc, input);
     }
     Ok(Vec::new(alloc))

@@ -1,7 +1,7 @@
 //! Traces of worked schedules.
 
 use of_plan::parse;
-use of_tool::trace;
+use of_tool::{commits, trace};
 use std::alloc::Global;
 use std::test::Fail;
 
@@ -38,6 +38,26 @@ fn events_of_a_schedule(rt: HostRuntime) -> Result<(), Fail> {
     ];
     for (first, count, lines) in rows {
         assert_eq!(rt; traced(rt.alloc(), plan, first, count)?.as_str(), lines);
+    }
+    Ok(())
+}
+
+#[test]
+fn commits_of_a_schedule(rt: HostRuntime) -> Result<(), Fail> {
+    let text =
+        "onefile plan 1\ncallers 2\nblocks 1\nlimit 2\nscript 0 store 3 7\nscript 0 load 3\nscript 1 put 2 9\nturns 0 31\nevict 0\nturns 1 9\nturns 0 40\nturns 1 60\nend\n";
+    let plan = parse(rt.alloc(), text.as_bytes())?;
+    let rows = [
+        (30, ""),
+        (31, "30 0 commits 1, script 0 of 0\n"),
+        (
+            1000,
+            "30 0 commits 1, script 0 of 0\n136 1 commits 2, script 0 of 1\n",
+        ),
+    ];
+    for (count, lines) in rows {
+        let bytes = commits(rt.alloc(), &plan, count)?;
+        assert_eq!(rt; String::from_utf8(bytes)?.as_str(), lines);
     }
     Ok(())
 }

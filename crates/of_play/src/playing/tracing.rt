@@ -1,9 +1,10 @@
-//! What a plan's schedule does, event by event, as a text.
+//! What a plan's schedule does, event by event, as a text: each event, or the commits alone.
 
 ghost use Rattle.std.specs.Prelude.{◌≡◌, ◌<◌, ◌≤◌, ◌+◌, ◌^◌, IfOk};
 ghost use Rattle.of_core.specs.Steps.{word_of};
-ghost use Rattle.of_play.specs.Trace.{trace_text};
+ghost use Rattle.of_play.specs.Trace.{trace_text, commits_text};
 
+use crate::commit_line::put_commit;
 use crate::playing::Playing;
 use crate::trace_line::{Step, put_evict, put_rest, put_step};
 use crate::trace_text::Change;
@@ -19,6 +20,15 @@ enum Event {
     Turn(u32),
     /// The eviction of a cell.
     Evict(u32),
+}
+
+/// What is written of events.
+#[derive(Clone, Copy)]
+enum Form {
+    /// A line for each.
+    Events,
+    /// A line for each commit.
+    Commits,
 }
 
 /// The word that a step is on.
@@ -41,6 +51,7 @@ impl Playing {
     ghost use Rattle.of_caller.specs.Left.{moment_after};
     ghost use Rattle.of_play.specs.Playing.{StandsAfter, IsPlaying, GoesOn};
     ghost use Rattle.of_play.specs.Tracing.{event_of, IsEvent, WritesLine};
+    ghost use Rattle.of_play.specs.declared.playing.tracing.Form.TheVariants.{Events, Commits};
 
     /// Makes a turn of a caller, and writes its line.
     fn shown_turn(
@@ -53,7 +64,7 @@ impl Playing {
         requires caller { caller < plan.now.callers }
         requires playing { IsPlaying plan.now self.old }
         ensures goes { OnOk result (GoesOn plan.now (Turns caller ∷ []) self.old self.new) }
-        ensures line { OnOk result (WritesLine plan.now number (Turns caller) self.old (string_bytes text.old) (string_bytes text.new)) }
+        ensures line { OnOk result (WritesLine Events plan.now number (Turns caller) self.old (string_bytes text.old) (string_bytes text.new)) }
     {
         plan_keeps_laws(plan);
         runs_are_lawful();
@@ -65,6 +76,7 @@ impl Playing {
         let index = self.bank.made(caller).saturating_sub(1);
         let place = self.bank.place(caller);
         let op = self.bank.want(caller);
+        let helps = self.bank.helped(caller);
         let word = word_of(op);
         let found = self.bank.word(word);
         self.turn(plan, caller)?;
@@ -74,6 +86,7 @@ impl Playing {
             index,
             place,
             op,
+            helps,
             change: Change { word, found, left },
             outcome: self.bank.answer(caller),
         };
@@ -91,7 +104,7 @@ impl Playing {
         requires cell { cell < size (setup_for plan.now) }
         requires playing { IsPlaying plan.now self.old }
         ensures goes { OnOk result (GoesOn plan.now (Raises cell ∷ []) self.old self.new) }
-        ensures line { OnOk result (WritesLine plan.now number (Raises cell) self.old (string_bytes text.old) (string_bytes text.new)) }
+        ensures line { OnOk result (WritesLine Events plan.now number (Raises cell) self.old (string_bytes text.old) (string_bytes text.new)) }
     {
         plan_keeps_laws(plan);
         let word = plan.shape().durable_word(cell);
@@ -113,8 +126,50 @@ impl Playing {
         }
     }
 
+    /// Makes a turn of a caller, and writes the line of what it commits.
+    fn shown_commit(
+        &mut self,
+        plan: &Plan,
+        caller: u32,
+        number: u32,
+        text: &mut String,
+    ) -> Result<(), AllocError>
+        requires caller { caller < plan.now.callers }
+        requires playing { IsPlaying plan.now self.old }
+        ensures goes { OnOk result (GoesOn plan.now (Turns caller ∷ []) self.old self.new) }
+        ensures line { OnOk result (WritesLine Commits plan.now number (Turns caller) self.old (string_bytes text.old) (string_bytes text.new)) }
+    {
+        plan_keeps_laws(plan);
+        self.begin_next(plan, caller);
+        if self.bank.is_idle(caller) {
+            return self.turn(plan, caller);
+        }
+        let stands = self.bank.place(caller);
+        let op = self.bank.want(caller);
+        let found = self.bank.word(word_of(op));
+        let calls = self.bank.calls(caller);
+        put_commit(text, number, caller, stands, op, found, calls)?;
+        self.turn(plan, caller)
+    }
+
+    /// Makes an eviction, which commits nothing.
+    fn passed_evict(
+        &mut self,
+        plan: &Plan,
+        cell: u32,
+        number: u32,
+        text: &mut String,
+    ) -> Result<(), AllocError>
+        requires cell { cell < size (setup_for plan.now) }
+        requires playing { IsPlaying plan.now self.old }
+        ensures goes { OnOk result (GoesOn plan.now (Raises cell ∷ []) self.old self.new) }
+        ensures line { OnOk result (WritesLine Commits plan.now number (Raises cell) self.old (string_bytes text.old) (string_bytes text.new)) }
+    {
+        self.event(plan, Event::Evict(cell))
+    }
+
     /// Makes an event, and writes its line.
-    fn shown_event(
+    fn lined_event(
         &mut self,
         plan: &Plan,
         event: Event,
@@ -124,11 +179,50 @@ impl Playing {
         requires event { IsEvent plan.now event }
         requires playing { IsPlaying plan.now self.old }
         ensures goes { OnOk result (GoesOn plan.now (event_of event ∷ []) self.old self.new) }
-        ensures line { OnOk result (WritesLine plan.now number (event_of event) self.old (string_bytes text.old) (string_bytes text.new)) }
+        ensures line { OnOk result (WritesLine Events plan.now number (event_of event) self.old (string_bytes text.old) (string_bytes text.new)) }
     {
         match event {
             Event::Turn(caller) => self.shown_turn(plan, caller, number, text),
             Event::Evict(cell) => self.shown_evict(plan, cell, number, text),
+        }
+    }
+
+    /// Makes an event, and writes the line of what it commits.
+    fn committed_event(
+        &mut self,
+        plan: &Plan,
+        event: Event,
+        number: u32,
+        text: &mut String,
+    ) -> Result<(), AllocError>
+        requires event { IsEvent plan.now event }
+        requires playing { IsPlaying plan.now self.old }
+        ensures goes { OnOk result (GoesOn plan.now (event_of event ∷ []) self.old self.new) }
+        ensures line { OnOk result (WritesLine Commits plan.now number (event_of event) self.old (string_bytes text.old) (string_bytes text.new)) }
+    {
+        match event {
+            Event::Turn(caller) => self.shown_commit(plan, caller, number, text),
+            Event::Evict(cell) => self.passed_evict(plan, cell, number, text),
+        }
+    }
+
+    /// Makes an event, and writes what the form has of it.
+    fn shown_event(
+        &mut self,
+        plan: &Plan,
+        form: Form,
+        event: Event,
+        number: u32,
+        text: &mut String,
+    ) -> Result<(), AllocError>
+        requires event { IsEvent plan.now event }
+        requires playing { IsPlaying plan.now self.old }
+        ensures goes { OnOk result (GoesOn plan.now (event_of event ∷ []) self.old self.new) }
+        ensures line { OnOk result (WritesLine form plan.now number (event_of event) self.old (string_bytes text.old) (string_bytes text.new)) }
+    {
+        match form {
+            Form::Events => self.lined_event(plan, event, number, text),
+            Form::Commits => self.committed_event(plan, event, number, text),
         }
     }
 }
@@ -136,6 +230,7 @@ impl Playing {
 /// A trace on its way: the run so far, and the lines.
 #[derive(Drop)]
 struct Tracing {
+    form: Form,
     playing: Playing,
     /// The number of the next event.
     number: u32,
@@ -174,7 +269,7 @@ impl Tracing {
         ensures { OnOk result (TracesOn plan.now (event_of event ∷ []) self.old self.new) }
     {
         self.playing
-            .shown_event(plan, event, self.number, &mut self.text)?;
+            .shown_event(plan, self.form, event, self.number, &mut self.text)?;
         self.number += 1;
         Ok(())
     }
@@ -225,10 +320,33 @@ pub fn trace(alloc: Global, plan: &Plan, first: u32, count: u32) -> Result<Vec<u
     ensures { IfOk result (λ text. text.items ≡ trace_text plan.now first count) }
 {
     let mut tracing = Tracing {
+        form: Form::Events,
         playing: Playing::new(alloc, plan)?,
         number: 0,
         first,
         end: first + count,
+        text: String::new(alloc),
+    };
+    for item in plan.schedule() {
+        tracing.item(plan, *item)?;
+    }
+    Ok(tracing.text.into_bytes())
+}
+
+/// More events than the schedule of a plan's text can have.
+pub const ALL_EVENTS: u32 = u32::MAX;
+
+/// The commits among the first events of a plan's schedule, of which there are `count` at most: a line
+/// each, with the event, its caller, the sequence and the calls of the batch.
+pub fn commits(alloc: Global, plan: &Plan, count: u32) -> Result<Vec<u8>, AllocError>
+    ensures { IfOk result (λ text. text.items ≡ commits_text plan.now count) }
+{
+    let mut tracing = Tracing {
+        form: Form::Commits,
+        playing: Playing::new(alloc, plan)?,
+        number: 0,
+        first: 0,
+        end: count,
         text: String::new(alloc),
     };
     for item in plan.schedule() {

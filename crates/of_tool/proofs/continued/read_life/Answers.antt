@@ -1,4 +1,4 @@
-use Rattle.std.proofs.Common.{List, ℕ, inr, subst, refl, arith}
+use Rattle.std.proofs.Common.{List, ℕ, inl, inr, subst, refl, arith}
 use Rattle.of_plan.specs.Parts.{AreParts}
 use Rattle.of_report.specs.Image.{image_of}
 use Rattle.of_tool.specs.declared.command.Command.TheVariants.{Continue}
@@ -16,7 +16,7 @@ returns-in-Err-Bad-clause-read g c =
     let gone = rw c.in-Err-Bad.field-0-is at c.in-Err-Bad.ensures.bad in (
       record {
         verdict = BadPlan c.in-Err-Bad.line;
-        cause = inr (inr (refl, record { bytes = c.in-Ok.bytes.items; first = c.parts.result.0.now; second = c.parts.result.1.now; read = rw c.in-Ok.is at c.in_ok-bytes.ensures; parts = are; bad = gone }));
+        cause = inr (inr (inl (refl, record { bytes = c.in-Ok.bytes.items; first = c.parts.result.0.now; second = c.parts.result.1.now; read = rw c.in-Ok.is at c.in_ok-bytes.ensures; parts = are; bad = gone })));
         status_is = refl;
         text_is = (let number = c.in-Err-Bad.line-is in let text = c.in_ok-bad_plan-in-Err-Bad.ensures in cc);
       },

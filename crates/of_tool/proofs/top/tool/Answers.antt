@@ -1,8 +1,8 @@
 use Rattle.std.proofs.Common.{inl, inr, subst, ◌∙◌, refl}
 use Rattle.std.specs.Io.KnownBytes.{Appends}
 use Rattle.of_io.specs.Faults.{AppendsFront}
-use Rattle.of_tool.proofs.CommandLemmas.{help_answer, version_answer, serial_answer, play_answer, trace_answer, image_answer, recover_answer, renumber_answer, migrate_answer, check_answer, misfit_answer, done_where_valid}
-use Rattle.of_tool.proofs.Carried.{run_told, life_told, load_told, table_told}
+use Rattle.of_tool.proofs.CommandLemmas.{help_answer, version_answer, serial_answer, play_answer, trace_answer, commits_answer, image_answer, recover_answer, renumber_answer, migrate_answer, check_answer, life_answer, part_answer, misfit_answer, done_where_valid}
+use Rattle.of_tool.proofs.Carried.{run_told, life_told, load_told, table_told, none_unless_done}
 use Rattle.of_tool.proofs.top.tool.Goals as goal
 
 pub returns-in-Ok-write_all-clause-serial : goal.returns-in-Ok-write_all-clause-serial
@@ -41,6 +41,11 @@ returns-in-Ok-write_all-clause-load g c = λ callers scripts is done.
 pub returns-in-Ok-write_all-clause-trace : goal.returns-in-Ok-write_all-clause-trace
 returns-in-Ok-write_all-clause-trace g c = λ first count is done.
     trace_answer _ _ _ first count _ _ _ _ is done c.in-Ok.ensures.answered
+    (record { bytes = subst (Appends _ _) c.deref.ensures.value c.in-Ok-write_all.ensures.ok; finished = c.in-Ok-write_all.ensures.finished })
+
+pub returns-in-Ok-write_all-clause-commits : goal.returns-in-Ok-write_all-clause-commits
+returns-in-Ok-write_all-clause-commits g c = λ is done.
+    commits_answer _ _ _ _ _ _ _ is done c.in-Ok.ensures.answered
     (record { bytes = subst (Appends _ _) c.deref.ensures.value c.in-Ok-write_all.ensures.ok; finished = c.in-Ok-write_all.ensures.finished })
 
 pub returns-in-Ok-write_all-clause-image : goal.returns-in-Ok-write_all-clause-image
@@ -86,5 +91,16 @@ returns-clause-version g c = λ is.
 pub returns-in-Ok-write_all-clause-check : goal.returns-in-Ok-write_all-clause-check
 returns-in-Ok-write_all-clause-check g c = λ is. check_answer _ _ _ _ _ is c.in-Ok.ensures.answered
 
+pub returns-in-Ok-write_all-clause-check_life : goal.returns-in-Ok-write_all-clause-check_life
+returns-in-Ok-write_all-clause-check_life g c = λ is. life_answer _ _ _ _ _ is c.in-Ok.ensures.answered
+
+pub returns-in-Ok-write_all-clause-part : goal.returns-in-Ok-write_all-clause-part
+returns-in-Ok-write_all-clause-part g c = λ number is done.
+    part_answer _ _ _ number _ _ _ _ is done c.in-Ok.ensures.answered
+    (record { bytes = subst (Appends _ _) c.deref.ensures.value c.in-Ok-write_all.ensures.ok; finished = c.in-Ok-write_all.ensures.finished })
+
 pub returns-in-Ok-write_all-clause-complete : goal.returns-in-Ok-write_all-clause-complete
 returns-in-Ok-write_all-clause-complete g c = λ command is valid calm written. elim (done_where_valid c.one_cut.ensures c.unlawful_have_none.ensures.none _ _ _ command _ _ is valid calm c.in-Ok.ensures.answered) [ inl done ↦ inl done | inr found ↦ inr (inr found) ]
+
+pub returns-in-Ok-write_all-clause-other_status : goal.returns-in-Ok-write_all-clause-other_status
+returns-in-Ok-write_all-clause-other_status g c = none_unless_done _ _ _ _ _ c.in-Ok.answer c.in-Ok.found c.in-Ok.ensures.carries

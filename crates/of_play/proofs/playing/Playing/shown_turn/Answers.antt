@@ -74,7 +74,7 @@ returns-clause-line c =
     on_ok_weaker c.put_step.result
     (λ e es st. e ∙ ap (λ (xs : List ℕ). string_bytes c.args.text.now ++ xs)
     (ap (λ s. step_line p.callers (data_cells p.callers p.blocks) c.args.number s)
-    (read_is c.args.caller (table scripts_meaning c.begin_next.new.self.bank) (machine_of c.begin_next.new.self.bank c.args.caller) (machine_of c.turn-2.new.self.bank c.args.caller) c.begin_next.new.self.bank.words c.turn-2.new.self.bank.words _ _ _ _ _ _ _
-    (c.saturating_sub-index.ensures ∙ ap (λ (n : ℕ). n - 1) c.made.ensures) c.place-place.ensures c.want-op.ensures.value c.word_of-word.ensures c.word-found.ensures c.word-left.ensures c.answer.ensures)
+    (read_is c.args.caller (table scripts_meaning c.begin_next.new.self.bank) (machine_of c.begin_next.new.self.bank c.args.caller) (machine_of c.turn-2.new.self.bank c.args.caller) c.begin_next.new.self.bank.words c.turn-2.new.self.bank.words _ _ _ _ _ _ _ _
+    (c.saturating_sub-index.ensures ∙ ap (λ (n : ℕ). n - 1) c.made.ensures) c.place-place.ensures c.want-op.ensures.value c.helped-helps.ensures c.word_of-word.ensures c.word-found.ensures c.word-left.ensures c.answer.ensures)
     ∙ steps p plan c.args.caller c.requires.caller c.args.self.now c.begin_next.new.self c.turn-2.new.self c.begin_next.ensures c.in_ok-turn-2.ensures es st c.args.number (λ idle. let e = c.is_idle.ensures.1 idle in cc)))
     c.put_step.ensures

@@ -7,4 +7,4 @@ pub shown_event-requires-clause-playing : goal.shown_event-requires-clause-playi
 shown_event-requires-clause-playing c = runs_on c.args.plan.now c.args.self.now c.requires.tracing c.requires.open
 
 pub returns : goal.returns
-returns c = trace_shows c.args.plan.now (event_of c.args.event) c.args.self.now c.requires.tracing c.requires.open _ refl refl refl c.in_ok-shown_event.ensures.goes c.requires.late c.in_ok-shown_event.ensures.line
+returns c = trace_shows c.args.plan.now (event_of c.args.event) c.args.self.now c.requires.tracing c.requires.open _ refl refl refl refl c.in_ok-shown_event.ensures.goes c.requires.late c.in_ok-shown_event.ensures.line

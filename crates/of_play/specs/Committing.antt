@@ -1,0 +1,24 @@
+-- How the code tells a step that commits, and writes its line.
+use Rattle.std.specs.Prelude.{ℕ, ◌==◌, Bool, true, false, List, []}
+use Rattle.of_core.specs.Machine.{Call}
+use Rattle.of_play.specs.Trace.{batch_line}
+use Rattle.of_core.specs.declared.place.Place.{Place}
+use Rattle.of_core.specs.declared.place.Place.TheVariants.{ExchangeCurrent}
+use Rattle.of_core.specs.declared.place.Op.{Op}
+use Rattle.of_core.specs.declared.place.Op.TheVariants.{Load, Store, Exchange, Raise}
+
+-- an exchange of the current-transaction word that finds what it expects
+abbrev pub expects : Op → (found : ℕ) → Bool
+expects (Load c) found = false
+expects (Store c v) found = false
+expects (Exchange c old new) found = found == old
+expects (Raise c v) found = false
+
+abbrev pub commits_by_step : Place → Op → (found : ℕ) → Bool
+commits_by_step ExchangeCurrent op found = expects op found
+commits_by_step place op found = false
+
+-- the line of a batch, where it is committed
+abbrev pub commit_line : (commits : Bool) → (k i s : ℕ) → List Call → List ℕ
+commit_line true k i s calls = batch_line k i s calls
+commit_line false k i s calls = []

@@ -1,0 +1,71 @@
+//! The lines of commits.
+
+ghost use Rattle.std.specs.Prelude.{◌≡◌, ◌+◌, ◌++◌, map, flat_map, OnOk, string_bytes};
+ghost use Rattle.of_cell.specs.Words.{seq};
+ghost use Rattle.of_core.specs.Inside.{call_of};
+ghost use Rattle.of_play.specs.Trace.{call_part, batch_line};
+ghost use Rattle.of_play.specs.Committing.{commits_by_step, commit_line};
+
+use of_cell::seq_of;
+use of_core::{Op, Place, RanCall};
+use std::alloc::AllocError;
+use std::fmt::Write;
+
+// Whether a step from this place that finds this word commits a batch.
+fn is_commit(place: Place, op: Op, found: u64) -> bool
+    ensures { result ≡ commits_by_step place op found }
+{
+    match (place, op) {
+        (Place::ExchangeCurrent, Op::Exchange { old, .. }) => found == old,
+        _ => false,
+    }
+}
+
+// Writes which script a call is, and whose.
+fn put_call(out: &mut String, call: &RanCall) -> Result<(), AllocError>
+    ensures { OnOk result (string_bytes out.new ≡ string_bytes out.old ++ call_part (call_of call.now)) }
+{
+    write!(
+        out,
+        ", script {} of {}",
+        call.ticket.saturating_sub(1),
+        call.caller
+    )
+}
+
+// Writes the line of a commit that finds this word.
+fn put_batch(
+    out: &mut String,
+    number: u32,
+    caller: u32,
+    found: u64,
+    calls: &[RanCall],
+) -> Result<(), AllocError>
+    ensures { OnOk result (string_bytes out.new ≡ string_bytes out.old ++ batch_line number caller (seq found + 1) (map call_of calls.now)) }
+{
+    let seq = u64::from(seq_of(found)) + 1;
+    write!(out, "{number} {caller} commits {seq}")?;
+    for call in calls {
+        put_call(out, call)?;
+    }
+    out.push_str("\n")
+}
+
+/// Writes the line of a step, where it commits these calls.
+pub fn put_commit(
+    out: &mut String,
+    number: u32,
+    caller: u32,
+    place: Place,
+    op: Op,
+    found: u64,
+    calls: &[RanCall],
+) -> Result<(), AllocError>
+    ensures { OnOk result (string_bytes out.new ≡ string_bytes out.old ++ commit_line (commits_by_step place op found) number caller (seq found + 1) (map call_of calls.now)) }
+{
+    if is_commit(place, op, found) {
+        put_batch(out, number, caller, found, calls)
+    } else {
+        Ok(())
+    }
+}

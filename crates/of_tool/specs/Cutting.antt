@@ -1,0 +1,10 @@
+-- Texts one after another.
+use Rattle.std.specs.Prelude.{ℕ, zero, suc, List}
+use Rattle.of_plan.specs.Parts.{AreParts}
+
+-- this is part of the text with a number, from 1: the first part, or a part of what comes after it
+abbrev pub IsPart : (number : ℕ) → (text part : List ℕ) → Type 0
+IsPart zero text part = ⊥
+IsPart (suc zero) text part = (rest : List ℕ) × AreParts text part rest
+IsPart (suc (suc n)) text part =
+    (first : List ℕ) × (rest : List ℕ) × AreParts text first rest × IsPart (suc n) rest part

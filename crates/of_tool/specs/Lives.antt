@@ -1,0 +1,72 @@
+-- When a report and an image are those of a life that goes on from another image, and what is wrong
+-- where they aren't.
+use Rattle.std.specs.Prelude.{◌≡◌, ℕ, List}
+use Rattle.of_plan.specs.Plan.{Plan}
+use Rattle.of_plan.specs.BadLine.{HasBadLine}
+use Rattle.of_plan.specs.Report.{Report}
+use Rattle.of_plan.specs.Legal.{IsLegal}
+use Rattle.of_report.specs.ReportText.{report_text}
+use Rattle.of_report.specs.ImageRow.{Row}
+use Rattle.of_report.specs.Image.{Image, start_of}
+use Rattle.of_image.specs.declared.version.Version.TheVariants.{Two}
+use Rattle.of_image.specs.ImageText.{SpellsImage, IsImageText, image_text}
+use Rattle.of_image.specs.Parsed.{ReadsImage, IsUnlawful}
+use Rattle.of_check.specs.declared.verdict.Verdict.{Verdict}
+use Rattle.of_check.specs.declared.verdict.Verdict.TheVariants.{Legal, Illegal}
+use Rattle.of_check.specs.Verdict.{IsTextOf, IsLegalFrom}
+use Rattle.of_check.specs.Causes.{IsCauseFrom}
+use Rattle.of_check.specs.Ends.{EndsAt, BreaksLeft}
+use Rattle.of_tool.specs.declared.lived.LeftFault.{LeftFault}
+use Rattle.of_tool.specs.declared.lived.LeftFault.TheVariants.{Bad, Unlawful, NotPrinted}
+use Rattle.of_tool.specs.declared.lived.LifeCause.{LifeCause}
+use Rattle.of_tool.specs.declared.lived.LifeCause.TheVariants.{Told, Left, Ends}
+
+-- the text is the printed one of a row
+pub record IsPrinted (text : List ℕ) : Type 0 where
+  pub row : Row
+  pub spelled : SpellsImage Two text row
+  pub is : text ≡ image_text Two row
+
+-- the text is the printed one of a row in which recovery finds this image
+pub record IsLeft (text : List ℕ) (i : Image) : Type 0 where
+  pub printed : IsPrinted text
+  pub reads : ReadsImage Two text i
+
+-- The first text is that of a report which is legal for the plan from the image's start, and the
+-- second is the printed one of durable words in which recovery finds where that report ends.
+pub record IsLegalLife (i : Image) (p : Plan) (told left : List ℕ) : Type 0 where
+  pub report : Report
+  pub legal : IsLegal p (start_of i) report
+  pub text_is : told ≡ report_text report
+  pub next : Image
+  pub left_is : IsLeft left next
+  pub ends : EndsAt p (start_of i) report next
+
+-- legal exactly where it is so
+abbrev pub IsLifeVerdict : Image → Plan → (told left : List ℕ) → Verdict → Type 0
+IsLifeVerdict i p told left Legal = IsLegalLife i p told left
+IsLifeVerdict i p told left Illegal = IsLegalLife i p told left → ⊥
+
+-- why the text is not the printed one of an image
+abbrev pub IsLeftFault : List ℕ → LeftFault → Type 0
+IsLeftFault text (Bad line) = HasBadLine (IsImageText Two) text line
+IsLeftFault text (Unlawful cell) = IsUnlawful Two text cell
+IsLeftFault text NotPrinted = (i : Image) × ReadsImage Two text i × (IsPrinted text → ⊥)
+
+-- the report is legal and the image is one, but it is not where the report ends
+pub record EndsElsewhere (i : Image) (p : Plan) (told left : List ℕ) (Breaks : Report → Image → Type 0)
+    : Type 0 where
+  pub report : Report
+  pub of_it : IsTextOf p (start_of i) told report
+  pub next : Image
+  pub left_is : IsLeft left next
+  pub breaks : Breaks report next
+
+-- the first thing that is wrong: the report is not legal; or it is, and the image is none; or both
+-- are right, and the report ends elsewhere
+abbrev pub IsLifeCause : Image → Plan → (told left : List ℕ) → LifeCause → Type 0
+IsLifeCause i p told left (Told cause) = IsCauseFrom p (start_of i) told cause
+IsLifeCause i p told left (Left fault) =
+    IsLegalFrom p (start_of i) told × IsLeftFault left fault
+IsLifeCause i p told left (Ends rule) =
+    EndsElsewhere i p told left (λ report next. BreaksLeft p (start_of i) report next rule)

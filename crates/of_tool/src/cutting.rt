@@ -1,0 +1,47 @@
+//! Texts one after another, and what `part` answers.
+
+ghost use Rattle.std.specs.Prelude.{◌≡◌, ◌≤◌, IfOk};
+ghost use Rattle.of_tool.specs.declared.command.Command.TheVariants.{Part};
+ghost use Rattle.of_tool.specs.Commands.{words_of, IsPartNumber};
+ghost use Rattle.of_tool.specs.Cutting.{IsPart};
+ghost use Rattle.of_tool.specs.Verdicts.{source_state};
+ghost use Rattle.of_tool.specs.Answer.{Answered};
+
+use crate::status;
+use crate::top::{Answer, MOST_WITH_REPORT, read_input};
+use of_io::Source;
+use of_plan::parts;
+use std::alloc::{AllocError, Global};
+
+/// The part of a text with this number: 1 for the first, up to the first line `end`; empty where the
+/// text has fewer.
+pub fn part(text: &[u8], number: u32) -> &[u8]
+    requires { 1 ≤ number }
+    ensures { IsPart number text.now result.now }
+{
+    let mut rest = text;
+    for _ in 1..number {
+        rest = parts(rest).1;
+    }
+    parts(rest).0
+}
+
+/// What `part` answers.
+pub(crate) fn part_answer<S: Source>(
+    alloc: Global,
+    source: &mut S,
+    number: u32,
+) -> Result<Answer, AllocError>
+    requires { IsPartNumber number }
+    ensures { IfOk result (Answered (words_of (Part number))
+        (source_state (S.remaining source.old) (S.faults source.old))
+        (source_state (S.remaining source.new) (S.faults source.new))) }
+{
+    match read_input(alloc, source, MOST_WITH_REPORT)? {
+        Ok(bytes) => Ok(Answer {
+            status: status::DONE,
+            text: Vec::from_slice(alloc, part(&bytes, number))?,
+        }),
+        Err(answer) => Ok(answer),
+    }
+}

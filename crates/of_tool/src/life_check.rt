@@ -1,0 +1,70 @@
+//! What `check-life` answers.
+
+ghost use Rattle.std.specs.Prelude.{IfOk};
+ghost use Rattle.of_tool.specs.declared.command.Command.TheVariants.{CheckLife};
+ghost use Rattle.of_tool.specs.Commands.{words_of};
+ghost use Rattle.of_tool.specs.Verdicts.{source_state};
+ghost use Rattle.of_tool.specs.Answer.{Answered, JudgesLife};
+
+use crate::images::refused;
+use crate::lived::check_life;
+use crate::status;
+use crate::top::{Answer, MOST_WITH_REPORT, bad_plan, read_input};
+use of_check::Verdict;
+use of_image::image_parse;
+use of_io::Source;
+use of_lives::fits;
+use of_plan::{PlanErr, parse, parts};
+use std::alloc::{AllocError, Global};
+
+// What is said of a life.
+fn judged(alloc: Global, verdict: Verdict) -> Result<Answer, AllocError>
+    ensures { IfOk result (JudgesLife verdict) }
+{
+    match verdict {
+        Verdict::Legal => Ok(Answer {
+            status: status::DONE,
+            text: Vec::from_slice(alloc, b"legal life\n")?,
+        }),
+        Verdict::Illegal => Ok(Answer {
+            status: status::ILLEGAL,
+            text: Vec::from_slice(alloc, b"error: not a legal life\n")?,
+        }),
+    }
+}
+
+/// What `check-life` answers.
+pub(crate) fn life_answer<S: Source>(alloc: Global, source: &mut S) -> Result<Answer, AllocError>
+    ensures { IfOk result (Answered (words_of CheckLife)
+        (source_state (S.remaining source.old) (S.faults source.old))
+        (source_state (S.remaining source.new) (S.faults source.new))) }
+{
+    let bytes = match read_input(alloc, source, MOST_WITH_REPORT)? {
+        Ok(bytes) => bytes,
+        Err(answer) => return Ok(answer),
+    };
+    let (first, behind) = parts(&bytes);
+    let (second, others) = parts(behind);
+    let (told, left) = parts(others);
+    let plan = match parse(alloc, second) {
+        Ok(plan) => plan,
+        Err(PlanErr::Memory) => return Err(AllocError),
+        Err(PlanErr::Bad { line }) => {
+            return Ok(Answer {
+                status: status::BAD_PLAN,
+                text: bad_plan(alloc, line)?,
+            });
+        }
+    };
+    let image = match image_parse(alloc, first) {
+        Ok(image) => image,
+        Err(err) => return refused(alloc, err),
+    };
+    if !fits(&image, &plan) {
+        return Ok(Answer {
+            status: status::DOES_NOT_FIT,
+            text: Vec::from_slice(alloc, b"error: plan does not fit image\n")?,
+        });
+    }
+    judged(alloc, check_life(alloc, image, &plan, told, left)?)
+}

@@ -1,0 +1,128 @@
+//! Whether a report and an image are those of a life that goes on from another image.
+
+ghost use Rattle.std.specs.Prelude.{IfOk, MatchOption, MatchResult};
+ghost use Rattle.of_mem.specs.declared.work.TheConstants.{MOST_INSTRS};
+ghost use Rattle.of_plan.specs.Plan.{IsPlan};
+ghost use Rattle.of_report.specs.Image.{IsImage, image_of};
+ghost use Rattle.of_lives.specs.Images.{Fits};
+ghost use Rattle.of_tool.specs.Lives.{IsLeft, IsLeftFault, IsLegalLife, IsLifeVerdict, IsLifeCause};
+
+use of_check::{Cause, LeftRule, Start, Verdict, read_report, report_or_cause, tickets, why_left};
+use of_image::laws::unlawful_have_none;
+use of_image::{ImageErr, image_again, image_parse};
+use of_plan::Plan;
+use of_report::laws::one_report;
+use of_report::{Image, Report};
+use std::alloc::{AllocError, Global};
+
+/// Why a text is not the printed one of an image.
+#[derive(Clone, Copy, Debug, PartialEq, Eq)]
+pub enum LeftFault {
+    /// It is not in the grammar of images, and this is its bad line.
+    Bad { line: u64 },
+    /// It is an unlawful image, and this is its first cell at fault.
+    Unlawful { cell: u32 },
+    /// It is an image, but `image` would print it otherwise.
+    NotPrinted,
+}
+
+/// Why a report and an image are not those of a life: the first thing that is wrong.
+#[derive(Debug, Drop)]
+pub enum LifeCause {
+    /// The report is not a legal one from where the image before it left.
+    Told(Cause),
+    /// The text after the report is not the printed one of an image.
+    Left(LeftFault),
+    /// The image after the report is not where the report ends.
+    Ends(LeftRule),
+}
+
+// The image of a printed text, or why it has none.
+fn read_left(alloc: Global, text: &[u8]) -> Result<Result<Image, LeftFault>, AllocError>
+    ensures read { IfOk result (λ read. MatchResult read
+        (λ image. IsLeft text.now (image_of image)) (IsLeftFault text.now)) }
+    ensures image { IfOk result (λ read. IfOk read (λ image. IsImage MOST_INSTRS (image_of image))) }
+{
+    let image = match image_parse(alloc, text) {
+        Ok(image) => image,
+        Err(ImageErr::Memory) => return Err(AllocError),
+        Err(ImageErr::Bad { line }) => return Ok(Err(LeftFault::Bad { line })),
+        Err(ImageErr::Unlawful { cell }) => return Ok(Err(LeftFault::Unlawful { cell })),
+    };
+    let again = match image_again(alloc, text) {
+        Ok(again) => again,
+        Err(_) => return Err(AllocError),
+    };
+    if again.as_slice() != text {
+        return Ok(Err(LeftFault::NotPrinted));
+    }
+    Ok(Ok(image))
+}
+
+// A plan is within its ranges.
+fn in_range(plan: &Plan)
+    ensures { IsPlan plan.now }
+{
+    let _ = plan.callers();
+}
+
+/// Whether a report and an image are those of a life that goes on from an image by a plan: `Legal`
+/// exactly if they are, and `Illegal` exactly if they aren't. The error is that there is no memory.
+pub fn check_life(
+    alloc: Global,
+    image: Image,
+    plan: &Plan,
+    told: &[u8],
+    left: &[u8],
+) -> Result<Verdict, AllocError>
+    requires image { IsImage MOST_INSTRS (image_of image) }
+    requires fits { Fits (image_of image) plan.now }
+    ensures { IfOk result (IsLifeVerdict (image_of image) plan.now told.now left.now) }
+{
+    in_range(plan);
+    one_report();
+    unlawful_have_none();
+    let done = tickets(alloc, &image)?;
+    let start = Start::behind(alloc, image)?;
+    let Some(report) = read_report(alloc, plan, start, told)? else {
+        return Ok(Verdict::Illegal);
+    };
+    let Ok(next) = read_left(alloc, left)? else {
+        return Ok(Verdict::Illegal);
+    };
+    match why_left(plan, &done, &report, &next) {
+        None => Ok(Verdict::Legal),
+        Some(_) => Ok(Verdict::Illegal),
+    }
+}
+
+/// Why a report and an image are not those of a life that goes on from an image by a plan; nothing
+/// exactly if they are, so if `check_life` says `Legal`. The error is that there is no memory.
+pub fn why_life(
+    alloc: Global,
+    image: Image,
+    plan: &Plan,
+    told: &[u8],
+    left: &[u8],
+) -> Result<Option<LifeCause>, AllocError>
+    requires image { IsImage MOST_INSTRS (image_of image) }
+    requires fits { Fits (image_of image) plan.now }
+    ensures { IfOk result (λ found. MatchOption found
+        (IsLegalLife (image_of image) plan.now told.now left.now)
+        (IsLifeCause (image_of image) plan.now told.now left.now)) }
+{
+    let done = tickets(alloc, &image)?;
+    let start = Start::behind(alloc, image)?;
+    let report = match report_or_cause(alloc, plan, start, told)? {
+        Ok(report) => report,
+        Err(cause) => return Ok(Some(LifeCause::Told(cause))),
+    };
+    let next = match read_left(alloc, left)? {
+        Ok(next) => next,
+        Err(fault) => return Ok(Some(LifeCause::Left(fault))),
+    };
+    match why_left(plan, &done, &report, &next) {
+        None => Ok(None),
+        Some(rule) => Ok(Some(LifeCause::Ends(rule))),
+    }
+}
