@@ -1,6 +1,5 @@
 -- What stands beside an answer: the record of a run with the words that run callers at once, and none with any others.
 use Rattle.std.proofs.Common.{◌≡◌, inl, inr, ℕ, ◌+◌, ◌<◌, ◌≤◌, List, [], ◌∷◌, length, Option, None, Some, refl, sym, subst, ◌∙◌, arith}
-use Rattle.std.specs.Prelude.{⊤}
 use Rattle.std.specs.Option.{MatchOption}
 use Rattle.of_plan.specs.Plan.{Plan, stop_of}
 use Rattle.std.proofs.lemmas.Bool.Decides.{eqb_tells}
@@ -16,15 +15,16 @@ use Rattle.of_tool.specs.declared.command.Command.{Command}
 use Rattle.of_tool.specs.declared.command.Command.TheVariants.{Serial, Play, Trace, Commits, Run, Load, Check, CheckLife, Part, Image, Recover, Renumber, Migrate, Continue, Help, Version}
 use Rattle.of_tool.specs.declared.status.TheConstants.{DONE}
 use Rattle.of_tool.specs.declared.top.Answer.{Answer}
-use Rattle.of_tool.specs.Commands.{words_of, IsLoad, IsPlain, Are, IsNoCommand}
+use Rattle.of_tool.specs.Commands.{words_of, IsLoad, IsPlain, Are, IsNoCommand, RunTeam}
 use Rattle.of_caller.specs.Allowances.{AllowedBy, KeepAllowances}
 use Rattle.of_tool.specs.Ran.{AllTell, IsRunReport, IsSomeRuns}
 use Rattle.of_report.specs.LoadText.{load_text}
 use Rattle.of_row.specs.Views.{Sight}
-use Rattle.of_tool.specs.Verdicts.{Loaded, SourceState, SinkState, IsAnswer, IsWritten}
-use Rattle.of_tool.specs.Headline.{RunsPlan, LoadsPlan, ContinuesImage, LeavesTable, AllDone, IsWhole}
-use Rattle.of_tool.specs.Answer.{HoldsRun, HoldsLoad, HoldsLife, CarriesRun, CarriesLoad, CarriesLife, Carries}
-use Rattle.of_tool.proofs.CommandLemmas.{words_of_injective}
+use Rattle.of_tool.specs.Seen.{Change, Seen, Holds, IsWritten, view_of}
+use Rattle.of_tool.specs.Statuses.{IsAnswer, To, Done}
+use Rattle.of_tool.specs.Headline.{RunsPlan, LoadsPlan, ContinuesImage, RunsOnTable, LoadsOnTable, ContinuesOnTable, LeavesTable, AllDone, IsWhole}
+use Rattle.of_tool.specs.Answer.{Found, HasBeside, HoldsRun, HoldsLoad, HoldsLife, CarriesRun, CarriesLoad, CarriesLife, Carries}
+use Rattle.of_tool.proofs.CommandLemmas.{words_of_injective, same_command}
 use Rattle.of_tool.proofs.LoadReports.{done_if, one_text}
 
 -- ---- which words
@@ -38,8 +38,8 @@ plain_is_not_continue c plain e = subst IsPlain e plain
 plain_is_not_load : (c : Command) (n m : ℕ) → IsPlain c → c ≡ Load n m → ⊥
 plain_is_not_load c n m plain e = subst IsPlain e plain
 
-module _ {A : Type 0} (left : A → Option (Option ℕ)) (brakes : List A) (words : List (List ℕ)) (before after : SourceState) (answer : Answer) where
-  pub carries_none : (c : Command) → IsPlain c → Are words c → Carries left brakes words before after (answer, None)
+module _ {A : Type 0} (left : A → Option (Option ℕ)) (brakes : List A) (words : List (List ℕ)) (source : Change) (answer : Answer) where
+  pub carries_none : (c : Command) → IsPlain c → Are words c → Carries left brakes words source (answer, None)
   carries_none c plain is = record {
     run = λ h. absurd (plain_is_not_run c plain (words_of_injective c Run is.0 tt (sym is.1 ∙ h)));
     load = λ n m h. absurd (plain_is_not_load c n m plain (words_of_injective c (Load n m) is.0 h.0 (sym is.1 ∙ h.1)));
@@ -47,7 +47,7 @@ module _ {A : Type 0} (left : A → Option (Option ℕ)) (brakes : List A) (word
     none = λ h. refl;
   }
 
-  pub carries_nothing : IsNoCommand words → Carries left brakes words before after (answer, None)
+  pub carries_nothing : IsNoCommand words → Carries left brakes words source (answer, None)
   carries_nothing nothing = record {
     run = λ h. absurd (nothing Run (tt, h));
     load = λ n m h. absurd (nothing (Load n m) h);
@@ -55,13 +55,18 @@ module _ {A : Type 0} (left : A → Option (Option ℕ)) (brakes : List A) (word
     none = λ h. refl;
   }
 
-  -- there is a record only with status 0
-  pub none_unless_done : (ran : Option (Ended × Pass)) → Carries left brakes words before after (answer, ran) → (answer.status ≡ DONE → ⊥) → ran ≡ None
-  none_unless_done None h failed = refl
-  none_unless_done (Some r) h failed = h.none (λ team. elim team [
-    | inl run ↦ failed (h.run run).0
-    | inr others ↦ elim others [ inl continued ↦ failed (h.continued continued).0 | inr load ↦ failed (h.load load.0 load.1 load.2).0 ]
-  ])
+  -- a record with another status belongs to none of them
+  undone_run : (ran : Option (Ended × Pass)) → CarriesRun left brakes source (answer, ran) → (answer.status ≡ DONE → ⊥) → ran ≡ None
+  undone_run None h failed = refl
+  undone_run (Some r) h failed = absurd (failed h.0)
+
+  undone_life : (ran : Option (Ended × Pass)) → CarriesLife left brakes source (answer, ran) → (answer.status ≡ DONE → ⊥) → ran ≡ None
+  undone_life None h failed = refl
+  undone_life (Some r) h failed = absurd (failed h.0)
+
+  undone_load : (n m : ℕ) (ran : Option (Ended × Pass)) → CarriesLoad left brakes n m (answer, ran) → (answer.status ≡ DONE → ⊥) → ran ≡ None
+  undone_load n m None h failed = absurd h
+  undone_load n m (Some r) h failed = absurd (failed h.0)
 
   module _ (ran : Option (Ended × Pass)) where
     -- what an answer to this load carries
@@ -83,33 +88,29 @@ module _ {A : Type 0} (left : A → Option (Option ℕ)) (brakes : List A) (word
     LoadOf Help = Unit {0}
     LoadOf Version = Unit {0}
 
-    pub carries_run : words ≡ words_of Run → CarriesRun left brakes before after (answer, ran) → Carries left brakes words before after (answer, ran)
+    pub carries_run : words ≡ words_of Run → CarriesRun left brakes source (answer, ran) → Carries left brakes words source (answer, ran)
     carries_run is h = record {
       run = λ k. h;
       load = λ n m k. absurd (let e = words_of_injective Run (Load n m) tt k.0 (sym is ∙ k.1) in cc);
       continued = λ k. absurd (let e = words_of_injective Run Continue tt tt (sym is ∙ k) in cc);
-      none = λ k. absurd (k (inl is));
+      none = λ k. absurd (k (record { command = Run; are = (tt, is); team = λ p. p }));
     }
 
-    pub carries_life : words ≡ words_of Continue → CarriesLife left brakes before after (answer, ran) → Carries left brakes words before after (answer, ran)
+    pub carries_life : words ≡ words_of Continue → CarriesLife left brakes source (answer, ran) → Carries left brakes words source (answer, ran)
     carries_life is h = record {
       run = λ k. absurd (let e = words_of_injective Continue Run tt tt (sym is ∙ k) in cc);
       load = λ n m k. absurd (let e = words_of_injective Continue (Load n m) tt k.0 (sym is ∙ k.1) in cc);
       continued = λ k. h;
-      none = λ k. absurd (k (inr (inl is)));
+      none = λ k. absurd (k (record { command = Continue; are = (tt, is); team = λ p. p }));
     }
 
-    pub carries_load : (n m : ℕ) → Are words (Load n m) → CarriesLoad left brakes n m (answer, ran) → Carries left brakes words before after (answer, ran)
+    pub carries_load : (n m : ℕ) → Are words (Load n m) → CarriesLoad left brakes n m (answer, ran) → Carries left brakes words source (answer, ran)
     carries_load n m is h = record {
       run = λ k. absurd (let e = words_of_injective (Load n m) Run is.0 tt (sym is.1 ∙ k) in cc);
       load = λ k l there. subst LoadOf (words_of_injective (Load n m) (Load k l) is.0 there.0 (sym is.1 ∙ there.1)) h;
       continued = λ k. absurd (let e = words_of_injective (Load n m) Continue is.0 tt (sym is.1 ∙ k) in cc);
-      none = λ k. absurd (k (inr (inr (n, m, is))));
+      none = λ k. absurd (k (record { command = Load n m; are = is; team = λ p. p }));
     }
-
--- an answer to a command is one to its words
-pub plain_answers : (words : List (List ℕ)) (c : Command) (before after : SourceState) (status : ℕ) (text : List ℕ) → Are words c → IsAnswer (words_of c) before after status text → IsAnswer words before after status text
-plain_answers words c before after status text is h = subst (λ (ws : List (List ℕ)). IsAnswer ws before after status text) (sym is.1) h
 
 -- ---- what the brakes tell of a load
 
@@ -148,38 +149,70 @@ holds_load left brakes n m p r text e w is load enough run text_is =
 pub some_run : {A : Type 0} {left : A → Option (Option ℕ)} {brakes : List A} (p : Plan) (r : Report) (e : Record) (w : Sight) → IsRunReport left brakes p r e w → IsSomeRuns p r
 some_run p r e w h = record { left = e; seen = w; course = h.course; history = h.promises.history; real = h.real; table = h.table }
 
-pub load_answers : {A : Type 0} (left : A → Option (Option ℕ)) (brakes : List A) (words : List (List ℕ)) (before after : SourceState) (n m : ℕ) (found : Answer × Option (Ended × Pass)) → Are words (Load n m) → CarriesLoad left brakes n m found
-    → IsAnswer words before after found.0.status found.0.text.items
-load_answers left brakes words before after n m (answer, None) is h = absurd h
-load_answers left brakes words before after n m (answer, Some r) is h = record { verdict = Loaded n m h.1.report; cause = (is, some_run (generated n m) h.1.report (run_of r.0) r.1.seat.me.0 h.1.run); status_is = h.0; text_is = h.1.text_is }
+pub load_answers : {A : Type 0} (left : A → Option (Option ℕ)) (brakes : List A) (words : List (List ℕ)) (source : Change) (n m : ℕ) (found : Found) → Are words (Load n m) → CarriesLoad left brakes n m found
+    → IsAnswer words source found.0.status found.0.text.items
+load_answers left brakes words source n m (answer, None) is h = absurd h
+load_answers left brakes words source n m (answer, Some r) is h =
+    To (Load n m) is (Done h.0 (record { report = h.1.report; run = some_run (generated n m) h.1.report (run_of r.0) (view_of r.1) h.1.run; text_is = h.1.text_is }))
+
+-- ---- where there is a record
+
+module _ {A : Type 0} (left : A → Option (Option ℕ)) (brakes : List A) (source : Change) (answer : Answer) where
+  module _ (words : List (List ℕ)) (ran : Option (Ended × Pass)) (h : Carries left brakes words source (answer, ran)) where
+    plain_none : (c : Command) → Are words c → IsPlain c → ran ≡ None
+    plain_none c is plain = h.none (λ team. team.team (subst IsPlain (same_command words c team.command is team.are) plain))
+
+    -- a record without status 0, of a command that runs callers at once
+    undone : (c : Command) → Are words c → (answer.status ≡ DONE → ⊥) → ran ≡ None
+    undone Run is failed = undone_run left brakes words source answer ran (h.run is.1) failed
+    undone (Load n m) is failed = undone_load left brakes words source answer n m ran (h.load n m is) failed
+    undone Continue is failed = undone_life left brakes words source answer ran (h.continued is.1) failed
+    undone Serial is failed = plain_none Serial is tt
+    undone Play is failed = plain_none Play is tt
+    undone (Trace f k) is failed = plain_none (Trace f k) is tt
+    undone Commits is failed = plain_none Commits is tt
+    undone Check is failed = plain_none Check is tt
+    undone CheckLife is failed = plain_none CheckLife is tt
+    undone (Part n) is failed = plain_none (Part n) is tt
+    undone Image is failed = plain_none Image is tt
+    undone Recover is failed = plain_none Recover is tt
+    undone Renumber is failed = plain_none Renumber is tt
+    undone Migrate is failed = plain_none Migrate is tt
+    undone Help is failed = plain_none Help is tt
+    undone Version is failed = plain_none Version is tt
+
+  -- there is a record only of such a command, and only with status 0
+  failed_none : (words : List (List ℕ)) (ran : Option (Ended × Pass)) → Carries left brakes words source (answer, ran) → (answer.status ≡ DONE → ⊥) → ran ≡ None
+  failed_none words None h failed = refl
+  failed_none words (Some r) h failed = h.none (λ team. let e = undone words (Some r) h team.command team.are failed in cc)
+
+  pub no_record : (words : List (List ℕ)) (ran : Option (Ended × Pass)) → Carries left brakes words source (answer, ran) → (RunTeam words × (answer.status ≡ DONE) → ⊥) → ran ≡ None
+  no_record words ran h neither = elim (eqb_tells answer.status DONE) [
+    | inl done ↦ h.none (λ team. neither (team, done.1))
+    | inr failed ↦ failed_none words ran h failed.1
+  ]
 
 -- ---- once the text is written
 
-module _ {A : Type 0} (left : A → Option (Option ℕ)) (brakes : List A) (old new : SinkState) where
-  abbrev loads_plan : (n m : ℕ) (text : List ℕ) (e : Record) (w : Sight) → HoldsLoad left brakes n m text e w → IsWritten old new text → LoadsPlan left brakes n m old new e
+module _ {A : Type 0} (left : A → Option (Option ℕ)) (brakes : List A) (seen : Seen) where
+  abbrev loads_plan : (n m : ℕ) (text : List ℕ) (e : Record) (w : Sight) → HoldsLoad left brakes n m text e w → IsWritten seen text → LoadsPlan left brakes n m seen e
   loads_plan n m text e w h written = record {
     course = h.run.course;
     report = h.report;
-    prints = record { written = subst (IsWritten old new) h.text_is written; promises = h.run.promises; whole = h.whole };
+    prints = record { written = subst (IsWritten seen) h.text_is written; promises = h.run.promises; whole = h.whole };
     real = h.run.real;
   }
 
-  pub load_told : (answer : Answer) (n m : ℕ) (ran : Option (Ended × Pass)) → CarriesLoad left brakes n m (answer, ran) → IsWritten old new answer.text.items
-      → MatchOption ran ⊥ (λ r. LoadsPlan left brakes n m old new (run_of r.0))
-  load_told answer n m None h w = h
-  load_told answer n m (Some r) h w = loads_plan n m answer.text.items (run_of r.0) r.1.seat.me.0 h.1 w
-
-module _ {A : Type 0} (left : A → Option (Option ℕ)) (brakes : List A) (before after : SourceState) (old new : SinkState) where
-  abbrev runs_plan : (text : List ℕ) (e : Record) (w : Sight) → HoldsRun left brakes before after text e w → IsWritten old new text → RunsPlan left brakes before after old new e
+  abbrev runs_plan : (text : List ℕ) (e : Record) (w : Sight) → HoldsRun left brakes seen.source text e w → IsWritten seen text → RunsPlan left brakes seen e
   runs_plan text e w h written = record {
     plan = h.plan;
     course = h.run.course;
     report = h.report;
-    prints = record { read = h.read; written = subst (IsWritten old new) h.text_is written; promises = h.run.promises };
+    prints = record { read = h.read; written = subst (IsWritten seen) h.text_is written; promises = h.run.promises };
     real = h.run.real;
   }
 
-  abbrev continues_image : (text : List ℕ) (e : Record) (w : Sight) → HoldsLife left brakes before after text e w → IsWritten old new text → ContinuesImage left brakes before after old new e
+  abbrev continues_image : (text : List ℕ) (e : Record) (w : Sight) → HoldsLife left brakes seen.source text e w → IsWritten seen text → ContinuesImage left brakes seen e
   continues_image text e w h written = record {
     image = h.image;
     plan = h.plan;
@@ -187,7 +220,7 @@ module _ {A : Type 0} (left : A → Option (Option ℕ)) (brakes : List A) (befo
     report = h.writes.report;
     prints = record {
       read = h.read;
-      written = subst (IsWritten old new) h.writes.text_is written;
+      written = subst (IsWritten seen) h.writes.text_is written;
       promises = h.writes.life.promises;
       goes_on = h.writes.life.goes_on;
     };
@@ -195,22 +228,55 @@ module _ {A : Type 0} (left : A → Option (Option ℕ)) (brakes : List A) (befo
   }
 
   module _ (answer : Answer) where
-    pub run_told : (ran : Option (Ended × Pass)) → CarriesRun left brakes before after (answer, ran) → answer.status ≡ DONE → IsWritten old new answer.text.items
-        → MatchOption ran ⊥ (λ r. RunsPlan left brakes before after old new (run_of r.0))
-    run_told None h done w = h done
-    run_told (Some r) h done w = runs_plan answer.text.items (run_of r.0) r.1.seat.me.0 h.1 w
+    pub load_told : (n m : ℕ) (ran : Option (Ended × Pass)) → CarriesLoad left brakes n m (answer, ran) → IsWritten seen answer.text.items
+        → Holds ran (λ e w. LoadsPlan left brakes n m seen e)
+    load_told n m None h w = h
+    load_told n m (Some r) h w = loads_plan n m answer.text.items (run_of r.0) (view_of r.1) h.1 w
 
-    pub life_told : (ran : Option (Ended × Pass)) → CarriesLife left brakes before after (answer, ran) → answer.status ≡ DONE → IsWritten old new answer.text.items
-        → MatchOption ran ⊥ (λ r. ContinuesImage left brakes before after old new (run_of r.0))
+    pub run_told : (ran : Option (Ended × Pass)) → CarriesRun left brakes seen.source (answer, ran) → answer.status ≡ DONE → IsWritten seen answer.text.items
+        → Holds ran (λ e w. RunsPlan left brakes seen e)
+    run_told None h done w = h done
+    run_told (Some r) h done w = runs_plan answer.text.items (run_of r.0) (view_of r.1) h.1 w
+
+    pub life_told : (ran : Option (Ended × Pass)) → CarriesLife left brakes seen.source (answer, ran) → answer.status ≡ DONE → IsWritten seen answer.text.items
+        → Holds ran (λ e w. ContinuesImage left brakes seen e)
     life_told None h done w = h done
-    life_told (Some r) h done w = continues_image answer.text.items (run_of r.0) r.1.seat.me.0 h.1 w
+    life_told (Some r) h done w = continues_image answer.text.items (run_of r.0) (view_of r.1) h.1 w
 
     -- and what the table and the pass have
-    pub table_told : (words : List (List ℕ)) (ran : Option (Ended × Pass)) → Carries left brakes words before after (answer, ran) → IsWritten old new answer.text.items
-        → MatchOption ran ⊤ (λ r. LeavesTable left brakes words before after old new (run_of r.0) r.1.seat.me.0)
-    table_told words None h w = tt
-    table_told words (Some r) h w = record {
-      run = λ is. record { runs = runs_plan answer.text.items (run_of r.0) r.1.seat.me.0 (h.run is).1 w; table = (h.run is).1.run.table };
-      load = λ n m is. record { loads = loads_plan left brakes old new n m answer.text.items (run_of r.0) r.1.seat.me.0 (h.load n m is).1 w; table = (h.load n m is).1.run.table };
-      continued = λ is. record { continues = continues_image answer.text.items (run_of r.0) r.1.seat.me.0 (h.continued is).1 w; table = (h.continued is).1.writes.life.table };
-    }
+    run_table : (ran : Option (Ended × Pass)) → CarriesRun left brakes seen.source (answer, ran) → answer.status ≡ DONE → IsWritten seen answer.text.items
+        → Holds ran (λ e w. RunsOnTable left brakes seen e w)
+    run_table None h done w = h done
+    run_table (Some r) h done w = record { runs = runs_plan answer.text.items (run_of r.0) (view_of r.1) h.1 w; table = h.1.run.table }
+
+    load_table : (n m : ℕ) (ran : Option (Ended × Pass)) → CarriesLoad left brakes n m (answer, ran) → IsWritten seen answer.text.items
+        → Holds ran (λ e w. LoadsOnTable left brakes n m seen e w)
+    load_table n m None h w = h
+    load_table n m (Some r) h w = record { loads = loads_plan n m answer.text.items (run_of r.0) (view_of r.1) h.1 w; table = h.1.run.table }
+
+    life_table : (ran : Option (Ended × Pass)) → CarriesLife left brakes seen.source (answer, ran) → answer.status ≡ DONE → IsWritten seen answer.text.items
+        → Holds ran (λ e w. ContinuesOnTable left brakes seen e w)
+    life_table None h done w = h done
+    life_table (Some r) h done w = record { continues = continues_image answer.text.items (run_of r.0) (view_of r.1) h.1 w; table = h.1.writes.life.table }
+
+    module _ (words : List (List ℕ)) (ran : Option (Ended × Pass)) (h : Carries left brakes words seen.source (answer, ran)) where
+      none_here : (c : Command) → Are words c → IsPlain c → ran ≡ None
+      none_here = plain_none left brakes seen.source answer words ran h
+
+      pub table_told : (c : Command) → Are words c → answer.status ≡ DONE → IsWritten seen answer.text.items → LeavesTable left brakes c seen ran
+      table_told Run is done w = run_table ran (h.run is.1) done w
+      table_told (Load n m) is done w = load_table n m ran (h.load n m is) w
+      table_told Continue is done w = life_table ran (h.continued is.1) done w
+      table_told Serial is done w = none_here Serial is tt
+      table_told Play is done w = none_here Play is tt
+      table_told (Trace f k) is done w = none_here (Trace f k) is tt
+      table_told Commits is done w = none_here Commits is tt
+      table_told Check is done w = none_here Check is tt
+      table_told CheckLife is done w = none_here CheckLife is tt
+      table_told (Part n) is done w = none_here (Part n) is tt
+      table_told Image is done w = none_here Image is tt
+      table_told Recover is done w = none_here Recover is tt
+      table_told Renumber is done w = none_here Renumber is tt
+      table_told Migrate is done w = none_here Migrate is tt
+      table_told Help is done w = none_here Help is tt
+      table_told Version is done w = none_here Version is tt

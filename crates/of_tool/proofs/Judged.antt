@@ -11,23 +11,22 @@ use Rattle.of_tool.specs.declared.command.Command.TheVariants.{Check}
 use Rattle.of_tool.specs.declared.top.Answer.{Answer}
 use Rattle.of_tool.specs.declared.top.TheConstants.{MOST_WITH_REPORT}
 use Rattle.of_tool.specs.Answer.{Judges}
-use Rattle.of_tool.specs.Commands.{words_of}
-use Rattle.of_tool.specs.Verdicts.{FoundLegal, FoundIllegal, SourceState, ReadsAll, IsAnswer}
+use Rattle.of_tool.specs.Seen.{Change, ReadsAll}
+use Rattle.of_tool.specs.Inputs.{PlanAndReport}
+use Rattle.of_tool.specs.Refusals.{Illegal as IsIllegalOne}
+use Rattle.of_tool.specs.Statuses.{IsAnswerTo, Done, Refused}
 
-pub found : (before after : SourceState) (bytes first report : List ℕ) (p : Plan) (v : CheckVerdict) (a : Answer) → ReadsAll MOST_WITH_REPORT before after bytes → AreParts bytes first report → SpellsPlan first p → IsVerdict p report v → Judges v a
-    → IsAnswer (words_of Check) before after a.status a.text.items
-found before after bytes first report p Legal a read are spelled says judges = record {
-  verdict = FoundLegal;
-  cause = (refl, record { plan = p; report = report; read = record { bytes = bytes; first = first; read = read; parts = are; spelled = spelled }; legal = says });
-  status_is = judges.0;
-  text_is = judges.1;
-}
-found before after bytes first report p Illegal a read are spelled says judges = record {
-  verdict = FoundIllegal;
-  cause = (refl, record { plan = p; report = report; read = record { bytes = bytes; first = first; read = read; parts = are; spelled = spelled }; illegal = says });
-  status_is = judges.0;
-  text_is = judges.1;
-}
+pub found : (source : Change) (bytes first report : List ℕ) (p : Plan) (v : CheckVerdict) (a : Answer) → ReadsAll MOST_WITH_REPORT source bytes → AreParts bytes first report → SpellsPlan first p → IsVerdict p report v → Judges v a
+    → IsAnswerTo Check source a.status a.text.items
+found source bytes first report p Legal a read are spelled says judges =
+    Done judges.0 (record { legal = record { plan = p; report = report; read = record { bytes = bytes; first = first; read = read; parts = are; spelled = spelled }; legal = says }; text_is = judges.1 })
+found source bytes first report p Illegal a read are spelled says judges =
+    Refused PlanAndReport refl (record {
+      why = IsIllegalOne;
+      cause = record { plan = p; report = report; read = record { bytes = bytes; first = first; read = read; parts = are; spelled = spelled }; illegal = says };
+      status_is = judges.0;
+      text_is = judges.1;
+    })
 
 pub answered_so : {E : Type 0} (r : Result Answer E) (P Q : Answer → Type 0) → ((a : Answer) → P a → Q a) → IfOk r P → IfOk r Q
 answered_so (Ok a) P Q h made = h a made

@@ -1,5 +1,9 @@
-pub mod ImageAnswers
 pub mod CommandLemmas
+pub mod Readings
+pub mod Telling
+pub mod Completeness
+pub mod OneStatus
+pub mod ImageAnswers
 pub mod Judged
 pub mod WithSchedule
 pub mod Promises
@@ -8,7 +12,6 @@ pub mod LoadStores
 pub mod LoadReports
 pub mod Carried
 pub mod PlayedImages
-pub mod Continuing
 pub mod Lives
 pub mod PartNumbers
 pub mod LifeAnswers

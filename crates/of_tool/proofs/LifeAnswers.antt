@@ -18,62 +18,47 @@ use Rattle.of_tool.specs.declared.command.Command.TheVariants.{CheckLife}
 use Rattle.of_tool.specs.declared.top.Answer.{Answer}
 use Rattle.of_tool.specs.declared.top.TheConstants.{MOST_WITH_REPORT}
 use Rattle.of_tool.specs.Answer.{TellsRefusal, JudgesLife}
-use Rattle.of_tool.specs.Commands.{words_of}
 use Rattle.of_tool.specs.Lives.{IsLifeVerdict}
 use Rattle.of_tool.specs.declared.status.TheConstants.{BAD_PLAN, DOES_NOT_FIT}
-use Rattle.of_tool.specs.Verdicts.{SourceState, ReadsAll, ReadsFour, IsAnswer, BadPlan, BadImage, UnlawfulImage, LifeDoesNotFit, FoundLegalLife, FoundIllegalLife}
+use Rattle.of_tool.specs.Seen.{Change, ReadsAll}
+use Rattle.of_tool.specs.Inputs.{WholeLife, ReadsFour}
+use Rattle.of_tool.specs.Refusals.{Refusal, BadPlan, BadImage, UnlawfulImage, DoesNotFit, Illegal as IsIllegalOne, status_of, text_of, IsRefused as IsRefusedFor}
+use Rattle.of_tool.specs.Statuses.{IsAnswerTo, Done, Refused}
 
-module _ (before after : SourceState) (bytes first behind second others : List ℕ) (read : ReadsAll MOST_WITH_REPORT before after bytes) (parts : AreParts bytes first behind) (second_parts : AreParts behind second others) where
+-- an input of four parts was refused
+refused : (source : Change) (status : ℕ) (text : List ℕ) (why : Refusal) → IsRefusedFor WholeLife source why → status ≡ status_of why → text ≡ text_of WholeLife why → IsAnswerTo CheckLife source status text
+refused source status text why cause status_is text_is = Refused WholeLife refl (record { why = why; cause = cause; status_is = status_is; text_is = text_is })
+
+module _ (source : Change) (bytes first behind second others : List ℕ) (read : ReadsAll MOST_WITH_REPORT source bytes) (parts : AreParts bytes first behind) (second_parts : AreParts behind second others) where
   -- the second part is no plan's text
-  pub life_planless : (line : ℕ) (text : List ℕ) → HasBadLine IsPlanText second line → text ≡ codes "error: bad plan, line " ++ decimal line ++ codes "\n" → IsAnswer (words_of CheckLife) before after BAD_PLAN text
-  life_planless line text bad text_is = record {
-    verdict = BadPlan line;
-    cause = inr (inr (inr (refl, record { bytes = bytes; first = first; behind = behind; second = second; others = others; read = read; parts = parts; second_parts = second_parts; bad = bad })));
-    status_is = refl;
-    text_is = text_is;
-  }
+  pub life_planless : (line : ℕ) (text : List ℕ) → HasBadLine IsPlanText second line → text ≡ codes "error: bad plan, line " ++ decimal line ++ codes "\n" → IsAnswerTo CheckLife source BAD_PLAN text
+  life_planless line text bad text_is =
+      refused source BAD_PLAN text (BadPlan line) (record { bytes = bytes; first = first; behind = behind; second = second; others = others; read = read; parts = parts; second_parts = second_parts; bad = bad }) refl text_is
 
   module _ (told left : List ℕ) (last_parts : AreParts others told left) (plan : Plan) (spelled : SpellsPlan second plan) where
-    four : (Holds : List ℕ → Type 0) → Holds first → ReadsFour Holds before after plan told left
-    four Holds h = record { bytes = bytes; first = first; behind = behind; second = second; others = others; read = read; parts = parts; second_parts = second_parts; last_parts = last_parts; holds = h; spelled = spelled }
+    four : (Is : List ℕ → Type 0) → Is first → ReadsFour Is source plan told left
+    four Is h = record { bytes = bytes; first = first; behind = behind; second = second; others = others; read = read; parts = parts; second_parts = second_parts; last_parts = last_parts; is = h; spelled = spelled }
 
     -- the first part has no image
-    pub life_refused : (err : ImageErr) (answer : Answer) → IsRefused Two first err → TellsRefusal err answer → IsAnswer (words_of CheckLife) before after answer.status answer.text.items
+    pub life_refused : (err : ImageErr) (answer : Answer) → IsRefused Two first err → TellsRefusal err answer → IsAnswerTo CheckLife source answer.status answer.text.items
     life_refused Memory answer h t = absurd t
-    life_refused (Bad line) answer h t = record {
-      verdict = BadImage line;
-      cause = inr (inr (refl, (plan, told, left, four (λ text. HasBadLine (IsImageText Two) text line) h)));
-      status_is = t.0;
-      text_is = t.1;
-    }
-    life_refused (Unlawful cell) answer h t = record {
-      verdict = UnlawfulImage cell;
-      cause = inr (inr (refl, (plan, told, left, four (λ text. IsUnlawful Two text cell) h)));
-      status_is = t.0;
-      text_is = t.1;
-    }
+    life_refused (Bad line) answer h t =
+        refused source answer.status answer.text.items (BadImage line) (record { plan = plan; told = told; left = left; read = four (λ text. HasBadLine (IsImageText Two) text line) h }) t.0 t.1
+    life_refused (Unlawful cell) answer h t =
+        refused source answer.status answer.text.items (UnlawfulImage cell) (record { plan = plan; told = told; left = left; read = four (λ text. IsUnlawful Two text cell) h }) t.0 t.1
 
     module _ (image : Image) (reads : ReadsImage Two first image) where
       -- the plan doesn't fit the image
-      pub life_misfit : (text : List ℕ) → (Fits image plan → ⊥) → text ≡ codes "error: plan does not fit image\n" → IsAnswer (words_of CheckLife) before after DOES_NOT_FIT text
-      life_misfit text misfit text_is = record {
-        verdict = LifeDoesNotFit;
-        cause = (refl, record { image = image; plan = plan; told = told; left = left; read = four (λ text. ReadsImage Two text image) reads; misfit = misfit });
-        status_is = refl;
-        text_is = text_is;
-      }
+      pub life_misfit : (text : List ℕ) → (Fits image plan → ⊥) → text ≡ codes "error: plan does not fit image\n" → IsAnswerTo CheckLife source DOES_NOT_FIT text
+      life_misfit text misfit text_is =
+          refused source DOES_NOT_FIT text DoesNotFit (record { image = image; plan = plan; told = told; left = left; read = four (λ text. ReadsImage Two text image) reads; misfit = misfit }) refl text_is
 
       -- the life was judged
-      pub life_found : Fits image plan → (v : CheckVerdict) (answer : Answer) → IsLifeVerdict image plan told left v → JudgesLife v answer → IsAnswer (words_of CheckLife) before after answer.status answer.text.items
-      life_found fits Legal answer says judges = record {
-        verdict = FoundLegalLife;
-        cause = (refl, record { image = image; plan = plan; told = told; left = left; read = four (λ text. ReadsImage Two text image) reads; fits = fits; legal = says });
-        status_is = judges.0;
-        text_is = judges.1;
-      }
-      life_found fits Illegal answer says judges = record {
-        verdict = FoundIllegalLife;
-        cause = (refl, record { image = image; plan = plan; told = told; left = left; read = four (λ text. ReadsImage Two text image) reads; fits = fits; illegal = says });
-        status_is = judges.0;
-        text_is = judges.1;
-      }
+      pub life_found : Fits image plan → (v : CheckVerdict) (answer : Answer) → IsLifeVerdict image plan told left v → JudgesLife v answer → IsAnswerTo CheckLife source answer.status answer.text.items
+      life_found fits Legal answer says judges =
+          Done judges.0 (record {
+            legal = record { image = image; plan = plan; told = told; left = left; read = four (λ text. ReadsImage Two text image) reads; fits = fits; legal = says };
+            text_is = judges.1;
+          })
+      life_found fits Illegal answer says judges =
+          refused source answer.status answer.text.items IsIllegalOne (record { image = image; plan = plan; told = told; left = left; read = four (λ text. ReadsImage Two text image) reads; fits = fits; illegal = says }) judges.0 judges.1

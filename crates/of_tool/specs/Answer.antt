@@ -1,5 +1,6 @@
--- How an answer that is made before it is written stands for a verdict, and what the record of a run is beside it.
-use Rattle.std.specs.Prelude.{◌≡◌, ℕ, List, Option, None, MatchOption, ◌++◌, codes, decimal}
+-- How an answer that is made before it is written stands for what a command does, and what the record
+-- of a run is beside it.
+use Rattle.std.specs.Prelude.{◌≡◌, ℕ, List, Option, None, Some, MatchOption, ◌++◌, codes, decimal}
 use Rattle.of_plan.specs.Plan.{Plan}
 use Rattle.of_plan.specs.Report.{Report}
 use Rattle.of_plan.specs.Ended.{Run as Record, run_of}
@@ -12,47 +13,48 @@ use Rattle.of_row.specs.Views.{Sight}
 use Rattle.of_row.specs.declared.member.Pass.{Pass}
 use Rattle.of_image.specs.declared.error.ImageErr.{ImageErr}
 use Rattle.of_image.specs.declared.error.ImageErr.TheVariants.{Memory, Bad, Unlawful}
-use Rattle.of_image.specs.declared.version.Version.{Version}
 use Rattle.of_check.specs.declared.verdict.Verdict.{Verdict}
 use Rattle.of_check.specs.declared.verdict.Verdict.TheVariants.{Legal, Illegal}
 use Rattle.of_tool.specs.declared.status.TheConstants.{DONE, BAD_IMAGE, ILLEGAL}
 use Rattle.of_tool.specs.declared.top.Answer.{Answer}
+use Rattle.of_tool.specs.declared.command.Command.{Command}
 use Rattle.of_tool.specs.declared.command.Command.TheVariants.{Run, Load, Continue}
 use Rattle.of_tool.specs.Commands.{words_of, Are, RunTeam}
 use Rattle.of_tool.specs.Ran.{IsRunReport}
 use Rattle.of_tool.specs.Continued.{WritesLife}
-use Rattle.of_tool.specs.Verdicts.{SourceState, IsAnswer, ReadsPlan, ReadsLife, AskForPlan, AskForImage, AsksUpTo}
+use Rattle.of_tool.specs.Seen.{Change, view_of}
+use Rattle.of_tool.specs.Inputs.{Input, most_of, ReadsPlan, ReadsLife}
+use Rattle.of_tool.specs.Refusals.{IsRefusal}
+use Rattle.of_tool.specs.Statuses.{IsAnswerTo}
 use Rattle.of_tool.specs.Headline.{IsWhole}
 
-abbrev pub Answered : List (List ℕ) → SourceState → SourceState → Answer → Type 0
-Answered words before after answer = IsAnswer words before after answer.status answer.text.items
+-- it is one of the command
+abbrev pub Answered : Command → Change → Answer → Type 0
+Answered command source answer = IsAnswerTo command source answer.status answer.text.items
 
--- it is one of each command that reads a plan, and not done
-abbrev pub Refuses : SourceState → SourceState → Answer → Type 0
-Refuses before after answer = ((words : List (List ℕ)) → AskForPlan words → IsAnswer words before after answer.status answer.text.items) × (answer.status ≡ DONE → ⊥)
+-- it refuses an input of this kind
+abbrev pub Refuses : Input → Change → Answer → Type 0
+Refuses input source answer = IsRefusal input source answer.status answer.text.items
 
--- it is one of each command that reads an image of this version
-abbrev pub RefusesImage : Version → SourceState → SourceState → Answer → Type 0
-RefusesImage v before after answer = (words : List (List ℕ)) → AskForImage v words → IsAnswer words before after answer.status answer.text.items
-
--- it is one of `continue`, and not done
-abbrev pub RefusesLife : SourceState → SourceState → Answer → Type 0
-RefusesLife before after answer = IsAnswer (words_of Continue) before after answer.status answer.text.items × (answer.status ≡ DONE → ⊥)
+-- it refuses an input of each kind that has so many bytes at most
+abbrev pub RefusesUpTo : (most : ℕ) → Change → Answer → Type 0
+RefusesUpTo most source answer = (input : Input) → most_of input ≡ most → Refuses input source answer
 
 -- it tells why a text has no image
 abbrev pub TellsRefusal : ImageErr → Answer → Type 0
 TellsRefusal Memory answer = ⊥
-TellsRefusal (Bad line) answer = (answer.status ≡ BAD_IMAGE) × (answer.text.items ≡ codes "error: bad image, line " ++ decimal line ++ codes "\n")
-TellsRefusal (Unlawful cell) answer = (answer.status ≡ BAD_IMAGE) × (answer.text.items ≡ codes "error: unlawful image, cell " ++ decimal cell ++ codes "\n")
-
--- it is one of each command that reads so many bytes at most, and not done
-abbrev pub RefusesUpTo : ℕ → SourceState → SourceState → Answer → Type 0
-RefusesUpTo most before after answer = ((words : List (List ℕ)) → AsksUpTo words most → IsAnswer words before after answer.status answer.text.items) × (answer.status ≡ DONE → ⊥)
+TellsRefusal (Bad line) answer =
+    (answer.status ≡ BAD_IMAGE)
+    × (answer.text.items ≡ codes "error: bad image, line " ++ decimal line ++ codes "\n")
+TellsRefusal (Unlawful cell) answer =
+    (answer.status ≡ BAD_IMAGE)
+    × (answer.text.items ≡ codes "error: unlawful image, cell " ++ decimal cell ++ codes "\n")
 
 -- the answer of `check`
 abbrev pub Judges : Verdict → Answer → Type 0
 Judges Legal answer = (answer.status ≡ DONE) × (answer.text.items ≡ codes "legal report\n")
-Judges Illegal answer = (answer.status ≡ ILLEGAL) × (answer.text.items ≡ codes "error: not a legal report\n")
+Judges Illegal answer =
+    (answer.status ≡ ILLEGAL) × (answer.text.items ≡ codes "error: not a legal report\n")
 
 -- the answer of `check-life`
 abbrev pub JudgesLife : Verdict → Answer → Type 0
@@ -63,45 +65,61 @@ JudgesLife Illegal answer =
 -- ---- the record of a run beside an answer
 
 -- the text is that of the report of the record, which is of the plan that was read
-pub record HoldsRun {A : Type 0} (left : A → Option (Option ℕ)) (brakes : List A) (before after : SourceState) (text : List ℕ) (e : Record) (w : Sight) : Type 0 where
+pub record HoldsRun {A : Type 0} (left : A → Option (Option ℕ)) (brakes : List A) (source : Change)
+    (text : List ℕ) (e : Record) (w : Sight) : Type 0 where
   pub plan : Plan
-  pub read : ReadsPlan before after plan
+  pub read : ReadsPlan source plan
   pub report : Report
   pub run : IsRunReport left brakes plan report e w
   pub text_is : text ≡ report_text report
 
 -- the text is the summary of the report of the record, which is of the plan of a load
-pub record HoldsLoad {A : Type 0} (left : A → Option (Option ℕ)) (brakes : List A) (callers scripts : ℕ) (text : List ℕ) (e : Record) (w : Sight) : Type 0 where
+pub record HoldsLoad {A : Type 0} (left : A → Option (Option ℕ)) (brakes : List A)
+    (callers scripts : ℕ) (text : List ℕ) (e : Record) (w : Sight) : Type 0 where
   pub report : Report
   pub run : IsRunReport left brakes (generated callers scripts) report e w
   pub whole : IsWhole left brakes (generated callers scripts) report
   pub text_is : text ≡ load_text report
 
--- the text is that of a life with this record, which has gone on from the image by the plan that were read
-pub record HoldsLife {A : Type 0} (left : A → Option (Option ℕ)) (brakes : List A) (before after : SourceState) (text : List ℕ) (e : Record) (w : Sight) : Type 0 where
+-- the text is that of a life with this record, which has gone on from the image by the plan that
+-- were read
+pub record HoldsLife {A : Type 0} (left : A → Option (Option ℕ)) (brakes : List A) (source : Change)
+    (text : List ℕ) (e : Record) (w : Sight) : Type 0 where
   pub image : Image
   pub plan : Plan
-  pub read : ReadsLife before after image plan
+  pub read : ReadsLife source image plan
   pub writes : WritesLife left brakes image plan e w text
 
--- beside an answer to `run` that is done stands the record, and beside no other one
-abbrev pub CarriesRun : {A : Type 0} → (A → Option (Option ℕ)) → List A → SourceState → SourceState → Answer × Option (Ended × Pass) → Type 0
-CarriesRun left brakes before after found =
-    MatchOption found.1 (found.0.status ≡ DONE → ⊥) (λ r. (found.0.status ≡ DONE) × HoldsRun left brakes before after found.0.text.items (run_of r.0) r.1.seat.me.0)
+-- an answer with the record and the pass that a run has left, if it has
+abbrev pub Found : Type 0
+Found = Answer × Option (Ended × Pass)
 
--- and so it is with an answer to `continue`
-abbrev pub CarriesLife : {A : Type 0} → (A → Option (Option ℕ)) → List A → SourceState → SourceState → Answer × Option (Ended × Pass) → Type 0
-CarriesLife left brakes before after found =
-    MatchOption found.1 (found.0.status ≡ DONE → ⊥) (λ r. (found.0.status ≡ DONE) × HoldsLife left brakes before after found.0.text.items (run_of r.0) r.1.seat.me.0)
+-- beside an answer that is done stands a record of which this holds, and beside no other one
+abbrev pub HasBeside : (List ℕ → Record → Sight → Type 0) → Found → Type 0
+HasBeside Is found =
+    MatchOption found.1 (found.0.status ≡ DONE → ⊥)
+    (λ ran. (found.0.status ≡ DONE) × Is found.0.text.items (run_of ran.0) (view_of ran.1))
 
--- an answer to `load` is done, and beside it stands the record
-abbrev pub CarriesLoad : {A : Type 0} → (A → Option (Option ℕ)) → List A → (callers scripts : ℕ) → Answer × Option (Ended × Pass) → Type 0
+-- so it is with an answer to `run`
+abbrev pub CarriesRun : {A : Type 0} → (A → Option (Option ℕ)) → List A → Change → Found → Type 0
+CarriesRun left brakes source found = HasBeside (HoldsRun left brakes source) found
+
+-- with an answer to `continue`
+abbrev pub CarriesLife : {A : Type 0} → (A → Option (Option ℕ)) → List A → Change → Found → Type 0
+CarriesLife left brakes source found = HasBeside (HoldsLife left brakes source) found
+
+-- and with one to `load`, which is done
+abbrev pub CarriesLoad : {A : Type 0} → (A → Option (Option ℕ)) → List A → (callers scripts : ℕ)
+    → Found → Type 0
 CarriesLoad left brakes callers scripts found =
-    MatchOption found.1 ⊥ (λ r. (found.0.status ≡ DONE) × HoldsLoad left brakes callers scripts found.0.text.items (run_of r.0) r.1.seat.me.0)
+    MatchOption found.1 ⊥ (λ ran. (found.0.status ≡ DONE)
+    × HoldsLoad left brakes callers scripts found.0.text.items (run_of ran.0) (view_of ran.1))
 
 -- what stands beside an answer to these words
-pub record Carries {A : Type 0} (left : A → Option (Option ℕ)) (brakes : List A) (words : List (List ℕ)) (before after : SourceState) (found : Answer × Option (Ended × Pass)) : Type 0 where
-  pub run : words ≡ words_of Run → CarriesRun left brakes before after found
-  pub load : (callers scripts : ℕ) → Are words (Load callers scripts) → CarriesLoad left brakes callers scripts found
-  pub continued : words ≡ words_of Continue → CarriesLife left brakes before after found
+pub record Carries {A : Type 0} (left : A → Option (Option ℕ)) (brakes : List A)
+    (words : List (List ℕ)) (source : Change) (found : Found) : Type 0 where
+  pub run : words ≡ words_of Run → CarriesRun left brakes source found
+  pub load : (callers scripts : ℕ) → Are words (Load callers scripts)
+      → CarriesLoad left brakes callers scripts found
+  pub continued : words ≡ words_of Continue → CarriesLife left brakes source found
   pub none : (RunTeam words → ⊥) → found.1 ≡ None

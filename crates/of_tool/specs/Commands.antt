@@ -1,5 +1,5 @@
 -- The words of the commands.
-use Rattle.std.specs.Prelude.{◌≡◌, ◌≤◌, ◌⊎◌, ◌*◌, ℕ, List, [], ◌∷◌, map, codes, decimal, string_bytes, String}
+use Rattle.std.specs.Prelude.{◌≡◌, ◌≤◌, ◌*◌, ℕ, List, [], ◌∷◌, map, codes, decimal, string_bytes, String}
 use Rattle.std.specs.Global.{Global}
 use Rattle.of_cell.specs.declared.shape.TheConstants.{MOST_CALLERS}
 use Rattle.of_plan.specs.declared.plan.TheConstants.{MOST_SCRIPTS}
@@ -99,5 +99,7 @@ abbrev pub IsNoCommand : List (List ℕ) → Type 0
 IsNoCommand words = (command : Command) → Are words command → ⊥
 
 -- the words are a command that runs callers at once
-abbrev pub RunTeam : List (List ℕ) → Type 0
-RunTeam words = (words ≡ words_of Run) ⊎ ((words ≡ words_of Continue) ⊎ ((callers : ℕ) × (scripts : ℕ) × Are words (Load callers scripts)))
+pub record RunTeam (words : List (List ℕ)) : Type 0 where
+  pub command : Command
+  pub are : Are words command
+  pub team : IsPlain command → ⊥

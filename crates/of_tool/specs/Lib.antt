@@ -4,8 +4,11 @@ pub mod Continued
 pub mod Lives
 pub mod Cutting
 pub mod PlayedImage
-pub mod Verdicts
+pub mod Seen
+pub mod Inputs
+pub mod Refusals
+pub mod Makes
+pub mod Statuses
 pub mod Headline
-pub mod Images
 pub mod Answer
 pub mod HelpText

@@ -6,10 +6,10 @@ ghost use Rattle.of_plan.specs.Ended.{run_of};
 ghost use Rattle.of_report.specs.Image.{IsImage, image_of};
 ghost use Rattle.of_lives.specs.Images.{Fits};
 ghost use Rattle.of_tool.specs.declared.command.Command.TheVariants.{Continue};
-ghost use Rattle.of_tool.specs.Commands.{words_of};
 ghost use Rattle.of_tool.specs.Continued.{WritesLife};
-ghost use Rattle.of_tool.specs.Verdicts.{source_state, ReadsLife};
-ghost use Rattle.of_tool.specs.Answer.{Answered, RefusesLife, CarriesLife};
+ghost use Rattle.of_tool.specs.Seen.{change_of, view_of};
+ghost use Rattle.of_tool.specs.Inputs.{ImageAndPlan, ReadsLife};
+ghost use Rattle.of_tool.specs.Answer.{Answered, Refuses, CarriesLife};
 
 use crate::images::refused;
 use crate::status;
@@ -38,7 +38,7 @@ fn live<R: Threads + Sync>(
     requires fits { Fits (image_of image.now) plan.now }
     requires brakes { plan.now.callers ≤ vec_len brakes }
     ensures { IfOk result (λ r. WritesLife (λ b. left b) brakes.items (image_of image.now) plan.now
-        (run_of r.1.0) r.1.1.seat.me.0 r.0.items) }
+        (run_of r.1.0) (view_of r.1.1) r.0.items) }
 {
     reports_respect_time(plan);
     let Life {
@@ -59,12 +59,8 @@ fn read_life<S: Source>(
     source: &mut S,
 ) -> Result<Result<(Image, Plan), Answer>, AllocError>
     ensures read { IfOk result (λ read. MatchResult read
-        (λ r. ReadsLife
-        (source_state (S.remaining source.old) (S.faults source.old))
-        (source_state (S.remaining source.new) (S.faults source.new)) (image_of r.0) r.1)
-        (RefusesLife
-        (source_state (S.remaining source.old) (S.faults source.old))
-        (source_state (S.remaining source.new) (S.faults source.new)))) }
+        (λ r. ReadsLife (change_of S.remaining S.faults source.old source.new) (image_of r.0) r.1)
+        (Refuses ImageAndPlan (change_of S.remaining S.faults source.old source.new))) }
     ensures image { IfOk result (λ read. IfOk read (λ r. IsImage MOST_INSTRS (image_of r.0))) }
     ensures fits { IfOk result (λ read. IfOk read (λ r. Fits (image_of r.0) r.1)) }
 {
@@ -104,12 +100,10 @@ pub(crate) fn continue_answer<R: Threads + Sync, S: Source>(
     brakes: Vec<Box<dyn Brake + Send>>,
 ) -> Result<(Answer, Ran), AllocError>
     requires { vec_len brakes ≡ 16 }
-    ensures answered { IfOk result (λ found. Answered (words_of Continue)
-        (source_state (S.remaining source.old) (S.faults source.old))
-        (source_state (S.remaining source.new) (S.faults source.new)) found.0) }
+    ensures answered { IfOk result (λ found. Answered Continue
+        (change_of S.remaining S.faults source.old source.new) found.0) }
     ensures carries { IfOk result (CarriesLife (λ b. left b) brakes.items
-        (source_state (S.remaining source.old) (S.faults source.old))
-        (source_state (S.remaining source.new) (S.faults source.new))) }
+        (change_of S.remaining S.faults source.old source.new)) }
 {
     let (image, plan) = match read_life(alloc, source)? {
         Ok(read) => read,

@@ -2,9 +2,9 @@
 
 ghost use Rattle.std.specs.Prelude.{◌≡◌, ◌≤◌, IfOk};
 ghost use Rattle.of_tool.specs.declared.command.Command.TheVariants.{Part};
-ghost use Rattle.of_tool.specs.Commands.{words_of, IsPartNumber};
+ghost use Rattle.of_tool.specs.Commands.{IsPartNumber};
 ghost use Rattle.of_tool.specs.Cutting.{IsPart};
-ghost use Rattle.of_tool.specs.Verdicts.{source_state};
+ghost use Rattle.of_tool.specs.Seen.{change_of};
 ghost use Rattle.of_tool.specs.Answer.{Answered};
 
 use crate::status;
@@ -33,9 +33,8 @@ pub(crate) fn part_answer<S: Source>(
     number: u32,
 ) -> Result<Answer, AllocError>
     requires { IsPartNumber number }
-    ensures { IfOk result (Answered (words_of (Part number))
-        (source_state (S.remaining source.old) (S.faults source.old))
-        (source_state (S.remaining source.new) (S.faults source.new))) }
+    ensures { IfOk result (Answered (Part number)
+        (change_of S.remaining S.faults source.old source.new)) }
 {
     match read_input(alloc, source, MOST_WITH_REPORT)? {
         Ok(bytes) => Ok(Answer {

@@ -5,10 +5,10 @@ ghost use Rattle.of_mem.specs.declared.work.TheConstants.{MOST_INSTRS};
 ghost use Rattle.of_report.specs.Image.{IsImage, image_of};
 ghost use Rattle.of_image.specs.declared.version.Version.TheVariants.{Two};
 ghost use Rattle.of_tool.specs.declared.command.Command.TheVariants.{Image as TheImage, Recover, Renumber, Migrate};
-ghost use Rattle.of_tool.specs.Commands.{words_of};
 ghost use Rattle.of_tool.specs.PlayedImage.{IsPlayedImage};
-ghost use Rattle.of_tool.specs.Verdicts.{source_state, ReadsItsImage};
-ghost use Rattle.of_tool.specs.Answer.{Answered, RefusesImage, TellsRefusal};
+ghost use Rattle.of_tool.specs.Seen.{change_of};
+ghost use Rattle.of_tool.specs.Inputs.{ImageAlone, ReadsItsImage};
+ghost use Rattle.of_tool.specs.Answer.{Answered, Refuses, TellsRefusal};
 
 use crate::status;
 use crate::top::{Answer, MOST_IMAGE, read_input, read_plan};
@@ -57,12 +57,9 @@ pub(crate) fn refused(alloc: Global, err: ImageErr) -> Result<Answer, AllocError
 // The image that the whole input has, or the answer that says why there is none.
 fn read_image<S: Source>(alloc: Global, source: &mut S) -> Result<Result<Image, Answer>, AllocError>
     ensures read { IfOk result (λ read. MatchResult read
-        (λ image. ReadsItsImage Two
-        (source_state (S.remaining source.old) (S.faults source.old))
-        (source_state (S.remaining source.new) (S.faults source.new)) (image_of image))
-        (RefusesImage Two
-        (source_state (S.remaining source.old) (S.faults source.old))
-        (source_state (S.remaining source.new) (S.faults source.new)))) }
+        (λ image. ReadsItsImage Two (change_of S.remaining S.faults source.old source.new)
+        (image_of image))
+        (Refuses (ImageAlone Two) (change_of S.remaining S.faults source.old source.new))) }
     ensures image { IfOk result (λ read. IfOk read (λ image. IsImage MOST_INSTRS (image_of image))) }
 {
     let bytes = match read_input(alloc, source, MOST_IMAGE)? {
@@ -77,9 +74,8 @@ fn read_image<S: Source>(alloc: Global, source: &mut S) -> Result<Result<Image, 
 
 /// What `image` answers.
 pub(crate) fn image_answer<S: Source>(alloc: Global, source: &mut S) -> Result<Answer, AllocError>
-    ensures { IfOk result (Answered (words_of TheImage)
-        (source_state (S.remaining source.old) (S.faults source.old))
-        (source_state (S.remaining source.new) (S.faults source.new))) }
+    ensures { IfOk result (Answered TheImage
+        (change_of S.remaining S.faults source.old source.new)) }
 {
     match read_plan(alloc, source)? {
         Ok(plan) => Ok(Answer {
@@ -92,9 +88,8 @@ pub(crate) fn image_answer<S: Source>(alloc: Global, source: &mut S) -> Result<A
 
 /// What `recover` answers.
 pub(crate) fn recover_answer<S: Source>(alloc: Global, source: &mut S) -> Result<Answer, AllocError>
-    ensures { IfOk result (Answered (words_of Recover)
-        (source_state (S.remaining source.old) (S.faults source.old))
-        (source_state (S.remaining source.new) (S.faults source.new))) }
+    ensures { IfOk result (Answered Recover
+        (change_of S.remaining S.faults source.old source.new)) }
 {
     match read_image(alloc, source)? {
         Ok(image) => Ok(Answer {
@@ -110,9 +105,8 @@ pub(crate) fn renumber_answer<S: Source>(
     alloc: Global,
     source: &mut S,
 ) -> Result<Answer, AllocError>
-    ensures { IfOk result (Answered (words_of Renumber)
-        (source_state (S.remaining source.old) (S.faults source.old))
-        (source_state (S.remaining source.new) (S.faults source.new))) }
+    ensures { IfOk result (Answered Renumber
+        (change_of S.remaining S.faults source.old source.new)) }
 {
     match read_image(alloc, source)? {
         Ok(image) => Ok(Answer {
@@ -125,9 +119,8 @@ pub(crate) fn renumber_answer<S: Source>(
 
 /// What `migrate` answers.
 pub(crate) fn migrate_answer<S: Source>(alloc: Global, source: &mut S) -> Result<Answer, AllocError>
-    ensures { IfOk result (Answered (words_of Migrate)
-        (source_state (S.remaining source.old) (S.faults source.old))
-        (source_state (S.remaining source.new) (S.faults source.new))) }
+    ensures { IfOk result (Answered Migrate
+        (change_of S.remaining S.faults source.old source.new)) }
 {
     let bytes = match read_input(alloc, source, MOST_IMAGE)? {
         Ok(bytes) => bytes,

@@ -1,4 +1,5 @@
-//! The numbers and fixed texts of the commands, and the laws of schedules and traces.
+//! The numbers and fixed texts of the commands, that a call has one status, and the laws of
+//! schedules and traces.
 
 ghost use Rattle.std.specs.Prelude.{◌≡◌, codes};
 ghost use Rattle.of_mem.specs.declared.work.TheConstants.{MOST_CALLERS, MOST_DATA_CELLS, MOST_INSTRS};
@@ -6,6 +7,7 @@ ghost use Rattle.of_mem.specs.declared.plot.TheConstants.{BUCKETS, MOST_BLOCKS, 
 ghost use Rattle.of_plan.specs.Plan.{data_cells};
 ghost use Rattle.of_tool.specs.HelpText.{help_text};
 ghost use Rattle.of_tool.specs.declared.command.TheConstants.{MOST_EVENTS, MOST_FIRST};
+ghost use Rattle.of_tool.specs.Statuses.{OneStatus};
 
 use crate::command::{HELP, VERSION};
 use crate::status::{
@@ -13,6 +15,8 @@ use crate::status::{
     WRITE_FAULT,
 };
 use crate::top::{MOST_IMAGE, MOST_INPUT, MOST_WITH_REPORT};
+use of_image::laws::{one_image, unlawful_have_none};
+use of_plan::texts::{one_cut, one_plan};
 pub use of_play::laws::{plans_have_schedules, words_are_named};
 
 /// The exit statuses, and how many bytes a command reads at most.
@@ -52,3 +56,16 @@ pub fn help_and_version()
     ensures version { VERSION.now ≡ codes "onefile 0.1.0\n" }
     ensures help { HELP.now ≡ help_text }
 {}
+
+/// From what a call saw of its source and its sink, two causes have one status. So each clause of
+/// `answered` is exact both ways: `tool` answers a status only if its cause is there, and if the cause
+/// of a status is there, `tool` answers no other. The source must tell its bytes, a further fault must
+/// be able to raise the counts, and the sink must not be finished before.
+pub fn one_status()
+    ensures { OneStatus }
+{
+    one_cut();
+    one_plan();
+    one_image();
+    unlawful_have_none();
+}

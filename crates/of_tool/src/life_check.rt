@@ -2,8 +2,7 @@
 
 ghost use Rattle.std.specs.Prelude.{IfOk};
 ghost use Rattle.of_tool.specs.declared.command.Command.TheVariants.{CheckLife};
-ghost use Rattle.of_tool.specs.Commands.{words_of};
-ghost use Rattle.of_tool.specs.Verdicts.{source_state};
+ghost use Rattle.of_tool.specs.Seen.{change_of};
 ghost use Rattle.of_tool.specs.Answer.{Answered, JudgesLife};
 
 use crate::images::refused;
@@ -35,9 +34,8 @@ fn judged(alloc: Global, verdict: Verdict) -> Result<Answer, AllocError>
 
 /// What `check-life` answers.
 pub(crate) fn life_answer<S: Source>(alloc: Global, source: &mut S) -> Result<Answer, AllocError>
-    ensures { IfOk result (Answered (words_of CheckLife)
-        (source_state (S.remaining source.old) (S.faults source.old))
-        (source_state (S.remaining source.new) (S.faults source.new))) }
+    ensures { IfOk result (Answered CheckLife
+        (change_of S.remaining S.faults source.old source.new)) }
 {
     let bytes = match read_input(alloc, source, MOST_WITH_REPORT)? {
         Ok(bytes) => bytes,

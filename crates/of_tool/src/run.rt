@@ -4,6 +4,7 @@ ghost use Rattle.std.specs.Prelude.{◌≤◌, IfOk, vec_len};
 ghost use Rattle.of_plan.specs.Ended.{run_of};
 ghost use Rattle.of_report.specs.Report.{report_of};
 ghost use Rattle.of_tool.specs.Ran.{IsRunReport};
+ghost use Rattle.of_tool.specs.Seen.{view_of};
 
 use of_brake::Brake;
 use of_caller::laws::{plan_keeps_laws, reports_respect_time, runs_are_lawful, teams_are_lawful};
@@ -14,8 +15,9 @@ use of_row::Pass;
 use std::alloc::{AllocError, Global};
 use std::thread::Threads;
 
-/// The report of what a plan's callers leave that run at once on a table of zeros, each until its brake denies a step, with the plan's
-/// evictions beside them; the record of the run, and the pass that has seen it. There is a brake for each caller, at its place.
+/// The report of what a plan's callers leave that run at once on a table of zeros, each until its
+/// brake denies a step, with the plan's evictions beside them; the record of the run, and the pass
+/// that has seen it. There is a brake for each caller, at its place.
 pub fn run_report<R: Threads + Sync>(
     rt: &R,
     alloc: Global,
@@ -23,7 +25,8 @@ pub fn run_report<R: Threads + Sync>(
     brakes: Vec<Box<dyn Brake + Send>>,
 ) -> Result<(Report, (Ended, Pass)), AllocError>
     requires { plan.now.callers ≤ vec_len brakes }
-    ensures { IfOk result (λ r. IsRunReport (λ b. left b) brakes.items plan.now (report_of r.0) (run_of r.1.0) r.1.1.seat.me.0) }
+    ensures { IfOk result (λ r. IsRunReport (λ b. left b) brakes.items plan.now (report_of r.0)
+        (run_of r.1.0) (view_of r.1.1)) }
 {
     plan_keeps_laws(plan);
     runs_are_lawful();

@@ -1,14 +1,16 @@
 //! The top call.
 
-ghost use Rattle.std.specs.Prelude.{◌≡◌, ◌≤◌, ◌⊎◌, ⊤, ℕ, IfOk, MatchOption, MatchResult, None, vec_len, codes, decimal, ◌++◌};
+ghost use Rattle.std.specs.Prelude.{◌≡◌, ◌≤◌, ⊤, ℕ, IfOk, MatchResult, None, vec_len, codes, decimal, ◌++◌};
 ghost use Rattle.of_io.specs.Faults.{Rose};
-ghost use Rattle.of_plan.specs.Ended.{run_of};
 ghost use Rattle.of_tool.specs.declared.command.Command.{Command};
-ghost use Rattle.of_tool.specs.declared.command.Command.TheVariants.{Serial, Play, Trace, Commits, Run, Load, Check, CheckLife, Part, Image, Recover, Renumber, Migrate, Continue, Help, Version};
-ghost use Rattle.of_tool.specs.declared.status.TheConstants.{DONE, OUT_OF_MEMORY, ILLEGAL, DOES_NOT_FIT};
+ghost use Rattle.of_tool.specs.declared.command.Command.TheVariants.{Serial, Play, Trace, Commits, Run, Load, Check, Continue};
+ghost use Rattle.of_tool.specs.declared.status.TheConstants.{DONE};
 ghost use Rattle.of_tool.specs.Commands.{texts, words_of, IsTrace, IsLoad, IsInRange, IsPlain, Are, RunTeam};
-ghost use Rattle.of_tool.specs.Verdicts.{source_state, sink_state, limit_of, Answers, AskForInput, ReadsAll, ReadsPlan, IsReplayed, PlaysPlan, TracesPlan, TellsCommits, ChecksReport, ChecksLife, WritesPart, ReadsMisfit, Prints, IsValidInput};
-ghost use Rattle.of_tool.specs.Images.{ImagesPlan, RecoversImage, RenumbersImage, MigratesImage};
+ghost use Rattle.of_tool.specs.Seen.{change_of, seen_by, Holds, ReadsAll};
+ghost use Rattle.of_tool.specs.Inputs.{PlanAlone, input_of, AskForInput, ReadsPlan, IsValidInput};
+ghost use Rattle.of_tool.specs.Refusals.{Judges as JudgesInput};
+ghost use Rattle.of_tool.specs.Makes.{Did};
+ghost use Rattle.of_tool.specs.Statuses.{IsAnswer, Answers, Ends};
 ghost use Rattle.of_tool.specs.Headline.{RunsPlan, LoadsPlan, ContinuesImage, LeavesTable};
 ghost use Rattle.of_tool.specs.Answer.{Answered, Refuses, RefusesUpTo, Judges, CarriesRun, CarriesLoad, Carries};
 
@@ -42,7 +44,8 @@ pub const MOST_WITH_REPORT: usize = 1 << 22;
 /// 62,304 lines of cells of at most 33 bytes each, and 42 bytes beside them.
 pub const MOST_IMAGE: usize = 1 << 22;
 
-/// What callers that ran at once have left, where they did: the record of the run, and the pass that has seen it.
+/// What callers that ran at once have left, where they did: the record of the run, and the pass that
+/// has seen it.
 pub type Ran = Option<(Ended, Pass)>;
 
 /// A status, and the text that is to be written with it.
@@ -68,12 +71,8 @@ pub(crate) fn read_input<S: Source>(
 ) -> Result<Result<Vec<u8>, Answer>, AllocError>
     requires { most ≤ MOST_WITH_REPORT }
     ensures { IfOk result (λ read. MatchResult read
-        (λ bytes. ReadsAll most
-        (source_state (S.remaining source.old) (S.faults source.old))
-        (source_state (S.remaining source.new) (S.faults source.new)) bytes.items)
-        (RefusesUpTo most
-        (source_state (S.remaining source.old) (S.faults source.old))
-        (source_state (S.remaining source.new) (S.faults source.new)))) }
+        (λ bytes. ReadsAll most (change_of S.remaining S.faults source.old source.new) bytes.items)
+        (RefusesUpTo most (change_of S.remaining S.faults source.old source.new))) }
 {
     match read_all(alloc, source, most) {
         Ok(bytes) => Ok(Ok(bytes)),
@@ -95,12 +94,8 @@ pub(crate) fn read_plan<S: Source>(
     source: &mut S,
 ) -> Result<Result<Plan, Answer>, AllocError>
     ensures { IfOk result (λ read. MatchResult read
-        (ReadsPlan
-        (source_state (S.remaining source.old) (S.faults source.old))
-        (source_state (S.remaining source.new) (S.faults source.new)))
-        (Refuses
-        (source_state (S.remaining source.old) (S.faults source.old))
-        (source_state (S.remaining source.new) (S.faults source.new)))) }
+        (ReadsPlan (change_of S.remaining S.faults source.old source.new))
+        (Refuses PlanAlone (change_of S.remaining S.faults source.old source.new))) }
 {
     let bytes = match read_input(alloc, source, MOST_INPUT)? {
         Ok(bytes) => bytes,
@@ -118,9 +113,8 @@ pub(crate) fn read_plan<S: Source>(
 
 // What `serial` answers.
 fn serial_answer<S: Source>(alloc: Global, source: &mut S) -> Result<Answer, AllocError>
-    ensures { IfOk result (Answered (words_of Serial)
-        (source_state (S.remaining source.old) (S.faults source.old))
-        (source_state (S.remaining source.new) (S.faults source.new))) }
+    ensures { IfOk result (Answered Serial
+        (change_of S.remaining S.faults source.old source.new)) }
 {
     match read_plan(alloc, source)? {
         Ok(plan) => Ok(Answer {
@@ -133,9 +127,8 @@ fn serial_answer<S: Source>(alloc: Global, source: &mut S) -> Result<Answer, All
 
 // What `play` answers.
 fn play_answer<S: Source>(alloc: Global, source: &mut S) -> Result<Answer, AllocError>
-    ensures { IfOk result (Answered (words_of Play)
-        (source_state (S.remaining source.old) (S.faults source.old))
-        (source_state (S.remaining source.new) (S.faults source.new))) }
+    ensures { IfOk result (Answered Play
+        (change_of S.remaining S.faults source.old source.new)) }
 {
     match read_plan(alloc, source)? {
         Ok(plan) => Ok(Answer {
@@ -154,12 +147,10 @@ fn run_answer<R: Threads + Sync, S: Source>(
     brakes: Vec<Box<dyn Brake + Send>>,
 ) -> Result<(Answer, Ran), AllocError>
     requires { vec_len brakes ≡ 16 }
-    ensures answered { IfOk result (λ found. Answered (words_of Run)
-        (source_state (S.remaining source.old) (S.faults source.old))
-        (source_state (S.remaining source.new) (S.faults source.new)) found.0) }
+    ensures answered { IfOk result (λ found. Answered Run
+        (change_of S.remaining S.faults source.old source.new) found.0) }
     ensures carries { IfOk result (CarriesRun (λ b. left b) brakes.items
-        (source_state (S.remaining source.old) (S.faults source.old))
-        (source_state (S.remaining source.new) (S.faults source.new))) }
+        (change_of S.remaining S.faults source.old source.new)) }
 {
     let plan = match read_plan(alloc, source)? {
         Ok(plan) => plan,
@@ -202,9 +193,8 @@ fn trace_answer<S: Source>(
     count: u32,
 ) -> Result<Answer, AllocError>
     requires { IsTrace first count }
-    ensures { IfOk result (Answered (words_of (Trace first count))
-        (source_state (S.remaining source.old) (S.faults source.old))
-        (source_state (S.remaining source.new) (S.faults source.new))) }
+    ensures { IfOk result (Answered (Trace first count)
+        (change_of S.remaining S.faults source.old source.new)) }
 {
     match read_plan(alloc, source)? {
         Ok(plan) => Ok(Answer {
@@ -217,9 +207,8 @@ fn trace_answer<S: Source>(
 
 // What `commits` answers.
 fn commits_answer<S: Source>(alloc: Global, source: &mut S) -> Result<Answer, AllocError>
-    ensures { IfOk result (Answered (words_of Commits)
-        (source_state (S.remaining source.old) (S.faults source.old))
-        (source_state (S.remaining source.new) (S.faults source.new))) }
+    ensures { IfOk result (Answered Commits
+        (change_of S.remaining S.faults source.old source.new)) }
 {
     match read_plan(alloc, source)? {
         Ok(plan) => Ok(Answer {
@@ -248,9 +237,8 @@ fn judged(alloc: Global, verdict: Verdict) -> Result<Answer, AllocError>
 
 // What `check` answers.
 fn check_answer<S: Source>(alloc: Global, source: &mut S) -> Result<Answer, AllocError>
-    ensures { IfOk result (Answered (words_of Check)
-        (source_state (S.remaining source.old) (S.faults source.old))
-        (source_state (S.remaining source.new) (S.faults source.new))) }
+    ensures { IfOk result (Answered Check
+        (change_of S.remaining S.faults source.old source.new)) }
 {
     let bytes = match read_input(alloc, source, MOST_WITH_REPORT)? {
         Ok(bytes) => bytes,
@@ -276,10 +264,9 @@ fn plain_answer<S: Source>(
     requires plain { IsPlain command }
     requires range { IsInRange command }
     ensures plain { IsPlain command }
-    ensures answered { IfOk result (Answered (words_of command)
-        (source_state (S.remaining source.old) (S.faults source.old))
-        (source_state (S.remaining source.new) (S.faults source.new))) }
-    ensures unread { limit_of command ≡ None → source.new ≡ source.old }
+    ensures answered { IfOk result (Answered command
+        (change_of S.remaining S.faults source.old source.new)) }
+    ensures unread { input_of command ≡ None → source.new ≡ source.old }
 {
     match command {
         Command::Serial => serial_answer(alloc, source),
@@ -314,12 +301,11 @@ fn decide<R: Threads + Sync, S: Source>(
     brakes: Vec<Box<dyn Brake + Send>>,
 ) -> Result<(Answer, Ran), AllocError>
     requires { vec_len brakes ≡ 16 }
-    ensures answered { IfOk result (λ found. Answered (texts words.now)
-        (source_state (S.remaining source.old) (S.faults source.old))
-        (source_state (S.remaining source.new) (S.faults source.new)) found.0) }
+    ensures answered { IfOk result (λ found. IsAnswer (texts words.now)
+        (change_of S.remaining S.faults source.old source.new)
+        found.0.status found.0.text.items) }
     ensures carries { IfOk result (Carries (λ b. left b) brakes.items (texts words.now)
-        (source_state (S.remaining source.old) (S.faults source.old))
-        (source_state (S.remaining source.new) (S.faults source.new))) }
+        (change_of S.remaining S.faults source.old source.new)) }
     ensures unread { ¬ (AskForInput (texts words.now)) → source.new ≡ source.old }
 {
     match Command::from_words(words) {
@@ -339,8 +325,9 @@ fn decide<R: Threads + Sync, S: Source>(
     }
 }
 
-/// Does what the words say with the source's bytes, and answers the exit status. `run`, `load` and `continue` run callers at once, that
-/// of number i with the brake at place i; what such a run has left is put into `ran`.
+/// Does what the words say with the source's bytes, and answers the exit status. `run`, `load` and
+/// `continue` run callers at once, that of number i with the brake at place i; what such a run has
+/// left is put into `ran`.
 pub fn tool<R: Threads + Sync, S: Source, K: Sink>(
     rt: &R,
     alloc: Global,
@@ -357,152 +344,60 @@ pub fn tool<R: Threads + Sync, S: Source, K: Sink>(
     // was written: one legal history, in real time, in which callers keep to their brakes. It comes of
     // a real run, event by event, and the record of that run is in `ran`.
     ensures run { texts words.now ≡ words_of Run → result ≡ DONE
-        → MatchOption ran.new ⊥ (λ r. RunsPlan (λ b. left b) brakes.items
-        (source_state (S.remaining source.old) (S.faults source.old))
-        (source_state (S.remaining source.new) (S.faults source.new))
-        (sink_state (K.written sink.old) (K.finished sink.old) (K.faults sink.old))
-        (sink_state (K.written sink.new) (K.finished sink.new) (K.faults sink.new))
-        (run_of r.0)) }
+        → Holds ran.new (λ left_by view. RunsPlan (λ b. left b) brakes.items
+        (seen_by S.remaining S.faults source.old source.new K.written K.finished K.faults sink.old sink.new)
+        left_by) }
 
     // With status 0 of `load` the same holds of the plan that is made for it, and the summary of the
     // report was written.
     ensures load { (callers scripts : ℕ) → Are (texts words.now) (Load callers scripts) → result ≡ DONE
-        → MatchOption ran.new ⊥ (λ r. LoadsPlan (λ b. left b) brakes.items callers scripts
-        (sink_state (K.written sink.old) (K.finished sink.old) (K.faults sink.old))
-        (sink_state (K.written sink.new) (K.finished sink.new) (K.faults sink.new))
-        (run_of r.0)) }
+        → Holds ran.new (λ left_by view. LoadsPlan (λ b. left b) brakes.items callers scripts
+        (seen_by S.remaining S.faults source.old source.new K.written K.finished K.faults sink.old sink.new)
+        left_by) }
 
     // With status 0 of `continue` the same holds of callers that went on from the image at once. After
     // the report the image of their durable words was written: the next life can go on from it.
     ensures continued { texts words.now ≡ words_of Continue → result ≡ DONE
-        → MatchOption ran.new ⊥ (λ r. ContinuesImage (λ b. left b) brakes.items
-        (source_state (S.remaining source.old) (S.faults source.old))
-        (source_state (S.remaining source.new) (S.faults source.new))
-        (sink_state (K.written sink.old) (K.finished sink.old) (K.faults sink.old))
-        (sink_state (K.written sink.new) (K.finished sink.new) (K.faults sink.new))
-        (run_of r.0)) }
+        → Holds ran.new (λ left_by view. ContinuesImage (λ b. left b) brakes.items
+        (seen_by S.remaining S.faults source.old source.new K.written K.finished K.faults sink.old sink.new)
+        left_by) }
 
     // And the table of that run meets the rule of a row. The pass in `ran` has seen all of the run.
-    ensures table { result ≡ DONE → MatchOption ran.new ⊤ (λ r. LeavesTable (λ b. left b)
-        brakes.items (texts words.now)
-        (source_state (S.remaining source.old) (S.faults source.old))
-        (source_state (S.remaining source.new) (S.faults source.new))
-        (sink_state (K.written sink.old) (K.finished sink.old) (K.faults sink.old))
-        (sink_state (K.written sink.new) (K.finished sink.new) (K.faults sink.new))
-        (run_of r.0) r.1.seat.me.0) }
-
-    // With status 9 the plan that was read does not fit the image.
-    ensures misfit { texts words.now ≡ words_of Continue → result ≡ DOES_NOT_FIT → ReadsMisfit
-        (source_state (S.remaining source.old) (S.faults source.old))
-        (source_state (S.remaining source.new) (S.faults source.new)) }
+    ensures table { (command : Command) → Are (texts words.now) command → result ≡ DONE
+        → LeavesTable (λ b. left b) brakes.items command
+        (seen_by S.remaining S.faults source.old source.new K.written K.finished K.faults sink.old sink.new)
+        ran.new }
 
     // After any other command or status there is no record.
-    ensures other_command { (RunTeam (texts words.now) → ⊥) → ran.new ≡ None }
-    ensures other_status { (result ≡ DONE → ⊥) → ran.new ≡ None }
+    ensures no_record { ¬ (RunTeam (texts words.now) × (result ≡ DONE)) → ran.new ≡ None }
 
-    // Each status comes exactly for its cause, and what is written is its text.
+    // Each status comes exactly for its cause, and what is written is its text. `laws::one_status` says
+    // that no other status has its cause then.
     ensures answered { Answers (texts words.now)
-        (source_state (S.remaining source.old) (S.faults source.old))
-        (source_state (S.remaining source.new) (S.faults source.new))
-        (sink_state (K.written sink.old) (K.finished sink.old) (K.faults sink.old))
-        (sink_state (K.written sink.new) (K.finished sink.new) (K.faults sink.new)) result }
+        (seen_by S.remaining S.faults source.old source.new K.written K.finished K.faults sink.old sink.new)
+        result }
 
-    // With status 0 of `serial` the report of the plan that the whole input spells was written.
-    ensures serial { texts words.now ≡ words_of Serial → result ≡ DONE → IsReplayed
-        (source_state (S.remaining source.old) (S.faults source.old))
-        (source_state (S.remaining source.new) (S.faults source.new))
-        (sink_state (K.written sink.old) (K.finished sink.old) (K.faults sink.old))
-        (sink_state (K.written sink.new) (K.finished sink.new) (K.faults sink.new)) }
+    // With status 0 each command has read its whole input and written what it makes of it: `serial` the
+    // report of serial replay, `play` that of what the schedule leaves, and so on, each in a row of the
+    // table `Makes`.
+    ensures done { (command : Command) → Are (texts words.now) command → result ≡ DONE → Did command
+        (seen_by S.remaining S.faults source.old source.new K.written K.finished K.faults sink.old sink.new) }
 
-    // With status 0 of `play` the report of what the schedule of the plan that the whole input spells leaves was written. It respects the
-    // schedule's real time.
-    ensures play { texts words.now ≡ words_of Play → result ≡ DONE → PlaysPlan
-        (source_state (S.remaining source.old) (S.faults source.old))
-        (source_state (S.remaining source.new) (S.faults source.new))
-        (sink_state (K.written sink.old) (K.finished sink.old) (K.faults sink.old))
-        (sink_state (K.written sink.new) (K.finished sink.new) (K.faults sink.new)) }
-
-    // With status 0 of `trace` the lines of so many events of the schedule of the plan that the whole input spells were written.
-    ensures trace { (first count : ℕ) → Are (texts words.now) (Trace first count) → result ≡ DONE
-        → TracesPlan first count
-        (source_state (S.remaining source.old) (S.faults source.old))
-        (source_state (S.remaining source.new) (S.faults source.new))
-        (sink_state (K.written sink.old) (K.finished sink.old) (K.faults sink.old))
-        (sink_state (K.written sink.new) (K.finished sink.new) (K.faults sink.new)) }
-
-    // With status 0 of `commits` the lines of the commits of that schedule were written.
-    ensures commits { texts words.now ≡ words_of Commits → result ≡ DONE → TellsCommits
-        (source_state (S.remaining source.old) (S.faults source.old))
-        (source_state (S.remaining source.new) (S.faults source.new))
-        (sink_state (K.written sink.old) (K.finished sink.old) (K.faults sink.old))
-        (sink_state (K.written sink.new) (K.finished sink.new) (K.faults sink.new)) }
-
-    // `check` says of a plan and a report whether the report is a legal one: with status 0 it is, and with status 8 it isn't.
-    ensures check { texts words.now ≡ words_of Check → ChecksReport
-        (source_state (S.remaining source.old) (S.faults source.old))
-        (source_state (S.remaining source.new) (S.faults source.new)) result }
-
-    // `check-life` says of an image, a plan, a report and an image whether report and image are those of a life that goes on from the
-    // first image by the plan: with status 0 they are, and with status 8 they aren't. With status 9 the plan does not fit the image.
-    ensures check_life { texts words.now ≡ words_of CheckLife → ChecksLife
-        (source_state (S.remaining source.old) (S.faults source.old))
-        (source_state (S.remaining source.new) (S.faults source.new)) result }
-
-    // With status 0 of `part` the part of the whole input with that number was written.
-    ensures part { (number : ℕ) → Are (texts words.now) (Part number) → result ≡ DONE
-        → WritesPart number
-        (source_state (S.remaining source.old) (S.faults source.old))
-        (source_state (S.remaining source.new) (S.faults source.new))
-        (sink_state (K.written sink.old) (K.finished sink.old) (K.faults sink.old))
-        (sink_state (K.written sink.new) (K.finished sink.new) (K.faults sink.new)) }
-
-    // With status 0 of `image` the image of what the schedule of the plan that the whole input spells leaves was written.
-    ensures image { texts words.now ≡ words_of Image → result ≡ DONE → ImagesPlan
-        (source_state (S.remaining source.old) (S.faults source.old))
-        (source_state (S.remaining source.new) (S.faults source.new))
-        (sink_state (K.written sink.old) (K.finished sink.old) (K.faults sink.old))
-        (sink_state (K.written sink.new) (K.finished sink.new) (K.faults sink.new)) }
-
-    // With status 0 of `recover` what recovery finds in the image that the whole input has was written.
-    ensures recover { texts words.now ≡ words_of Recover → result ≡ DONE → RecoversImage
-        (source_state (S.remaining source.old) (S.faults source.old))
-        (source_state (S.remaining source.new) (S.faults source.new))
-        (sink_state (K.written sink.old) (K.finished sink.old) (K.faults sink.old))
-        (sink_state (K.written sink.new) (K.finished sink.new) (K.faults sink.new)) }
-
-    // With status 0 of `renumber` that image was written with its sequences begun anew.
-    ensures renumber { texts words.now ≡ words_of Renumber → result ≡ DONE → RenumbersImage
-        (source_state (S.remaining source.old) (S.faults source.old))
-        (source_state (S.remaining source.new) (S.faults source.new))
-        (sink_state (K.written sink.old) (K.finished sink.old) (K.faults sink.old))
-        (sink_state (K.written sink.new) (K.finished sink.new) (K.faults sink.new)) }
-
-    // With status 0 of `migrate` the version 2 text of the version 1 image that the whole input has was written.
-    ensures migrate { texts words.now ≡ words_of Migrate → result ≡ DONE → MigratesImage
-        (source_state (S.remaining source.old) (S.faults source.old))
-        (source_state (S.remaining source.new) (S.faults source.new))
-        (sink_state (K.written sink.old) (K.finished sink.old) (K.faults sink.old))
-        (sink_state (K.written sink.new) (K.finished sink.new) (K.faults sink.new)) }
-
-    // `--help` and `--version` print their texts.
-    ensures help { texts words.now ≡ words_of Help → Prints HELP.now
-        (sink_state (K.written sink.old) (K.finished sink.old) (K.faults sink.old))
-        (sink_state (K.written sink.new) (K.finished sink.new) (K.faults sink.new)) result }
-    ensures version { texts words.now ≡ words_of Version → Prints VERSION.now
-        (sink_state (K.written sink.old) (K.finished sink.old) (K.faults sink.old))
-        (sink_state (K.written sink.new) (K.finished sink.new) (K.faults sink.new)) result }
+    // With status 8 the report that `check` reads, or the life that `check-life` reads, is not legal.
+    // With status 9 the plan that `continue` or `check-life` reads does not fit the image.
+    ensures judged { (command : Command) → Are (texts words.now) command → JudgesInput (input_of command)
+        (change_of S.remaining S.faults source.old source.new) result }
 
     // Only a command that reads a plan, a report or an image reads.
     ensures unread { ¬ (AskForInput (texts words.now)) → source.new ≡ source.old }
 
-    // A command with a valid input is done, or memory runs out, unless a read or a write fails.
+    // A command with a valid input is done, or memory runs out, unless a read or a write fails. What
+    // `check`, `continue` and `check-life` judge may be found wrong.
     ensures complete { (command : Command) → Are (texts words.now) command
         → IsValidInput command (S.remaining source.old)
         → ¬ (Rose (S.faults source.old) (S.faults source.new))
         → ¬ (Rose (K.faults sink.old) (K.faults sink.new))
-        → (result ≡ DONE) ⊎ ((result ≡ OUT_OF_MEMORY) ⊎ (((command ≡ Check) × (result ≡ ILLEGAL))
-        ⊎ (((command ≡ Continue) × (result ≡ DOES_NOT_FIT))
-        ⊎ ((command ≡ CheckLife) × ((result ≡ ILLEGAL) ⊎ (result ≡ DOES_NOT_FIT)))))) }
+        → Ends command result }
 {
     one_cut();
     unlawful_have_none();

@@ -2,19 +2,19 @@ use Rattle.std.proofs.Common.{List, ℕ, subst, refl}
 use Rattle.std.proofs.lemmas.Result.{IfOk-weaker}
 use Rattle.of_plan.specs.Parts.{AreParts}
 use Rattle.of_report.specs.Image.{image_of}
-use Rattle.of_tool.specs.declared.command.Command.TheVariants.{CheckLife}
-use Rattle.of_tool.specs.Commands.{words_of}
+use Rattle.of_tool.specs.Inputs.{WholeLife}
+use Rattle.of_tool.specs.Statuses.{Refused}
 use Rattle.of_tool.proofs.LifeAnswers.{life_planless, life_refused, life_misfit, life_found}
 use Rattle.of_tool.proofs.life_check.life_answer.Goals as goal
 
 pub returns-in-Err : goal.returns-in-Err
-returns-in-Err g c = (rw c.in-Err.is at c.in_ok-bytes.ensures).0 (words_of CheckLife) (CheckLife, (tt, refl), refl)
+returns-in-Err g c = Refused WholeLife refl ((rw c.in-Err.is at c.in_ok-bytes.ensures) WholeLife refl)
 
 pub returns-in-Err-Bad : goal.returns-in-Err-Bad
 returns-in-Err-Bad g c =
     let are = subst (λ (b : List ℕ). AreParts b c.parts.result.0.now c.parts.result.1.now) c.deref.ensures.value c.parts.ensures in
     let gone = rw c.in-Err-Bad.field-0-is at c.in-Err-Bad.ensures.bad in
-    life_planless _ _ c.in-Ok.bytes.items c.parts.result.0.now c.parts.result.1.now c.parts-2.result.0.now c.parts-2.result.1.now (rw c.in-Ok.is at c.in_ok-bytes.ensures) are c.parts-2.ensures c.in-Err-Bad.line
+    life_planless _ c.in-Ok.bytes.items c.parts.result.0.now c.parts.result.1.now c.parts-2.result.0.now c.parts-2.result.1.now (rw c.in-Ok.is at c.in_ok-bytes.ensures) are c.parts-2.ensures c.in-Err-Bad.line
     c.in_ok-bad_plan-in-Err-Bad.field-0.items gone
     (let number = c.in-Err-Bad.line-is in let text = c.in_ok-bad_plan-in-Err-Bad.ensures in cc)
 
@@ -22,14 +22,14 @@ pub returns-in-Err-image_parse : goal.returns-in-Err-image_parse
 returns-in-Err-image_parse g c =
     let are = subst (λ (b : List ℕ). AreParts b c.parts.result.0.now c.parts.result.1.now) c.deref.ensures.value c.parts.ensures in
     IfOk-weaker c.refused.result _ _
-    (λ answer told. life_refused _ _ c.in-Ok.bytes.items c.parts.result.0.now c.parts.result.1.now c.parts-2.result.0.now c.parts-2.result.1.now (rw c.in-Ok.is at c.in_ok-bytes.ensures) are c.parts-2.ensures
+    (λ answer told. life_refused _ c.in-Ok.bytes.items c.parts.result.0.now c.parts.result.1.now c.parts-2.result.0.now c.parts-2.result.1.now (rw c.in-Ok.is at c.in_ok-bytes.ensures) are c.parts-2.ensures
     c.parts-3.result.0.now c.parts-3.result.1.now c.parts-3.ensures c.in-Ok-parse.plan c.in-Ok-parse.ensures.ok c.in-Err-image_parse.err answer c.in-Err-image_parse.ensures.err told)
     c.refused.ensures
 
 pub returns-then-not-fits : goal.returns-then-not-fits
 returns-then-not-fits g c =
     let are = subst (λ (b : List ℕ). AreParts b c.parts.result.0.now c.parts.result.1.now) c.deref.ensures.value c.parts.ensures in
-    life_misfit _ _ c.in-Ok.bytes.items c.parts.result.0.now c.parts.result.1.now c.parts-2.result.0.now c.parts-2.result.1.now (rw c.in-Ok.is at c.in_ok-bytes.ensures) are c.parts-2.ensures c.parts-3.result.0.now
+    life_misfit _ c.in-Ok.bytes.items c.parts.result.0.now c.parts.result.1.now c.parts-2.result.0.now c.parts-2.result.1.now (rw c.in-Ok.is at c.in_ok-bytes.ensures) are c.parts-2.ensures c.parts-3.result.0.now
     c.parts-3.result.1.now c.parts-3.ensures c.in-Ok-parse.plan c.in-Ok-parse.ensures.ok (image_of c.in-Ok-image_parse.image) c.in-Ok-image_parse.ensures.ok c.in_ok-from_slice.field-0.items
     (λ fits. (let yes = c.fits.ensures.1 fits in let no = c.if-not-fits.true in absurd cc)) c.in_ok-from_slice.ensures.items
 
@@ -37,7 +37,7 @@ pub returns : goal.returns
 returns g c =
     let are = subst (λ (b : List ℕ). AreParts b c.parts.result.0.now c.parts.result.1.now) c.deref.ensures.value c.parts.ensures in
     IfOk-weaker c.judged.result _ _
-    (λ answer judges. life_found _ _ c.in-Ok.bytes.items c.parts.result.0.now c.parts.result.1.now c.parts-2.result.0.now c.parts-2.result.1.now (rw c.in-Ok.is at c.in_ok-bytes.ensures) are c.parts-2.ensures
+    (λ answer judges. life_found _ c.in-Ok.bytes.items c.parts.result.0.now c.parts.result.1.now c.parts-2.result.0.now c.parts-2.result.1.now (rw c.in-Ok.is at c.in_ok-bytes.ensures) are c.parts-2.ensures
     c.parts-3.result.0.now c.parts-3.result.1.now c.parts-3.ensures c.in-Ok-parse.plan c.in-Ok-parse.ensures.ok (image_of c.in-Ok-image_parse.image) c.in-Ok-image_parse.ensures.ok
     (c.fits.ensures.0 (let no = c.if-not-fits.false in cc)) c.in_ok-check_life.field-0 answer c.in_ok-check_life.ensures judges)
     c.judged.ensures

@@ -1,0 +1,79 @@
+-- What the answer to a command tells: with status 0 what the command did, and with 8 and 9 what is
+-- wrong with its input.
+use Rattle.std.proofs.Common.{◌≡◌, ℕ, List, Option, None, Some, refl, sym, subst, ◌∙◌, arith}
+use Rattle.std.specs.Prelude.{codes}
+use Rattle.of_io.specs.Faults.{Rose, TakesMoreThan, TakesAtMost}
+use Rattle.of_tool.specs.declared.command.Command.{Command}
+use Rattle.of_tool.specs.declared.status.TheConstants.{DONE, READ_FAULT, TOO_LONG, ILLEGAL, DOES_NOT_FIT}
+use Rattle.of_tool.specs.Commands.{Are}
+use Rattle.of_tool.specs.Seen.{Change, Seen, IsWritten}
+use Rattle.of_tool.specs.Inputs.{Input, input_of, most_of}
+use Rattle.of_tool.specs.Refusals.{Refusal, ReadFault, TooLong, BadPlan, BadImage, UnlawfulImage, DoesNotFit, Illegal, status_of, IsRefused, IsRefusal, IsIllegal, HasMisfit, Judges}
+use Rattle.of_tool.specs.Makes.{Makes, Did}
+use Rattle.of_tool.specs.Statuses.{IsAnswerTo, Done, Refused, IsAnswer, To, NoCommand}
+use Rattle.of_tool.proofs.CommandLemmas.{same_command}
+
+-- an answer to the words is one to their command
+pub answer_to : (words : List (List ℕ)) (c : Command) (source : Change) (status : ℕ) (text : List ℕ) → Are words c → IsAnswer words source status text → IsAnswerTo c source status text
+answer_to words c source status text is (To d are answer) = let P : Command → Type 0 = λ k. IsAnswerTo k source status text in subst P (same_command words d c are is) answer
+answer_to words c source status text is (NoCommand none status_is text_is) = absurd (none c is)
+
+-- a refusal is not done
+pub not_done : (why : Refusal) → status_of why ≡ DONE → ⊥
+not_done ReadFault e = omega arith
+not_done TooLong e = omega arith
+not_done (BadPlan line) e = omega arith
+not_done (BadImage line) e = omega arith
+not_done (UnlawfulImage cell) e = omega arith
+not_done DoesNotFit e = omega arith
+not_done Illegal e = omega arith
+
+pub refusal_undone : (input : Input) (source : Change) (status : ℕ) (text : List ℕ) → IsRefusal input source status text → status ≡ DONE → ⊥
+refusal_undone input source status text h done = not_done h.why (sym h.status_is ∙ done)
+
+-- an input of at most so many bytes that could not be read
+pub fault_refused : (most : ℕ) (source : Change) (text : List ℕ) → Rose source.faults source.faults_after → TakesAtMost most source.before source.after → text ≡ codes "error: read fault\n" → (input : Input) → most_of input ≡ most → IsRefusal input source READ_FAULT text
+fault_refused most source text rose few text_is input is = record { why = ReadFault; cause = record { fault = rose; few = subst (λ (n : ℕ). TakesAtMost n source.before source.after) (sym is) few }; status_is = refl; text_is = text_is }
+
+-- or that is longer
+pub long_refused : (most : ℕ) (source : Change) (text : List ℕ) → TakesMoreThan most source.before source.after → text ≡ codes "error: input too long\n" → (input : Input) → most_of input ≡ most → IsRefusal input source TOO_LONG text
+long_refused most source text more text_is input is = record { why = TooLong; cause = subst (λ (n : ℕ). TakesMoreThan n source.before source.after) (sym is) more; status_is = refl; text_is = text_is }
+
+-- what a command that is done has made
+pub made_of : (c : Command) (source : Change) (status : ℕ) (text : List ℕ) → status ≡ DONE → IsAnswerTo c source status text → Makes c source text
+made_of c source status text done (Done is makes) = makes
+made_of c source status text done (Refused input reads refusal) = absurd (not_done refusal.why (sym refusal.status_is ∙ done))
+
+-- what it did, once that is written
+pub did : (words : List (List ℕ)) (c : Command) (seen : Seen) (status : ℕ) (text : List ℕ) → Are words c → status ≡ DONE → IsAnswer words seen.source status text → IsWritten seen text → Did c seen
+did words c seen status text is done answer written = record { text = text; makes = made_of c seen.source status text done (answer_to words c seen.source status text is answer); written = written }
+
+illegal_of : (input : Input) (source : Change) (why : Refusal) → IsRefused input source why → status_of why ≡ ILLEGAL → IsIllegal input source
+illegal_of input source ReadFault h e = absurd (omega arith)
+illegal_of input source TooLong h e = absurd (omega arith)
+illegal_of input source (BadPlan line) h e = absurd (omega arith)
+illegal_of input source (BadImage line) h e = absurd (omega arith)
+illegal_of input source (UnlawfulImage cell) h e = absurd (omega arith)
+illegal_of input source DoesNotFit h e = absurd (omega arith)
+illegal_of input source Illegal h e = h
+
+misfit_of : (input : Input) (source : Change) (why : Refusal) → IsRefused input source why → status_of why ≡ DOES_NOT_FIT → HasMisfit input source
+misfit_of input source ReadFault h e = absurd (omega arith)
+misfit_of input source TooLong h e = absurd (omega arith)
+misfit_of input source (BadPlan line) h e = absurd (omega arith)
+misfit_of input source (BadImage line) h e = absurd (omega arith)
+misfit_of input source (UnlawfulImage cell) h e = absurd (omega arith)
+misfit_of input source DoesNotFit h e = h
+misfit_of input source Illegal h e = absurd (omega arith)
+
+-- what statuses 8 and 9 say
+judged_to : (c : Command) (source : Change) (status : ℕ) (text : List ℕ) → IsAnswerTo c source status text → Judges (input_of c) source status
+judged_to c source status text (Done is makes) input reads = ((λ e. absurd (omega (arith, is, e))), (λ e. absurd (omega (arith, is, e))))
+judged_to c source status text (Refused other is refusal) input reads =
+    let same : other ≡ input = (let e : ◌≡◌ {A = Option Input} (Some other) (Some input) = sym is ∙ reads in cc) in
+    let P : Input → Type 0 = λ i. IsRefused i source refusal.why in
+    let cause = subst P same refusal.cause in
+    ((λ e. illegal_of input source refusal.why cause (sym refusal.status_is ∙ e)), (λ e. misfit_of input source refusal.why cause (sym refusal.status_is ∙ e)))
+
+pub judges : (words : List (List ℕ)) (c : Command) (source : Change) (status : ℕ) (text : List ℕ) → Are words c → IsAnswer words source status text → Judges (input_of c) source status
+judges words c source status text is answer = judged_to c source status text (answer_to words c source status text is answer)

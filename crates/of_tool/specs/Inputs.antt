@@ -1,0 +1,321 @@
+-- What commands read: the kinds of inputs, which command reads which, and what an input is found to
+-- be.
+use Rattle.std.specs.Prelude.{◌≡◌, ℕ, ◌≤◌, List, length, Option, Some, None}
+use Rattle.of_plan.specs.Plan.{Plan}
+use Rattle.of_plan.specs.Grammar.{SpellsPlan, IsPlanText}
+use Rattle.of_plan.specs.BadLine.{HasBadLine}
+use Rattle.of_plan.specs.Parts.{AreParts}
+use Rattle.of_check.specs.Verdict.{IsLegalText}
+use Rattle.of_report.specs.Image.{Image as AnImage}
+use Rattle.of_image.specs.declared.version.Version.{Version as Edition}
+use Rattle.of_image.specs.declared.version.Version.TheVariants.{One, Two}
+use Rattle.of_image.specs.Parsed.{ReadsImage}
+use Rattle.of_image.specs.MovedRow.{Migrates}
+use Rattle.of_lives.specs.Images.{Fits}
+use Rattle.of_tool.specs.declared.command.Command.{Command}
+use Rattle.of_tool.specs.declared.command.Command.TheVariants.{Serial, Play, Trace, Commits, Run, Load, Check, CheckLife, Part, Image, Recover, Renumber, Migrate, Continue, Help, Version}
+use Rattle.of_tool.specs.declared.top.TheConstants.{MOST_INPUT, MOST_WITH_REPORT, MOST_IMAGE}
+use Rattle.of_tool.specs.Commands.{Are}
+use Rattle.of_tool.specs.Cutting.{IsPart}
+use Rattle.of_tool.specs.Lives.{IsLegalLife}
+use Rattle.of_tool.specs.Seen.{Change, ReadsAll}
+
+-- ---- which command reads what
+
+-- the kinds of inputs
+pub data Input : Type 0 where
+  PlanAlone : Input
+  PlanAndReport : Input
+  ImageAlone : Edition → Input
+  ImageAndPlan : Input
+  -- an image, a plan, a report and an image
+  WholeLife : Input
+  -- texts of any kind
+  AnyTexts : Input
+
+-- what a command reads, where it reads
+abbrev pub input_of : Command → Option Input
+input_of Serial = Some PlanAlone
+input_of Play = Some PlanAlone
+input_of (Trace first count) = Some PlanAlone
+input_of Commits = Some PlanAlone
+input_of Run = Some PlanAlone
+input_of (Load callers scripts) = None
+input_of Check = Some PlanAndReport
+input_of CheckLife = Some WholeLife
+input_of (Part number) = Some AnyTexts
+input_of Image = Some PlanAlone
+input_of Recover = Some (ImageAlone Two)
+input_of Renumber = Some (ImageAlone Two)
+input_of Migrate = Some (ImageAlone One)
+input_of Continue = Some ImageAndPlan
+input_of Help = None
+input_of Version = None
+
+-- how many bytes it has at most
+abbrev pub most_of : Input → ℕ
+most_of PlanAlone = MOST_INPUT
+most_of PlanAndReport = MOST_WITH_REPORT
+most_of (ImageAlone edition) = MOST_IMAGE
+most_of ImageAndPlan = MOST_WITH_REPORT
+most_of WholeLife = MOST_WITH_REPORT
+most_of AnyTexts = MOST_WITH_REPORT
+
+-- the words are those of a command that reads
+pub record AskForInput (words : List (List ℕ)) : Type 0 where
+  pub command : Command
+  pub are : Are words command
+  pub input : Input
+  pub reads : input_of command ≡ Some input
+
+-- ---- a plan alone
+
+-- the whole input is the text of this plan
+abbrev pub ReadsPlan : Change → Plan → Type 0
+ReadsPlan source plan = (bytes : List ℕ) × ReadsAll MOST_INPUT source bytes × SpellsPlan bytes plan
+
+-- the whole input is no plan's text, and this is its bad line
+pub record ReadsNoPlan (source : Change) (line : ℕ) : Type 0 where
+  pub bytes : List ℕ
+  pub read : ReadsAll MOST_INPUT source bytes
+  pub bad : HasBadLine IsPlanText bytes line
+
+-- ---- a plan and a report
+
+-- the first part of the whole input is the text of this plan, and the second this text
+pub record ReadsBoth (source : Change) (plan : Plan) (report : List ℕ) : Type 0 where
+  pub bytes : List ℕ
+  pub first : List ℕ
+  pub read : ReadsAll MOST_WITH_REPORT source bytes
+  pub parts : AreParts bytes first report
+  pub spelled : SpellsPlan first plan
+
+-- the first part of the whole input is no plan's text, and this is its bad line
+pub record ReadsNoFirst (source : Change) (line : ℕ) : Type 0 where
+  pub bytes : List ℕ
+  pub first : List ℕ
+  pub report : List ℕ
+  pub read : ReadsAll MOST_WITH_REPORT source bytes
+  pub parts : AreParts bytes first report
+  pub bad : HasBadLine IsPlanText first line
+
+-- the first part is a plan's text, and the second that of a legal report of the plan
+pub record ReadsLegal (source : Change) : Type 0 where
+  pub plan : Plan
+  pub report : List ℕ
+  pub read : ReadsBoth source plan report
+  pub legal : IsLegalText plan report
+
+-- the first part is a plan's text, and the second no legal report's
+pub record ReadsIllegal (source : Change) : Type 0 where
+  pub plan : Plan
+  pub report : List ℕ
+  pub read : ReadsBoth source plan report
+  pub illegal : IsLegalText plan report → ⊥
+
+-- ---- an image alone
+
+-- of the whole input this holds
+pub record ReadsOne (Is : List ℕ → Type 0) (source : Change) : Type 0 where
+  pub bytes : List ℕ
+  pub read : ReadsAll MOST_IMAGE source bytes
+  pub is : Is bytes
+
+-- the whole input is the text of an image of this version, and this is the image
+abbrev pub ReadsItsImage : Edition → Change → AnImage → Type 0
+ReadsItsImage edition source image = ReadsOne (λ bytes. ReadsImage edition bytes image) source
+
+-- the whole input is the text of a version 1 image, and this is what it is in version 2
+abbrev pub ReadsEarlier : Change → List ℕ → Type 0
+ReadsEarlier source text = ReadsOne (λ bytes. Migrates bytes text) source
+
+-- ---- an image and a plan
+
+-- the whole input has two parts: of the first this holds, and the second is the text of this plan
+pub record ReadsBehind (Is : List ℕ → Type 0) (source : Change) (plan : Plan) : Type 0 where
+  pub bytes : List ℕ
+  pub first : List ℕ
+  pub second : List ℕ
+  pub read : ReadsAll MOST_WITH_REPORT source bytes
+  pub parts : AreParts bytes first second
+  pub is : Is first
+  pub spelled : SpellsPlan second plan
+
+-- the first is the text of this image
+abbrev pub ReadsLife : Change → AnImage → Plan → Type 0
+ReadsLife source image plan = ReadsBehind (λ text. ReadsImage Two text image) source plan
+
+-- the second part of the whole input is no plan's text, and this is its bad line, counted in that
+-- part
+pub record ReadsNoSecond (source : Change) (line : ℕ) : Type 0 where
+  pub bytes : List ℕ
+  pub first : List ℕ
+  pub second : List ℕ
+  pub read : ReadsAll MOST_WITH_REPORT source bytes
+  pub parts : AreParts bytes first second
+  pub bad : HasBadLine IsPlanText second line
+
+-- the first part is the text of an image, and the second that of a plan that doesn't fit it
+pub record ReadsMisfit (source : Change) : Type 0 where
+  pub image : AnImage
+  pub plan : Plan
+  pub read : ReadsLife source image plan
+  pub misfit : Fits image plan → ⊥
+
+-- ---- an image, a plan, a report and an image
+
+-- the whole input has four parts, one after another: one of which this holds, the text of this plan,
+-- a report's, and what is left
+pub record ReadsFour (Is : List ℕ → Type 0) (source : Change) (plan : Plan) (told left : List ℕ)
+    : Type 0 where
+  pub bytes : List ℕ
+  pub first : List ℕ
+  pub behind : List ℕ
+  pub second : List ℕ
+  pub others : List ℕ
+  pub read : ReadsAll MOST_WITH_REPORT source bytes
+  pub parts : AreParts bytes first behind
+  pub second_parts : AreParts behind second others
+  pub last_parts : AreParts others told left
+  pub is : Is first
+  pub spelled : SpellsPlan second plan
+
+-- the first is the text of this image
+abbrev pub ReadsLived : Change → AnImage → Plan → (told left : List ℕ) → Type 0
+ReadsLived source image plan told left =
+    ReadsFour (λ text. ReadsImage Two text image) source plan told left
+
+-- the second of these parts is no plan's text, and this is its bad line, counted in that part
+pub record ReadsNoLifePlan (source : Change) (line : ℕ) : Type 0 where
+  pub bytes : List ℕ
+  pub first : List ℕ
+  pub behind : List ℕ
+  pub second : List ℕ
+  pub others : List ℕ
+  pub read : ReadsAll MOST_WITH_REPORT source bytes
+  pub parts : AreParts bytes first behind
+  pub second_parts : AreParts behind second others
+  pub bad : HasBadLine IsPlanText second line
+
+-- of the first of these parts this holds, and the second is a plan's text
+pub record ReadsFirstOfFour (Is : List ℕ → Type 0) (source : Change) : Type 0 where
+  pub plan : Plan
+  pub told : List ℕ
+  pub left : List ℕ
+  pub read : ReadsFour Is source plan told left
+
+-- an image and a plan that doesn't fit it come first
+pub record ReadsLifeMisfit (source : Change) : Type 0 where
+  pub image : AnImage
+  pub plan : Plan
+  pub told : List ℕ
+  pub left : List ℕ
+  pub read : ReadsLived source image plan told left
+  pub misfit : Fits image plan → ⊥
+
+-- an image, a plan that fits it, and the report and the image of a life that goes on from it
+pub record ReadsLegalLife (source : Change) : Type 0 where
+  pub image : AnImage
+  pub plan : Plan
+  pub told : List ℕ
+  pub left : List ℕ
+  pub read : ReadsLived source image plan told left
+  pub fits : Fits image plan
+  pub legal : IsLegalLife image plan told left
+
+-- an image, a plan that fits it, and what is no such life's
+pub record ReadsIllegalLife (source : Change) : Type 0 where
+  pub image : AnImage
+  pub plan : Plan
+  pub told : List ℕ
+  pub left : List ℕ
+  pub read : ReadsLived source image plan told left
+  pub fits : Fits image plan
+  pub illegal : IsLegalLife image plan told left → ⊥
+
+-- ---- any texts
+
+-- the whole input has this part with this number
+pub record ReadsPart (number : ℕ) (source : Change) (part : List ℕ) : Type 0 where
+  pub bytes : List ℕ
+  pub read : ReadsAll MOST_WITH_REPORT source bytes
+  pub is : IsPart number bytes part
+
+-- ---- valid inputs
+
+-- the bytes that are left are these, no more than so many
+pub record AreLeft (most : ℕ) (left : Option (List ℕ)) (bytes : List ℕ) : Type 0 where
+  pub are : left ≡ Some bytes
+  pub few : length bytes ≤ most
+
+-- the bytes that are left are a plan's text within the limit
+pub record IsPlanInput (left : Option (List ℕ)) : Type 0 where
+  pub bytes : List ℕ
+  pub left_is : AreLeft MOST_INPUT left bytes
+  pub plan : Plan
+  pub spelled : SpellsPlan bytes plan
+
+-- the bytes that are left are a plan's text and any bytes behind it, within the limit
+pub record IsCheckInput (left : Option (List ℕ)) : Type 0 where
+  pub bytes : List ℕ
+  pub left_is : AreLeft MOST_WITH_REPORT left bytes
+  pub first : List ℕ
+  pub report : List ℕ
+  pub parts : AreParts bytes first report
+  pub plan : Plan
+  pub spelled : SpellsPlan first plan
+
+-- the bytes that are left are the text of a lawful image of this version within the limit
+pub record IsImageInput (edition : Edition) (left : Option (List ℕ)) : Type 0 where
+  pub bytes : List ℕ
+  pub left_is : AreLeft MOST_IMAGE left bytes
+  pub image : AnImage
+  pub image_of : ReadsImage edition bytes image
+
+-- the bytes that are left are the text of a lawful image and that of a plan behind it, within the
+-- limit
+pub record IsLifeInput (left : Option (List ℕ)) : Type 0 where
+  pub bytes : List ℕ
+  pub left_is : AreLeft MOST_WITH_REPORT left bytes
+  pub first : List ℕ
+  pub second : List ℕ
+  pub parts : AreParts bytes first second
+  pub image : AnImage
+  pub image_of : ReadsImage Two first image
+  pub plan : Plan
+  pub spelled : SpellsPlan second plan
+
+-- the bytes that are left are the text of a lawful image, that of a plan, and any bytes behind it,
+-- within the limit
+pub record IsLivedInput (left : Option (List ℕ)) : Type 0 where
+  pub bytes : List ℕ
+  pub left_is : AreLeft MOST_WITH_REPORT left bytes
+  pub first : List ℕ
+  pub behind : List ℕ
+  pub second : List ℕ
+  pub others : List ℕ
+  pub parts : AreParts bytes first behind
+  pub second_parts : AreParts behind second others
+  pub image : AnImage
+  pub image_of : ReadsImage Two first image
+  pub plan : Plan
+  pub spelled : SpellsPlan second plan
+
+-- the bytes that are left are within the limit
+pub record IsAnyInput (left : Option (List ℕ)) : Type 0 where
+  pub bytes : List ℕ
+  pub left_is : AreLeft MOST_WITH_REPORT left bytes
+
+-- the bytes that are left are a valid input of a kind, or of a command that reads nothing any
+abbrev pub IsInputOf : Option Input → Option (List ℕ) → Type 0
+IsInputOf None left = Unit {0}
+IsInputOf (Some PlanAlone) left = IsPlanInput left
+IsInputOf (Some PlanAndReport) left = IsCheckInput left
+IsInputOf (Some (ImageAlone edition)) left = IsImageInput edition left
+IsInputOf (Some ImageAndPlan) left = IsLifeInput left
+IsInputOf (Some WholeLife) left = IsLivedInput left
+IsInputOf (Some AnyTexts) left = IsAnyInput left
+
+-- the input of a command is what the command reads
+abbrev pub IsValidInput : Command → Option (List ℕ) → Type 0
+IsValidInput command left = IsInputOf (input_of command) left

@@ -1,0 +1,128 @@
+-- What each command makes of its input with status 0.
+use Rattle.std.specs.Prelude.{◌≡◌, ℕ, List, codes}
+use Rattle.of_plan.specs.Plan.{Plan}
+use Rattle.of_plan.specs.Report.{Report, empty_start}
+use Rattle.of_plan.specs.Legal.{IsLegal}
+use Rattle.of_plan.specs.Serial.{serial_report}
+use Rattle.of_plan.specs.Generated.{generated}
+use Rattle.of_report.specs.ReportText.{report_text}
+use Rattle.of_report.specs.LoadText.{load_text}
+use Rattle.of_report.specs.Image.{Image as AnImage}
+use Rattle.of_image.specs.declared.version.Version.TheVariants.{Two}
+use Rattle.of_image.specs.RecoveredText.{recovered_text}
+use Rattle.of_image.specs.RenumberedImage.{Renumbers}
+use Rattle.of_play.specs.Played.{IsPlayedReport}
+use Rattle.of_play.specs.declared.playing.tracing.TheConstants.{ALL_EVENTS}
+use Rattle.of_play.specs.Trace.{trace_text, commits_text}
+use Rattle.of_tool.specs.declared.command.Command.{Command}
+use Rattle.of_tool.specs.declared.command.Command.TheVariants.{Serial, Play, Trace, Commits, Run, Load, Check, CheckLife, Part, Image, Recover, Renumber, Migrate, Continue, Help, Version}
+use Rattle.of_tool.specs.declared.command.TheConstants.{HELP, VERSION}
+use Rattle.of_tool.specs.PlayedImage.{IsPlayedImage}
+use Rattle.of_tool.specs.Ran.{IsSomeRuns}
+use Rattle.of_tool.specs.Continued.{IsSomeLifes}
+use Rattle.of_tool.specs.Seen.{Change, Seen, IsWritten}
+use Rattle.of_tool.specs.Inputs.{ReadsPlan, ReadsLegal, ReadsLegalLife, ReadsPart, ReadsItsImage, ReadsEarlier, ReadsLife}
+
+-- the whole input is a plan's text, and the text is the report of its serial replay, which is a
+-- legal one
+pub record MakesSerial (source : Change) (text : List ℕ) : Type 0 where
+  pub plan : Plan
+  pub read : ReadsPlan source plan
+  pub legal : IsLegal plan (empty_start plan) (serial_report plan)
+  pub text_is : text ≡ report_text (serial_report plan)
+
+-- the text is the report of what the plan's schedule leaves
+pub record MakesPlay (source : Change) (text : List ℕ) : Type 0 where
+  pub plan : Plan
+  pub read : ReadsPlan source plan
+  pub report : Report
+  pub played : IsPlayedReport plan report
+  pub text_is : text ≡ report_text report
+
+-- the text is the lines of so many events of the plan's schedule, from this one on
+pub record MakesTrace (first count : ℕ) (source : Change) (text : List ℕ) : Type 0 where
+  pub plan : Plan
+  pub read : ReadsPlan source plan
+  pub text_is : text ≡ trace_text plan first count
+
+-- the text is the lines of the commits of the plan's schedule
+pub record MakesCommits (source : Change) (text : List ℕ) : Type 0 where
+  pub plan : Plan
+  pub read : ReadsPlan source plan
+  pub text_is : text ≡ commits_text plan ALL_EVENTS
+
+-- the text is the report of some run of the plan
+pub record MakesRun (source : Change) (text : List ℕ) : Type 0 where
+  pub plan : Plan
+  pub read : ReadsPlan source plan
+  pub report : Report
+  pub run : IsSomeRuns plan report
+  pub text_is : text ≡ report_text report
+
+-- the text is the summary of the report of some run of the plan that is made for so many callers with
+-- so many scripts each
+pub record MakesLoad (callers scripts : ℕ) (text : List ℕ) : Type 0 where
+  pub report : Report
+  pub run : IsSomeRuns (generated callers scripts) report
+  pub text_is : text ≡ load_text report
+
+-- the report that was read is legal, and the text says so
+pub record MakesCheck (source : Change) (text : List ℕ) : Type 0 where
+  pub legal : ReadsLegal source
+  pub text_is : text ≡ codes "legal report\n"
+
+-- the life that was read is legal, and the text says so
+pub record MakesCheckLife (source : Change) (text : List ℕ) : Type 0 where
+  pub legal : ReadsLegalLife source
+  pub text_is : text ≡ codes "legal life\n"
+
+-- the text is the image of what the plan's schedule leaves
+pub record MakesImage (source : Change) (text : List ℕ) : Type 0 where
+  pub plan : Plan
+  pub read : ReadsPlan source plan
+  pub played : IsPlayedImage plan text
+
+-- the whole input is an image's text, and the text is what recovery finds in it
+pub record MakesRecovered (source : Change) (text : List ℕ) : Type 0 where
+  pub image : AnImage
+  pub read : ReadsItsImage Two source image
+  pub text_is : text ≡ recovered_text image
+
+-- the whole input is an image's text, and the text is the image with its sequences begun anew
+pub record MakesRenumbered (source : Change) (text : List ℕ) : Type 0 where
+  pub image : AnImage
+  pub read : ReadsItsImage Two source image
+  pub renumbers : Renumbers image text
+
+-- the whole input is an image's text and a plan's, and the text is that of some life that goes on from
+-- the image by the plan
+pub record MakesLife (source : Change) (text : List ℕ) : Type 0 where
+  pub image : AnImage
+  pub plan : Plan
+  pub read : ReadsLife source image plan
+  pub life : IsSomeLifes image plan text
+
+-- what each command makes of its input
+abbrev pub Makes : Command → Change → (text : List ℕ) → Type 0
+Makes Serial source text = MakesSerial source text
+Makes Play source text = MakesPlay source text
+Makes (Trace first count) source text = MakesTrace first count source text
+Makes Commits source text = MakesCommits source text
+Makes Run source text = MakesRun source text
+Makes (Load callers scripts) source text = MakesLoad callers scripts text
+Makes Check source text = MakesCheck source text
+Makes CheckLife source text = MakesCheckLife source text
+Makes (Part number) source text = ReadsPart number source text
+Makes Image source text = MakesImage source text
+Makes Recover source text = MakesRecovered source text
+Makes Renumber source text = MakesRenumbered source text
+Makes Migrate source text = ReadsEarlier source text
+Makes Continue source text = MakesLife source text
+Makes Help source text = text ≡ HELP.now
+Makes Version source text = text ≡ VERSION.now
+
+-- what each command has done: it has written what it makes of its input
+pub record Did (command : Command) (seen : Seen) : Type 0 where
+  pub text : List ℕ
+  pub makes : Makes command seen.source text
+  pub written : IsWritten seen text

@@ -1,0 +1,115 @@
+-- Why an input is refused: the statuses above 0 that have their cause in it, with their texts.
+use Rattle.std.specs.Prelude.{◌≡◌, ℕ, List, ◌++◌, codes, decimal, Option, Some}
+use Rattle.of_io.specs.Faults.{Rose, TakesMoreThan, TakesAtMost}
+use Rattle.of_plan.specs.Plan.{Plan}
+use Rattle.of_plan.specs.BadLine.{HasBadLine}
+use Rattle.of_image.specs.declared.version.Version.{Version as Edition}
+use Rattle.of_image.specs.declared.version.Version.TheVariants.{Two}
+use Rattle.of_image.specs.ImageText.{IsImageText}
+use Rattle.of_image.specs.Parsed.{IsUnlawful}
+use Rattle.of_tool.specs.declared.status.TheConstants.{READ_FAULT, BAD_PLAN, TOO_LONG, BAD_IMAGE, ILLEGAL, DOES_NOT_FIT}
+use Rattle.of_tool.specs.Seen.{Change}
+use Rattle.of_tool.specs.Inputs.{Input, PlanAlone, PlanAndReport, ImageAlone, ImageAndPlan, WholeLife, AnyTexts, most_of, ReadsNoPlan, ReadsNoFirst, ReadsIllegal, ReadsOne, ReadsBehind, ReadsNoSecond, ReadsMisfit, ReadsNoLifePlan, ReadsFirstOfFour, ReadsLifeMisfit, ReadsIllegalLife}
+
+-- why an input is refused
+pub data Refusal : Type 0 where
+  ReadFault : Refusal
+  TooLong : Refusal
+  BadPlan : (line : ℕ) → Refusal
+  BadImage : (line : ℕ) → Refusal
+  UnlawfulImage : (cell : ℕ) → Refusal
+  DoesNotFit : Refusal
+  Illegal : Refusal
+
+-- its status
+abbrev pub status_of : Refusal → ℕ
+status_of ReadFault = READ_FAULT
+status_of TooLong = TOO_LONG
+status_of (BadPlan line) = BAD_PLAN
+status_of (BadImage line) = BAD_IMAGE
+status_of (UnlawfulImage cell) = BAD_IMAGE
+status_of DoesNotFit = DOES_NOT_FIT
+status_of Illegal = ILLEGAL
+
+-- what is written of an input in which something is illegal: a life, or else a report
+abbrev pub illegal_text : Input → List ℕ
+illegal_text WholeLife = codes "error: not a legal life\n"
+illegal_text input = codes "error: not a legal report\n"
+
+-- what is written
+abbrev pub text_of : Input → Refusal → List ℕ
+text_of input ReadFault = codes "error: read fault\n"
+text_of input TooLong = codes "error: input too long\n"
+text_of input (BadPlan line) = codes "error: bad plan, line " ++ decimal line ++ codes "\n"
+text_of input (BadImage line) = codes "error: bad image, line " ++ decimal line ++ codes "\n"
+text_of input (UnlawfulImage cell) = codes "error: unlawful image, cell " ++ decimal cell ++ codes "\n"
+text_of input DoesNotFit = codes "error: plan does not fit image\n"
+text_of input Illegal = illegal_text input
+
+-- ---- the causes
+
+-- a read failed, and no more than so many bytes were taken
+pub record ReadFails (most : ℕ) (source : Change) : Type 0 where
+  pub fault : Rose source.faults source.faults_after
+  pub few : TakesAtMost most source.before source.after
+
+-- the plan of the input is no plan's text, and this is its bad line
+abbrev pub HasBadPlan : Input → Change → (line : ℕ) → Type 0
+HasBadPlan PlanAlone source line = ReadsNoPlan source line
+HasBadPlan PlanAndReport source line = ReadsNoFirst source line
+HasBadPlan (ImageAlone edition) source line = ⊥
+HasBadPlan ImageAndPlan source line = ReadsNoSecond source line
+HasBadPlan WholeLife source line = ReadsNoLifePlan source line
+HasBadPlan AnyTexts source line = ⊥
+
+-- the plan of the input is one, where there is to be one, and of the image's text this holds
+abbrev pub HasBadImage : (Edition → List ℕ → Type 0) → Input → Change → Type 0
+HasBadImage Is PlanAlone source = ⊥
+HasBadImage Is PlanAndReport source = ⊥
+HasBadImage Is (ImageAlone edition) source = ReadsOne (Is edition) source
+HasBadImage Is ImageAndPlan source = (plan : Plan) × ReadsBehind (Is Two) source plan
+HasBadImage Is WholeLife source = ReadsFirstOfFour (Is Two) source
+HasBadImage Is AnyTexts source = ⊥
+
+-- the plan of the input does not fit its image
+abbrev pub HasMisfit : Input → Change → Type 0
+HasMisfit PlanAlone source = ⊥
+HasMisfit PlanAndReport source = ⊥
+HasMisfit (ImageAlone edition) source = ⊥
+HasMisfit ImageAndPlan source = ReadsMisfit source
+HasMisfit WholeLife source = ReadsLifeMisfit source
+HasMisfit AnyTexts source = ⊥
+
+-- the report, or the life, is not a legal one
+abbrev pub IsIllegal : Input → Change → Type 0
+IsIllegal PlanAlone source = ⊥
+IsIllegal PlanAndReport source = ReadsIllegal source
+IsIllegal (ImageAlone edition) source = ⊥
+IsIllegal ImageAndPlan source = ⊥
+IsIllegal WholeLife source = ReadsIllegalLife source
+IsIllegal AnyTexts source = ⊥
+
+-- why an input of this kind is refused so
+abbrev pub IsRefused : Input → Change → Refusal → Type 0
+IsRefused input source ReadFault = ReadFails (most_of input) source
+IsRefused input source TooLong = TakesMoreThan (most_of input) source.before source.after
+IsRefused input source (BadPlan line) = HasBadPlan input source line
+IsRefused input source (BadImage line) =
+    HasBadImage (λ edition text. HasBadLine (IsImageText edition) text line) input source
+IsRefused input source (UnlawfulImage cell) =
+    HasBadImage (λ edition text. IsUnlawful edition text cell) input source
+IsRefused input source DoesNotFit = HasMisfit input source
+IsRefused input source Illegal = IsIllegal input source
+
+-- an input of this kind was refused, with this status and this text
+pub record IsRefusal (input : Input) (source : Change) (status : ℕ) (text : List ℕ) : Type 0 where
+  pub why : Refusal
+  pub cause : IsRefused input source why
+  pub status_is : status ≡ status_of why
+  pub text_is : text ≡ text_of input why
+
+-- what statuses 8 and 9 say of an input, where a command reads one
+abbrev pub Judges : Option Input → Change → (status : ℕ) → Type 0
+Judges reads source status =
+    (input : Input) → reads ≡ Some input
+    → (status ≡ ILLEGAL → IsIllegal input source) × (status ≡ DOES_NOT_FIT → HasMisfit input source)

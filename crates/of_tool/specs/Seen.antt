@@ -1,0 +1,83 @@
+-- What a call of `tool` saw of its source and its sink, and what it did to them.
+use Rattle.std.specs.Prelude.{◌≡◌, ℕ, ◌-◌, ◌^◌, ◌<◌, ◌≤◌, Bool, IsTrue, List, length, Option, Some, None}
+use Rattle.std.specs.Io.KnownBytes.{Appends, Consumes, IsAtEnd}
+use Rattle.of_plan.specs.Ended.{Run, run_of}
+use Rattle.of_plan.specs.declared.ended.Ended.{Ended}
+use Rattle.of_row.specs.Views.{Sight}
+use Rattle.of_row.specs.declared.member.Pass.{Pass}
+
+-- a source or a sink before and after a call: the bytes that it has left or has written, where it
+-- tells them, and how often it has failed
+pub record Change : Type 0 where
+  pub before : Option (List ℕ)
+  pub after : Option (List ℕ)
+  pub faults : ℕ
+  pub faults_after : ℕ
+
+-- what a call saw: its source and its sink, and whether what the sink has was finished, and is
+pub record Seen : Type 0 where
+  pub source : Change
+  pub sink : Change
+  pub was_finished : Bool
+  pub finished : Bool
+
+-- of a source or a sink that tells its bytes and its faults so
+abbrev pub change_of : {S : Type 0} → (S → Option (List ℕ)) → (S → ℕ) → S → S → Change
+change_of bytes faults old new = record {
+  before = bytes old;
+  after = bytes new;
+  faults = faults old;
+  faults_after = faults new;
+}
+
+-- of a source and a sink that tell theirs so
+abbrev pub seen_by : {S K : Type 0} → (S → Option (List ℕ)) → (S → ℕ) → S → S
+    → (K → Option (List ℕ)) → (K → Bool) → (K → ℕ) → K → K → Seen
+seen_by left failed source source_after written finished faults sink sink_after = record {
+  source = change_of left failed source source_after;
+  sink = change_of written faults sink sink_after;
+  was_finished = finished sink;
+  finished = finished sink_after;
+}
+
+-- the source was read to its end without a fault, and these were the bytes, no more than so many
+pub record ReadsAll (most : ℕ) (source : Change) (bytes : List ℕ) : Type 0 where
+  pub taken : Consumes source.before source.after bytes
+  pub ended : IsAtEnd source.after
+  pub few : length bytes ≤ most
+  pub no_fault : source.faults_after ≡ source.faults
+
+-- the whole text was written and finished
+pub record IsWritten (seen : Seen) (text : List ℕ) : Type 0 where
+  pub bytes : Appends seen.sink.before seen.sink.after text
+  pub finished : IsTrue seen.finished
+
+-- the sink is as it was
+pub record IsUntouched (seen : Seen) : Type 0 where
+  pub bytes : seen.sink.after ≡ seen.sink.before
+  pub finished : seen.finished ≡ seen.was_finished
+  pub faults : seen.sink.faults_after ≡ seen.sink.faults
+
+-- a count of faults that is not yet at its last value
+abbrev pub CanRise : ℕ → Type 0
+CanRise faults = faults < 2 ^ 64 - 1
+
+-- what was there before the call tells its causes apart: the source tells its bytes, the counts of
+-- faults can rise, and the sink is not finished
+pub record IsFresh (seen : Seen) : Type 0 where
+  pub bytes : List ℕ
+  pub known : seen.source.before ≡ Some bytes
+  pub source : CanRise seen.source.faults
+  pub sink : CanRise seen.sink.faults
+  pub unfinished : IsTrue seen.was_finished → ⊥
+
+-- ---- what a run hands out beside its status
+
+-- what a pass has seen
+abbrev pub view_of : Pass → Sight
+view_of pass = pass.seat.me.0
+
+-- a run has left a record and a pass, and this holds of the record and of what the pass has seen
+abbrev pub Holds : Option (Ended × Pass) → (Run → Sight → Type 0) → Type 0
+Holds None Is = ⊥
+Holds (Some ran) Is = Is (run_of ran.0) (view_of ran.1)

@@ -1,0 +1,66 @@
+-- How a call of `tool` ends: each status comes for its cause, and there is no other.
+use Rattle.std.specs.Prelude.{◌≡◌, ℕ, List, codes, Option, Some}
+use Rattle.of_io.specs.Faults.{Rose, AppendsFront}
+use Rattle.of_tool.specs.declared.command.Command.{Command}
+use Rattle.of_tool.specs.declared.command.Command.TheVariants.{Check, CheckLife, Continue}
+use Rattle.of_tool.specs.declared.status.TheConstants.{DONE, OUT_OF_MEMORY, USAGE, WRITE_FAULT, ILLEGAL, DOES_NOT_FIT}
+use Rattle.of_tool.specs.Commands.{Are, IsNoCommand}
+use Rattle.of_tool.specs.Seen.{Change, Seen, IsWritten, IsUntouched, IsFresh}
+use Rattle.of_tool.specs.Inputs.{Input, input_of}
+use Rattle.of_tool.specs.Refusals.{IsRefusal}
+use Rattle.of_tool.specs.Makes.{Makes}
+
+-- a command's answer to its input: it is done, or its input is refused
+pub data IsAnswerTo (command : Command) (source : Change) (status : ℕ) (text : List ℕ) : Type 0 where
+  Done : status ≡ DONE → Makes command source text → IsAnswerTo command source status text
+  Refused : (input : Input) → input_of command ≡ Some input → IsRefusal input source status text
+      → IsAnswerTo command source status text
+
+-- the answer to the words of a command line
+pub data IsAnswer (words : List (List ℕ)) (source : Change) (status : ℕ) (text : List ℕ) : Type 0 where
+  To : (command : Command) → Are words command → IsAnswerTo command source status text
+      → IsAnswer words source status text
+  NoCommand : IsNoCommand words → status ≡ USAGE → text ≡ codes "error: usage\n"
+      → IsAnswer words source status text
+
+-- the status is that of an answer, and its text was written without a fault
+pub record IsTold (words : List (List ℕ)) (seen : Seen) (status : ℕ) : Type 0 where
+  pub text : List ℕ
+  pub answer : IsAnswer words seen.source status text
+  pub written : IsWritten seen text
+  pub no_fault : seen.sink.faults_after ≡ seen.sink.faults
+
+-- writing failed: a front of an answer's text was written
+pub record IsWriteFault (words : List (List ℕ)) (seen : Seen) (status : ℕ) : Type 0 where
+  pub is : status ≡ WRITE_FAULT
+  pub fault : Rose seen.sink.faults seen.sink.faults_after
+  pub text : List ℕ
+  pub meant : ℕ
+  pub answer : IsAnswer words seen.source meant text
+  pub written : AppendsFront seen.sink.before seen.sink.after text
+
+-- memory ran out: nothing was written
+pub record IsOutOfMemory (seen : Seen) (status : ℕ) : Type 0 where
+  pub is : status ≡ OUT_OF_MEMORY
+  pub untouched : IsUntouched seen
+
+-- each status comes with its cause, and there is no other
+pub data Answers (words : List (List ℕ)) (seen : Seen) (status : ℕ) : Type 0 where
+  Told : IsTold words seen status → Answers words seen status
+  WriteFault : IsWriteFault words seen status → Answers words seen status
+  OutOfMemory : IsOutOfMemory seen status → Answers words seen status
+
+-- from one call two causes have one status
+abbrev pub OneStatus : Type 0
+OneStatus =
+    (words : List (List ℕ)) (seen : Seen) (status other : ℕ) → IsFresh seen
+    → Answers words seen status → Answers words seen other → status ≡ other
+
+-- how a command with a valid input ends where no read and no write fails
+pub data Ends (command : Command) (status : ℕ) : Type 0 where
+  IsDone : status ≡ DONE → Ends command status
+  LacksMemory : status ≡ OUT_OF_MEMORY → Ends command status
+  FindsReportIllegal : command ≡ Check → status ≡ ILLEGAL → Ends command status
+  FindsLifeIllegal : command ≡ CheckLife → status ≡ ILLEGAL → Ends command status
+  FindsMisfit : command ≡ Continue → status ≡ DOES_NOT_FIT → Ends command status
+  FindsLifeMisfit : command ≡ CheckLife → status ≡ DOES_NOT_FIT → Ends command status
