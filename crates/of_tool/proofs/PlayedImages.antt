@@ -18,9 +18,16 @@ use Rattle.of_image.specs.ImageText.{image_text, SpellsImage}
 use Rattle.of_image.specs.RunImage.{durable_row, MayRestart, RecordsHaveImages}
 use Rattle.of_play.specs.Play.{IsPlayed, play_events}
 use Rattle.of_play.specs.Played.{IsPlayedReport}
-use Rattle.of_tool.specs.PlayedImage.{IsPlayedImage}
+use Rattle.of_report.specs.Image.{Image}
+use Rattle.of_image.specs.Parsed.{OneImage}
+use Rattle.of_lives.specs.Restarts.{LivesRestart}
+use Rattle.of_lives.specs.Continuing.{LeavesImage}
+use Rattle.of_lives.proofs.LeftImages.{left_image, row_durable}
+use Rattle.of_tool.specs.PlayedImage.{ShowsRun, IsPlayedImage, ShowsEachPlay}
 use Rattle.of_play.proofs.PlaysMoments.{IsPlayable, good_moment}
-use Rattle.of_play.proofs.PlaysSchedule.{play_is_schedule}
+use Rattle.of_play.proofs.PlaysSchedule.{play_is_schedule, play_of_plan}
+use Rattle.of_play.proofs.PlaysRecords.{run_here}
+use Rattle.of_play.proofs.PlaysSpent.{play_spent_last}
 
 module _ (p : Plan) (play : IsPlayable p) (restarts : Restarts (setup_for p) (lawful_for p)) where
   -- what recovery leaves of the durable words is a row from which a table may start
@@ -56,12 +63,31 @@ module _ (p : Plan) (play : IsPlayable p) (restarts : Restarts (setup_for p) (la
   same_rows : (e f : Run) → IsPlayed p e → IsPlayed p f → durable_row p e ≡ durable_row p f
   same_rows e f h k = ap (λ (l : List ℕ). durable_row p (record e { words = l })) (h.words ∙ sym k.words)
 
-  pub played_image : RecordsHaveImages → (e : Run) → IsPlayed p e → (r : Report) → IsPlayedReport p r → (text : List ℕ) → text ≡ image_text Two (durable_row p e) → SpellsImage Two text (durable_row p e) → IsPlayedImage p text
-  played_image images e played r report text is spelled = record {
-    report = r;
-    played = report;
-    image = λ q other.
-        let rows = same_rows e other.run played other.played in
-        let lawful = other.reports.lawful in
-        images p (empty_start p) other.run q play.plan lawful (may_restart other.run other.played q lawful) text (is ∙ ap (image_text Two) rows) (subst (SpellsImage Two text) rows spelled);
-  }
+  module _ (images : RecordsHaveImages) (restart : LivesRestart) (one_image : OneImage) where
+    -- what recovery finds in the durable words is an image that starts where the report ends
+    left : (f : Run) → IsPlayed p f → (r : Report) → IsLawful p (empty_start p) f r → (next : Image) × LeavesImage p (empty_start p) f r next
+    left f played r lawful =
+        let run = run_here p play (play_events p) (play_is_schedule p play) (play_of_plan p play) (play_spent_last p play (play_is_schedule p play)) f played in
+        left_image p (empty_start p) f r lawful.words
+        (restart p (empty_start p) (zeros (setup_for p)) (moment_after p (play_events p)) f run r lawful (durable_row p f).words (row_durable p f lawful.words))
+
+    -- the text of the durable words of a run of the schedule is the image of each of its reports
+    pub shows_run : (e f : Run) → IsPlayed p e → IsPlayed p f → (r : Report) → IsLawful p (empty_start p) f r → (text : List ℕ) → text ≡ image_text Two (durable_row p e) → SpellsImage Two text (durable_row p e) → ShowsRun p f r text
+    shows_run e f played other r lawful text is spelled =
+        let rows = same_rows e f played other in
+        let here : SpellsImage Two text (durable_row p f) = subst (SpellsImage Two text) rows spelled in
+        let image = images p (empty_start p) f r play.plan lawful (may_restart f other r lawful) text (is ∙ ap (image_text Two) rows) here in
+        let next = left f other r lawful in
+        let same = one_image Two text next.0 image.image (record { raw = durable_row p f; spelled = here; restored = next.1.restored }) image.reads in
+        record { spelled = here; image = image; leaves = subst (LeavesImage p (empty_start p) f r) same next.1 }
+
+    pub played_image : (e : Run) → IsPlayed p e → (r : Report) → IsPlayedReport p r → (text : List ℕ) → text ≡ image_text Two (durable_row p e) → SpellsImage Two text (durable_row p e) → IsPlayedImage p text
+    played_image e played r report text is spelled = record {
+      report = r;
+      played = report;
+      shows = shows_run e report.run played report.played r report.reports.lawful text is spelled;
+    }
+
+    -- and so of each report that `play` prints
+    pub shows_each : ShowsEachPlay p
+    shows_each text h r other = shows_run h.played.run other.run h.played.played other.played r other.reports.lawful text h.shows.image.text_is h.shows.spelled

@@ -1,12 +1,31 @@
 -- What a plan's schedule leaves, as an image.
 use Rattle.std.specs.Prelude.{ℕ, List}
-use Rattle.of_plan.specs.Plan.{Plan}
-use Rattle.of_plan.specs.Report.{Report}
-use Rattle.of_image.specs.RunImage.{IsImageOf}
+use Rattle.of_plan.specs.Plan.{Plan, IsPlan}
+use Rattle.of_plan.specs.Ended.{Run}
+use Rattle.of_plan.specs.Report.{Report, empty_start}
+use Rattle.of_image.specs.declared.version.Version.TheVariants.{Two}
+use Rattle.of_image.specs.ImageText.{SpellsImage}
+use Rattle.of_image.specs.RunImage.{IsImageOf, durable_row}
+use Rattle.of_lives.specs.Continuing.{LeavesImage}
 use Rattle.of_play.specs.Played.{IsPlayedReport}
 
--- the text is the image of the durable words of the moment that a plan's schedule leaves: of the run of which `play` prints the report, with that report's sequence and store
+-- The text is the image of the durable words that a run with this report leaves. It has the report's
+-- sequence and store, and each caller's ticket is the one behind its entries in the report: so a life
+-- that goes on from this image runs none of the report's announced calls again.
+pub record ShowsRun (p : Plan) (e : Run) (r : Report) (text : List ℕ) : Type 0 where
+  pub spelled : SpellsImage Two text (durable_row p e)
+  pub image : IsImageOf p e r text
+  pub leaves : LeavesImage p (empty_start p) e r image.image
+
+-- the text is the image of the moment that a plan's schedule leaves: of the run of which `play`
+-- prints the report
 pub record IsPlayedImage (p : Plan) (text : List ℕ) : Type 0 where
   pub report : Report
   pub played : IsPlayedReport p report
-  pub image : (r : Report) (other : IsPlayedReport p r) → IsImageOf p other.run r text
+  pub shows : ShowsRun p played.run report text
+
+-- such a text is the image of each report that `play` prints of the plan
+abbrev pub ShowsEachPlay : Plan → Type 0
+ShowsEachPlay p =
+    (text : List ℕ) → IsPlayedImage p text
+    → (r : Report) (played : IsPlayedReport p r) → ShowsRun p played.run r text

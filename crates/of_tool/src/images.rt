@@ -15,9 +15,10 @@ use crate::top::{Answer, MOST_IMAGE, read_input, read_plan};
 use of_caller::laws::{plan_keeps_laws, reports_respect_time, runs_are_lawful};
 use of_core::laws::starts;
 use of_eval::Scripts;
-use of_image::laws::records_have_images;
+use of_image::laws::{one_image, records_have_images};
 use of_image::{ImageErr, image_parse, image_print, migrate, recovered_print, renumbered_print};
 use of_io::Source;
+use of_lives::laws::lives_restart;
 use of_plan::Plan;
 use of_play::play;
 use of_report::Image;
@@ -36,6 +37,8 @@ fn play_image(alloc: Global, plan: &Plan) -> Result<Vec<u8>, AllocError>
     reports_respect_time(plan);
     starts(plan.limit(), scripts);
     records_have_images();
+    lives_restart();
+    one_image();
     let ended = play(alloc, plan)?;
     image_print(alloc, &plan.plot(), &ended.words)
 }

@@ -7,6 +7,7 @@ ghost use Rattle.of_mem.specs.declared.plot.TheConstants.{BUCKETS, MOST_BLOCKS, 
 ghost use Rattle.of_plan.specs.Plan.{data_cells};
 ghost use Rattle.of_tool.specs.HelpText.{help_text};
 ghost use Rattle.of_tool.specs.declared.command.TheConstants.{MOST_EVENTS, MOST_FIRST};
+ghost use Rattle.of_tool.specs.PlayedImage.{ShowsEachPlay};
 ghost use Rattle.of_tool.specs.Statuses.{OneStatus};
 
 use crate::command::{HELP, VERSION};
@@ -15,7 +16,12 @@ use crate::status::{
     WRITE_FAULT,
 };
 use crate::top::{MOST_IMAGE, MOST_INPUT, MOST_WITH_REPORT};
-use of_image::laws::{one_image, unlawful_have_none};
+use of_caller::laws::plan_keeps_laws;
+use of_core::laws::starts;
+use of_eval::Scripts;
+use of_image::laws::{one_image, records_have_images, unlawful_have_none};
+use of_lives::laws::lives_restart;
+use of_plan::Plan;
 use of_plan::texts::{one_cut, one_plan};
 pub use of_play::laws::{plans_have_schedules, words_are_named};
 
@@ -68,4 +74,20 @@ pub fn one_status()
     one_plan();
     one_image();
     unlawful_have_none();
+}
+
+/// The text that `image` prints of a plan is the image of each report that `play` prints of it, and
+/// it starts where that report ends, each caller behind its last announced entry.
+pub fn images_show_plays(plan: &Plan)
+    ensures { ShowsEachPlay plan.now }
+{
+    let scripts = Scripts {
+        callers: plan.callers(),
+        blocks: plan.blocks(),
+    };
+    plan_keeps_laws(plan);
+    starts(plan.limit(), scripts);
+    records_have_images();
+    lives_restart();
+    one_image();
 }
