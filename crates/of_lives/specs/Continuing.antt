@@ -5,6 +5,7 @@ use Rattle.of_plan.specs.Plan.{Plan}
 use Rattle.of_plan.specs.Report.{Start, Report, entries_of, finished_of}
 use Rattle.of_plan.specs.Ended.{Run}
 use Rattle.of_report.specs.Image.{Image, IsRestored, start_of, durable_row}
+use Rattle.of_core.specs.World.{Start as TableStart}
 use Rattle.of_row.specs.Views.{Sight}
 use Rattle.of_caller.specs.Restarts.{HoldLast}
 use Rattle.of_caller.specs.Teams.{IsHandedBack}
@@ -12,11 +13,16 @@ use Rattle.of_lives.specs.Lives.{start_behind}
 use Rattle.of_lives.specs.Restarts.{start_in}
 use Rattle.of_lives.specs.Images.{number_of}
 
--- a team has run the plan over the table that starts from the image's row, and has handed back this
--- run and a pass with this view; the report is that of its lawful record
-pub record IsLifeOf (i : Image) (p : Plan) (e : Run) (w : Sight) (r : Report) : Type 0 where
-  pub handed : IsHandedBack p (start_of i) (start_in p i.row.words) e w
+-- A team has run the plan over a table that starts so, and has handed back this run and a pass with
+-- this view; the report is that of its lawful record.
+pub record IsReportOfTeam (p : Plan) (s : Start) (B : TableStart) (e : Run) (w : Sight) (r : Report)
+    : Type 0 where
+  pub handed : IsHandedBack p s B e w
   pub report : handed.report ≡ r
+
+-- so it is over the table that starts from an image's row
+abbrev pub IsLifeOf : Image → Plan → Run → Sight → Report → Type 0
+IsLifeOf i p e w r = IsReportOfTeam p (start_of i) (start_in p i.row.words) e w r
 
 -- recovery finds this image in the durable words that a life with this report, from this start, has
 -- left: it is where the life ends, so the next one goes on from there

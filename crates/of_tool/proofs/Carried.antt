@@ -1,6 +1,5 @@
 -- What stands beside an answer: the record of a run with the words that run callers at once, and none with any others.
 use Rattle.std.proofs.Common.{◌≡◌, inl, inr, ℕ, ◌+◌, ◌<◌, ◌≤◌, List, [], ◌∷◌, length, Option, None, Some, refl, sym, subst, ◌∙◌, arith}
-use Rattle.std.specs.Option.{MatchOption}
 use Rattle.of_plan.specs.Plan.{Plan, stop_of}
 use Rattle.std.proofs.lemmas.Bool.Decides.{eqb_tells}
 use Rattle.std.proofs.lemmas.List.{get_or-replicate}
@@ -23,7 +22,7 @@ use Rattle.of_row.specs.Views.{Sight}
 use Rattle.of_tool.specs.Seen.{Change, Seen, Holds, IsWritten, view_of}
 use Rattle.of_tool.specs.Statuses.{IsAnswer, To, Done}
 use Rattle.of_tool.specs.Headline.{RunsPlan, LoadsPlan, ContinuesImage, RunsOnTable, LoadsOnTable, ContinuesOnTable, LeavesTable, AllDone, IsWhole}
-use Rattle.of_tool.specs.Answer.{Found, HasBeside, HoldsRun, HoldsLoad, HoldsLife, CarriesRun, CarriesLoad, CarriesLife, Carries}
+use Rattle.of_tool.specs.Answer.{Found, HoldsRun, HoldsLoad, HoldsLife, CarriesRun, CarriesLoad, CarriesLife, Carries}
 use Rattle.of_tool.proofs.CommandLemmas.{words_of_injective, same_command}
 use Rattle.of_tool.proofs.LoadReports.{done_if, one_text}
 

@@ -1,5 +1,5 @@
 -- A command with a valid input is done, or what it judges is found wrong.
-use Rattle.std.proofs.Common.{◌≡◌, ℕ, List, Option, None, Some, refl, sym, subst, ◌∙◌}
+use Rattle.std.proofs.Common.{◌≡◌, ℕ, List, Option, Some, refl, sym, subst}
 use Rattle.of_io.specs.Faults.{Rose, TakesMoreThan}
 use Rattle.of_plan.specs.Grammar.{SpellsPlan}
 use Rattle.of_plan.specs.BadLine.{HasBadLine}
@@ -11,14 +11,14 @@ use Rattle.of_image.specs.Parsed.{ReadsImage, IsUnlawful, UnlawfulHaveNone}
 use Rattle.of_report.specs.Image.{Image as AnImage}
 use Rattle.of_tool.specs.declared.top.TheConstants.{MOST_INPUT, MOST_WITH_REPORT, MOST_IMAGE}
 use Rattle.of_tool.specs.declared.command.Command.{Command}
-use Rattle.of_tool.specs.declared.command.Command.TheVariants.{Serial, Play, Trace, Commits, Run, Load, Check, CheckLife, Part, Image, Recover, Renumber, Migrate, Continue, Help, Version}
+use Rattle.of_tool.specs.declared.command.Command.TheVariants.{Check, CheckLife, Continue}
 use Rattle.of_tool.specs.Commands.{Are}
 use Rattle.of_tool.specs.Seen.{Change, ReadsAll}
-use Rattle.of_tool.specs.Inputs.{ReadsBoth, ReadsBehind, Input, PlanAlone, PlanAndReport, ImageAlone, ImageAndPlan, WholeLife, AnyTexts, input_of, most_of, AreLeft, IsInputOf, IsValidInput}
+use Rattle.of_tool.specs.Inputs.{Input, PlanAlone, PlanAndReport, ImageAlone, ImageAndPlan, WholeLife, AnyTexts, input_of, most_of, AreLeft, IsInputOf, IsValidInput}
 use Rattle.of_tool.specs.Refusals.{Refusal, ReadFault, TooLong, BadPlan, BadImage, UnlawfulImage, DoesNotFit, Illegal, status_of, HasBadPlan, HasBadImage, HasMisfit, IsIllegal, IsRefused}
 use Rattle.of_tool.specs.Statuses.{IsAnswerTo, Done, Refused, IsAnswer, Ends, IsDone, FindsReportIllegal, FindsLifeIllegal, FindsMisfit, FindsLifeMisfit}
 use Rattle.of_tool.proofs.Telling.{answer_to}
-use Rattle.of_tool.proofs.Readings.{read_is, more_bytes, no_plan, no_one, no_first, no_second, no_behind, cut_same}
+use Rattle.of_tool.proofs.Readings.{read_is, more_bytes, no_plan, no_first, no_second, cut_same}
 
 -- ---- which command reads what
 

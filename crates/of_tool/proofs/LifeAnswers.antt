@@ -1,5 +1,5 @@
 -- The answers to an input of an image, a plan, a report and an image.
-use Rattle.std.proofs.Common.{◌≡◌, ℕ, List, inr, refl, ◌++◌}
+use Rattle.std.proofs.Common.{◌≡◌, ℕ, List, refl, ◌++◌}
 use Rattle.std.specs.Prelude.{codes, decimal}
 use Rattle.of_plan.specs.BadLine.{HasBadLine}
 use Rattle.of_plan.specs.Plan.{Plan}

@@ -1,7 +1,7 @@
 -- A call has one status. Causes have ranks, in the order in which they are asked for: an input that
 -- is refused for one of them has none of a lower rank, and one that a command is done with has none.
-use Rattle.std.proofs.Common.{◌≡◌, ◌<◌, ◌≤◌, ◌⊎◌, inl, inr, ℕ, zero, suc, List, [], Option, None, Some, refl, sym, ap, subst, ◌∙◌, arith}
-use Rattle.std.specs.Prelude.{◌^◌, ◌-◌, ◌+◌, min, IsTrue, Bool}
+use Rattle.std.proofs.Common.{◌≡◌, ◌<◌, ◌≤◌, ◌⊎◌, inl, inr, ℕ, zero, suc, List, Option, None, Some, sym, ap, subst, ◌∙◌, arith}
+use Rattle.std.specs.Prelude.{◌^◌, ◌-◌, ◌+◌, min, IsTrue}
 use Rattle.std.proofs.lemmas.Bool.{cases_lt}
 use Rattle.std.proofs.lemmas.Bool.Decides.{eqb_tells}
 use Rattle.of_io.specs.Faults.{Rose, TakesMoreThan}
@@ -19,13 +19,12 @@ use Rattle.of_report.specs.Image.{Image as AnImage}
 use Rattle.of_tool.specs.declared.command.Command.{Command}
 use Rattle.of_tool.specs.declared.command.Command.TheVariants.{Serial, Play, Trace, Commits, Run, Load, Check, CheckLife, Part, Image, Recover, Renumber, Migrate, Continue, Help, Version}
 use Rattle.of_tool.specs.declared.status.TheConstants.{DONE, READ_FAULT, BAD_PLAN, TOO_LONG, BAD_IMAGE, ILLEGAL, DOES_NOT_FIT}
-use Rattle.of_tool.specs.Commands.{Are}
 use Rattle.of_tool.specs.Lives.{IsLegalLife}
-use Rattle.of_tool.specs.Seen.{Change, Seen, ReadsAll, CanRise, IsFresh}
+use Rattle.of_tool.specs.Seen.{Change, ReadsAll, CanRise}
 use Rattle.of_tool.specs.Inputs.{Input, PlanAlone, PlanAndReport, ImageAlone, ImageAndPlan, WholeLife, AnyTexts, input_of, most_of, ReadsPlan, ReadsBoth, ReadsLegal, ReadsOne, ReadsBehind, ReadsLife, ReadsFour, ReadsLived, ReadsLegalLife}
 use Rattle.of_tool.specs.Refusals.{Refusal, ReadFault, TooLong, BadPlan, BadImage, UnlawfulImage, DoesNotFit, Illegal, status_of, ReadFails, HasBadPlan, HasBadImage, HasMisfit, IsIllegal, IsRefused}
 use Rattle.of_tool.specs.Makes.{Makes}
-use Rattle.of_tool.specs.Statuses.{IsAnswerTo, Done, Refused, IsAnswer, To, NoCommand, IsTold, IsWriteFault, IsOutOfMemory, Answers, Told, WriteFault, OutOfMemory, OneStatus}
+use Rattle.of_tool.specs.Statuses.{IsAnswerTo, Done, Refused, IsAnswer, To, NoCommand, Told, WriteFault, OutOfMemory, OneStatus}
 use Rattle.of_tool.proofs.Telling.{answer_to}
 use Rattle.of_tool.proofs.Completeness.{no_bad_line, no_fault_cell}
 use Rattle.of_tool.proofs.Readings.{not_both, not_longer, no_plan, no_one, no_first, both_same, no_second, behind_same, no_behind, no_life_plan, four_same, no_four}

@@ -33,7 +33,7 @@ use Rattle.of_caller.specs.Scheduled.{unnumbered, IsScheduled}
 use Rattle.of_caller.specs.InTime.{RespectsTime, marks_in, course_of, SchedulesRespectTime, TeamsRespectTime}
 use Rattle.of_caller.specs.Stops.{KeepStop, CallerStops, KeepStops}
 use Rattle.of_caller.specs.Allowances.{AllowedBy, KeepAllowances}
-use Rattle.of_caller.specs.Teams.{IsHandedBack, AnnouncesSeen, TeamsKeepAllowances}
+use Rattle.of_caller.specs.Teams.{IsHandedBack, TeamsKeepAllowances}
 use Rattle.of_report.proofs.Cells.{reply_same, stands_for_same}
 use Rattle.of_play.specs.Played.{IsPlayedReport}
 use Rattle.of_tool.specs.Ran.{with_schedule, IsRunReport}
@@ -166,5 +166,5 @@ module _ (p : Plan) (B : TableStart) (e : Run) (w : Sight) (at_zeros : B ≡ zer
           run = record { schedule = run.0; leaves = run.1; course_is = refl; reports = reports };
           played = as_played p (playable p back.team.plan laws moments empty) kept time e r run.0 run.1 reports;
         };
-        table = record { sight = back.sight; copy = back.copy; team = back.team; announced = subst (AnnouncesSeen (zeros (setup_for p)) back.sight.seen) same back.announced };
+        table = record { handed = back; report = same };
       }

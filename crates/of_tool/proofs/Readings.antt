@@ -1,5 +1,5 @@
 -- What two readings of one source have in common: the bytes, their parts, and what these spell.
-use Rattle.std.proofs.Common.{◌≡◌, ◌≤◌, ℕ, List, Option, None, Some, length, ◌++◌, refl, sym, ap, subst, ◌∙◌, arith, append-nil, length-append}
+use Rattle.std.proofs.Common.{◌≡◌, ◌≤◌, ℕ, List, Option, None, Some, length, ◌++◌, sym, ap, subst, ◌∙◌, arith, append-nil, length-append}
 use Rattle.std.specs.Io.KnownBytes.{Consumes, IsAtEnd}
 use Rattle.of_io.specs.Faults.{TakesMoreThan, TakesAtMost}
 use Rattle.of_plan.specs.Plan.{Plan}

@@ -1,6 +1,6 @@
 -- What the answer to a command tells: with status 0 what the command did, and with 8 and 9 what is
 -- wrong with its input.
-use Rattle.std.proofs.Common.{◌≡◌, ℕ, List, Option, None, Some, refl, sym, subst, ◌∙◌, arith}
+use Rattle.std.proofs.Common.{◌≡◌, ℕ, List, Option, Some, refl, sym, subst, ◌∙◌, arith}
 use Rattle.std.specs.Prelude.{codes}
 use Rattle.of_io.specs.Faults.{Rose, TakesMoreThan, TakesAtMost}
 use Rattle.of_tool.specs.declared.command.Command.{Command}

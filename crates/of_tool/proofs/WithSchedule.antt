@@ -1,6 +1,6 @@
 -- What a plan's schedule is no matter for: which reports are those of a run, and which call of a caller comes next. So what is left by
 -- the turns and evictions of a run is what `play` leaves of the plan with these for its schedule.
-use Rattle.std.proofs.Common.{◌≡◌, ℕ, ◌+◌, ◌<◌, ◌==◌, Bool, true, false, List, [], ◌∷◌, ◌++◌, length, Option, refl, sym, ap, subst}
+use Rattle.std.proofs.Common.{◌≡◌, ℕ, ◌+◌, ◌==◌, Bool, true, false, List, [], ◌∷◌, ◌++◌, length, Option, refl, sym, ap, subst}
 use Rattle.std.specs.List.{flat_map}
 use Rattle.of_mem.specs.Places.{ticket_at}
 use Rattle.of_script.specs.declared.instr.TheConstants.{MOST_INSTRS}

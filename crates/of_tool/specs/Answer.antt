@@ -1,6 +1,6 @@
 -- How an answer that is made before it is written stands for what a command does, and what the record
 -- of a run is beside it.
-use Rattle.std.specs.Prelude.{◌≡◌, ℕ, List, Option, None, Some, MatchOption, ◌++◌, codes, decimal}
+use Rattle.std.specs.Prelude.{◌≡◌, ℕ, List, Option, None, MatchOption, ◌++◌, codes, decimal}
 use Rattle.of_plan.specs.Plan.{Plan}
 use Rattle.of_plan.specs.Report.{Report}
 use Rattle.of_plan.specs.Ended.{Run as Record, run_of}

@@ -13,8 +13,8 @@ use Rattle.of_caller.specs.InTime.{Mark}
 use Rattle.of_lives.specs.OneHistory.{IsBehind}
 use Rattle.of_lives.specs.Images.{Fits}
 use Rattle.of_lives.specs.Restarts.{start_in}
-use Rattle.of_lives.specs.Continuing.{LeavesImage}
-use Rattle.of_tool.specs.Ran.{IsHistoryOf, KeepsPromises, IsRealRun, ShowsTable}
+use Rattle.of_lives.specs.Continuing.{IsLifeOf, LeavesImage}
+use Rattle.of_tool.specs.Ran.{IsHistoryOf, KeepsPromises, IsRealRun}
 
 -- the text of the durable words that a life leaves
 abbrev pub left_text : Plan → Run → List ℕ
@@ -40,10 +40,6 @@ pub record GoesOnFrom (i : Image) (p : Plan) (r : Report) (e : Run) : Type 0 whe
 abbrev pub IsRealLife : Image → Plan → List Mark → Run → Report → Type 0
 IsRealLife i p course e r = IsRealRun p (start_of i) (start_in p i.row.words) course e r
 
--- the table and the pass of a life
-abbrev pub ShowsLife : Image → Plan → Run → Sight → Report → Type 0
-ShowsLife i p e w r = ShowsTable p (start_of i) (start_in p i.row.words) e w r
-
 -- the report of a life that goes on from the image by the plan, with these brakes
 pub record IsLifeReport {A : Type 0} (left : A → Option (Option ℕ)) (brakes : List A) (i : Image)
     (p : Plan) (r : Report) (e : Run) (w : Sight) : Type 0 where
@@ -51,7 +47,7 @@ pub record IsLifeReport {A : Type 0} (left : A → Option (Option ℕ)) (brakes 
   pub promises : KeepsPromises left brakes p (start_of i) course e r
   pub goes_on : GoesOnFrom i p r e
   pub real : IsRealLife i p course e r
-  pub table : ShowsLife i p e w r
+  pub table : IsLifeOf i p e w r
 
 -- a life has gone on so, and this is its text
 pub record WritesLife {A : Type 0} (left : A → Option (Option ℕ)) (brakes : List A) (i : Image)
@@ -69,5 +65,5 @@ pub record IsSomeLifes (i : Image) (p : Plan) (text : List ℕ) : Type 0 where
   pub history : IsHistoryOf p (start_of i) course left report
   pub goes_on : GoesOnFrom i p report left
   pub real : IsRealLife i p course left report
-  pub table : ShowsLife i p left seen report
+  pub table : IsLifeOf i p left seen report
   pub text_is : text ≡ life_text p report left

@@ -13,10 +13,11 @@ use Rattle.of_report.specs.Image.{Image, start_of}
 use Rattle.of_row.specs.Views.{Sight}
 use Rattle.of_row.specs.declared.member.Pass.{Pass}
 use Rattle.of_caller.specs.InTime.{Mark}
+use Rattle.of_lives.specs.Continuing.{IsLifeOf}
 use Rattle.of_tool.specs.declared.command.Command.{Command}
 use Rattle.of_tool.specs.declared.command.Command.TheVariants.{Run, Load, Continue}
 use Rattle.of_tool.specs.Ran.{AllTell, KeepsPromises, IsAsPlayed, ShowsZeros}
-use Rattle.of_tool.specs.Continued.{GoesOnFrom, IsRealLife, ShowsLife, life_text}
+use Rattle.of_tool.specs.Continued.{GoesOnFrom, IsRealLife, life_text}
 use Rattle.of_tool.specs.Seen.{Seen, Holds, IsWritten}
 use Rattle.of_tool.specs.Inputs.{ReadsPlan, ReadsLife}
 
@@ -108,7 +109,7 @@ pub record LoadsOnTable {A : Type 0} (left : A → Option (Option ℕ)) (brakes 
 pub record ContinuesOnTable {A : Type 0} (left : A → Option (Option ℕ)) (brakes : List A)
     (seen : Seen) (e : Record) (w : Sight) : Type 0 where
   pub continues : ContinuesImage left brakes seen e
-  pub table : ShowsLife continues.image continues.plan e w continues.report
+  pub table : IsLifeOf continues.image continues.plan e w continues.report
 
 -- of all three, by the command; no other runs callers at once
 abbrev pub LeavesTable : {A : Type 0} → (A → Option (Option ℕ)) → List A → Command → Seen

@@ -1,6 +1,6 @@
 -- What a plan's schedule leaves, as an image.
 use Rattle.std.specs.Prelude.{ℕ, List}
-use Rattle.of_plan.specs.Plan.{Plan, IsPlan}
+use Rattle.of_plan.specs.Plan.{Plan}
 use Rattle.of_plan.specs.Ended.{Run}
 use Rattle.of_plan.specs.Report.{Report, empty_start}
 use Rattle.of_image.specs.declared.version.Version.TheVariants.{Two}

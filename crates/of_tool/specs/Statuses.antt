@@ -1,5 +1,5 @@
 -- How a call of `tool` ends: each status comes for its cause, and there is no other.
-use Rattle.std.specs.Prelude.{◌≡◌, ℕ, List, codes, Option, Some}
+use Rattle.std.specs.Prelude.{◌≡◌, ℕ, List, codes, Some}
 use Rattle.of_io.specs.Faults.{Rose, AppendsFront}
 use Rattle.of_tool.specs.declared.command.Command.{Command}
 use Rattle.of_tool.specs.declared.command.Command.TheVariants.{Check, CheckLife, Continue}

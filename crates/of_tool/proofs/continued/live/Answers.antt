@@ -10,7 +10,6 @@ use Rattle.of_report.specs.ImageRow.{row_in}
 use Rattle.of_image.specs.declared.version.Version.TheVariants.{Two}
 use Rattle.of_image.specs.ImageText.{image_text, SpellsImage}
 use Rattle.of_caller.specs.InTime.{course_of}
-use Rattle.of_caller.specs.Teams.{AnnouncesSeen}
 use Rattle.of_lives.specs.Restarts.{start_in}
 use Rattle.of_tool.proofs.Promises.{history_of}
 use Rattle.of_tool.proofs.continued.live.Goals as goal
@@ -60,7 +59,7 @@ returns g c =
           reads = record { raw = durable_row p e; spelled = again; restored = leaves.1.restored };
         };
         real = record { schedule = run.0; leaves = run.1; course_is = refl; reports = told.report };
-        table = record { sight = handed.sight; copy = handed.copy; team = handed.team; announced = subst (AnnouncesSeen (start_in p i.row.words) handed.sight.seen) told.team.report handed.announced };
+        table = told.team;
       };
       text_is = c.in_ok-append.ensures.items ∙ (λ i. c.in_ok-text.ensures i ++ left i);
     }

@@ -5,7 +5,7 @@ use Rattle.of_tool.specs.Commands.{texts}
 use Rattle.of_tool.specs.Inputs.{PlanAlone, ImageAndPlan}
 use Rattle.of_tool.specs.Statuses.{To, NoCommand}
 use Rattle.of_tool.proofs.CommandLemmas.{unread_of}
-use Rattle.of_tool.proofs.Carried.{carries_none, carries_nothing, carries_run, carries_life, carries_load, load_answers}
+use Rattle.of_tool.proofs.Carried.{carries_none, carries_nothing, carries_load, load_answers}
 use Rattle.of_tool.proofs.top.decide.Goals as goal
 
 pub returns-in_ok-from_slice-in-None-clause-answered : goal.returns-in_ok-from_slice-in-None-clause-answered
