@@ -1,5 +1,5 @@
--- How an answer that is made before it is written stands for what a command does, and what the record
--- of a run is beside it.
+-- How an answer that is made before it is written stands for what a command does, and what the
+-- record of a run is beside it.
 use Rattle.std.specs.Prelude.{◌≡◌, ℕ, List, Option, None, MatchOption, ◌++◌, codes, decimal}
 use Rattle.of_plan.specs.Plan.{Plan}
 use Rattle.of_plan.specs.Report.{Report}
@@ -38,7 +38,8 @@ Refuses input source answer = IsRefusal input source answer.status answer.text.i
 
 -- it refuses an input of each kind that has so many bytes at most
 abbrev pub RefusesUpTo : (most : ℕ) → Change → Answer → Type 0
-RefusesUpTo most source answer = (input : Input) → most_of input ≡ most → Refuses input source answer
+RefusesUpTo most source answer =
+    (input : Input) → most_of input ≡ most → Refuses input source answer
 
 -- it tells why a text has no image
 abbrev pub TellsRefusal : ImageErr → Answer → Type 0

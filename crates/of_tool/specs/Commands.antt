@@ -11,7 +11,8 @@ use Rattle.of_tool.specs.declared.command.Command.TheVariants.{Serial, Play, Tra
 abbrev pub texts : List (String Global) → List (List ℕ)
 texts words = map string_bytes words
 
--- the word spells this number, which is at most so great: digits alone, with no 0 in front of others
+-- the word spells this number, which is at most so great: digits alone, with no 0 in front of
+-- others
 abbrev pub SpellsUpTo : (most : ℕ) → List ℕ → ℕ → Type 0
 SpellsUpTo most word n = (n ≤ most) × (word ≡ decimal n)
 

@@ -164,8 +164,8 @@ pub record ReadsMisfit (source : Change) : Type 0 where
 
 -- ---- an image, a plan, a report and an image
 
--- the whole input has four parts, one after another: one of which this holds, the text of this plan,
--- a report's, and what is left
+-- the whole input has four parts, one after another: one of which this holds, the text of this
+-- plan, a report's, and what is left
 pub record ReadsFour (Is : List ℕ → Type 0) (source : Change) (plan : Plan) (told left : List ℕ)
     : Type 0 where
   pub bytes : List ℕ

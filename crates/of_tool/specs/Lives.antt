@@ -54,8 +54,8 @@ IsLeftFault text (Unlawful cell) = IsUnlawful Two text cell
 IsLeftFault text NotPrinted = (i : Image) × ReadsImage Two text i × (IsPrinted text → ⊥)
 
 -- the report is legal and the image is one, but it is not where the report ends
-pub record EndsElsewhere (i : Image) (p : Plan) (told left : List ℕ) (Breaks : Report → Image → Type 0)
-    : Type 0 where
+pub record EndsElsewhere (i : Image) (p : Plan) (told left : List ℕ)
+    (Breaks : Report → Image → Type 0) : Type 0 where
   pub report : Report
   pub of_it : IsTextOf p (start_of i) told report
   pub next : Image

@@ -59,8 +59,8 @@ pub record MakesRun (source : Change) (text : List ℕ) : Type 0 where
   pub run : IsSomeRuns plan report
   pub text_is : text ≡ report_text report
 
--- the text is the summary of the report of some run of the plan that is made for so many callers with
--- so many scripts each
+-- the text is the summary of the report of some run of the plan that is made for so many callers
+-- with so many scripts each
 pub record MakesLoad (callers scripts : ℕ) (text : List ℕ) : Type 0 where
   pub report : Report
   pub run : IsSomeRuns (generated callers scripts) report
@@ -94,8 +94,8 @@ pub record MakesRenumbered (source : Change) (text : List ℕ) : Type 0 where
   pub read : ReadsItsImage Two source image
   pub renumbers : Renumbers image text
 
--- the whole input is an image's text and a plan's, and the text is that of some life that goes on from
--- the image by the plan
+-- the whole input is an image's text and a plan's, and the text is that of some life that goes on
+-- from the image by the plan
 pub record MakesLife (source : Change) (text : List ℕ) : Type 0 where
   pub image : AnImage
   pub plan : Plan

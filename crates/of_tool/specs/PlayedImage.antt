@@ -9,9 +9,10 @@ use Rattle.of_image.specs.RunImage.{IsImageOf, durable_row}
 use Rattle.of_lives.specs.Continuing.{LeavesImage}
 use Rattle.of_play.specs.Played.{IsPlayedReport}
 
--- The text is the image of the durable words that a run with this report leaves. It has the report's
--- sequence and store, and each caller's ticket is the one behind its entries in the report: so a life
--- that goes on from this image runs none of the report's announced calls again.
+-- The text is the image of the durable words that a run with this report leaves. It has the
+-- report's sequence and store, and each caller's ticket is the one that is counted from its entries
+-- in the report. So a life that goes on from this image runs none of the report's announced calls
+-- again.
 pub record ShowsRun (p : Plan) (e : Run) (r : Report) (text : List ℕ) : Type 0 where
   pub spelled : SpellsImage Two text (durable_row p e)
   pub image : IsImageOf p e r text

@@ -42,7 +42,8 @@ text_of input ReadFault = codes "error: read fault\n"
 text_of input TooLong = codes "error: input too long\n"
 text_of input (BadPlan line) = codes "error: bad plan, line " ++ decimal line ++ codes "\n"
 text_of input (BadImage line) = codes "error: bad image, line " ++ decimal line ++ codes "\n"
-text_of input (UnlawfulImage cell) = codes "error: unlawful image, cell " ++ decimal cell ++ codes "\n"
+text_of input (UnlawfulImage cell) =
+    codes "error: unlawful image, cell " ++ decimal cell ++ codes "\n"
 text_of input DoesNotFit = codes "error: plan does not fit image\n"
 text_of input Illegal = illegal_text input
 

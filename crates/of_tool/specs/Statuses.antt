@@ -11,13 +11,15 @@ use Rattle.of_tool.specs.Refusals.{IsRefusal}
 use Rattle.of_tool.specs.Makes.{Makes}
 
 -- a command's answer to its input: it is done, or its input is refused
-pub data IsAnswerTo (command : Command) (source : Change) (status : ℕ) (text : List ℕ) : Type 0 where
+pub data IsAnswerTo (command : Command) (source : Change) (status : ℕ) (text : List ℕ)
+    : Type 0 where
   Done : status ≡ DONE → Makes command source text → IsAnswerTo command source status text
   Refused : (input : Input) → input_of command ≡ Some input → IsRefusal input source status text
       → IsAnswerTo command source status text
 
 -- the answer to the words of a command line
-pub data IsAnswer (words : List (List ℕ)) (source : Change) (status : ℕ) (text : List ℕ) : Type 0 where
+pub data IsAnswer (words : List (List ℕ)) (source : Change) (status : ℕ) (text : List ℕ)
+    : Type 0 where
   To : (command : Command) → Are words command → IsAnswerTo command source status text
       → IsAnswer words source status text
   NoCommand : IsNoCommand words → status ≡ USAGE → text ≡ codes "error: usage\n"

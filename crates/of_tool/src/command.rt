@@ -57,12 +57,13 @@ pub enum Command {
     Commits,
     /// Reads a plan, runs its callers at once, and prints the report of what they leave.
     Run,
-    /// Runs a load of so many callers with so many scripts each, and prints a summary of the report.
+    /// Runs a load of so many callers with so many scripts each, and prints a summary of the
+    /// report.
     Load { callers: u32, scripts: u32 },
     /// Reads a plan and a report, and prints whether the report is a legal one of the plan.
     Check,
-    /// Reads an image, a plan, a report and an image, and prints whether report and image are those of a
-    /// life that goes on from the first image by the plan.
+    /// Reads an image, a plan, a report and an image, and prints whether report and image are those
+    /// of a life that goes on from the first image by the plan.
     CheckLife,
     /// Reads texts one after another, each up to its first line `end`, and prints the one with this
     /// number, from 1.
@@ -75,8 +76,8 @@ pub enum Command {
     Renumber,
     /// Reads an image of version 1, recovers it, and prints it in version 2.
     Migrate,
-    /// Reads an image and a plan, runs the plan's callers at once from where the image left, and prints
-    /// the report and the image of what they leave.
+    /// Reads an image and a plan, runs the plan's callers at once from where the image left, and
+    /// prints the report and the image of what they leave.
     Continue,
     /// Prints how the program is used.
     Help,
@@ -86,7 +87,8 @@ pub enum Command {
 
 // The number that a word spells, where it is at most that.
 fn number(word: &str, most: u32) -> Option<u32>
-    ensures { MatchOption result ((n : ℕ) → SpellsUpTo most word.now n → ⊥) (SpellsUpTo most word.now) }
+    ensures { MatchOption result ((n : ℕ) → SpellsUpTo most word.now n → ⊥)
+        (SpellsUpTo most word.now) }
 {
     of_script::text::number(word.as_bytes(), most)
 }
@@ -155,7 +157,8 @@ impl Command {
         Some(Command::Part { number })
     }
 
-    /// The command that the words are, where they are one. Numbers are spelled by digits alone, with no 0 in front of others.
+    /// The command that the words are, where they are one. Numbers are spelled by digits alone, with
+    /// no 0 in front of others.
     pub fn from_words(words: &[String]) -> Option<Command>
         ensures { MatchOption result (IsNoCommand (texts words.now)) (Are (texts words.now)) }
     {

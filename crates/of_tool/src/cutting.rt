@@ -13,8 +13,8 @@ use of_io::Source;
 use of_plan::parts;
 use std::alloc::{AllocError, Global};
 
-/// The part of a text with this number: 1 for the first, up to the first line `end`; empty where the
-/// text has fewer.
+/// The part of a text with this number: 1 for the first, up to the first line `end`; empty where
+/// the text has fewer.
 pub fn part(text: &[u8], number: u32) -> &[u8]
     requires { 1 ≤ number }
     ensures { IsPart number text.now result.now }

@@ -63,7 +63,8 @@ fn read_image<S: Source>(alloc: Global, source: &mut S) -> Result<Result<Image, 
         (λ image. ReadsItsImage Two (change_of S.remaining S.faults source.old source.new)
         (image_of image))
         (Refuses (ImageAlone Two) (change_of S.remaining S.faults source.old source.new))) }
-    ensures image { IfOk result (λ read. IfOk read (λ image. IsImage MOST_INSTRS (image_of image))) }
+    ensures image { IfOk result (λ read.
+        IfOk read (λ image. IsImage MOST_INSTRS (image_of image))) }
 {
     let bytes = match read_input(alloc, source, MOST_IMAGE)? {
         Ok(bytes) => bytes,

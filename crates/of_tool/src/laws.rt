@@ -42,8 +42,8 @@ pub fn numbers()
     ensures image { MOST_IMAGE ≡ 4194304 }
 {}
 
-/// What a plan's memory has room for, and how far a trace reaches: callers, words of a script, cells
-/// of the greatest store, registers, buckets, queues, keys and items together.
+/// What a plan's memory has room for, and how far a trace reaches: callers, words of a script,
+/// cells of the greatest store, registers, buckets, queues, keys and items together.
 pub fn limits()
     ensures callers { MOST_CALLERS ≡ 16 }
     ensures instrs { MOST_INSTRS ≡ 16 }
@@ -57,16 +57,16 @@ pub fn limits()
     ensures events { MOST_EVENTS ≡ 10000 }
 {}
 
-/// The texts of `--help` and `--version`; those of errors stand in the definition of what is written.
+/// The texts of `--help` and `--version`; those of errors are in the definition of what is written.
 pub fn help_and_version()
     ensures version { VERSION.now ≡ codes "onefile 0.1.0\n" }
     ensures help { HELP.now ≡ help_text }
 {}
 
-/// From what a call saw of its source and its sink, two causes have one status. So each clause of
-/// `answered` is exact both ways: `tool` answers a status only if its cause is there, and if the cause
-/// of a status is there, `tool` answers no other. The source must tell its bytes, a further fault must
-/// be able to raise the counts, and the sink must not be finished before.
+/// From what a call saw of its source and its sink, two causes have one status. So the clause
+/// `answered` of `tool` is exact both ways: a status is answered only if its cause is there, and if
+/// the cause of a status is there, that status is answered. The source must tell its bytes, the
+/// counts of faults must be able to rise, and the sink must not be finished before the call.
 pub fn one_status()
     ensures { OneStatus }
 {

@@ -41,7 +41,8 @@ pub enum LifeCause {
 fn read_left(alloc: Global, text: &[u8]) -> Result<Result<Image, LeftFault>, AllocError>
     ensures read { IfOk result (λ read. MatchResult read
         (λ image. IsLeft text.now (image_of image)) (IsLeftFault text.now)) }
-    ensures image { IfOk result (λ read. IfOk read (λ image. IsImage MOST_INSTRS (image_of image))) }
+    ensures image { IfOk result (λ read.
+        IfOk read (λ image. IsImage MOST_INSTRS (image_of image))) }
 {
     let image = match image_parse(alloc, text) {
         Ok(image) => image,

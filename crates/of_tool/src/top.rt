@@ -36,16 +36,17 @@ use std::thread::Threads;
 /// The most bytes that a command reads which reads a plan alone.
 pub const MOST_INPUT: usize = 1 << 20;
 
-/// The most bytes that a command reads whose input has parts: `check` a plan and a report, `continue`
-/// an image and a plan, `check-life` an image, a plan, a report and an image, and `part` any.
+/// The most bytes that a command reads whose input has parts: `check` a plan and a report,
+/// `continue` an image and a plan, `check-life` an image, a plan, a report and an image, and `part`
+/// any.
 pub const MOST_WITH_REPORT: usize = 1 << 22;
 
 /// The most bytes that a command reads which reads an image. The greatest that `image` prints has
 /// 62,304 lines of cells of at most 33 bytes each, and 42 bytes beside them.
 pub const MOST_IMAGE: usize = 1 << 22;
 
-/// What callers that ran at once have left, where they did: the record of the run, and the pass that
-/// has seen it.
+/// What callers that ran at once have left, where they did: the record of the run, and the pass
+/// that has seen it.
 pub type Ran = Option<(Ended, Pass)>;
 
 /// A status, and the text that is to be written with it.
@@ -57,7 +58,8 @@ pub(crate) struct Answer {
 
 /// The text that names a bad line of a plan.
 pub(crate) fn bad_plan(alloc: Global, line: u64) -> Result<Vec<u8>, AllocError>
-    ensures { IfOk result (λ text. text.items ≡ codes "error: bad plan, line " ++ decimal line ++ codes "\n") }
+    ensures { IfOk result (λ text.
+        text.items ≡ codes "error: bad plan, line " ++ decimal line ++ codes "\n") }
 {
     let text = format!(in alloc; "error: bad plan, line {line}\n")?;
     Ok(text.into_bytes())
@@ -340,59 +342,68 @@ pub fn tool<R: Threads + Sync, S: Source, K: Sink>(
     requires brakes { vec_len brakes ≡ 16 }
     requires none { ran.old ≡ None }
 
-    // THE HEADLINE. With status 0 of `run` the report of what the plan's callers left, running at once,
-    // was written: one legal history, in real time, in which callers keep to their brakes. It comes of
-    // a real run, event by event, and the record of that run is in `ran`.
+    // THE HEADLINE. With status 0 of `run` the report of what the plan's callers left, running at
+    // once, was written: one legal history, in real time, in which callers keep to their brakes. It
+    // comes of a real run, event by event, and the record of that run is in `ran`.
     ensures run { texts words.now ≡ words_of Run → result ≡ DONE
         → Holds ran.new (λ left_by view. RunsPlan (λ b. left b) brakes.items
-        (seen_by S.remaining S.faults source.old source.new K.written K.finished K.faults sink.old sink.new)
+        (seen_by S.remaining S.faults source.old source.new
+        K.written K.finished K.faults sink.old sink.new)
         left_by) }
 
-    // With status 0 of `load` the same holds of the plan that is made for it, and the summary of the
-    // report was written.
-    ensures load { (callers scripts : ℕ) → Are (texts words.now) (Load callers scripts) → result ≡ DONE
+    // With status 0 of `load` the same holds of the plan that is made for it, and the summary of
+    // the report was written.
+    ensures load { (callers scripts : ℕ) → Are (texts words.now) (Load callers scripts)
+        → result ≡ DONE
         → Holds ran.new (λ left_by view. LoadsPlan (λ b. left b) brakes.items callers scripts
-        (seen_by S.remaining S.faults source.old source.new K.written K.finished K.faults sink.old sink.new)
+        (seen_by S.remaining S.faults source.old source.new
+        K.written K.finished K.faults sink.old sink.new)
         left_by) }
 
-    // With status 0 of `continue` the same holds of callers that went on from the image at once. After
-    // the report the image of their durable words was written: the next life can go on from it.
+    // With status 0 of `continue` the same holds of callers that went on from the image at once.
+    // After the report the image of their durable words was written: the next life can go on from
+    // it.
     ensures continued { texts words.now ≡ words_of Continue → result ≡ DONE
         → Holds ran.new (λ left_by view. ContinuesImage (λ b. left b) brakes.items
-        (seen_by S.remaining S.faults source.old source.new K.written K.finished K.faults sink.old sink.new)
+        (seen_by S.remaining S.faults source.old source.new
+        K.written K.finished K.faults sink.old sink.new)
         left_by) }
 
     // And the table of that run meets the rule of a row. The pass in `ran` has seen all of the run.
     ensures table { (command : Command) → Are (texts words.now) command → result ≡ DONE
         → LeavesTable (λ b. left b) brakes.items command
-        (seen_by S.remaining S.faults source.old source.new K.written K.finished K.faults sink.old sink.new)
+        (seen_by S.remaining S.faults source.old source.new
+        K.written K.finished K.faults sink.old sink.new)
         ran.new }
 
     // After any other command or status there is no record.
     ensures no_record { ¬ (RunTeam (texts words.now) × (result ≡ DONE)) → ran.new ≡ None }
 
-    // Each status comes exactly for its cause, and what is written is its text. `laws::one_status` says
-    // that no other status has its cause then.
+    // Each status comes for its cause, and what is written is its text. No other status has its
+    // cause then: `laws::one_status`.
     ensures answered { Answers (texts words.now)
-        (seen_by S.remaining S.faults source.old source.new K.written K.finished K.faults sink.old sink.new)
+        (seen_by S.remaining S.faults source.old source.new
+        K.written K.finished K.faults sink.old sink.new)
         result }
 
-    // With status 0 each command has read its whole input and written what it makes of it: `serial` the
-    // report of serial replay, `play` that of what the schedule leaves, and so on, each in a row of the
-    // table `Makes`.
+    // With status 0 each command has read its whole input and written what it makes of it: `serial`
+    // the report of serial replay, `play` that of what the schedule leaves, and so on. Each has a
+    // row in the table `Makes`.
     ensures done { (command : Command) → Are (texts words.now) command → result ≡ DONE → Did command
-        (seen_by S.remaining S.faults source.old source.new K.written K.finished K.faults sink.old sink.new) }
+        (seen_by S.remaining S.faults source.old source.new
+        K.written K.finished K.faults sink.old sink.new) }
 
-    // With status 8 the report that `check` reads, or the life that `check-life` reads, is not legal.
-    // With status 9 the plan that `continue` or `check-life` reads does not fit the image.
-    ensures judged { (command : Command) → Are (texts words.now) command → JudgesInput (input_of command)
+    // With status 8 the report that `check` reads, or the life that `check-life` reads, is not
+    // legal. With status 9 the plan that `continue` or `check-life` reads does not fit the image.
+    ensures judged { (command : Command) → Are (texts words.now) command
+        → JudgesInput (input_of command)
         (change_of S.remaining S.faults source.old source.new) result }
 
     // Only a command that reads a plan, a report or an image reads.
     ensures unread { ¬ (AskForInput (texts words.now)) → source.new ≡ source.old }
 
-    // A command with a valid input is done, or memory runs out, unless a read or a write fails. What
-    // `check`, `continue` and `check-life` judge may be found wrong.
+    // A command with a valid input is done, or memory runs out, unless a read or a write fails.
+    // What `check`, `continue` and `check-life` judge may be found wrong.
     ensures complete { (command : Command) → Are (texts words.now) command
         → IsValidInput command (S.remaining source.old)
         → ¬ (Rose (S.faults source.old) (S.faults source.new))
