@@ -14,7 +14,7 @@ use Rattle.of_core.proofs.Parts.{run_append, first_part, second_part}
 use Rattle.of_core.proofs.ShortRaises.{stands, not_pending}
 use Rattle.of_row.specs.Trail.{first_of, moment}
 use Rattle.of_row.specs.ShortRaises.{moment_at, durable_after, IsShort, HasShortRaises}
-use Rattle.of_row.proofs.Trails.{schedule_append}
+use Rattle.of_row.proofs.Events.{schedule_append}
 
 -- ---- events in two parts
 
