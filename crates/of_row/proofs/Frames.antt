@@ -2,14 +2,14 @@
 use Rattle.std.proofs.Common.{◌≡◌, ◌≢◌, ℕ, zero, suc, ◌<◌, ◌≤◌, ◌⊎◌, inl, inr, ⊎_elim, max, cond, eqb, Bool, true, false, List, [], ◌∷◌, ◌++◌, length, get_or, set, refl, sym, ◌∙◌, ap, subst, arith, eq-eqb, ne_eqb}
 use Rattle.std.specs.Int.{bit_at}
 use Rattle.std.proofs.lemmas.Bool.{cases_eq}
-use Rattle.std.proofs.lemmas.List.{get_or-set_same, get_or-set_other}
+use Rattle.std.proofs.lemmas.List.{get_or-set_same, get_or-set_other, set_comm}
 use mathlib.Core.Option.{some, some-injective, some-ne-none}
 use lib.ListN.{get_elem?}
 use Rattle.atomic_table.proofs.Lists.{at_set}
 use Rattle.of_core.specs.declared.place.Op.{Op}
 use Rattle.of_core.specs.declared.place.Op.TheVariants.{Load, Store, Exchange, Raise}
 use Rattle.of_core.specs.Table.{Setup, size, durable_word}
-use Rattle.of_core.specs.Steps.{word_of, FoundBy}
+use Rattle.of_core.specs.Steps.{word_of, left, words_after, FoundBy}
 use Rattle.of_core.specs.World.{Start, Batch}
 use Rattle.of_core.specs.Events.{Event}
 use Rattle.of_row.specs.Views.{Kept, Sight, IsFront, reach, Each}
@@ -21,13 +21,15 @@ use Rattle.of_row.proofs.Events.{OfEviction, eviction_batches, eviction_runs}
 
 -- ---- words that agree
 
--- a word is set to the same in both
-pub words_set : (T : ℕ) (xs ys : List ℕ) (c x y : ℕ) → c < length xs → c < length ys → x ≡ y → ((k : ℕ) → k < T → get_or xs k 0 ≡ get_or ys k 0) → (k : ℕ) → k < T → get_or (set xs c x) k 0 ≡ get_or (set ys c y) k 0
-words_set T xs ys c x y in_xs in_ys same all k low = go (cases_eq k c)
-  where
-    go : (k ≡ c) ⊎ (k ≡ c → ⊥) → get_or (set xs c x) k 0 ≡ get_or (set ys c y) k 0
-    go (inl e) = subst (λ (z : ℕ). get_or (set xs c x) z 0 ≡ get_or (set ys c y) z 0) (sym e) (get_or-set_same xs c x 0 in_xs ∙ (same ∙ sym (get_or-set_same ys c y 0 in_ys)))
-    go (inr ne) = get_or-set_other xs c k x 0 ne ∙ (all k low ∙ sym (get_or-set_other ys c k y 0 ne))
+-- a word set in a table whose members word is 0
+pub set_apart : (ws : List ℕ) (T c x : ℕ) → c < T → set (set ws c x) T 0 ≡ set (set ws T 0) c x
+set_apart ws T c x low = set_comm ws c T x 0 (λ e. omega (arith, low, e))
+
+-- a step on the table's own words
+pub step_apart : (o : Op) (ws : List ℕ) (T : ℕ) → word_of o < T → set (words_after o ws) T 0 ≡ words_after o (set ws T 0)
+step_apart o ws T low =
+    let same : get_or (set ws T 0) (word_of o) 0 ≡ get_or ws (word_of o) 0 = get_or-set_other ws T (word_of o) 0 0 (λ e. omega (arith, low, e)) in
+    set_apart ws T (word_of o) (left o (get_or ws (word_of o) 0)) low ∙ ap (λ (n : ℕ). set (set ws T 0) (word_of o) (left o n)) (sym same)
 
 pub found_as : (o : Op) (xs ys : List ℕ) (n : ℕ) → get_or xs (word_of o) 0 ≡ get_or ys (word_of o) 0 → FoundBy o xs n → FoundBy o ys n
 found_as (Load c) xs ys n e f = f ∙ e

@@ -22,7 +22,7 @@ use Rattle.of_row.specs.Rule.{members_of, ticket_at, op_at, outcome_at, Stays, F
 use Rattle.of_row.specs.Trail.{first_of, moment, IsToldBy, IsRunBy, EachView}
 use Rattle.of_row.specs.RowLaws.{RowLaws}
 use Rattle.of_row.specs.Moments.{IsReachedBy, ExplainsAll, words_alone, LosesNothing, HoldsCalls}
-use Rattle.of_row.proofs.RowLaws.{good_of}
+use Rattle.of_row.proofs.RowLaws.{good_of, word_at}
 use Rattle.of_row.proofs.Fronts.{each_both}
 
 module _ (S : Setup) (L : List ℕ → Type 0) (B : Start) (s : State (Unit {0}) Sight) (r : Ruled S L B s) where
@@ -35,7 +35,7 @@ module _ (S : Setup) (L : List ℕ → Type 0) (B : Start) (s : State (Unit {0})
   pub reached : IsReachedBy S B s es
   reached = record {
     schedule = r.schedule;
-    words = r.words;
+    words = word_at S L B s r;
     seen = λ j v at live. (r.each j v at live).seen;
     pasts = λ j v at live. (r.each j v at live).past;
     callers = λ j v at live. (r.each j v at live).runs;
@@ -44,7 +44,7 @@ module _ (S : Setup) (L : List ℕ → Type 0) (B : Start) (s : State (Unit {0})
   -- ---- recovery of the words as they are
 
   durable_same : (c : ℕ) → c < size S → durable_word S s.words c ≡ durable_word S W.words c
-  durable_same c low = r.words (durable_at S c) (omega (arith, low))
+  durable_same c low = word_at S L B s r (durable_at S c) (omega (arith, low))
 
   module _ (laws : RowLaws S L) where
     good : Good S L B W
