@@ -1,5 +1,5 @@
 -- A run of threads is a schedule: that of its events, with evictions made at once.
-use Rattle.std.proofs.Common.{◌≡◌, ℕ, ◌+◌, ◌≤◌, ◌<◌, List, [], ◌++◌, map, get_or, set, true, false, sym, ◌∙◌, ap, subst, arith}
+use Rattle.std.proofs.Common.{◌≡◌, ℕ, ◌+◌, ◌≤◌, ◌<◌, List, [], ◌++◌, length, map, get_or, set, true, false, sym, ◌∙◌, ap, subst, arith}
 use Rattle.std.specs.Int.{bit_at}
 use Rattle.std.proofs.lemmas.List.{append-nil}
 use Rattle.of_core.specs.Table.{Setup, table_size, durable_at, durable_word}
@@ -16,7 +16,7 @@ use Rattle.of_row.specs.Trail.{first_of, moment, at_once, IsRunBy}
 use Rattle.of_row.specs.Runs.{HasRun}
 use Rattle.of_row.proofs.AtOnce.{Follows, lifted_done, at_once_follows, operations_at_once, turns_at_once, prompt_at_once, evicts_loaded}
 use Rattle.of_row.proofs.Fronts.{each_map}
-use Rattle.of_row.proofs.RowLaws.{word_at}
+use Rattle.of_row.proofs.RowLaws.{word_at, room_of}
 use Rattle.of_row.proofs.Wholes.{sees_whole, evictions_raised}
 
 pub runs_are_schedules : (S : Setup) (L : List ℕ → Type 0) → RowLaws S L → (B : Start) (ws : List ℕ) (v : Sight) → Meets S L B ws v → v.spent ≡ false → v.first ≡ true → v.loaded ≡ [] → KeepsAll S ws v → (es : List Event) × HasRun S L B ws v es
@@ -26,6 +26,7 @@ runs_are_schedules S L laws B ws v m live first none all = (
     from = m.rule.from;
     schedule = same.schedule;
     prompt = prompt_at_once es m.rule.steps;
+    room = ap length (sym m.words) ∙ room_of S L laws B m.state m.rule;
     words = ap (λ (z : List ℕ). set z (table_size S) 0) (sym m.words) ∙ (m.rule.words ∙ sym unraised);
     batches = sees_whole S L laws B ws v m live all ∙ same.alike.batches;
     callers = each_map (IsRunBy S B es) (IsRunBy S B (at_once es)) v.kept run_at_once fits.runs;
