@@ -15,7 +15,7 @@ use Rattle.of_core.specs.Starts.{IsDurable, IsStartRow, start_of}
 use Rattle.of_row.specs.declared.member.Pass.{Pass}
 use Rattle.of_row.specs.declared.row.Row.{Row}
 use Rattle.of_row.specs.Rule.{Meets}
-use Rattle.of_row.specs.Rows.{HasSizes, MayStartFrom, IsOf, start_at, start_for}
+use Rattle.of_row.specs.Rows.{key_of, HasSizes, MayStartFrom, IsOf, start_at, start_for}
 use Rattle.of_row.specs.Passes.{ClosesWith}
 use Rattle.example_bank.specs.Money.{money, money_in}
 use Rattle.example_bank.specs.Closed.{setup_with, KeepsTransfers, NoMoneyIsLost}
@@ -57,24 +57,17 @@ starts_with r shape w row callers cells e =
 
 -- What recovery makes of the durable words of a closed row of scripts.
 pub closed : (w : Scripts) (limit : ℕ) (r : Row Scripts) (p : Pass) (ws row : List ℕ) (shape : Shape) → NoMoneyIsLost w limit → IsRowOf r w limit → IsOf r p.seat
-    → ClosesWith scripts_meaning LawfulCells r p ws → shape.callers ≡ w.callers → shape.cells ≡ cells_in w
+    → ClosesWith scripts_meaning LawfulCells r p ws → length ws ≡ table_words (key_of r).callers MOST_INSTRS (key_of r).cells → shape.callers ≡ w.callers → shape.cells ≡ cells_in w
     → row ≡ slice_range ws (durable_cells shape.callers shape.cells) (durable_cells shape.callers shape.cells + durable_cells shape.callers shape.cells)
     → IsStartRow (setup_with w limit) (LawfulCells w) (recovered shape.callers shape.cells row)
     × (KeepsTransfers (setup_with w limit) p.seat.me.0 → money_in w (recovered shape.callers shape.cells row) ≡ money w (map pay (start_at scripts_meaning r).cells))
-closed w limit r p ws row shape none_lost h of m callers cells is =
+closed w limit r p ws row shape none_lost h of m long callers cells is =
     let S : Setup = setup_with w limit in
     let meets : Meets S (LawfulCells w) (start_at scripts_meaning r) ws p.seat.me.0 = closes_scripts r w limit p ws h m in
     let part : row ≡ slice_range ws (size S) (size S + size S) = is ∙ ap (λ (n : ℕ). slice_range ws n (n + n)) (λ i. durable_cells (callers i) (cells i)) in
-    let found = none_lost (start_at scripts_meaning r) ws p.seat.me.0 meets of.2 row (durable_row S ws row (ap length (sym meets.words) ∙ meets.rule.room) part) in
+    let found = none_lost (start_at scripts_meaning r) ws p.seat.me.0 meets of.2 row (durable_row S ws row (long ∙ λ i. table_words (h.callers i) MOST_INSTRS (h.cells i)) part) in
     subst (λ (xs : List ℕ). IsStartRow S (LawfulCells w) xs × (KeepsTransfers S p.seat.me.0 → money_in w xs ≡ money w (map pay (start_at scripts_meaning r).cells)))
     (λ i. recovered (sym callers i) (sym cells i) row) found
-
--- the words of a closed row are those of a table of its shape
-pub closed_long : (w : Scripts) (limit : ℕ) (r : Row Scripts) (p : Pass) (ws : List ℕ) (shape : Shape) → IsRowOf r w limit
-    → ClosesWith scripts_meaning LawfulCells r p ws → shape.callers ≡ w.callers → shape.instrs ≡ MOST_INSTRS → shape.cells ≡ cells_in w → length ws ≡ table_words shape.callers shape.instrs shape.cells
-closed_long w limit r p ws shape h m callers instrs cells =
-    let meets : Meets (setup_with w limit) (LawfulCells w) (start_at scripts_meaning r) ws p.seat.me.0 = closes_scripts r w limit p ws h m in
-    ap length (sym meets.words) ∙ meets.rule.room ∙ (λ i. table_words (sym callers i) (sym instrs i) (sym cells i))
 
 -- what stands in a list of words when recovery, which leaves as many, has been through it
 pub is_left : (callers cells : ℕ) (new given items : List ℕ) (len : ℕ) → new ≡ recovered callers cells given → given ≡ items → len ≡ length items

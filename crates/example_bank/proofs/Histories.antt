@@ -7,16 +7,20 @@ use Rattle.of_cell.specs.Words.{pay}
 use Rattle.of_eval.specs.declared.scripts.Scripts.{Scripts}
 use Rattle.of_eval.specs.Scripts.{LawfulCells, scripts_meaning}
 use Rattle.of_eval.specs.SoundScripts.{scripts_sound}
-use Rattle.of_core.specs.Table.{Setup, risen}
+use Rattle.of_core.specs.Table.{Setup, table_size, durable_at, durable_word, risen}
 use Rattle.of_core.specs.Machine.{Call}
 use Rattle.of_core.specs.World.{Batch, World, Start}
 use Rattle.of_core.specs.History.{after_calls, replay, numbers, batch, no_batch}
 use Rattle.of_core.specs.Invariant.{Good}
 use Rattle.of_core.specs.Claim.{IsSound}
 use Rattle.of_core.specs.Starts.{IsDurable}
-use Rattle.of_core.specs.Laws.{GoodIsSound, Restarts, BatchesNumbered, FirstState}
-use Rattle.of_row.specs.Views.{Ended, Kept, no_ended, reach, Each}
-use Rattle.of_row.specs.Rule.{Knows, world, IsOwn, end_of}
+use Rattle.of_core.specs.Laws.{StartKept, ScheduleKept, EveryCall, GoodIsSound, Restarts, BatchesNumbered}
+use Rattle.of_row.specs.Views.{Ended, Kept, no_ended, Each}
+use Rattle.of_row.specs.Trail.{first_of, moment, IsRunBy}
+use Rattle.of_row.specs.Rule.{members_of, EachCall, IsOwn, IsOwnOf, Stays, end_of}
+use Rattle.of_row.proofs.RowLaws.{word_at}
+use Rattle.of_row.proofs.Fronts.{each_both}
+use Rattle.of_row.proofs.Calls.{calls_of, own_calls}
 use Rattle.example_bank.specs.Money.{money, IsTransfer, OperationsKeep}
 use Rattle.example_bank.specs.Closed.{MakesTransfers, KeepsOne, setup_with, NoMoneyIsLost}
 use Rattle.example_bank.proofs.Cells.{AreCells, same_money}
@@ -52,25 +56,29 @@ own_is_transfer : (S : Setup) (B : Start) (x : Kept) (c : Call) → MakesTransfe
 own_is_transfer S B x c m (inl o) = subst IsTransfer (sym o.3) (All-get_or (λ (e : Ended). IsTransfer e.op) x.ended o.0 no_ended o.1 m.ended)
 own_is_transfer S B x c m (inr o) = subst IsTransfer (sym o.2) (m.open_call o.0)
 
--- the calls of a caller that is kept are
-kept_is_transfer : (S : Setup) (B : Start) (bs : List Batch) (r k i : ℕ) (xs : List Kept) → KeepsOne i xs → Each (Knows S B bs r) xs → B.seq < k → k ≤ end_of B bs
-    → All (λ (c : Call). c.caller ≡ i → IsTransfer c.op) (batch B bs k).calls
-kept_is_transfer S B bs r k i [] none knows low high j d lt e = absurd none
-kept_is_transfer S B bs r k i (x ∷ xs) (inl h) knows low high j d lt e =
-    own_is_transfer S B x (get_or (batch B bs k).calls j d) h.1 (knows.0.own_calls k low high j d lt (e ∙ sym h.0))
-kept_is_transfer S B bs r k i (x ∷ xs) (inr h) knows low high j d lt e = kept_is_transfer S B bs r k i xs h knows.1 low high j d lt e
+-- the calls of a caller in the batches are those that it made
+abbrev MadeAll : Setup → Start → List Batch → Kept → Type 0
+MadeAll S B bs x = EachCall B bs B.seq (end_of B bs) (IsOwnOf S B x)
 
-module _ (w : Scripts) (limit : ℕ) (keep : OperationsKeep w)
-    (sound : GoodIsSound (setup_with w limit) (LawfulCells w)) (restarts : Restarts (setup_with w limit) (LawfulCells w)) (numbered : BatchesNumbered) (first : FirstState) where
+-- the calls of a caller that is kept are
+kept_is_transfer : (S : Setup) (B : Start) (bs : List Batch) (k i : ℕ) (xs : List Kept) → KeepsOne i xs → Each (MadeAll S B bs) xs → B.seq < k → k ≤ end_of B bs
+    → All (λ (c : Call). c.caller ≡ i → IsTransfer c.op) (batch B bs k).calls
+kept_is_transfer S B bs k i [] none made low high j d lt e = absurd none
+kept_is_transfer S B bs k i (x ∷ xs) (inl h) made low high j d lt e =
+    own_is_transfer S B x (get_or (batch B bs k).calls j d) h.1 (made.0 k low high j d lt (e ∙ sym h.0))
+kept_is_transfer S B bs k i (x ∷ xs) (inr h) made low high j d lt e = kept_is_transfer S B bs k i xs h made.1 low high j d lt e
+
+module _ (w : Scripts) (limit : ℕ) (keep : OperationsKeep w) (start : StartKept (setup_with w limit) (LawfulCells w)) (runs : ScheduleKept (setup_with w limit) (LawfulCells w))
+    (every : EveryCall (setup_with w limit) (LawfulCells w)) (sound : GoodIsSound (setup_with w limit) (LawfulCells w)) (restarts : Restarts (setup_with w limit) (LawfulCells w)) (numbered : BatchesNumbered) where
   abbrev S : Setup
   S = setup_with w limit
 
   -- all calls in the batches are transfers
-  batch_transfers : (B : Start) (v : World) (r : ℕ) (xs : List Kept) → IsSound S B v → ((i : ℕ) → i < S.callers → KeepsOne i xs) → Each (Knows S B v.batches r) xs
+  batch_transfers : (B : Start) (v : World) (xs : List Kept) → IsSound S B v → ((i : ℕ) → i < S.callers → KeepsOne i xs) → Each (MadeAll S B v.batches) xs
       → (k : ℕ) → B.seq < k → k ≤ end_of B v.batches → All (λ (c : Call). IsTransfer c.op) (batch B v.batches k).calls
-  batch_transfers B v r xs s each knows k low high j d lt =
+  batch_transfers B v xs s each made k low high j d lt =
       let c : Call = get_or (batch B v.batches k).calls j d in
-      kept_is_transfer S B v.batches r k c.caller xs (each c.caller (s.begun k low high j d lt).0) knows low high j d lt refl
+      kept_is_transfer S B v.batches k c.caller xs (each c.caller (s.begun k low high j d lt).0) made low high j d lt refl
 
   all_transfers : (B : Start) (bs : List Batch) → ((k : ℕ) → B.seq < k → k ≤ end_of B bs → All (λ (c : Call). IsTransfer c.op) (batch B bs k).calls)
       → All (λ (b : Batch). All (λ (c : Call). IsTransfer c.op) b.calls) bs
@@ -91,17 +99,21 @@ module _ (w : Scripts) (limit : ℕ) (keep : OperationsKeep w)
 
   pub no_money_is_lost : NoMoneyIsLost w limit
   no_money_is_lost B ws v m awake row durable =
-      let u : World = world m.state.words m.rule.machines m.rule.batches m.rule.reads in
-      let g : Good S (LawfulCells w) B u = m.rule.good in
+      let r = m.rule in
+      let u : World = moment S B r.events in
+      let g : Good S (LawfulCells w) B u = runs B (first_of S B) (start B r.from (table_size S + 1) (omega arith)).0 r.events r.schedule in
       let s : IsSound S B u = sound B u g in
-      let re = restarts B u g row (subst (λ xs. IsDurable S xs row) (sym m.words) durable) in
-      let fits = m.rule.each m.seat v m.view awake in
-      let cells : AreCells w (map pay B.cells) = record {
-        size = length-map B.cells pay ∙ g.core.shared.start.size;
-        lawful = subst (λ xs. LawfulCells w (map pay xs)) (first B u.batches) (g.core.shared.stands.lawful B.seq (omega arith) (omega arith));
-      } in (
+      let there : IsDurable S u.words row = record {
+        long = durable.long;
+        each = λ c low. durable.each c low ∙ (ap (λ (xs : List ℕ). durable_word S xs c) (sym m.words) ∙ word_at S (LawfulCells w) B m.state r (durable_at S c) (omega (arith, low)));
+      } in
+      let re = restarts B u g row there in
+      let fits = r.each m.seat v m.view awake in
+      let made : Each (MadeAll S B u.batches) v.kept = each_both (Stays S r.home (members_of S m.state.words) m.seat) (IsRunBy S B r.events) (MadeAll S B u.batches) v.kept
+      (λ x q t. own_calls S B u x t.machine_is (calls_of S (LawfulCells w) every B r.from r.events r.schedule x q.in_range t)) fits.kept fits.runs in
+      let cells : AreCells w (map pay B.cells) = record { size = length-map B.cells pay ∙ r.from.start.size; lawful = r.from.lawful } in (
         re.0,
         λ keeps. ap (λ st. money w (map pay st.cells)) re.1
             ∙ ap (λ n. money w (numbers B u.batches n)) (omega (arith, s.from))
-            ∙ state_keeps B u s cells (all_transfers B u.batches (batch_transfers B u (reach B v.seen) v.kept s keeps fits.knows)) (risen S u.words - B.seq) (omega (arith, s.from, s.reaches)),
+            ∙ state_keeps B u s cells (all_transfers B u.batches (batch_transfers B u v.kept s keeps made)) (risen S u.words - B.seq) (omega (arith, s.from, s.reaches)),
       )

@@ -3,7 +3,7 @@
 ghost use Rattle.example_bank.specs.Closed.{NoMoneyIsLost};
 ghost use Rattle.example_bank.specs.Money.{TransfersKeep, OperationsKeep};
 
-use of_core::laws::{histories, starts, step_kept};
+use of_core::laws::{every_call, every_moment, histories, starts, step_kept};
 use of_eval::Scripts;
 use of_eval::laws::{operations_mean_words, words_mean_script};
 
@@ -27,6 +27,8 @@ pub fn no_money_is_lost(work: Scripts, limit: u32)
 {
     operations_keep(work);
     step_kept(limit, work);
+    every_moment(limit, work);
+    every_call(limit, work);
     starts(limit, work);
     histories();
 }

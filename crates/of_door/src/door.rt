@@ -2,7 +2,7 @@
 
 ghost use Rattle.std.specs.Prelude.{◌≡◌, ◌<◌, [], false, Some, IfOk, IfErr};
 ghost use mathlib.Core.List.{IsPrefix};
-ghost use Rattle.of_row.specs.Rows.{IsOf, HasNoCall, HasOwnCalls, HasCallsOnce};
+ghost use Rattle.of_row.specs.Rows.{IsOf, HasNoCall, HasOwnCalls, HasCallsOnce, HasSeenLegal};
 ghost use Rattle.of_row.specs.Turned.{onlooker};
 ghost use Rattle.of_door.specs.Rule.{Rests, Taken};
 
@@ -132,6 +132,7 @@ impl<W: Work> Door<W> {
         ensures past { IfOk result (λ m. IsPrefix pass.seat.me.0.past m.seat.me.0.past) }
         ensures own { IfOk result (λ m. HasOwnCalls W.meaning row.now m.seat) }
         ensures once { IfOk result (λ m. HasCallsOnce W.meaning row.now m.seat) }
+        ensures legal { IfOk result (λ m. HasSeenLegal W.meaning row.now m.seat) }
         ensures made { IfOk result (TicketsUpTo W.meaning row.now) }
         ensures came { IfOk result (λ m. Went 1 0 hand.old hand.new) }
         ensures pass { IfErr result (λ e. e.0 ≡ pass) }

@@ -21,7 +21,7 @@ returns-clause-books c =
     let shape = c.shape_of-shape in
     subst (IsStartRow (setup_with w LIMIT) (LawfulCells w))
     (sym (is_left shape.result.callers shape.result.cells c.recover.new.durable c.deref_mut.result.now c.in_ok-durable.durable.items c.in_ok-durable.durable.len c.recover.ensures.row c.deref_mut.ensures.value c.in_ok-durable.durable.ok.0 size))
-    (closed w LIMIT c.args.row c.args.pass _ c.in_ok-durable.durable.items shape.result c.no_money_is_lost.ensures c.requires.row c.requires.pass c.close-words.ensures.words shape.ensures.callers shape.ensures.cells
+    (closed w LIMIT c.args.row c.args.pass _ c.in_ok-durable.durable.items shape.result c.no_money_is_lost.ensures c.requires.row c.requires.pass c.close-words.ensures.words c.close-words.ensures.size shape.ensures.callers shape.ensures.cells
     (c.in_ok-durable.ensures.words ∙ ap (λ (l : List ℕ). slice_range l (durable_cells shape.result.callers shape.result.cells) (durable_cells shape.result.callers shape.result.cells + durable_cells shape.result.callers shape.result.cells)) c.deref.ensures.value)).0
 
 pub returns-clause-money : goal.returns-clause-money
@@ -33,5 +33,5 @@ returns-clause-money c =
     let shape = c.shape_of-shape in
     subst (λ (xs : List ℕ). KeepsTransfers (setup_with w LIMIT) c.args.pass.seat.me.0 → money_in w xs ≡ money w (map pay (start_at scripts_meaning c.args.row).cells))
     (sym (is_left shape.result.callers shape.result.cells c.recover.new.durable c.deref_mut.result.now c.in_ok-durable.durable.items c.in_ok-durable.durable.len c.recover.ensures.row c.deref_mut.ensures.value c.in_ok-durable.durable.ok.0 size))
-    (closed w LIMIT c.args.row c.args.pass _ c.in_ok-durable.durable.items shape.result c.no_money_is_lost.ensures c.requires.row c.requires.pass c.close-words.ensures.words shape.ensures.callers shape.ensures.cells
+    (closed w LIMIT c.args.row c.args.pass _ c.in_ok-durable.durable.items shape.result c.no_money_is_lost.ensures c.requires.row c.requires.pass c.close-words.ensures.words c.close-words.ensures.size shape.ensures.callers shape.ensures.cells
     (c.in_ok-durable.ensures.words ∙ ap (λ (l : List ℕ). slice_range l (durable_cells shape.result.callers shape.result.cells) (durable_cells shape.result.callers shape.result.cells + durable_cells shape.result.callers shape.result.cells)) c.deref.ensures.value)).1
