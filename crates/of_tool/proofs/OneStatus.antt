@@ -1,33 +1,45 @@
--- A call has one status. Causes have ranks, in the order in which they are asked for: an input that
+-- A call has one status, and an error one text. Causes have ranks, in the order in which they are asked for: an input that
 -- is refused for one of them has none of a lower rank, and one that a command is done with has none.
-use Rattle.std.proofs.Common.{◌≡◌, ◌<◌, ◌≤◌, ◌⊎◌, inl, inr, ℕ, zero, suc, List, Option, None, Some, sym, ap, subst, ◌∙◌, arith}
+use Rattle.std.proofs.Common.{◌≡◌, ◌<◌, ◌≤◌, ◌⊎◌, inl, inr, ℕ, zero, suc, List, Option, None, Some, refl, sym, ap, subst, ◌∙◌, arith}
 use Rattle.std.specs.Prelude.{◌^◌, ◌-◌, ◌+◌, min, IsTrue}
 use Rattle.std.proofs.lemmas.Bool.{cases_lt}
 use Rattle.std.proofs.lemmas.Bool.Decides.{eqb_tells}
 use Rattle.of_io.specs.Faults.{Rose, TakesMoreThan}
 use Rattle.of_plan.specs.Plan.{Plan}
-use Rattle.of_plan.specs.Grammar.{SpellsPlan}
+use Rattle.of_plan.specs.Grammar.{SpellsPlan, IsPlanText}
 use Rattle.of_plan.specs.BadLine.{HasBadLine}
 use Rattle.of_plan.specs.Parts.{OneCut}
 use Rattle.of_check.specs.Verdict.{IsLegalText}
 use Rattle.of_image.specs.declared.version.Version.{Version as Edition}
 use Rattle.of_image.specs.declared.version.Version.TheVariants.{One, Two}
 use Rattle.of_image.specs.ImageText.{IsImageText}
-use Rattle.of_image.specs.Parsed.{ReadsImage, IsUnlawful, UnlawfulHaveNone, OneImage}
+use Rattle.of_image.specs.Parsed.{ReadsImage, IsUnlawful, UnlawfulHaveNone, OneImage, OneFault}
 use Rattle.of_lives.specs.Images.{Fits}
 use Rattle.of_report.specs.Image.{Image as AnImage}
+use Rattle.of_tool.specs.declared.top.TheConstants.{MOST_INPUT, MOST_WITH_REPORT, MOST_IMAGE}
 use Rattle.of_tool.specs.declared.command.Command.{Command}
 use Rattle.of_tool.specs.declared.command.Command.TheVariants.{Serial, Play, Trace, Commits, Run, Load, Check, CheckLife, Part, Image, Recover, Renumber, Migrate, Continue, Help, Version}
 use Rattle.of_tool.specs.declared.status.TheConstants.{DONE, READ_FAULT, BAD_PLAN, TOO_LONG, BAD_IMAGE, ILLEGAL, DOES_NOT_FIT}
 use Rattle.of_tool.specs.Lives.{IsLegalLife}
 use Rattle.of_tool.specs.Seen.{Change, ReadsAll, CanRise}
 use Rattle.of_tool.specs.Inputs.{Input, PlanAlone, PlanAndReport, ImageAlone, ImageAndPlan, WholeLife, AnyTexts, input_of, most_of, ReadsPlan, ReadsBoth, ReadsLegal, ReadsOne, ReadsBehind, ReadsLife, ReadsFour, ReadsLived, ReadsLegalLife}
-use Rattle.of_tool.specs.Refusals.{Refusal, ReadFault, TooLong, BadPlan, BadImage, UnlawfulImage, DoesNotFit, Illegal, status_of, ReadFails, HasBadPlan, HasBadImage, HasMisfit, IsIllegal, IsRefused}
+use Rattle.of_tool.specs.Refusals.{Refusal, ReadFault, TooLong, BadPlan, BadImage, UnlawfulImage, DoesNotFit, Illegal, status_of, ReadFails, HasBadPlan, HasBadImage, HasMisfit, IsIllegal, IsRefused, text_of}
 use Rattle.of_tool.specs.Makes.{Makes}
-use Rattle.of_tool.specs.Statuses.{IsAnswerTo, Done, Refused, IsAnswer, To, NoCommand, Told, WriteFault, OutOfMemory, OneStatus}
+use Rattle.of_tool.specs.Statuses.{IsAnswerTo, Done, Refused, IsAnswer, To, NoCommand, Told, WriteFault, OutOfMemory, OneStatus, OneError}
 use Rattle.of_tool.proofs.Telling.{answer_to}
 use Rattle.of_tool.proofs.Completeness.{no_bad_line, no_fault_cell}
-use Rattle.of_tool.proofs.Readings.{not_both, not_longer, no_plan, no_one, no_first, both_same, no_second, behind_same, no_behind, no_life_plan, four_same, no_four}
+use Rattle.of_tool.proofs.Readings.{cut_same, same_read, not_both, not_longer, no_plan, no_one, no_first, both_same, no_second, behind_same, no_behind, no_life_plan, four_same, no_four}
+
+-- ---- a text has one bad line
+
+one_bad_line : (Is : List ℕ → Type 0) (text : List ℕ) (a b : ℕ) → HasBadLine Is text a → HasBadLine Is text b → a ≡ b
+one_bad_line Is text a b h k = elim (cases_lt a b) [
+  | inl lt ↦ absurd (not_before a b lt h k)
+  | inr ge ↦ elim (cases_lt b a) [ inl lt ↦ absurd (not_before b a lt k h) | inr le ↦ omega (arith, ge, le) ]
+]
+  where
+    not_before : (a b : ℕ) → a < b → HasBadLine Is text a → HasBadLine Is text b → ⊥
+    not_before a b lt h k = elim h.bad.there [ inl none ↦ none (k.bad.before a lt) | inr last ↦ omega (arith, lt, last, k.bad.last) ]
 
 -- ---- ranks
 
@@ -295,6 +307,80 @@ module _ (one_cut : OneCut) (one_plan : (text : List ℕ) (plan other : Plan) �
   one_told words a b x y (NoCommand none e t) (To c is q) = absurd (none c is)
   one_told words a b x y (To c is p) q = one_answer c a b x y p (answer_to words c s b y is q)
 
+  -- ---- the text of an error
+
+  plan_line : (i : Input) (a b : ℕ) → HasBadPlan i s a → HasBadPlan i s b → a ≡ b
+  plan_line PlanAlone a b h k =
+      let P : List ℕ → Type 0 = λ text. HasBadLine IsPlanText text a in
+      one_bad_line IsPlanText k.bytes a b (subst P (same_read s all known MOST_INPUT MOST_INPUT h.bytes k.bytes h.read k.read) h.bad) k.bad
+  plan_line PlanAndReport a b h k =
+      let cut = cut_same s all known one_cut h.bytes k.bytes h.first h.report k.first k.report (same_read s all known MOST_WITH_REPORT MOST_WITH_REPORT h.bytes k.bytes h.read k.read) h.parts k.parts in
+      let P : List ℕ → Type 0 = λ text. HasBadLine IsPlanText text a in
+      one_bad_line IsPlanText k.first a b (subst P cut.0 h.bad) k.bad
+  plan_line (ImageAlone edition) a b h k = absurd h
+  plan_line ImageAndPlan a b h k =
+      let cut = cut_same s all known one_cut h.bytes k.bytes h.first h.second k.first k.second (same_read s all known MOST_WITH_REPORT MOST_WITH_REPORT h.bytes k.bytes h.read k.read) h.parts k.parts in
+      let P : List ℕ → Type 0 = λ text. HasBadLine IsPlanText text a in
+      one_bad_line IsPlanText k.second a b (subst P cut.1 h.bad) k.bad
+  plan_line WholeLife a b h k =
+      let cut = cut_same s all known one_cut h.bytes k.bytes h.first h.behind k.first k.behind (same_read s all known MOST_WITH_REPORT MOST_WITH_REPORT h.bytes k.bytes h.read k.read) h.parts k.parts in
+      let next = cut_same s all known one_cut h.behind k.behind h.second h.others k.second k.others cut.1 h.second_parts k.second_parts in
+      let P : List ℕ → Type 0 = λ text. HasBadLine IsPlanText text a in
+      one_bad_line IsPlanText k.second a b (subst P next.0 h.bad) k.bad
+  plan_line AnyTexts a b h k = absurd h
+
+  -- what two causes say of the image's text, they say of one
+  image_text_same : (P Q : Edition → List ℕ → Type 0) (R : Type 0) → ((edition : Edition) (text : List ℕ) → P edition text → Q edition text → R) → (i : Input) → HasBadImage P i s → HasBadImage Q i s → R
+  image_text_same P Q R both PlanAlone h k = absurd h
+  image_text_same P Q R both PlanAndReport h k = absurd h
+  image_text_same P Q R both (ImageAlone edition) h k = both edition k.bytes (subst (P edition) (same_read s all known MOST_IMAGE MOST_IMAGE h.bytes k.bytes h.read k.read) h.is) k.is
+  image_text_same P Q R both ImageAndPlan h k = both Two k.1.first (subst (P Two) (behind_same s all known one_cut h.0 k.0 h.1 k.1).0 h.1.is) k.1.is
+  image_text_same P Q R both WholeLife h k = both Two k.read.first (subst (P Two) (four_same s all known one_cut h.plan k.plan h.told h.left k.told k.left h.read k.read).first h.read.is) k.read.is
+  image_text_same P Q R both AnyTexts h k = absurd h
+
+  -- a text with a cell at fault is in the grammar, so it has no bad line
+  no_both : (line cell : ℕ) (edition : Edition) (text : List ℕ) → HasBadLine (IsImageText edition) text line → IsUnlawful edition text cell → ⊥
+  no_both line cell edition text bad fault = bad.none (fault.raw, fault.spelled)
+
+  module _ (one_fault : OneFault) where
+    error_text : (i : Input) (x y : Refusal) → IsRefused i s x → IsRefused i s y → status_of x ≡ status_of y → text_of i x ≡ text_of i y
+    error_text i ReadFault ReadFault h k e = refl
+    error_text i ReadFault y h k e = absurd (omega (arith, e))
+    error_text i TooLong TooLong h k e = refl
+    error_text i TooLong y h k e = absurd (omega (arith, e))
+    error_text i (BadPlan a) (BadPlan b) h k e = ap (λ (n : ℕ). text_of i (BadPlan n)) (plan_line i a b h k)
+    error_text i (BadPlan a) y h k e = absurd (omega (arith, e))
+    error_text i (BadImage a) (BadImage b) h k e =
+        ap (λ (n : ℕ). text_of i (BadImage n)) (image_text_same _ _ (a ≡ b) (λ edition text. one_bad_line (IsImageText edition) text a b) i h k)
+    error_text i (BadImage a) (UnlawfulImage b) h k e = absurd (image_text_same _ _ ⊥ (no_both a b) i h k)
+    error_text i (BadImage a) y h k e = absurd (omega (arith, e))
+    error_text i (UnlawfulImage a) (UnlawfulImage b) h k e =
+        ap (λ (n : ℕ). text_of i (UnlawfulImage n)) (image_text_same _ _ (a ≡ b) (λ edition text. one_fault edition text a b) i h k)
+    error_text i (UnlawfulImage a) (BadImage b) h k e = absurd (image_text_same _ _ ⊥ (no_both b a) i k h)
+    error_text i (UnlawfulImage a) y h k e = absurd (omega (arith, e))
+    error_text i DoesNotFit DoesNotFit h k e = refl
+    error_text i DoesNotFit y h k e = absurd (omega (arith, e))
+    error_text i Illegal Illegal h k e = refl
+    error_text i Illegal y h k e = absurd (omega (arith, e))
+
+    -- the status is not 0, so both refuse
+    refused_text : (c : Command) (a b : ℕ) (x y : List ℕ) → IsAnswerTo c s a x → IsAnswerTo c s b y → a ≡ b → (a ≡ DONE → ⊥) → x ≡ y
+    refused_text c a b x y (Done is m) q e failed = absurd (failed is)
+    refused_text c a b x y (Refused i reads r) (Done is m) e failed = absurd (failed (e ∙ is))
+    refused_text c a b x y (Refused i reads r) (Refused j also t) e failed =
+        let same : i ≡ j = (let both : ◌≡◌ {A = Option Input} (Some i) (Some j) = sym reads ∙ also in cc) in
+        let P : Input → Type 0 = λ k. IsRefused k s r.why in
+        let Q : Input → Type 0 = λ k. text_of i r.why ≡ text_of k r.why in
+        let here : text_of i r.why ≡ text_of j r.why = subst Q same refl in
+        r.text_is ∙ here ∙ error_text j r.why t.why (subst P same r.cause) t.cause (sym r.status_is ∙ e ∙ t.status_is) ∙ sym t.text_is
+
+    pub one_said : (words : List (List ℕ)) (a b : ℕ) (x y : List ℕ) → IsAnswer words s a x → IsAnswer words s b y → (a ≡ DONE → ⊥) → x ≡ y
+    one_said words a b x y (NoCommand none e t) (NoCommand none_too f u) failed = t ∙ sym u
+    one_said words a b x y (NoCommand none e t) (To c is q) failed = absurd (none c is)
+    one_said words a b x y (To c is p) q failed =
+        let other = answer_to words c s b y is q in
+        refused_text c a b x y p other (one_answer c a b x y p other) failed
+
 -- ---- and what was written
 
 pub one_status : OneCut → ((text : List ℕ) (plan other : Plan) → SpellsPlan text plan → SpellsPlan text other → plan ≡ other) → OneImage → UnlawfulHaveNone → OneStatus
@@ -307,3 +393,6 @@ one_status cut plan image none words seen a b fresh (WriteFault h) (OutOfMemory 
 one_status cut plan image none words seen a b fresh (OutOfMemory h) (Told k) = absurd (fresh.unfinished (subst IsTrue h.untouched.finished k.written.finished))
 one_status cut plan image none words seen a b fresh (OutOfMemory h) (WriteFault k) = absurd (stays seen.sink.faults seen.sink.faults_after fresh.sink h.untouched.faults k.fault)
 one_status cut plan image none words seen a b fresh (OutOfMemory h) (OutOfMemory k) = h.is ∙ sym k.is
+
+pub one_error : OneCut → ((text : List ℕ) (plan other : Plan) → SpellsPlan text plan → SpellsPlan text other → plan ≡ other) → OneImage → UnlawfulHaveNone → OneFault → OneError
+one_error cut plan image none fault words seen a b x y fresh p q failed = one_said cut plan image none seen.source fresh.bytes fresh.known fresh.source fault words a b x y p q failed

@@ -35,7 +35,7 @@ module _ (source : Change) (all : List ℕ) (known : source.before ≡ Some all)
   pub read_is : (most : ℕ) (bytes : List ℕ) → ReadsAll most source bytes → all ≡ bytes
   read_is most bytes r = let P : Option (List ℕ) → Type 0 = λ left. Consumes left source.after bytes in all_taken all bytes source.after (subst P known r.taken) r.ended
 
-  same_read : (m n : ℕ) (b c : List ℕ) → ReadsAll m source b → ReadsAll n source c → b ≡ c
+  pub same_read : (m n : ℕ) (b c : List ℕ) → ReadsAll m source b → ReadsAll n source c → b ≡ c
   same_read m n b c r s = sym (read_is m b r) ∙ read_is n c s
 
   pub not_longer : (most : ℕ) (bytes : List ℕ) → ReadsAll most source bytes → TakesMoreThan most source.before source.after → ⊥

@@ -58,6 +58,13 @@ OneStatus =
     (words : List (List ℕ)) (seen : Seen) (status other : ℕ) → IsFresh seen
     → Answers words seen status → Answers words seen other → status ≡ other
 
+-- and an error, which is any status above 0, has one text
+abbrev pub OneError : Type 0
+OneError =
+    (words : List (List ℕ)) (seen : Seen) (status other : ℕ) (text said : List ℕ) → IsFresh seen
+    → IsAnswer words seen.source status text → IsAnswer words seen.source other said
+    → (status ≡ DONE → ⊥) → text ≡ said
+
 -- how a command with a valid input ends where no read and no write fails
 pub data Ends (command : Command) (status : ℕ) : Type 0 where
   IsDone : status ≡ DONE → Ends command status

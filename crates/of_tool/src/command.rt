@@ -157,8 +157,8 @@ impl Command {
         Some(Command::Part { number })
     }
 
-    /// The command that the words are, where they are one. Numbers are spelled by digits alone, with
-    /// no 0 in front of others.
+    /// The command that the words are, where they are one. Numbers are spelled by digits alone,
+    /// with no 0 in front of others.
     pub fn from_words(words: &[String]) -> Option<Command>
         ensures { MatchOption result (IsNoCommand (texts words.now)) (Are (texts words.now)) }
     {

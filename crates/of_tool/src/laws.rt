@@ -8,7 +8,7 @@ ghost use Rattle.of_plan.specs.Plan.{data_cells};
 ghost use Rattle.of_tool.specs.HelpText.{help_text};
 ghost use Rattle.of_tool.specs.declared.command.TheConstants.{MOST_EVENTS, MOST_FIRST};
 ghost use Rattle.of_tool.specs.PlayedImage.{ShowsEachPlay};
-ghost use Rattle.of_tool.specs.Statuses.{OneStatus};
+ghost use Rattle.of_tool.specs.Statuses.{OneError, OneStatus};
 
 use crate::command::{HELP, VERSION};
 use crate::status::{
@@ -66,9 +66,11 @@ pub fn help_and_version()
 /// From what a call saw of its source and its sink, two causes have one status. So the clause
 /// `answered` of `tool` is exact both ways: a status is answered only if its cause is there, and if
 /// the cause of a status is there, that status is answered. The source must tell its bytes, the
-/// counts of faults must be able to rise, and the sink must not be finished before the call.
+/// counts of faults must be able to rise, and the sink must not be finished before the call. An
+/// error has one text besides, with one line or cell.
 pub fn one_status()
-    ensures { OneStatus }
+    ensures status { OneStatus }
+    ensures text { OneError }
 {
     one_cut();
     one_plan();
