@@ -23,6 +23,7 @@ use Rattle.of_row.specs.Views.{bare, Each}
 use Rattle.of_core.specs.Shared.{MayStart}
 use Rattle.of_row.specs.Trail.{first_of, whole_of, at_once, TurnIsNext, IsPrompt, AreSteps, evictions}
 use Rattle.of_row.specs.RowLaws.{RowLaws}
+use Rattle.of_row.proofs.Frames.{found_as}
 use Rattle.of_row.proofs.Fronts.{each_append}
 use Rattle.of_row.proofs.Events.{schedule_append, turns_append, busy_append}
 
@@ -136,12 +137,6 @@ same_log S xs ys d n = go d.place
     go : (p : Place) → map bare (commits_at S xs d n p) ≡ map bare (commits_at S ys d n p)
     go ExchangeCurrent = one (n == word d.seq d.owner)
     go p = refl
-
-found_as : (o : Op) (xs ys : List ℕ) (n : ℕ) → get_or xs (word_of o) 0 ≡ get_or ys (word_of o) 0 → FoundBy o xs n → FoundBy o ys n
-found_as (Load c) xs ys n e f = f ∙ e
-found_as (Store c v) xs ys n e f = tt
-found_as (Exchange c a b) xs ys n e f = f ∙ e
-found_as (Raise c v) xs ys n e f = f ∙ e
 
 -- ---- worlds that are alike
 
@@ -262,9 +257,6 @@ module _ (S : Setup) (L : List ℕ → Type 0) (laws : RowLaws S L) (B : Start) 
         ended = λ j k. only (j == i) (ended_in (sym (machine_same i) k) (get_or (sym turn_alike.machines k) i no_machine)) ++ [];
         busy = λ j b. (λ e. subst (λ (m : Data). IsOpen m.place) (machine_same j) (b.0 e), tt);
       }
-
-    abbrev raised_to : World → (c x : ℕ) → List ℕ
-    raised_to u c x = set u.words (durable_at S c) (max (get_or u.words (durable_at S c) 0) x)
 
     follows : (e : Event) → MayHappen S w e → Follows S w v (e ∷ []) (whole_of e)
     follows (Begins i op) may = record {

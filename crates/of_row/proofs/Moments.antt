@@ -38,6 +38,7 @@ module _ (S : Setup) (L : List ℕ → Type 0) (B : Start) (s : State (Unit {0})
     words = word_at S L B s r;
     seen = λ j v at live. (r.each j v at live).seen;
     pasts = λ j v at live. (r.each j v at live).past;
+    raised = λ j v at live. (r.each j v at live).raised;
     callers = λ j v at live. (r.each j v at live).runs;
   }
 

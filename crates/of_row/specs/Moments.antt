@@ -11,7 +11,7 @@ use Rattle.of_core.specs.Starts.{IsDurable, IsStartRow}
 use Rattle.of_core.specs.Events.{Event, IsSchedule}
 use Rattle.of_core.specs.Linear.{Explains, Linearizes, IsRecovered}
 use Rattle.of_row.specs.Views.{Kept, Sight, IsFront, Each}
-use Rattle.of_row.specs.Rule.{Ruled, Meets, ticket_at, op_at, outcome_at}
+use Rattle.of_row.specs.Rule.{IsRaised, Ruled, Meets, ticket_at, op_at, outcome_at}
 use Rattle.of_row.specs.Trail.{first_of, moment, HasPast, IsRunBy, EachView}
 
 -- The events lead from the row's start to this moment. A step of a member is a turn of its caller; a
@@ -24,6 +24,8 @@ pub record IsReachedBy (S : Setup) (B : Start) (s : State (Unit {0}) Sight) (es 
   pub seen : EachView (λ v. IsFront v.seen (moment S B es).batches) s.views
   -- its past is how the events begin
   pub pasts : EachView (HasPast es) s.views
+  -- each eviction that it has made has raised the durable word of its cell
+  pub raised : EachView (λ v. Each (IsRaised S s.words) v.evicted) s.views
   -- each caller that it keeps has had as many turns as it has made steps, and its calls began and ended so
   pub callers : EachView (λ v. Each (IsRunBy S B es) v.kept) s.views
 

@@ -7,7 +7,7 @@ use Rattle.of_row.specs.declared.member.Pass.{Pass}
 use Rattle.of_row.specs.declared.member.Taken.{Taken}
 use Rattle.of_row.specs.declared.row.Row.{Row}
 use Rattle.of_row.specs.Views.{Kept, first_sight, reach}
-use Rattle.of_row.specs.Rule.{HasOwn, IsAsked, Meets, done_before}
+use Rattle.of_row.specs.Rule.{HasOwn, IsLegalFront, IsAsked, Meets, done_before}
 use Rattle.of_row.specs.Turned.{noted, given, newcomer, apart_from, fetched, raised}
 use Rattle.of_row.specs.Rows.{key_of, setup_at, start_at, IsOf}
 
@@ -39,6 +39,7 @@ pub record HasEnrolled {W : Type 0} (meaning : W → Meaning) (r : Row W) (n : �
       ≡ apart_from (given (setup_at meaning r) (start_at meaning r) n found before.seat.me.0)
   pub pass_is : now.seat.me.0 ≡ noted n found before.seat.me.0
   pub own : HasOwn (setup_at meaning r) (start_at meaning r) before.seat.me.0.seen (entrant meaning r n before)
+  pub legal : IsLegalFront (setup_at meaning r) (start_at meaning r) before.seat.me.0.seen
 
 -- the pass has evicted the cell: it loaded it, and raised its durable word to what it loaded
 abbrev pub HasEvicted : ℕ → (before now : Pass) → Type 0
