@@ -9,7 +9,7 @@ use Rattle.of_core.specs.declared.place.Place.{Place}
 use Rattle.of_core.specs.declared.place.Place.TheVariants.{Idle}
 use Rattle.of_core.specs.declared.place.Outcome.{Outcome}
 use Rattle.of_core.specs.declared.bank.Turn.{Turn}
-use Rattle.of_core.specs.Table.{Setup, base, size, durable_at}
+use Rattle.of_core.specs.Table.{Setup, base, setup_of, size, durable_at}
 use Rattle.of_core.specs.Machine.{Data, no_machine, idle, opened}
 use Rattle.of_core.specs.Steps.{want, want_at, took, took_at, counted_at, word_of, words_after, finds}
 use Rattle.of_core.specs.World.{World, Start}
@@ -24,6 +24,10 @@ use Rattle.of_core.specs.Moment.{Bench, Reached, Alike, held, after, table, tabl
 use Rattle.of_core.proofs.Moments.{run_good}
 use Rattle.of_core.proofs.Openings.{start_good}
 use Rattle.of_core.proofs.Found.{found_now}
+
+-- a bank of these sizes and this work has this table
+pub table_is : {X : Type 0} (meaning : X → Meaning) (work : X) (b : Bench X) (callers cells limit : ℕ) → b.work ≡ work → b.callers ≡ callers → b.cells ≡ cells → b.limit ≡ limit → setup_of callers cells limit (meaning work) ≡ table meaning b
+table_is meaning work b callers cells limit p q r t = rw (← p, ← q, ← r, ← t) refl
 
 run_push : (S : Setup) (w : World) (es : List Event) (e : Event) → run S w (es ++ e ∷ []) ≡ happens S (run S w es) e
 run_push S w [] e = refl

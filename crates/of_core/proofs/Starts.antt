@@ -218,3 +218,8 @@ start_back S B start few total l =
     λ a m. data_is S.callers S.cells ws a m ∙ word_is S B start total (data_cell S.callers a) (omega (arith, m)) ∙ cell_is S B start a m in
     let cells : (start_of S.callers S.cells ws).cells ≡ B.cells = ext_get_or 0 (start_of S.callers S.cells ws).cells B.cells (long ∙ sym start.size) (λ a m. each a (omega (arith, m, long))) in
     rw (s, o, cells) refl
+
+-- and a table whose words are zeros starts at zeros
+pub zeros_back : (S : Setup) (Lawful : List ℕ → Type 0) → Sound S.meaning Lawful (base S) S.cells → 0 < S.callers → S.callers < PAYLOADS → (ws : List ℕ) (total : ℕ) → size S + size S ≤ total → ws ≡ replicate total 0 → start_of S.callers S.cells ws ≡ zeros S
+zeros_back S Lawful sound some few ws total l words =
+    ap (start_of S.callers S.cells) (words ∙ sym (zero_words S total l)) ∙ start_back S (zeros S) (zeros_start S Lawful sound some).start few total l

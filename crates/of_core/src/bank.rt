@@ -7,9 +7,10 @@ ghost use Rattle.of_cell.specs.Words.{pay};
 ghost use Rattle.of_cell.specs.Cells.{durable_cells, table_words as cell_words};
 ghost use Rattle.of_cell.specs.declared.word.TheConstants.{PAYLOADS};
 ghost use Rattle.of_core.specs.Table.{size, setup_of};
-ghost use Rattle.of_core.specs.Events.{Begins, Turns, Raises, zeros, idles, opening};
+ghost use Rattle.of_core.specs.Events.{Begins, Turns, Raises, zeros, idles, opening, start_ticket};
+ghost use Rattle.of_core.specs.Shared.{MayStart};
 ghost use Rattle.of_core.specs.Starts.{IsStartRow, closed_at, first_cells, first_words, start_of};
-ghost use Rattle.of_core.specs.Moment.{Reached, after, machine_of, table, table_words};
+ghost use Rattle.of_core.specs.Moment.{Reached, Alike, after, held, machine_of, table, table_words};
 ghost use Rattle.of_core.specs.Turn.{turn_of, told, IsIdle};
 
 use crate::machine::{GREATEST_LIMIT, Machine};
@@ -104,15 +105,43 @@ fn first_words(alloc: Global, shape: &Shape, durable: &[u64]) -> Result<Vec<u64>
     Ok(words)
 }
 
-/// How many calls a caller has behind it at the start that a durable row is: the number of its ticket cell.
-fn start_ticket(shape: &Shape, durable: &[u64], caller: u32) -> u32
+/// How many calls a caller has behind it at the start that a row's first words are: the number of its
+/// ticket cell.
+fn start_ticket(shape: &Shape, words: &[u64], caller: u32) -> u32
     requires caller { caller < shape.now.callers }
     requires own { shape.now.callers * (MOST_INSTRS + 2) ≤ shape.now.cells }
-    requires row { length durable.now ≡ durable_cells shape.now.callers shape.now.cells }
-    ensures { result ≡ pay (get_or (start_of shape.now.callers shape.now.cells durable.now).cells (caller * (MOST_INSTRS + 2)) 0) }
+    requires row { durable_cells shape.now.callers shape.now.cells ≤ length words.now }
+    ensures { let start = start_of shape.now.callers shape.now.cells words.now in result ≡ pay (get_or start.cells (caller * (MOST_INSTRS + 2)) 0) }
 {
     let ticket = caller * (MOST_INSTRS as u32 + 2);
-    payload_of(durable[shape.data_cell(ticket) as usize])
+    payload_of(words[shape.data_cell(ticket) as usize])
+}
+
+/// An idle machine for each caller, with the calls behind it that the first words tell. The error is
+/// that there is no memory.
+fn idle_machines<W: Work>(
+    alloc: Global,
+    shape: Shape,
+    limit: u32,
+    work: W,
+    words: &[u64],
+) -> Result<Vec<Machine<W>>, AllocError>
+    requires callers { shape.callers ≡ W.many work }
+    requires instrs { shape.instrs ≡ MOST_INSTRS }
+    requires cells { shape.cells ≡ W.size work }
+    requires limit { limit ≤ GREATEST_LIMIT }
+    requires row { durable_cells shape.callers shape.cells ≤ length words.now }
+    ensures each { IfOk result (λ ms. length ms.items ≡ shape.callers) }
+    ensures alike { IfOk result (λ ms. Alike work shape.callers shape.cells limit ms.items) }
+    ensures idle { let S = setup_of shape.callers shape.cells limit (W.meaning work) in IfOk result (λ ms. held ms.items ≡ idles S (start_ticket S (start_of shape.callers shape.cells words.now)) 0 shape.callers) }
+{
+    let mut machines = Vec::new(alloc);
+    for caller in 0..shape.callers {
+        let made = start_ticket(&shape, words, caller);
+        let machine = Machine::new(alloc, shape, limit, caller, made, work)?;
+        machines.push(machine)?;
+    }
+    Ok(machines)
 }
 
 impl<W: Work> Bank<W> {
@@ -133,19 +162,8 @@ impl<W: Work> Bank<W> {
         ensures idle { IfOk result (λ b. b.machines ≡ idles (table W.meaning b) (λ i. 0) 0 b.callers) }
     {
         let words = vec![in alloc; 0; shape.words() as usize]?;
-        let mut machines = Vec::new(alloc);
-        for caller in 0..shape.callers {
-            let machine = Machine::new(alloc, shape, limit, caller, 0, work)?;
-            machines.push(machine)?;
-        }
-        Ok(Bank {
-            work,
-            shape,
-            limit,
-            first: Snapshot::of(&words),
-            words,
-            machines,
-        })
+        let bank = Bank::over(alloc, shape, limit, work, words)?;
+        Ok(bank)
     }
 
     /// A bank that starts from a durable row of which recovery changes nothing, with an idle machine for each caller, which has the
@@ -171,12 +189,34 @@ impl<W: Work> Bank<W> {
         ensures machines { let start = start_of shape.callers shape.cells durable.now in IfOk result (λ b. b.machines ≡ (opening (table W.meaning b) start (table_words (table W.meaning b))).machines) }
     {
         let words = first_words(alloc, &shape, durable)?;
-        let mut machines = Vec::new(alloc);
-        for caller in 0..shape.callers {
-            let made = start_ticket(&shape, durable, caller);
-            let machine = Machine::new(alloc, shape, limit, caller, made, work)?;
-            machines.push(machine)?;
-        }
+        let bank = Bank::over(alloc, shape, limit, work, words)?;
+        Ok(bank)
+    }
+
+    /// A bank over these first words, with an idle machine for each caller. The error is that there is
+    /// no memory.
+    fn over(
+        alloc: Global,
+        shape: Shape,
+        limit: u32,
+        work: W,
+        words: Vec<u64>,
+    ) -> Result<Self, AllocError>
+        requires callers { shape.callers ≡ W.many work }
+        requires instrs { shape.instrs ≡ MOST_INSTRS }
+        requires cells { shape.cells ≡ W.size work }
+        requires limit { limit ≤ GREATEST_LIMIT }
+        requires start { let S = setup_of shape.callers shape.cells limit (W.meaning work) in MayStart S (W.lawful work) (start_of shape.callers shape.cells words.items) }
+        requires words { let S = setup_of shape.callers shape.cells limit (W.meaning work) in words.items ≡ first_words shape.callers shape.cells (start_of shape.callers shape.cells words.items) (table_words S) }
+        ensures work { IfOk result (λ b. b.work ≡ work) }
+        ensures callers { IfOk result (λ b. b.callers ≡ shape.callers) }
+        ensures cells { IfOk result (λ b. b.cells ≡ shape.cells) }
+        ensures limit { IfOk result (λ b. b.limit ≡ limit) }
+        ensures start { IfOk result (λ b. b.start ≡ start_of shape.callers shape.cells words.items) }
+        ensures words { IfOk result (λ b. b.words ≡ (opening (table W.meaning b) b.start (table_words (table W.meaning b))).words) }
+        ensures machines { IfOk result (λ b. b.machines ≡ (opening (table W.meaning b) b.start (table_words (table W.meaning b))).machines) }
+    {
+        let machines = idle_machines(alloc, shape, limit, work, &words)?;
         Ok(Bank {
             work,
             shape,
