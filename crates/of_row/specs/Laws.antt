@@ -35,7 +35,8 @@ SeesLegal Lawful S =
     (B : Start) (ws : List ℕ) (v : Sight) → Meets S Lawful B ws v
     → v.spent ≡ false → IsLegalFront S B v.seen
 
--- each eviction that a view has made has raised the durable word of its cell to the word that it loaded
+-- each eviction that a view has made has raised the durable word of its cell, at least to the word that
+-- it loaded
 abbrev pub EvictionsAreRaised : (List ℕ → Type 0) → Type 0
 EvictionsAreRaised Lawful =
     (S : Setup) (B : Start) (ws : List ℕ) (v : Sight) → Meets S Lawful B ws v

@@ -6,7 +6,8 @@ ghost use Rattle.of_row.specs.Views.{IsSole};
 use crate::view::View;
 use atomic_table::Seat;
 
-/// What a thread holds that makes no calls. Contracts see what it knows. It has no eviction half done.
+/// What a thread holds that makes no calls. Contracts see what it knows. No eviction of it is half
+/// done.
 #[derive(Drop)]
 pub struct Pass {
     pub(crate) seat: Seat<(), View>,
