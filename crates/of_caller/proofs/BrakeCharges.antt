@@ -53,12 +53,14 @@ heard_from a b c same heard = subst (λ (count : Option ℕ). Heard count c) sam
 
 -- one ask more, behind so many
 pub asked_more : (a b c : Option ℕ) (n : ℕ) → AskedFor a b n → Asked b c → AskedFor a c (n + 1)
+unfolding later
 asked_more None b c n u k = subst (λ (it : Option ℕ). Asked it c) u k
 asked_more (Some m) b c n u k =
     subst (λ (it : Option ℕ). Asked it c) u k ∙ ap (λ (more : ℕ). Some (later more m)) (let e : suc n ≡ n + 1 = omega arith in e)
 
 -- before the first ask it was asked no times
 pub asked_none : (a : Option ℕ) → AskedFor a a 0
+unfolding later
 asked_none None = refl
 asked_none (Some m) = refl
 

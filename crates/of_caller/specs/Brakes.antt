@@ -1,5 +1,6 @@
 -- What a call takes off the steps of its brake, and what it tells it.
-use Rattle.std.specs.Prelude.{◌≡◌, ℕ, suc, ◌+◌, Option, Some, None, Result, Ok, Err}
+use Rattle.std.specs.Prelude.{◌≡◌, ℕ, ◌+◌, Option, Some, None, Result, Ok, Err}
+use Rattle.std.proofs.Common.{zero, suc}
 use Rattle.of_brake.specs.Stops.{Heard, next}
 use Rattle.of_core.specs.declared.place.Outcome.{Outcome}
 use Rattle.of_caller.specs.declared.caller.CallErr.{CallErr}
@@ -48,8 +49,8 @@ HearsOf before after (Ok o) = Heard before after
 HearsOf before after (Err e) = after ≡ before
 
 -- a count that went up so many times; it stops at its type's end
-pub later : (more : ℕ) → ℕ → ℕ
-later 0 n = n
+unfoldable pub later : (more : ℕ) → ℕ → ℕ
+later zero n = n
 later (suc more) n = next (later more n)
 
 -- it was asked so many times, where asks are counted

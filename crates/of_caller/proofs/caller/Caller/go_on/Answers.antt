@@ -1,9 +1,9 @@
-use Rattle.std.proofs.Common.{◌∙◌, arith, le_trans}
+use Rattle.std.proofs.Common.{◌∙◌, arith, rules, le_trans}
 use Rattle.of_caller.specs.declared.caller.Caller.{Caller}
 use Rattle.of_caller.specs.Callers.{call_of}
 use Rattle.of_caller.proofs.CallerSteps.{within_after, falls, goes}
 use Rattle.of_caller.proofs.CallSteps.{open_where}
-use Rattle.of_caller.proofs.BrakeCharges.{gave_more, gave_same, heard_from, asked_more, asked_same}
+use Rattle.of_caller.proofs.BrakeCharges.{gave_more, gave_same, heard_from, asked_more, asked_none, asked_same, gave_none}
 use Rattle.of_caller.proofs.caller.Caller.go_on.Goals as goal
 
 pub loop-asked-preserved : goal.loop-asked-preserved
@@ -56,3 +56,19 @@ pub returns-in-Some-clause-asks : goal.returns-in-Some-clause-asks
 returns-in-Some-clause-asks g c =
     let inv = c.loop-asked.invariant in
     (c.loop-asked.asked, inv.steps, asked_same _ _ _ _ inv.asks c.tell.ensures.asks)
+
+pub returns-in_default-clause-asks : goal.returns-in_default-clause-asks
+returns-in_default-clause-asks g c = asked_more _ _ _ _ c.loop-asked.invariant.asks c.step.ensures.asks
+
+pub loop-asked-init : goal.loop-asked-init
+loop-asked-init g c =
+    let b = c.args.brake.now in
+    record {
+      caller = c.requires.caller;
+      progress = search rules;
+      steps = omega arith;
+      denials = omega arith;
+      uses = gave_none _;
+      asks = asked_none _;
+      answers = search rules;
+    }
