@@ -13,6 +13,7 @@ ghost use Rattle.of_core.specs.Moment.{Reached, after, machine_of, table, table_
 ghost use Rattle.of_core.specs.Turn.{turn_of, told, IsIdle};
 
 use crate::machine::{GREATEST_LIMIT, Machine};
+use crate::performer::OnWords;
 use crate::place::Outcome;
 use of_cell::{Shape, pack, payload_of, seq_of};
 use of_mem::{MOST_INSTRS, Work};
@@ -229,7 +230,7 @@ impl<W: Work> Bank<W> {
         }
         let machine = &mut self.machines[caller as usize];
         let place = machine.place();
-        let found = machine.want_by(place, &mut self.words);
+        let found = machine.want_by(place, &OnWords, &mut self.words);
         machine.take_at(place, found);
         turn_to(machine.answer())
     }
