@@ -1,7 +1,7 @@
 -- What a pass has evicted after so many items of a schedule.
-use Rattle.std.proofs.Common.{◌≡◌, ℕ, ◌+◌, ◌<◌, List, [], ◌∷◌, ◌++◌, length, get_or, take, refl, sym, ap, ◌∙◌, append_assoc}
+use Rattle.std.proofs.Common.{◌≡◌, ℕ, ◌+◌, ◌<◌, List, [], ◌∷◌, ◌++◌, length, map, get_or, take, refl, sym, ap, ◌∙◌, append_assoc}
 use Rattle.std.specs.List.{filter_map}
-use Rattle.std.proofs.lemmas.List.{append-nil, take_more}
+use Rattle.std.proofs.lemmas.List.{append-nil, map-append, take_more}
 use Rattle.std.proofs.lemmas.List.Elements.{filter_map-append}
 use Rattle.of_plan.specs.declared.plan.Item.{Item}
 use Rattle.of_plan.specs.declared.plan.Item.TheVariants.{Turns, Evict}
@@ -21,20 +21,20 @@ module _ (items : List Item) (i : ℕ) (d : Item) (lt : i < length items) where
     asked = h.asked;
     kept = h.kept;
     loaded = h.loaded;
-    evicted = h.evicted ∙ ap (λ (l : List ℕ). v.evicted ++ l) (sym (more ∙ ap (λ (t : Item). filter_map evicted_by (take i items) ++ filter_map evicted_by (t ∷ [])) is ∙ append-nil (filter_map evicted_by (take i items))));
+    evicted = h.evicted ∙ ap (λ (l : List ℕ). map (λ (f : ℕ × ℕ). f.0) v.evicted ++ l) (sym (more ∙ ap (λ (t : Item). filter_map evicted_by (take i items) ++ filter_map evicted_by (t ∷ [])) is ∙ append-nil (filter_map evicted_by (take i items))));
   }
 
   -- an eviction adds its cell
-  pub evicts_one : (a n : ℕ) → get_or items i d ≡ Evict a → (v w u : Sight) → Evicts (filter_map evicted_by (take i items)) v w → u ≡ raised a (fetched a n w) → Evicts (filter_map evicted_by (take (i + 1) items)) v u
+  pub evicts_one : (a n : ℕ) → get_or items i d ≡ Evict a → (v w u : Sight) → Evicts (filter_map evicted_by (take i items)) v w → u ≡ raised (fetched a n w) → Evicts (filter_map evicted_by (take (i + 1) items)) v u
   evicts_one a n is v w u h led = record {
     first = ap (λ (z : Sight). z.first) led ∙ h.first;
     asked = ap (λ (z : Sight). z.asked) led ∙ h.asked;
     kept = ap (λ (z : Sight). z.kept) led ∙ h.kept;
     loaded = λ none. ap (λ (z : Sight). z.loaded) led;
-    evicted = ap (λ (z : Sight). z.evicted) led ∙ ap (λ (l : List ℕ). l ++ a ∷ []) h.evicted ∙ append_assoc v.evicted (filter_map evicted_by (take i items)) (a ∷ [])
-        ∙ ap (λ (l : List ℕ). v.evicted ++ l) (sym (more ∙ ap (λ (t : Item). filter_map evicted_by (take i items) ++ filter_map evicted_by (t ∷ [])) is));
+    evicted = ap (λ (z : Sight). map (λ (f : ℕ × ℕ). f.0) z.evicted) led ∙ (map-append (λ (f : ℕ × ℕ). f.0) w.evicted ((a, n) ∷ []) ∙ ap (λ (l : List ℕ). l ++ a ∷ []) h.evicted) ∙ append_assoc (map (λ (f : ℕ × ℕ). f.0) v.evicted) (filter_map evicted_by (take i items)) (a ∷ [])
+        ∙ ap (λ (l : List ℕ). map (λ (f : ℕ × ℕ). f.0) v.evicted ++ l) (sym (more ∙ ap (λ (t : Item). filter_map evicted_by (take i items) ++ filter_map evicted_by (t ∷ [])) is));
   }
 
 -- before the first item
 pub evicts_nothing : (v : Sight) → Evicts [] v v
-evicts_nothing v = record { first = refl; asked = refl; kept = refl; loaded = λ none. none; evicted = sym (append-nil v.evicted) }
+evicts_nothing v = record { first = refl; asked = refl; kept = refl; loaded = λ none. none; evicted = sym (append-nil (map (λ (f : ℕ × ℕ). f.0) v.evicted)) }

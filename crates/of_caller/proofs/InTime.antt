@@ -8,17 +8,14 @@ use Rattle.std.proofs.lemmas.Bool.Decides.{eqb_tells}
 use Rattle.std.proofs.lemmas.List.Elements.{All-from_recursion, recursion_from_All}
 use Rattle.of_cell.specs.Words.{seq}
 use Rattle.of_cell.proofs.Order.{seq_word}
-use Rattle.of_mem.specs.Places.{base_of, ticket_at}
-use Rattle.of_mem.specs.ProgramWork.{memory, meaning_of}
+use Rattle.of_mem.specs.Places.{ticket_at}
 use Rattle.of_script.specs.declared.instr.Reply.{Reply}
 use Rattle.of_script.specs.declared.instr.TheConstants.{MOST_INSTRS}
-use Rattle.of_eval.specs.ScriptPrograms.{script_program}
-use Rattle.of_eval.specs.Scripts.{StandsForSome, is_success, script_reads}
 use Rattle.of_eval.specs.Record.{recovered_word, recovered_number, answer_entry, answer_entries, open_entry, OpenCall, BeyondAnswers, state_of, IsLawful}
 use Rattle.of_plan.specs.declared.answer.Answer.{Answer}
 use Rattle.of_plan.specs.declared.answer.Ending.{Ending}
 use Rattle.of_plan.specs.declared.answer.Ending.TheVariants.{Done, Stopped, Spent as RanOut}
-use Rattle.of_plan.specs.Plan.{Plan, data_cells, scripts_of}
+use Rattle.of_plan.specs.Plan.{Plan, scripts_of}
 use Rattle.of_plan.specs.Report.{CallEntry, Start, Report, finished_of, entries_of}
 use Rattle.of_plan.specs.Ended.{Run, answers_of, ending_of}
 use Rattle.of_plan.proofs.HistoriesLists.{each_append}
@@ -26,7 +23,7 @@ use Rattle.of_core.specs.declared.bank.Turn.{Turn}
 use Rattle.of_core.specs.declared.bank.Turn.TheVariants.{Idle as NoCall, Open, Ended}
 use Rattle.of_core.specs.declared.place.Outcome.{Outcome}
 use Rattle.of_core.specs.declared.place.Outcome.TheVariants.{Answered, Spent}
-use Rattle.of_core.specs.Table.{Setup, setup_of}
+use Rattle.of_core.specs.Table.{Setup}
 use Rattle.of_core.specs.Machine.{Call, no_call}
 use Rattle.of_core.specs.World.{World, Start as TableStart}
 use Rattle.of_core.specs.History.{batch}
@@ -175,17 +172,6 @@ as_many (Spent s ∷ outs) answers told none = absurd none.0
 pub record KeepsTime (S : Setup) (Lawful : List ℕ → Type 0) : Type 0 where
   pub real_time : RealTime S Lawful
   pub late : LateCalls S Lawful
-
--- the same at a table for scripts, of so many callers and blocks
-abbrev pub TimeAt : (callers blocks limit : ℕ) → Type 0
-TimeAt c b l =
-    KeepsTime (setup_of c (data_cells c b) l (meaning_of is_success script_reads (script_program (base_of c MOST_INSTRS) b)))
-    (λ (xs : List ℕ). StandsForSome (base_of c MOST_INSTRS) b (memory xs))
-
--- where the numbers are a plan's, they hold at its table
-pub time_at : (p : Plan) (c b l : ℕ) → c ≡ p.callers → b ≡ p.blocks → l ≡ p.limit → TimeAt c b l → KeepsTime (setup_for p) (lawful_for p)
-time_at p c b l callers blocks limit h =
-    subst (λ (k : ℕ). TimeAt p.callers p.blocks k) limit (subst (λ (k : ℕ). TimeAt p.callers k l) blocks (subst (λ (k : ℕ). TimeAt k b l) callers h))
 
 -- The events lead from the start to what a run has left: the run's outcomes are those of the
 -- events, and so are the calls of its batches.

@@ -109,7 +109,7 @@ module _ (p : Plan) (r : Row Scripts) (row : IsPlanRow p r) where
       held lt k announced raw steps answer =
           let words = next_words lt in
           let same = same_setup p r row.row in
-          let legal = subst (λ (T : Setup). Legal T.meaning (map pay B.cells) (shown (sight_of b).seen)) same (told.some made_some).legal in
+          let legal = subst (λ (T : Setup). Legal T.meaning (map pay B.cells) (shown (sight_of b).seen)) same (told.some made_some).legal.replies in
           let stands = subst (λ (T : Setup). HasEnded T B (shown (sight_of b).seen) (reach B (sight_of b).seen) d0.caller d0.made d0.op (Answered k announced raw steps)) same
           (subst (λ (u : Outcome). HasEnded S B (shown (sight_of b).seen) (reach B (sight_of b).seen) d0.caller d0.made d0.op u) answer closes.stands) in
           let meant = subst (λ (T : Setup). Meant T B (shown (sight_of b).seen) op (Answered k announced raw steps)) same

@@ -6,16 +6,16 @@ use Rattle.of_script.specs.declared.instr.TheConstants.{MOST_INSTRS}
 use Rattle.of_eval.specs.ScriptPrograms.{script_program}
 use Rattle.of_eval.specs.Scripts.{StandsForSome, is_success, script_reads}
 use Rattle.of_plan.specs.Plan.{Plan, data_cells}
-use Rattle.of_core.specs.Table.{setup_of}
-use Rattle.of_caller.specs.PlanLaws.{TableLaws, KeepsLaws}
+use Rattle.of_core.specs.Table.{Setup, setup_of}
+use Rattle.of_caller.specs.Tables.{setup_for, lawful_for}
 
--- the laws at a table for scripts, of so many callers and blocks
-abbrev pub LawsAt : (callers blocks limit : ℕ) → Type 0
-LawsAt c b l =
-    TableLaws (setup_of c (data_cells c b) l (meaning_of is_success script_reads (script_program (base_of c MOST_INSTRS) b)))
+-- a law at a table for scripts, of so many callers and blocks
+abbrev pub IsAt : (Setup → (List ℕ → Type 0) → Type 0) → (callers blocks limit : ℕ) → Type 0
+IsAt P c b l =
+    P (setup_of c (data_cells c b) l (meaning_of is_success script_reads (script_program (base_of c MOST_INSTRS) b)))
     (λ (xs : List ℕ). StandsForSome (base_of c MOST_INSTRS) b (memory xs))
 
--- where the numbers are a plan's, the laws hold at its table
-pub laws_at : (p : Plan) (c b l : ℕ) → c ≡ p.callers → b ≡ p.blocks → l ≡ p.limit → LawsAt c b l → KeepsLaws p
-laws_at p c b l callers blocks limit h =
-    subst (λ (k : ℕ). LawsAt p.callers p.blocks k) limit (subst (λ (k : ℕ). LawsAt p.callers k l) blocks (subst (λ (k : ℕ). LawsAt k b l) callers h))
+-- where the numbers are a plan's, it holds at the plan's table
+pub at_plan : (p : Plan) (c b l : ℕ) → c ≡ p.callers → b ≡ p.blocks → l ≡ p.limit → (P : Setup → (List ℕ → Type 0) → Type 0) → IsAt P c b l → P (setup_for p) (lawful_for p)
+at_plan p c b l callers blocks limit P h =
+    subst (λ (k : ℕ). IsAt P p.callers p.blocks k) limit (subst (λ (k : ℕ). IsAt P p.callers k l) blocks (subst (λ (k : ℕ). IsAt P k b l) callers h))

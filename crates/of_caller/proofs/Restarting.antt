@@ -31,7 +31,7 @@ use Rattle.of_caller.specs.Starts.{number_in}
 use Rattle.of_caller.specs.Runs.{IsRunOf}
 use Rattle.of_caller.specs.Restarts.{IsHeldIn, HoldLast, StartsBehind, RunsRestart, TeamsRestart}
 use Rattle.of_caller.proofs.Teams.{team_run}
-use Rattle.of_row.specs.Laws.{SeesWhole}
+use Rattle.of_row.specs.Runs.{RunsAreSchedules}
 use Rattle.of_caller.specs.PlanLaws.{KeepsLaws}
 use Rattle.of_caller.proofs.StoresReplay.{number_at}
 use Rattle.of_caller.proofs.StoresRecovered.{IsOwnCell, same_reply, stand_same}
@@ -155,5 +155,5 @@ pub runs_restart : RunsRestart
 runs_restart p s B w e run r lawful row durable = restarts p s B w e run r lawful row durable
 
 -- and of every team, which is a run
-pub teams_restart : (p : Plan) → KeepsLaws p → SeesWhole (lawful_for p) → TeamsRestart p
-teams_restart p laws sees s B e v team r lawful row durable = let run = team_run p laws sees s B e v team in runs_restart p s B run.0 e run.1 r lawful row durable
+pub teams_restart : (p : Plan) → KeepsLaws p → RunsAreSchedules (lawful_for p) (setup_for p) → TeamsRestart p
+teams_restart p laws runs s B e v team r lawful row durable = let run = team_run p laws runs s B e v team in runs_restart p s B run.0 e run.1 r lawful row durable

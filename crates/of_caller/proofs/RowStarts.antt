@@ -14,7 +14,6 @@ use Rattle.of_core.specs.World.{Start as TableStart}
 use Rattle.of_core.specs.Events.{zeros}
 use Rattle.of_row.specs.Views.{Sight}
 use Rattle.of_row.specs.Rule.{Meets}
-use Rattle.of_row.specs.Laws.{SeesWhole}
 use Rattle.of_row.specs.Rows.{key_of, setup_at}
 use Rattle.of_row.specs.declared.row.Row.{Row}
 use Rattle.of_caller.specs.Tables.{setup_for, lawful_for}
@@ -26,10 +25,6 @@ use Rattle.of_caller.proofs.Schedules.{ticket_is}
 -- the cells of so many callers and blocks that stand for some store
 abbrev LawfulAt : (callers blocks : ℕ) → List ℕ → Type 0
 LawfulAt c b xs = StandsForSome (base_of c MOST_INSTRS) b (memory xs)
-
--- what is seen whole, where the numbers are a plan's
-pub sees_at : (p : Plan) (c b : ℕ) → c ≡ p.callers → b ≡ p.blocks → SeesWhole (LawfulAt c b) → SeesWhole (lawful_for p)
-sees_at p c b callers blocks h = subst (λ (k : ℕ). SeesWhole (LawfulAt p.callers k)) blocks (subst (λ (k : ℕ). SeesWhole (LawfulAt k b)) callers h)
 
 module _ (p : Plan) (r : Row Scripts) (row : IsRowOf p r) where
   -- the setup of the row is the plan's

@@ -1,9 +1,8 @@
 -- A team's run is a schedule.
-use Rattle.std.proofs.Common.{◌≡◌, ◌==◌, ◌&&◌, not, nat_lt, ℕ, zero, suc, ◌+◌, ◌<◌, ◌≤◌, ◌⊎◌, inl, inr, Bool, true, false, if◌then◌else◌, List, [], ◌∷◌, ◌++◌, length, map, take, drop, get_or, set, length-set, Option, Some, None, refl, sym, ap, ◌∙◌, subst, arith}
+use Rattle.std.proofs.Common.{◌≡◌, ◌==◌, ◌&&◌, not, nat_lt, ℕ, zero, suc, ◌+◌, ◌<◌, ◌≤◌, ◌⊎◌, inl, inr, Bool, true, false, if◌then◌else◌, List, [], ◌∷◌, ◌++◌, length, map, take, drop, get_or, set, Option, Some, None, refl, sym, ap, ◌∙◌, subst, arith}
 use Rattle.std.specs.List.{filter_map, flat_map, slice_index_or, AllByRecursion as Each}
-use Rattle.std.proofs.lemmas.Bool.{cases_lt}
 use Rattle.std.proofs.lemmas.Bool.Decides.{nat_tests}
-use Rattle.std.proofs.lemmas.List.{append_assoc, append-nil, length-append, length-map, map-append, get_or-take, get_or-drop, get_or-set_same, get_or-set_other, ext_get_or}
+use Rattle.std.proofs.lemmas.List.{append_assoc, append-nil, length-append, length-map, map-append, get_or-take, get_or-drop}
 use Rattle.of_script.specs.declared.instr.Instr.{Instr}
 use Rattle.of_plan.specs.declared.answer.Answer.{Answer}
 use Rattle.of_plan.specs.declared.answer.Ending.{Ending}
@@ -18,7 +17,7 @@ use Rattle.of_core.specs.declared.place.Outcome.{Outcome}
 use Rattle.of_core.specs.declared.place.Outcome.TheVariants.{Answered, Spent}
 use Rattle.of_core.specs.declared.place.Place.TheVariants.{Idle}
 use Rattle.of_core.specs.Table.{Setup, table_size}
-use Rattle.of_core.specs.Machine.{Data, IsOpen, is_idle, no_machine}
+use Rattle.of_core.specs.Machine.{Data, IsOpen, is_idle}
 use Rattle.of_core.specs.World.{World, Start as TableStart}
 use Rattle.of_core.specs.Turn.{IsIdle}
 use Rattle.of_core.specs.Events.{Event, Begins, Turns, Loads, Evicts, Raises, happens, machine, run, IsSchedule, MayHappen, start_ticket}
@@ -27,10 +26,8 @@ use Rattle.of_core.proofs.Parts.{run_append, operations_append, outcomes_append,
 use Rattle.of_core.proofs.Tests.{same_number}
 use Rattle.of_row.specs.Views.{Ended, Kept, Sight}
 use Rattle.of_row.specs.Told.{begun_of, outcomes_of}
-use Rattle.of_row.specs.Laws.{SeesWhole}
-use Rattle.of_row.specs.Rule.{world}
-use Rattle.of_row.specs.Trail.{lifted, Agrees, IsPrompt, IsToldBy, EvictsSo, evictions}
-use Rattle.of_row.proofs.Calls.{are_told}
+use Rattle.of_row.specs.Runs.{HasRun, RunsAreSchedules}
+use Rattle.of_row.specs.Trail.{IsPrompt, IsToldBy, evictions}
 use Rattle.of_caller.specs.Tables.{setup_for, lawful_for, opening_at, operation_of}
 use Rattle.of_caller.specs.Ends.{AreAnswers, is_spent, halted, ending_at}
 use Rattle.of_caller.proofs.RecordsOwn.{stopped_at, idle_or_open}
@@ -39,7 +36,7 @@ use Rattle.of_caller.specs.Runs.{AreNext}
 use Rattle.of_caller.specs.Teams.{KeepsCaller, KeepsLast, IsTeamOf, TeamsAreScheduled}
 use Rattle.of_caller.proofs.Schedules.{ticket_is}
 use Rattle.of_caller.proofs.KeptCallers.{begun_idle}
-use Rattle.of_caller.proofs.Teams.{keeps, tells, machine_is}
+use Rattle.of_caller.proofs.Teams.{ran, keeps, tells, told_by, calls_of, machine_is}
 use Rattle.of_caller.specs.Scheduled.{moves_in, begins_call, next_call, with_begin, events_from, scheduled, evicted_by, IsScheduled}
 
 -- ---- the moves and the items of events
@@ -207,24 +204,25 @@ module _ (p : Plan) (behind c : ℕ) (answers : List Answer) (ending : Ending) (
 
 -- ---- a team
 
-module _ (p : Plan) (laws : KeepsLaws p) (sees : SeesWhole (lawful_for p)) (s : Start) (B : TableStart) (e : Run) (v : Sight) (t : IsTeamOf p s B e v) where
+module _ (p : Plan) (laws : KeepsLaws p) (runs : RunsAreSchedules (lawful_for p) (setup_for p)) (s : Start) (B : TableStart) (e : Run) (v : Sight) (t : IsTeamOf p s B e v) where
   abbrev T : Setup
   T = setup_for p
 
   abbrev O : World
   O = opening_at p B
 
-  abbrev told : ℕ → Kept
-  told = t.meets.rule.told
-
   abbrev es : List Event
-  es = t.meets.rule.trail.events
+  es = (ran p laws runs s B e v t).0
 
-  schedule : IsSchedule T O es
-  schedule = t.meets.rule.trail.leaves.schedule
+  h : HasRun T (lawful_for p) B e.words v es
+  h = (ran p laws runs s B e v t).1
 
-  tells_events : (c : ℕ) → c < p.callers → IsToldBy T B es c (told c)
-  tells_events = t.meets.rule.trail.tells
+  -- what is kept of a caller
+  abbrev kept : (c : ℕ) → c < p.callers → Kept
+  kept c lt = (keeps p laws runs s B e v t c lt).0
+
+  told : (c : ℕ) (lt : c < p.callers) → IsToldBy T B es c (kept c lt)
+  told c lt = told_by p laws runs s B e v t c lt
 
   -- the begin of a call, after the events before it
   begins_so : (done : List Event) (i : ℕ) (op : List ℕ) (rest : List Event) → es ≡ done ++ Begins i op ∷ rest → MayHappen T (run T O done) (Begins i op) → IsNextCall p (run T O done) i op
@@ -244,31 +242,31 @@ module _ (p : Plan) (laws : KeepsLaws p) (sees : SeesWhole (lawful_for p)) (s : 
       behind = finished_of s i
 
       first : IsSchedule T O done
-      first = first_part T O done (Begins i op ∷ rest) (subst (IsSchedule T O) is schedule)
+      first = first_part T O done (Begins i op ∷ rest) (subst (IsSchedule T O) is h.schedule)
 
       calls : Calls T B (start_ticket T B i) w i (operations done i) (outcomes T O done i)
-      calls = laws.calls B t.meets.rule.from (table_size T + 1) (omega arith) done first i may.0
+      calls = laws.calls B h.from (table_size T + 1) (omega arith) done first i may.0
 
-      ops : operations done i ++ op ∷ operations rest i ≡ begun_of (told i)
-      ops = ap (λ (z : List (List ℕ)). operations done i ++ z) (ap (λ (b : Bool). only b (op ∷ []) ++ operations rest i) (sym (same_number i))) ∙ (sym (operations_append done (Begins i op ∷ rest) i) ∙ (ap (λ (fs : List Event). operations fs i) (sym is) ∙ sym (tells_events i may.0).begun))
+      ops : operations done i ++ op ∷ operations rest i ≡ begun_of (kept i may.0)
+      ops = ap (λ (z : List (List ℕ)). operations done i ++ z) (ap (λ (b : Bool). only b (op ∷ []) ++ operations rest i) (sym (same_number i))) ∙ (sym (operations_append done (Begins i op ∷ rest) i) ∙ (ap (λ (fs : List Event). operations fs i) (sym is) ∙ sym (told i may.0).begun))
 
-      outs : outcomes T O done i ++ outcomes T w (Begins i op ∷ rest) i ≡ outcomes_of (told i)
-      outs = sym (outcomes_append T O done (Begins i op ∷ rest) i) ∙ (ap (λ (fs : List Event). outcomes T O fs i) (sym is) ∙ sym (tells_events i may.0).ended)
+      outs : outcomes T O done i ++ outcomes T w (Begins i op ∷ rest) i ≡ outcomes_of (kept i may.0)
+      outs = sym (outcomes_append T O done (Begins i op ∷ rest) i) ∙ (ap (λ (fs : List Event). outcomes T O fs i) (sym is) ∙ sym (told i may.0).ended)
 
-      at : (length (operations done i) < length (begun_of (told i))) × (get_or (begun_of (told i)) (length (operations done i)) [] ≡ op)
-      at = front_at (operations done i) (begun_of (told i)) op (operations rest i) ops
+      at : (length (operations done i) < length (begun_of (kept i may.0))) × (get_or (begun_of (kept i may.0)) (length (operations done i)) [] ≡ op)
+      at = front_at (operations done i) (begun_of (kept i may.0)) op (operations rest i) ops
 
       all_ended : length (outcomes T O done i) ≡ length (operations done i)
       all_ended = calls.idle may.1
 
       unspent_so : NoneSpent (outcomes T O done i)
-      unspent_so = none_spent_before p behind i (answers_of e i) (ending_of e i) (told i) (keeps p laws sees s B e v t i may.0).0 (outcomes T O done i) (outcomes T w (Begins i op ∷ rest) i) outs (omega (arith, at.0, all_ended))
+      unspent_so = none_spent_before p behind i (answers_of e i) (ending_of e i) (kept i may.0) (keeps p laws runs s B e v t i may.0).2 (outcomes T O done i) (outcomes T w (Begins i op ∷ rest) i) outs (omega (arith, at.0, all_ended))
 
       not_spent : is_spent m.answer ≡ false
       not_spent = ap is_spent (calls.last may.1) ∙ unspent (outcomes T O done i) None refl unspent_so
 
-      next : AreNext p behind i (begun_of (told i))
-      next = (tells p laws sees s B e v t i may.0).scripts
+      next : AreNext p behind i (begun_of (kept i may.0))
+      next = (tells p laws runs s B e v t i may.0).scripts
 
       few : length (operations done i) < length (take next.count (drop behind (scripts_of p i)))
       few = omega (arith, at.0, ap length next.are, length-map (take next.count (drop behind (scripts_of p i))) operation_of)
@@ -295,7 +293,7 @@ module _ (p : Plan) (laws : KeepsLaws p) (sees : SeesWhole (lawful_for p)) (s : 
       w = run T O done
 
       may : MayHappen T w f
-      may = (second_part T O done (f ∷ rest) (subst (IsSchedule T O) is schedule)).0
+      may = (second_part T O done (f ∷ rest) (subst (IsSchedule T O) is h.schedule)).0
 
       further : BeginsNext p (run T O (done ++ f ∷ [])) rest → BeginsNext p (happens T w f) rest
       further = subst (λ (z : World). BeginsNext p z rest) (run_append T O done (f ∷ []))
@@ -312,60 +310,38 @@ module _ (p : Plan) (laws : KeepsLaws p) (sees : SeesWhole (lawful_for p)) (s : 
 
   -- the events are those of the plan's callers with these items
   same : es ≡ scheduled p B items
-  same = same_events p O es schedule t.meets.rule.trail.prompt (λ i l. (tells_events i l).busy) (next_so [] es refl) ∙ ap (events_from p O) (sym (items_move es))
-
-  evicts : EvictsSo es t.meets.rule.trail.pending v
-  evicts = t.meets.rule.trail.views t.meets.seat v t.meets.view t.live
+  same = same_events p O es h.schedule h.prompt (λ i l. (told i l).busy) (next_so [] es refl) ∙ ap (events_from p O) (sym (items_move es))
 
   -- what the team has left, and the events that have led there
-  pub team_scheduled : (xs : List Item) × IsScheduled p s B xs e × (t.meets.rule.trail.events ≡ scheduled p B xs)
+  pub team_scheduled : (xs : List Item) × IsScheduled p s B xs e × ((ran p laws runs s B e v t).0 ≡ scheduled p B xs)
   team_scheduled = (
     items,
     record {
-      items_in = items_range p O es schedule;
-      evicted = items_evict es ∙ (sym (evicts.evicted t.first) ∙ (ap (λ (z : List (ℕ × ℕ)). v.evicted ++ map (λ (f : ℕ × ℕ). f.0) z) (sym (evicts.loaded t.first) ∙ t.loaded) ∙ (append-nil v.evicted ∙ t.evicted)));
-      words = subst (λ (fs : List Event). set e.words (table_size T) 0 ≡ (run T O fs).words) same
-          (ext_get_or 0 (set e.words (table_size T) 0) (run T O es).words (length-set e.words (table_size T) 0 ∙ (long ∙ sym agrees.room)) (λ a l. by_place a l (cases_lt a (table_size T))));
+      items_in = items_range p O es h.schedule;
+      evicted = items_evict es ∙ (sym h.evicted ∙ t.evicted);
+      words = subst (λ (fs : List Event). set e.words (table_size T) 0 ≡ (run T O fs).words) same h.words;
       answers = t.answers;
       endings = t.endings;
-      told = λ c l. subst (λ (fs : List Event). AreAnswers (outcomes T O fs c) (answers_of e c)) same (subst (λ (os : List Outcome). AreAnswers os (answers_of e c)) (tells_events c l).ended (tells p laws sees s B e v t c l).told);
+      told = λ c l. subst (λ (fs : List Event). AreAnswers (outcomes T O fs c) (answers_of e c)) same (subst (λ (os : List Outcome). AreAnswers os (answers_of e c)) (told c l).ended (tells p laws runs s B e v t c l).told);
       ended = λ c l. subst (λ (fs : List Event). ending_of e c ≡ ending_at (machine (run T O fs) c) (to_do p s c) (length (answers_of e c))) same
-          ((tells p laws sees s B e v t c l).ended
-          ∙ (ap (λ (o : Ending). if length (answers_of e c) == to_do p s c then Done else o) (halted_so c l (idle_or_open (told c).machine.place)) ∙ ap (λ (m : Data). ending_at m (to_do p s c) (length (answers_of e c))) (machine_now c l)));
+          ((tells p laws runs s B e v t c l).ended
+          ∙ (ap (λ (o : Ending). if length (answers_of e c) == to_do p s c then Done else o) (halted_so c l (idle_or_open (kept c l).machine.place)) ∙ ap (λ (m : Data). ending_at m (to_do p s c) (length (answers_of e c))) (sym (machine_is p laws runs s B e v t c l))));
     },
     same,
   )
     where
-      agrees : Agrees T (record (world t.meets.state.words t.meets.rule.machines t.meets.rule.batches t.meets.rule.reads) { words = lifted T t.meets.rule.trail.pending t.meets.state.words }) (run T O es)
-      agrees = t.meets.rule.trail.leaves.agrees
-
-      long : length e.words ≡ table_size T + 1
-      long = ap length (sym t.meets.words) ∙ t.meets.rule.room
-
-      words_are : (a : ℕ) → a < table_size T → get_or e.words a 0 ≡ get_or (run T O es).words a 0
-      words_are a low = ap (λ (z : List ℕ). get_or z a 0) (sym t.meets.words) ∙ (ap (λ (z : List (ℕ × ℕ)). get_or (lifted T z t.meets.state.words) a 0) (sym t.loaded ∙ evicts.loaded t.first) ∙ agrees.words a low)
-
-      by_place : (a : ℕ) → a < length (set e.words (table_size T) 0) → (a < table_size T) ⊎ (table_size T ≤ a) → get_or (set e.words (table_size T) 0) a 0 ≡ get_or (run T O es).words a 0
-      by_place a l (inl low) = get_or-set_other e.words (table_size T) a 0 0 (λ q. omega (arith, low, q)) ∙ words_are a low
-      by_place a l (inr far) =
-          let is : table_size T ≡ a = omega (arith, far, l, length-set e.words (table_size T) 0, long) in
-          subst (λ (k : ℕ). get_or (set e.words (table_size T) 0) k 0 ≡ get_or (run T O es).words k 0) is (get_or-set_same e.words (table_size T) 0 0 (omega (arith, long)) ∙ sym agrees.behind)
-
-      machine_now : (c : ℕ) → c < p.callers → (told c).machine ≡ machine (run T O es) c
-      machine_now c l = sym (machine_is p laws sees s B e v t c l) ∙ ap (λ (ms : List Data). get_or ms c no_machine) agrees.machines
-
       -- a machine holds the last outcome, or its open call stands behind no spent one
-      halted_so : (c : ℕ) → c < p.callers → ((told c).machine.place ≡ Idle) ⊎ IsOpen (told c).machine.place → halted (last_of (outcomes_of (told c))) (told c).machine.steps ≡ halted (told c).machine.answer (told c).machine.steps
+      halted_so : (c : ℕ) (l : c < p.callers) → ((kept c l).machine.place ≡ Idle) ⊎ IsOpen (kept c l).machine.place → halted (last_of (outcomes_of (kept c l))) (kept c l).machine.steps ≡ halted (kept c l).machine.answer (kept c l).machine.steps
       halted_so c l (inl idle) =
-          let m = machine_is p laws sees s B e v t c l in
-          let q = are_told T (lawful_for p) laws.calls B t.meets.state t.meets.rule c l in
-          ap (λ (o : Option Outcome). halted o (told c).machine.steps) (sym (q.last (ap (λ (d : Data). d.place) m ∙ idle)) ∙ ap (λ (d : Data). d.answer) m)
+          let m = machine_is p laws runs s B e v t c l in
+          let q = calls_of p laws runs s B e v t c l in
+          ap (λ (o : Option Outcome). halted o (kept c l).machine.steps) (ap last_of (told c l).ended ∙ (sym (q.last (ap (λ (d : Data). d.place) m ∙ idle)) ∙ ap (λ (d : Data). d.answer) m))
       halted_so c l (inr o) =
-          let m = machine_is p laws sees s B e v t c l in
-          let q = are_told T (lawful_for p) laws.calls B t.meets.state t.meets.rule c l in
-          let none : (told c).machine.answer ≡ None = ap (λ (d : Data). d.answer) (sym m) ∙ q.unanswered (subst (λ (d : Data). IsOpen d.place) (sym m) o) in
-          stopped_at (last_of (outcomes_of (told c))) (told c).machine.steps (unspent (outcomes_of (told c)) None refl (open_unspent p (finished_of s c) c (answers_of e c) (ending_of e c) (told c) (keeps p laws sees s B e v t c l).0 o))
-          ∙ ap (λ (a : Option Outcome). halted a (told c).machine.steps) (sym none)
+          let m = machine_is p laws runs s B e v t c l in
+          let q = calls_of p laws runs s B e v t c l in
+          let none : (kept c l).machine.answer ≡ None = ap (λ (d : Data). d.answer) (sym m) ∙ q.unanswered (subst (λ (d : Data). IsOpen d.place) (sym m) o) in
+          stopped_at (last_of (outcomes_of (kept c l))) (kept c l).machine.steps (unspent (outcomes_of (kept c l)) None refl (open_unspent p (finished_of s c) c (answers_of e c) (ending_of e c) (kept c l) (keeps p laws runs s B e v t c l).2 o))
+          ∙ ap (λ (a : Option Outcome). halted a (kept c l).machine.steps) (sym none)
 
-pub teams_are_scheduled : (p : Plan) → KeepsLaws p → SeesWhole (lawful_for p) → TeamsAreScheduled p
-teams_are_scheduled p laws sees s B e v t = let q = team_scheduled p laws sees s B e v t in (q.0, q.1)
+pub teams_are_scheduled : (p : Plan) → KeepsLaws p → RunsAreSchedules (lawful_for p) (setup_for p) → TeamsAreScheduled p
+teams_are_scheduled p laws runs s B e v t = let q = team_scheduled p laws runs s B e v t in (q.0, q.1)

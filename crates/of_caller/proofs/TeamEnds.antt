@@ -1,5 +1,5 @@
 -- What a team hands back, put together of its lanes and its pass.
-use Rattle.std.proofs.Common.{◌≡◌, ℕ, ◌<◌, inl, inr, List, [], ◌∷◌, ◌++◌, length, get_or, true, false, sym, ap, ◌∙◌, subst, arith}
+use Rattle.std.proofs.Common.{◌≡◌, ℕ, ◌<◌, inl, inr, List, [], ◌∷◌, ◌++◌, length, map, get_or, true, false, sym, ap, ◌∙◌, subst, arith}
 use Rattle.std.specs.Int.{bit_at}
 use Rattle.std.proofs.lemmas.List.{length-map}
 use Rattle.of_eval.specs.declared.scripts.Scripts.{Scripts}
@@ -69,7 +69,7 @@ module _ {X : Type 0} {Y : X → Type 0} (p : Plan) (r : Row Scripts) (row : IsP
     keeps_all = keeps_all;
     first = ap (λ (z : Sight). z.first) is ∙ (gathered_is v1 ys).1 ∙ evicts.first ∙ seated.first;
     loaded = ap (λ (z : Sight). z.loaded) is ∙ (gathered_is v1 ys).4 ∙ evicts.loaded seated.loaded;
-    evicted = ap (λ (z : Sight). z.evicted) is ∙ (gathered_is v1 ys).3 ∙ evicts.evicted ∙ ap (λ (l : List ℕ). l ++ evictions_of p) seated.evicted;
+    evicted = ap (map (λ (f : ℕ × ℕ). f.0)) (ap (λ (z : Sight). z.evicted) is ∙ (gathered_is v1 ys).3) ∙ (evicts.evicted ∙ ap (λ (l : List (ℕ × ℕ)). map (λ (f : ℕ × ℕ). f.0) l ++ evictions_of p) seated.evicted);
     answers = ap length answers ∙ length-map ys (λ (a : Lane X Y). a.answers.items) ∙ many;
     endings = ap length endings ∙ length-map ys (λ (a : Lane X Y). a.ending) ∙ many;
     each = λ c lt. subst (λ (n : ℕ). KeepsSo c (KeepsCaller p n c (answers_of e c) (ending_of e c)) v.kept) (done_is p r row.row s starts c lt) (each c lt);

@@ -1,21 +1,19 @@
 -- What a call tells its caller: how it has ended, or that it is still open.
-use Rattle.std.specs.Prelude.{◌≡◌, ℕ, ◌+◌, ◌<◌, ◌≤◌, List, [], ◌∷◌, ◌++◌, length, map, Some, Result, Ok, Err}
+use Rattle.std.specs.Prelude.{◌≡◌, ℕ, ◌+◌, ◌<◌, ◌≤◌, List, [], ◌∷◌, ◌++◌, length, Some, Result, Ok, Err}
 use mathlib.Core.List.{IsPrefix}
-use Rattle.of_cell.specs.Words.{pay}
 use Rattle.of_mem.specs.Meaning.{Meaning}
 use Rattle.of_core.specs.declared.place.Outcome.{Outcome}
 use Rattle.of_core.specs.declared.place.Outcome.TheVariants.{Spent as Over}
 use Rattle.of_core.specs.Table.{Setup}
 use Rattle.of_core.specs.Machine.{Data, IsOpen, opened}
 use Rattle.of_core.specs.World.{Start}
-use Rattle.of_core.specs.History.{Legal}
 use Rattle.of_core.specs.Bound.{bound}
 use Rattle.of_core.specs.Turn.{IsIdle}
 use Rattle.of_core.specs.Calls.{operations, Beyond, IsAnswered}
 use Rattle.of_row.specs.Views.{Kept, Sight, reach, shown}
 use Rattle.of_row.specs.Told.{begun_of}
 use Rattle.of_row.specs.Trail.{IsToldBy}
-use Rattle.of_row.specs.Rule.{HasEnded, HasOwn, OwnOnce}
+use Rattle.of_row.specs.Rule.{HasEnded, HasOwn, OwnOnce, IsLegalFront}
 use Rattle.of_row.specs.Turned.{Meant, Tells, since_after}
 use Rattle.of_row.specs.declared.row.Row.{Row}
 use Rattle.of_row.specs.Rows.{key_of, setup_at, start_at}
@@ -75,7 +73,7 @@ ResultTold S L B m v x n d w y (Err (Spent seq)) = HasClosed S L B m v x n d w y
 -- calls began and ended so
 pub record StepsTold (S : Setup) (B : Start) (d : Data) (w : Sight) (y : Kept) : Type 0 where
   pub machine : y.machine ≡ d
-  pub legal : Legal S.meaning (map pay B.cells) (shown w.seen)
+  pub legal : IsLegalFront S B w.seen
   pub own : HasOwn S B w.seen y
   pub once : OwnOnce S B w.seen y
   pub told : IsToldBy S B w.past d.caller y

@@ -2,7 +2,7 @@
 use Rattle.std.specs.Prelude.{ℕ, List}
 use Rattle.of_plan.specs.Plan.{Plan}
 use Rattle.of_core.specs.Table.{Setup}
-use Rattle.of_core.specs.Laws.{StepTaken, FindsWord, GoodIsSound, StartKept, EventKept, ScheduleKept, EveryMoment, EveryCall, EveryTurn, CallsKept, FirstWords, ZerosMayStart}
+use Rattle.of_core.specs.Laws.{StepTaken, FindsWord, GoodIsSound, BesideKept, BesideCalls, StartKept, EventKept, ScheduleKept, EveryMoment, EveryCall, EveryTurn, CallsKept, FirstWords, ZerosMayStart}
 use Rattle.of_caller.specs.Tables.{setup_for, lawful_for}
 
 -- what the laws say of a table with this setup, whose data cells are lawful so
@@ -12,6 +12,9 @@ pub record TableLaws (S : Setup) (Lawful : List ℕ → Type 0) : Type 0 where
   pub events : EventKept S Lawful
   pub schedules : ScheduleKept S Lawful
   pub sound : GoodIsSound S Lawful
+  -- words behind the table's own may be anything
+  pub beside : BesideKept S Lawful
+  pub beside_calls : BesideCalls S Lawful
   -- a step of an open call finds a word, and is a step whatever its kind
   pub finds : FindsWord
   pub steps : StepTaken S Lawful

@@ -22,12 +22,12 @@ pub record HasSeated (n : ℕ) (v : Sight) : Type 0 where
   pub loaded : v.loaded ≡ []
   pub below : (m : ℕ) → IsAsked m v.asked → m < n
 
--- a pass has evicted these cells, in order
+-- a pass has evicted these cells, in their order
 pub record Evicts (cells : List ℕ) (v w : Sight) : Type 0 where
   pub first : w.first ≡ v.first
   pub asked : w.asked ≡ v.asked
   pub kept : w.kept ≡ v.kept
-  pub evicted : w.evicted ≡ v.evicted ++ cells
+  pub evicted : map (λ e. e.0) w.evicted ≡ map (λ e. e.0) v.evicted ++ cells
   pub loaded : v.loaded ≡ [] → w.loaded ≡ []
 
 -- how many scripts of a caller the row has behind it

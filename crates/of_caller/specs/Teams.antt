@@ -88,7 +88,7 @@ pub record IsTeamOf (p : Plan) (s : Start) (B : TableStart) (e : Run) (v : Sight
   -- it is the row's first pass; it has evicted the plan's cells in their order
   pub first : v.first ≡ true
   pub loaded : v.loaded ≡ []
-  pub evicted : v.evicted ≡ evictions_of p
+  pub evicted : map (λ e. e.0) v.evicted ≡ evictions_of p
   -- and keeps of each caller its answered calls, the open call of a stopped one, and the spent call
   pub answers : length e.answers ≡ p.callers
   pub endings : length e.endings ≡ p.callers

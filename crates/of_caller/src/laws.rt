@@ -10,11 +10,13 @@ ghost use Rattle.of_caller.specs.Restarts.{RunsRestart, TeamsRestart};
 ghost use Rattle.of_caller.specs.Behind.{ComesBehind, EndsFirst};
 ghost use Rattle.of_caller.specs.InTime.{SchedulesRespectTime, TeamsRespectTime};
 
-use of_core::laws::{every_call, every_moment, every_order, machines, starts, step_kept};
+use of_core::laws::{
+    calls_kept, every_call, every_moment, every_order, machines, starts, step_kept,
+};
 use of_eval::Scripts;
 use of_mem::Work;
 use of_plan::Plan;
-use of_row::laws::sees_whole;
+use of_row::laws::runs_are_schedules;
 
 /// The laws of the protocol hold at the table of a plan. So from every start of the plan its schedules lead to moments of it, and what
 /// is left before anything has happened is what a run leaves. A table of zeros is at the plan's empty start.
@@ -31,6 +33,7 @@ pub fn plan_keeps_laws(plan: &Plan)
         blocks: plan.blocks(),
     };
     step_kept(limit, scripts);
+    calls_kept(limit, scripts);
     every_moment(limit, scripts);
     every_call(limit, scripts);
     starts(limit, scripts);
@@ -59,12 +62,13 @@ pub fn teams_are_lawful(plan: &Plan)
     ensures restarts { TeamsRestart plan.now }
     ensures scheduled { TeamsAreScheduled plan.now }
 {
+    let limit = plan.limit();
     let scripts = Scripts {
         callers: plan.callers(),
         blocks: plan.blocks(),
     };
     plan_keeps_laws(plan);
-    sees_whole(scripts);
+    runs_are_schedules(limit, scripts);
 }
 
 /// From what recovery makes of the durable words that a run leaves a table may start, and it starts
@@ -96,6 +100,6 @@ pub fn reports_respect_time(plan: &Plan)
         blocks: plan.blocks(),
     };
     plan_keeps_laws(plan);
-    sees_whole(scripts);
+    runs_are_schedules(limit, scripts);
     every_order(limit, scripts);
 }

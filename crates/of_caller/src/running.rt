@@ -29,7 +29,6 @@ fn evict_all(row: &Row<Scripts>, plan: &Plan, pass: &mut Pass)
     requires row { IsPlanRow plan.now row.now }
     requires pass { IsOf row.now pass.old.seat }
     requires first { pass.old.seat.me.0.first ≡ true }
-    requires none { pass.old.seat.me.0.loaded ≡ [] }
     ensures pass { IsOf row.now pass.new.seat }
     ensures view { Evicts (evictions_of plan.now) pass.old.seat.me.0 pass.new.seat.me.0 }
 {
@@ -69,7 +68,6 @@ fn at_once<R: Threads + Sync>(
     requires row { IsPlanRow plan.now row.now }
     requires pass { IsOf row.now pass.old.seat }
     requires first { pass.old.seat.me.0.first ≡ true }
-    requires none { pass.old.seat.me.0.loaded ≡ [] }
     requires ready { Each (IsReady plan.now row.now) lanes.old }
     ensures pass { IsOf row.now pass.new.seat }
     ensures view { Evicts (evictions_of plan.now) pass.old.seat.me.0 pass.new.seat.me.0 }
@@ -84,7 +82,7 @@ fn at_once<R: Threads + Sync>(
     { run_lanes(rt, row, plan, lanes) };
     let mut evictions = ||
         requires { IsPlanRow plan.now row.now × IsOf row.now pass.now.seat
-            × (pass.now.seat.me.0.first ≡ true) × (pass.now.seat.me.0.loaded ≡ []) }
+            × (pass.now.seat.me.0.first ≡ true) }
         ensures { IsOf row.entry.now pass.exit.now.seat × Evicts (evictions_of plan.entry.now)
             pass.entry.now.seat.me.0 pass.exit.now.seat.me.0 }
     { evict_all(row, plan, pass) };

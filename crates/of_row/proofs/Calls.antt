@@ -1,78 +1,101 @@
--- The calls of each number in the row's history are those of the events that have led to it.
-use Rattle.std.proofs.Common.{◌≡◌, ℕ, zero, suc, ◌+◌, ◌-◌, true, false, List, [], ◌∷◌, length, get_or, map, refl, sym, ap, ◌∙◌, subst, arith}
+-- The calls of a kept caller: what the events tell of it is what the core claims of a caller's calls.
+use Rattle.std.proofs.Common.{◌≡◌, ℕ, ◌+◌, ◌-◌, ◌<◌, ◌≤◌, ◌⊎◌, inl, inr, Bool, true, false, List, [], length, get_or, map, refl, sym, ap, ◌∙◌, subst, arith}
 use Rattle.std.specs.List.{All}
-use Rattle.std.proofs.lemmas.List.{length-map}
-use Rattle.atomic_table.specs.Table.{State}
-use Rattle.of_cell.specs.Words.{seq}
+use Rattle.std.proofs.lemmas.Bool.{cases_lt}
+use Rattle.std.proofs.lemmas.List.{length-append, length-map, get_or-map, get_or_append_left, get_or_push}
 use Rattle.of_core.specs.declared.place.Outcome.{Outcome}
-use Rattle.of_core.specs.declared.place.Outcome.TheVariants.{Answered, Spent}
-use Rattle.of_core.specs.Table.{Setup, table_size, durable_at, risen}
-use Rattle.of_core.specs.Machine.{Call, Data, IsOpen, no_machine}
-use Rattle.of_core.specs.World.{World, Start, Batch, Read}
-use Rattle.of_core.specs.History.{batch, no_batch, EachCall, IsOlderCall, HasCall}
-use Rattle.of_core.specs.Facts.{ReadsFrom}
-use Rattle.of_core.specs.Turn.{IsIdle}
-use Rattle.of_core.specs.Events.{Event, machine, start_ticket}
-use Rattle.of_core.specs.Calls.{Calls, Stood, HasRead, IsOutcome, WasBegun, operations, outcomes, no_outcome, seq_of}
+use Rattle.of_core.specs.Table.{Setup, table_size}
+use Rattle.of_core.specs.Machine.{Call, Data, is_idle, no_call}
+use Rattle.of_core.specs.World.{World, Start, Batch}
+use Rattle.of_core.specs.History.{batch}
+use Rattle.of_core.specs.Shared.{MayStart}
+use Rattle.of_core.specs.Events.{Event, IsSchedule, machine, start_ticket}
+use Rattle.of_core.specs.Calls.{Calls, WasBegun, Beyond, no_outcome, seq_of}
 use Rattle.of_core.specs.Laws.{EveryCall}
-use Rattle.of_row.specs.Views.{Committed, Sight, bare}
-use Rattle.of_row.specs.Rule.{world, Ruled}
-use Rattle.of_row.specs.Told.{AreTold}
-use Rattle.of_row.specs.Trail.{first_of, moment, Agrees, Leaves, IsToldBy}
+use Rattle.of_core.specs.Written.{OwnersTakePart}
+use Rattle.of_row.specs.Views.{Committed, Ended, Kept, no_ended, IsFront, reach}
+use Rattle.of_row.specs.Told.{open_op, begun_of, outcomes_of}
+use Rattle.of_row.specs.Trail.{first_of, moment, IsRunBy, HasDoneNothing}
+use Rattle.of_row.specs.Rule.{done_before, opens, outcome_at, CountsMade, EachCall, HasOwn, IsOwn, IsOwnOf, IsRising, Knows, NoneOwned, end_of}
+use Rattle.of_row.proofs.Tellings.{begun_open}
+use Rattle.of_row.proofs.Fronts.{ended_seen, seen_calls}
 
--- batches that are the same but for their announcements have the same calls
-calls_in : (bs : List Batch) (j : ℕ) → get_or (map (λ (c : Committed). c.calls) (map bare bs)) j [] ≡ (get_or bs j no_batch).calls
-calls_in [] j = refl
-calls_in (b ∷ bs) zero = refl
-calls_in (b ∷ bs) (suc j) = calls_in bs j
+-- how many calls it has begun
+begun_many : (x : Kept) → length (begun_of x) ≡ length x.ended + opens (is_idle x.machine.place)
+begun_many x = length-append ops (open_op x.machine (is_idle x.machine.place)) ∙ omega (arith, length-map x.ended (λ (e : Ended). e.op), one (is_idle x.machine.place))
+  where
+    ops : List (List ℕ)
+    ops = map (λ (e : Ended). e.op) x.ended
 
-pub same_calls : (bs ds : List Batch) → map bare bs ≡ map bare ds → (j : ℕ) → (get_or bs j no_batch).calls ≡ (get_or ds j no_batch).calls
-same_calls bs ds same j = sym (calls_in bs j) ∙ (ap (λ (cs : List Committed). get_or (map (λ (c : Committed). c.calls) cs) j []) same ∙ calls_in ds j)
+    one : (b : Bool) → length (open_op x.machine b) ≡ opens b
+    one true = refl
+    one false = refl
 
-pub same_long : (bs ds : List Batch) → map bare bs ≡ map bare ds → length bs ≡ length ds
-same_long bs ds same = sym (length-map bs bare) ∙ (ap (λ (cs : List Committed). length cs) same ∙ length-map ds bare)
+-- the events have led to these calls of a caller that has run by them
+pub calls_of : (S : Setup) (L : List ℕ → Type 0) → EveryCall S L → (B : Start) → MayStart S L B → (es : List Event) → IsSchedule S (first_of S B) es → (x : Kept) → x.machine.caller < S.callers → IsRunBy S B es x
+    → Calls S B (start_ticket S B x.machine.caller) (moment S B es) x.machine.caller (begun_of x) (outcomes_of x)
+calls_of S L every B may es schedule x below r =
+    let i : ℕ = x.machine.caller in
+    subst (λ (z : List (List ℕ) × List Outcome). Calls S B (start_ticket S B i) (moment S B es) i z.0 z.1) (λ k. (sym r.told.begun k, sym r.told.ended k)) (every B may (table_size S + 1) (omega arith) es schedule i below)
 
--- two worlds that agree have the same calls of each caller
-module _ (S : Setup) (B : Start) (w v : World) (same : Agrees S w v) where
-  batch_calls : (k : ℕ) → (batch B w.batches k).calls ≡ (batch B v.batches k).calls
-  unfolding batch
-  batch_calls k = same_calls w.batches v.batches same.batches (k - B.seq - 1)
+module _ (S : Setup) (B : Start) (w : World) (x : Kept) (is : machine w x.machine.caller ≡ x.machine) (calls : Calls S B (start_ticket S B x.machine.caller) w x.machine.caller (begun_of x) (outcomes_of x)) where
+  abbrev before : ℕ
+  before = start_ticket S B x.machine.caller
 
-  risen_same : risen S w.words ≡ risen S v.words
-  risen_same = ap seq (same.words (durable_at S 0) (omega arith))
+  made_is : x.machine.made ≡ before + length (begun_of x)
+  made_is = ap (λ (m : Data). m.made) (sym is) ∙ calls.made
 
-  each_call : (P : Call → Type 0) → EachCall B v.batches P → EachCall B w.batches P
-  each_call P all k low up = subst (All P) (sym (batch_calls k)) (all k low (omega (arith, up, same_long w.batches v.batches same.batches)))
+  pub counts_made : CountsMade S B x
+  counts_made = omega (arith, made_is, begun_many x)
 
-  stood : (i ticket : ℕ) (op : List ℕ) (o : Outcome) → Stood S B v i ticket op o → Stood S B w i ticket op o
-  stood i ticket op (Answered s true raw steps) q = (q.0, omega (arith, q.1, risen_same), subst (λ (cs : List Call). HasCall S cs i ticket op raw) (sym (batch_calls s)) q.2, q.3, q.4)
-  stood i ticket op (Answered s false raw steps) q = (omega (arith, q.0, risen_same), subst (λ (rs : List Read). HasRead rs i ticket op raw s) (sym same.reads) q.1, q.2, q.3, q.4)
-  stood i ticket op (Spent s) q = (q.0, risen_same ∙ q.1, each_call (IsOlderCall i ticket) q.2)
-
-  calls_same : (before i : ℕ) (ops : List (List ℕ)) (outs : List Outcome) → Calls S B before v i ops outs → Calls S B before w i ops outs
-  calls_same before i ops outs c = record {
-    made = ap (λ (d : Data). d.made) is ∙ c.made;
-    idle = λ q. c.idle (subst IsIdle is q);
-    open_call = λ o. let q = c.open_call (subst (λ (d : Data). IsOpen d.place) is o) in (q.0, ap (λ (d : Data). d.op) is ∙ q.1);
-    unanswered = λ o. ap (λ (d : Data). d.answer) is ∙ c.unanswered (subst (λ (d : Data). IsOpen d.place) is o);
-    last = λ q. ap (λ (d : Data). d.answer) is ∙ c.last (subst IsIdle is q);
-    each = λ x l. stood i (before + x + 1) (get_or ops x []) (get_or outs x no_outcome) (c.each x l);
-    rising = c.rising;
-    reads_from = λ x l. subst (ReadsFrom (seq_of (get_or outs x no_outcome))) (sym is) (c.reads_from x l);
-    reads = subst (All (IsOutcome before i ops outs)) (sym same.reads) c.reads;
-    calls = each_call (WasBegun before i ops) c.calls;
-  }
+  own_by : (c : Call) → c.caller ≡ x.machine.caller → WasBegun before x.machine.caller (begun_of x) c → IsOwn S B x c
+  own_by c e w = go (cases_lt y (length x.ended)) (is_idle x.machine.place) refl
     where
-      is : machine w i ≡ machine v i
-      is = ap (λ (ms : List Data). get_or ms i no_machine) same.machines
+      h : (before < c.ticket) × (c.ticket ≤ before + length (begun_of x)) × (c.op ≡ get_or (begun_of x) (c.ticket - before - 1) [])
+      h = w e
 
--- what is told of each number are its calls in the row's history
-pub are_told : (S : Setup) (L : List ℕ → Type 0) → EveryCall S L → (B : Start) (s : State (Unit {0}) Sight) (r : Ruled S L B s) → AreTold S B (world s.words r.machines r.batches r.reads) r.told
-are_told S L every B s r i below =
-    let es : List Event = r.trail.made in
-    let w : World = world s.words r.machines r.batches r.reads in
-    let l : Leaves S B es [] w = r.trail.came.leaves in
-    let t : IsToldBy S B es i (r.told i) = r.trail.came.tells i below in
-    subst (λ (z : List (List ℕ) × List Outcome). Calls S B (start_ticket S B i) w i z.0 z.1) (λ k. (sym t.begun k, sym t.ended k))
-    (calls_same S B w (moment S B es) l.agrees (start_ticket S B i) i (operations es i) (outcomes S (first_of S B) es i)
-    (every B r.from (table_size S + 1) (omega arith) es l.schedule i below))
+      y : ℕ
+      y = c.ticket - before - 1
+
+      ops : List (List ℕ)
+      ops = map (λ (e : Ended). e.op) x.ended
+
+      many : length ops ≡ length x.ended
+      many = length-map x.ended (λ (e : Ended). e.op)
+
+      go : (y < length x.ended) ⊎ (length x.ended ≤ y) → (b : Bool) → is_idle x.machine.place ≡ b → IsOwn S B x c
+      go (inl l) b q = inl (y, l, omega (arith, h.0), h.2 ∙ (get_or_append_left ops (open_op x.machine (is_idle x.machine.place)) [] y (omega (arith, l, many)) ∙ get_or-map (λ (e : Ended). e.op) x.ended y no_ended [] l))
+      go (inr l) true q = let none : opens (is_idle x.machine.place) ≡ 0 = ap opens q in absurd (omega (arith, h.0, h.1, l, begun_many x, none))
+      go (inr l) false q =
+          let one : opens (is_idle x.machine.place) ≡ 1 = ap opens q in
+          let at : length ops ≡ y = omega (arith, many, h.0, h.1, l, begun_many x, one) in
+          inr (q, omega (arith, made_is, h.0, h.1, l, begun_many x, one), h.2 ∙ (ap (λ (z : List (List ℕ)). get_or z y []) (begun_open x q) ∙ get_or_push ops x.machine.op [] y at))
+
+  pub own_calls : EachCall B w.batches B.seq (end_of B w.batches) (IsOwnOf S B x)
+  own_calls k l u = λ j d n e. own_by (get_or (batch B w.batches k).calls j d) e (calls.calls k l u j d n)
+
+  pub rises : IsRising x.ended
+  rises y l =
+      let outs : List Outcome = outcomes_of x in
+      let many : length outs ≡ length x.ended = length-map x.ended (λ (e : Ended). e.outcome) in
+      let one : get_or outs y no_outcome ≡ outcome_at x.ended y = get_or-map (λ (e : Ended). e.outcome) x.ended y no_ended no_outcome (omega (arith, l)) in
+      let two : get_or outs (y + 1) no_outcome ≡ outcome_at x.ended (y + 1) = get_or-map (λ (e : Ended). e.outcome) x.ended (y + 1) no_ended no_outcome l in
+      subst (λ (z : Outcome × Outcome). Beyond (seq_of z.0) z.1) (λ k. (one k, two k)) (calls.rising y (y + 1) (omega arith) (omega (arith, l, many)))
+
+  -- what a view knows of the caller's own calls, as far as it has seen
+  pub has_own : (cs : List Committed) → IsFront cs w.batches → Knows S B w.batches (reach B cs) x → HasOwn S B cs x
+  has_own cs f h = record {
+    own_calls = λ k l u. subst (λ (z : List Call). All (λ (c : Call). c.caller ≡ x.machine.caller → IsOwn S B x c) z) (sym (seen_calls B cs w.batches k f l u)) (own_calls k l (omega (arith, u, f.few)));
+    made = counts_made;
+    each = λ y l. ended_seen S B cs w.batches x.machine.caller (done_before S B x.machine.caller + y + 1) (get_or x.ended y no_ended).op (outcome_at x.ended y) f (h.each y l);
+    rising = rises;
+  }
+
+-- a caller that has done nothing has committed no batch: its own call would be in it
+pub unowned : (S : Setup) (L : List ℕ → Type 0) → EveryCall S L → OwnersTakePart S L → (B : Start) → MayStart S L B → (es : List Event) → IsSchedule S (first_of S B) es → (n : ℕ) → n < S.callers → HasDoneNothing es n → NoneOwned B (moment S B es).batches B.seq n
+unowned S L every owners B may es schedule n below none k low up is =
+    let bs : List Batch = (moment S B es).batches in
+    let own = owners B may (table_size S + 1) (omega arith) es schedule k low up in
+    let calls = every B may (table_size S + 1) (omega arith) es schedule n below in
+    let begun = calls.calls k low up own.0 no_call own.1 (own.2 ∙ is) in
+    absurd (omega (arith, begun.0, begun.1, ap length none.0))

@@ -1,7 +1,7 @@
 -- Any moment of a row: the events that came lead to its words, and recovery of them finds all that was answered.
-use Rattle.std.proofs.Common.{◌≡◌, ℕ, ◌+◌, ◌<◌, ◌≤◌, inl, inr, ⊎_elim, List, [], length, take, map, get_or, false, sym, ◌∙◌, ap, subst, arith}
+use Rattle.std.proofs.Common.{◌≡◌, ℕ, ◌+◌, ◌≤◌, ◌<◌, inl, inr, ⊎_elim, List, [], length, map, get_or, false, sym, ◌∙◌, ap, subst, arith}
 use Rattle.std.specs.List.{All}
-use Rattle.std.proofs.lemmas.List.{length-map, take-map, get_or-map, get_or_append_left}
+use Rattle.std.proofs.lemmas.List.{length-map, get_or-map, get_or_append_left}
 use Rattle.atomic_table.specs.Table.{State}
 use Rattle.of_cell.specs.Words.{pay}
 use Rattle.of_recover.proofs.Agreeing.{recovered_data-same}
@@ -10,123 +10,118 @@ use Rattle.of_core.specs.Table.{Setup, size, table_size, durable_at, durable_wor
 use Rattle.of_core.specs.Machine.{Call, no_call}
 use Rattle.of_core.specs.World.{World, Start}
 use Rattle.of_core.specs.Starts.{IsDurable}
+use Rattle.of_core.specs.Invariant.{Good}
+use Rattle.of_core.specs.Grounds.{HasGrounds}
 use Rattle.of_core.specs.Events.{Event}
 use Rattle.of_core.specs.Calls.{operations, outcomes, no_outcome}
 use Rattle.of_core.specs.Laws.{EveryOrder, Restarts}
 use Rattle.of_core.specs.Linear.{Explains, Linearizes, recovered_number, FindsCall, Detects, IsRecovered, IsDurablyLinearizable}
 use Rattle.of_core.proofs.Logs.{room_for}
-use Rattle.of_row.specs.Views.{Ended, Kept, Sight, no_ended, bare, IsFront, Each}
-use Rattle.of_row.specs.Rule.{members_of, ticket_at, op_at, outcome_at, Stays, Fits, world, Ruled, Meets}
-use Rattle.of_row.specs.Told.{IsAsTold}
-use Rattle.of_row.specs.Trail.{first_of, moment, Leaves, IsToldBy, EachView}
+use Rattle.of_row.specs.Views.{Ended, Kept, Sight, no_ended, Each}
+use Rattle.of_row.specs.Rule.{members_of, ticket_at, op_at, outcome_at, Stays, Fits, Ruled, Meets}
+use Rattle.of_row.specs.Trail.{first_of, moment, IsToldBy, IsRunBy, EachView}
+use Rattle.of_row.specs.RowLaws.{RowLaws}
 use Rattle.of_row.specs.Moments.{IsReachedBy, ExplainsAll, words_alone, LosesNothing, HoldsCalls}
+use Rattle.of_row.proofs.RowLaws.{good_of, word_at}
 use Rattle.of_row.proofs.Fronts.{each_both}
-use Rattle.of_row.proofs.Runs.{told_of, runs_by}
 
 module _ (S : Setup) (L : List ℕ → Type 0) (B : Start) (s : State (Unit {0}) Sight) (r : Ruled S L B s) where
   abbrev es : List Event
-  es = r.trail.made
+  es = r.events
 
   abbrev W : World
   W = moment S B es
 
-  abbrev w : World
-  w = world s.words r.machines r.batches r.reads
-
-  l : Leaves S B es [] w
-  l = r.trail.came.leaves
-
-  front : (v : Sight) → IsFront v.seen r.batches → IsFront v.seen W.batches
-  front v f = record {
-    few = omega (arith, f.few, ap length l.agrees.batches, length-map r.batches bare, length-map W.batches bare);
-    same = f.same ∙ (sym (take-map bare (length v.seen) r.batches) ∙ (ap (take (length v.seen)) l.agrees.batches ∙ take-map bare (length v.seen) W.batches));
-  }
-
   pub reached : IsReachedBy S B s es
   reached = record {
-    schedule = l.schedule;
-    words = l.agrees.words;
-    seen = λ j v at live. front v (r.each j v at live).seen;
-    pasts = r.trail.pasts;
-    callers = λ j v at live. runs_by S L B s r es [] l r.trail.came.tells j v at live;
+    schedule = r.schedule;
+    words = word_at S L B s r;
+    seen = λ j v at live. (r.each j v at live).seen;
+    pasts = λ j v at live. (r.each j v at live).past;
+    callers = λ j v at live. (r.each j v at live).runs;
   }
 
   -- ---- recovery of the words as they are
 
   durable_same : (c : ℕ) → c < size S → durable_word S s.words c ≡ durable_word S W.words c
-  durable_same c low = l.agrees.words (durable_at S c) (omega (arith, low))
+  durable_same c low = word_at S L B s r (durable_at S c) (omega (arith, low))
 
-  found_same : (a : ℕ) → a < S.cells → recovered_number S (words_alone s.words) a ≡ recovered_number S W a
-  found_same a low = ap pay (recovered_data-same S.callers S.cells (durable_word S s.words) (durable_word S W.words) durable_same a low (omega (arith, low, r.good.core.shared.little)))
+  module _ (laws : RowLaws S L) where
+    good : Good S L B W
+    good = good_of S L laws B s r
 
-  -- a caller's own cells are cells
-  own_in : (i x : ℕ) → i < S.callers → x < S.instrs + 2 → ticket_cell S i + x < S.cells
-  own_in i x below low = omega (arith, low, room_for i S.callers (S.instrs + 2) below, r.good.core.shared.own_in)
+    grounds : HasGrounds S L B W
+    grounds = laws.grounds B W good
 
-  ticket_same : (i : ℕ) → i < S.callers → recovered_number S (words_alone s.words) (ticket_cell S i) ≡ recovered_number S W (ticket_cell S i)
-  ticket_same i below = found_same (ticket_cell S i) (omega (arith, own_in i 0 below (omega arith)))
+    found_same : (a : ℕ) → a < S.cells → recovered_number S (words_alone s.words) a ≡ recovered_number S W a
+    found_same a low = ap pay (recovered_data-same S.callers S.cells (durable_word S s.words) (durable_word S W.words) durable_same a low (omega (arith, low, grounds.cells)))
 
-  finds_same : (c : Call) → c.caller < S.callers → FindsCall S W c → FindsCall S (words_alone s.words) c
-  finds_same c below f = record {
-    ticket = ticket_same c.caller below ∙ f.ticket;
-    shape = found_same (shape_cell S c.caller) (omega (arith, own_in c.caller 1 below (omega arith))) ∙ f.shape;
-    replies = λ y low on. found_same (reply_cell S c.caller y) (omega (arith, own_in c.caller (y + 2) below (omega (arith, low)))) ∙ f.replies y low on;
-  }
+    -- a caller's own cells are cells
+    own_in : (i x : ℕ) → i < S.callers → x < S.instrs + 2 → ticket_cell S i + x < S.cells
+    own_in i x below low = omega (arith, low, room_for i S.callers (S.instrs + 2) below, grounds.own_in)
 
-  module _ (order : List Call) where
-    detects_same : (i : ℕ) → i < S.callers → Detects S B W order i → Detects S B (words_alone s.words) order i
-    detects_same i below d = record {
-      last = ⊎_elim (λ e. inl (ticket_same i below ∙ e))
-          (λ q. inr (q.0, q.1, q.2, finds_same (get_or order q.0 no_call) (subst (λ (k : ℕ). k < S.callers) (sym q.2) below) q.3))
-          d.last;
-      upto = subst (λ (t : ℕ). All (λ (c : Call). c.caller ≡ i → S.meaning.reads_only c.op ≡ false → c.ticket ≤ t) order) (sym (ticket_same i below)) d.upto;
+    ticket_same : (i : ℕ) → i < S.callers → recovered_number S (words_alone s.words) (ticket_cell S i) ≡ recovered_number S W (ticket_cell S i)
+    ticket_same i below = found_same (ticket_cell S i) (omega (arith, own_in i 0 below (omega arith)))
+
+    finds_same : (c : Call) → c.caller < S.callers → FindsCall S W c → FindsCall S (words_alone s.words) c
+    finds_same c below f = record {
+      ticket = ticket_same c.caller below ∙ f.ticket;
+      shape = found_same (shape_cell S c.caller) (omega (arith, own_in c.caller 1 below (omega arith))) ∙ f.shape;
+      replies = λ y low on. found_same (reply_cell S c.caller y) (omega (arith, own_in c.caller (y + 2) below (omega (arith, low)))) ∙ f.replies y low on;
     }
 
-    recovered_same : IsRecovered S B W order → IsRecovered S B (words_alone s.words) order
-    recovered_same h = record {
-      numbers = λ a low high. found_same a high ∙ h.numbers a low high;
-      own = λ i below. detects_same i below (h.own i below);
-    }
-
-    -- ---- the calls of those whom a seat keeps
-
-    explained_by : Linearizes S B (first_of S B) es order → (x : Kept) → x.machine.caller < S.callers → IsToldBy S B es x.machine.caller x → ExplainsAll S B order x
-    explained_by h x below t y low =
-        let i : ℕ = x.machine.caller in
-        let ops : List (List ℕ) = map (λ (e : Ended). e.op) x.ended in
-        let outs : outcomes S (first_of S B) es i ≡ map (λ (e : Ended). e.outcome) x.ended = sym t.ended in
-        let many : y < length (outcomes S (first_of S B) es i) = omega (arith, low, ap length outs, length-map x.ended (λ (e : Ended). e.outcome)) in
-        let op : get_or (operations es i) y [] ≡ op_at x.ended y =
-        ap (λ (z : List (List ℕ)). get_or z y []) (sym t.begun)
-        ∙ (get_or_append_left ops _ [] y (omega (arith, low, length-map x.ended (λ (e : Ended). e.op))) ∙ get_or-map (λ (e : Ended). e.op) x.ended y no_ended [] low) in
-        let out : get_or (outcomes S (first_of S B) es i) y no_outcome ≡ outcome_at x.ended y =
-        ap (λ (z : List Outcome). get_or z y no_outcome) outs ∙ get_or-map (λ (e : Ended). e.outcome) x.ended y no_ended no_outcome low in
-        subst (λ (z : List ℕ × Outcome). Explains S order i (ticket_at S B x y) z.0 z.1) (λ k. (op k, out k)) (h.ended i y below many)
-
-    explained : Linearizes S B (first_of S B) es order → EachView (λ v. Each (ExplainsAll S B order) v.kept) s.views
-    explained h j v at live =
-        let m : ℕ = members_of S s.words in
-        let f : Fits S B s.words r.machines r.batches r.home r.chief j v = r.each j v at live in
-        each_both (Stays S r.machines r.home m j) (IsAsTold r.told) (ExplainsAll S B order) v.kept
-        (λ x q t. explained_by h x q.in_range (told_of S B r.told es r.trail.came.tells x q.in_range t)) f.kept (r.mine j v at live)
-
-  pub loses_nothing : EveryOrder S L → Restarts S L → LosesNothing S L B s
-  loses_nothing orders restarts =
-      let h : IsDurablyLinearizable S B (first_of S B) es = orders B r.from (table_size S + 1) (omega arith) es l.schedule in
-      record {
-        events = es;
-        reached = reached;
-        order = h.order;
-        linearizes = h.linearizes;
-        explained = explained h.order h.linearizes;
-        recovered_so = recovered_same h.order h.recovered;
-        restarts = λ row is. (restarts B w r.good row is).0;
+    module _ (order : List Call) where
+      detects_same : (i : ℕ) → i < S.callers → Detects S B W order i → Detects S B (words_alone s.words) order i
+      detects_same i below d = record {
+        last = ⊎_elim (λ e. inl (ticket_same i below ∙ e))
+            (λ q. inr (q.0, q.1, q.2, finds_same (get_or order q.0 no_call) (subst (λ (k : ℕ). k < S.callers) (sym q.2) below) q.3))
+            d.last;
+        upto = subst (λ (t : ℕ). All (λ (c : Call). c.caller ≡ i → S.meaning.reads_only c.op ≡ false → c.ticket ≤ t) order) (sym (ticket_same i below)) d.upto;
       }
 
+      recovered_same : IsRecovered S B W order → IsRecovered S B (words_alone s.words) order
+      recovered_same h = record {
+        numbers = λ a low high. found_same a high ∙ h.numbers a low high;
+        own = λ i below. detects_same i below (h.own i below);
+      }
+
+      -- ---- the calls of those whom a seat keeps
+
+      explained_by : Linearizes S B (first_of S B) es order → (x : Kept) → x.machine.caller < S.callers → IsToldBy S B es x.machine.caller x → ExplainsAll S B order x
+      explained_by h x below t y low =
+          let i : ℕ = x.machine.caller in
+          let ops : List (List ℕ) = map (λ (e : Ended). e.op) x.ended in
+          let outs : outcomes S (first_of S B) es i ≡ map (λ (e : Ended). e.outcome) x.ended = sym t.ended in
+          let many : y < length (outcomes S (first_of S B) es i) = omega (arith, low, ap length outs, length-map x.ended (λ (e : Ended). e.outcome)) in
+          let op : get_or (operations es i) y [] ≡ op_at x.ended y =
+          ap (λ (z : List (List ℕ)). get_or z y []) (sym t.begun)
+          ∙ (get_or_append_left ops _ [] y (omega (arith, low, length-map x.ended (λ (e : Ended). e.op))) ∙ get_or-map (λ (e : Ended). e.op) x.ended y no_ended [] low) in
+          let out : get_or (outcomes S (first_of S B) es i) y no_outcome ≡ outcome_at x.ended y =
+          ap (λ (z : List Outcome). get_or z y no_outcome) outs ∙ get_or-map (λ (e : Ended). e.outcome) x.ended y no_ended no_outcome low in
+          subst (λ (z : List ℕ × Outcome). Explains S order i (ticket_at S B x y) z.0 z.1) (λ k. (op k, out k)) (h.ended i y below many)
+
+      explained : Linearizes S B (first_of S B) es order → EachView (λ v. Each (ExplainsAll S B order) v.kept) s.views
+      explained h j v at live =
+          let f : Fits S B s.words es r.home r.chief j v = r.each j v at live in
+          each_both (Stays S r.home (members_of S s.words) j) (IsRunBy S B es) (ExplainsAll S B order) v.kept (λ x q t. explained_by h x q.in_range t.told) f.kept f.runs
+
+    pub loses_nothing : EveryOrder S L → Restarts S L → LosesNothing S L B s
+    loses_nothing orders restarts =
+        let h : IsDurablyLinearizable S B (first_of S B) es = orders B r.from (table_size S + 1) (omega arith) es r.schedule in
+        record {
+          events = es;
+          reached = reached;
+          order = h.order;
+          linearizes = h.linearizes;
+          explained = explained h.order h.linearizes;
+          recovered_so = recovered_same h.order h.recovered;
+          restarts = λ row is. (restarts B W good row record { long = is.long; each = λ c low. is.each c low ∙ durable_same c low }).0;
+        }
+
 -- a closed row stops at its last moment
-pub closed_holds : (S : Setup) (L : List ℕ → Type 0) → EveryOrder S L → Restarts S L → (B : Start) (ws : List ℕ) (v : Sight) → Meets S L B ws v → v.spent ≡ false → HoldsCalls S L B ws v
-closed_holds S L orders restarts B ws v m live =
-    let h : LosesNothing S L B m.state = loses_nothing S L B m.state m.rule orders restarts in
+pub closed_holds : (S : Setup) (L : List ℕ → Type 0) → RowLaws S L → EveryOrder S L → Restarts S L → (B : Start) (ws : List ℕ) (v : Sight) → Meets S L B ws v → v.spent ≡ false → HoldsCalls S L B ws v
+closed_holds S L laws orders restarts B ws v m live =
+    let h : LosesNothing S L B m.state = loses_nothing S L B m.state m.rule laws orders restarts in
     record {
       order = h.order;
       explained = h.explained m.seat v m.view live;

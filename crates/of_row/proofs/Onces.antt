@@ -1,5 +1,5 @@
 -- A caller's announced calls stand once in what was seen: tickets rise from batch to batch.
-use Rattle.std.proofs.Common.{◌≡◌, ℕ, ◌+◌, ◌<◌, ◌≤◌, ◌⊎◌, inl, inr, true, false, List, [], ◌++◌, length, ap, get_or, sym, ◌∙◌, subst, arith}
+use Rattle.std.proofs.Common.{◌≡◌, ℕ, ◌+◌, ◌<◌, ◌≤◌, ◌⊎◌, inl, inr, true, false, List, [], ◌++◌, length, map, ap, get_or, sym, ◌∙◌, subst, arith}
 use Rattle.std.specs.List.{All}
 use Rattle.std.proofs.lemmas.Bool.{cases_lt}
 use Rattle.std.proofs.lemmas.List.{length-map, append-nil}
@@ -8,17 +8,21 @@ use Rattle.of_core.specs.declared.place.Outcome.{Outcome}
 use Rattle.of_core.specs.declared.place.Outcome.TheVariants.{Answered, Spent}
 use Rattle.of_core.specs.Table.{Setup}
 use Rattle.of_core.specs.Machine.{Call, no_call}
-use Rattle.of_core.specs.World.{Batch, Start}
+use Rattle.of_cell.specs.Words.{pay}
+use Rattle.of_core.specs.World.{World, Batch, Start}
 use Rattle.of_core.specs.History.{batch, EachBatch, Rising}
-use Rattle.of_core.specs.Claim.{IsNewer}
+use Rattle.of_core.specs.Claim.{IsNewer, IsSound}
 use Rattle.of_row.specs.Views.{Committed, Kept, Sight, IsFront, KnowsMet, dressed, shown, reach}
 use Rattle.of_row.specs.Turned.{joined}
-use Rattle.of_row.specs.Rule.{HasEnded, HasOwn, IsOnce, IsOwn, OwnOnce, op_at, outcome_at, ticket_at}
-use Rattle.of_row.proofs.Fronts.{seen_calls}
+use Rattle.of_row.specs.Rule.{HasEnded, HasOwn, IsLegalFront, IsOnce, IsOwn, OwnOnce, op_at, outcome_at, ticket_at}
+use Rattle.of_row.proofs.Fronts.{seen_calls, seen_legal}
 
 -- of two calls of one caller in batches up to a sequence, the one in the later batch is the newer
 abbrev TicketsRise : Start → List Batch → (upto : ℕ) → Type 0
 TicketsRise B bs upto = (j k : ℕ) → B.seq < j → j < k → k ≤ upto → All (λ (c : Call). All (IsNewer c) (batch B bs k).calls) (batch B bs j).calls
+
+tickets_rise : (B : Start) (cs : List Committed) (bs : List Batch) → IsFront cs bs → TicketsRise B bs (B.seq + length bs) → TicketsRise B (shown cs) (reach B cs)
+tickets_rise B cs bs front rise j k l m u = subst (λ (z : List Call × List Call). All (λ (c : Call). All (IsNewer c) z.1) z.0) (λ i. (sym (seen_calls B cs bs j front l (omega (arith, m, u))) i, sym (seen_calls B cs bs k front (omega (arith, l, m)) u) i)) (rise j k l m (omega (arith, u, front.few)))
 
 module _ (S : Setup) (B : Start) (cs : List Committed) (bs : List Batch) (x : Kept) (front : IsFront cs bs) (rise : TicketsRise B bs (B.seq + length bs)) (by_caller : EachBatch B bs Rising) (own : HasOwn S B cs x) where
   abbrev seen : List Batch
@@ -28,7 +32,7 @@ module _ (S : Setup) (B : Start) (cs : List Committed) (bs : List Batch) (x : Ke
   long = length-map cs dressed
 
   rises : TicketsRise B seen (reach B cs)
-  rises j k l m u = subst (λ (z : List Call × List Call). All (λ (c : Call). All (IsNewer c) z.1) z.0) (λ i. (sym (seen_calls B cs bs j front l (omega arith)) i, sym (seen_calls B cs bs k front (omega arith) u) i)) (rise j k l m (omega (arith, front.few)))
+  rises = tickets_rise B cs bs front rise
 
   stands : (i ticket : ℕ) (op : List ℕ) (o : Outcome) → HasEnded S B seen (reach B cs) i ticket op o → IsOnce S B seen i ticket op o
   stands i ticket op (Answered n true raw steps) h = record { from = h.0; upto = omega (arith, long, h.1); has = h.3; only = only; single = subst Rising (sym (seen_calls B cs bs n front h.0 h.1)) (by_caller n h.0 (omega (arith, h.1, front.few))) }
@@ -55,6 +59,17 @@ module _ (S : Setup) (B : Start) (cs : List Committed) (bs : List Batch) (x : Ke
       low : (c : Call) → IsOwn S B x c → c.ticket ≤ x.machine.made
       low c (inl z) = omega (arith, z.1, z.2, own.made)
       low c (inr z) = omega (arith, z.1)
+
+-- what was seen of a history that is legal is legal: no batch is empty, calls stand by caller, tickets rise
+pub legal_front : (S : Setup) (B : Start) (cs : List Committed) (w : World) → IsFront cs w.batches → IsSound S B w → IsLegalFront S B cs
+legal_front S B cs w f sound =
+    let long : length (shown cs) ≡ length cs = length-map cs dressed in
+    record {
+      replies = seen_legal S.meaning (map pay B.cells) cs w.batches f sound.legal;
+      some = λ k l u. subst (λ (ks : List Call). 0 < length ks) (sym (seen_calls B cs w.batches k f l (omega (arith, u, long)))) (sound.some k l (omega (arith, u, long, f.few)));
+      by_caller = λ k l u. subst Rising (sym (seen_calls B cs w.batches k f l (omega (arith, u, long)))) (sound.rising k l (omega (arith, u, long, f.few)));
+      tickets = tickets_rise B cs w.batches f sound.tickets;
+    }
 
 -- after a join each of the two is how what is known begins
 pub joined_both : (v w u : Sight) → u ≡ joined v w → KnowsMet u → IsPrefix v.seen u.seen × IsPrefix w.seen u.seen × IsPrefix v.past u.past × IsPrefix w.past u.past

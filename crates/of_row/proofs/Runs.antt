@@ -1,72 +1,83 @@
--- A run of threads is a schedule.
-use Rattle.std.proofs.Common.{◌≡◌, ℕ, ◌+◌, ◌<◌, List, [], ◌++◌, map, get_or, true, false, sym, ◌∙◌, ap, subst, arith}
+-- A run of threads is a schedule: that of its events, with evictions made at once.
+use Rattle.std.proofs.Common.{◌≡◌, ℕ, ◌+◌, ◌≤◌, ◌<◌, List, [], ◌++◌, length, map, get_or, set, true, false, sym, ◌∙◌, ap, subst, arith}
 use Rattle.std.specs.Int.{bit_at}
-use Rattle.std.proofs.lemmas.List.{get_or_default, append-nil}
-use mathlib.Core.Option.{some}
-use lib.ListN.{get_elem?}
-use Rattle.atomic_table.specs.Table.{State}
-use Rattle.of_core.specs.Table.{Setup, table_size}
+use Rattle.std.proofs.lemmas.List.{append-nil}
+use Rattle.of_core.specs.Table.{Setup, table_size, durable_at, durable_word}
 use Rattle.of_core.specs.Machine.{Data, no_machine}
-use Rattle.of_core.specs.World.{Start}
+use Rattle.of_core.specs.World.{World, Start}
 use Rattle.of_core.specs.Events.{Event}
 use Rattle.of_core.specs.Claim.{IsSound}
 use Rattle.of_core.specs.Laws.{EveryMoment, EveryOrder}
 use Rattle.of_core.specs.Linear.{IsDurablyLinearizable}
 use Rattle.of_row.specs.Views.{Kept, Sight, Each}
-use Rattle.of_row.specs.Rule.{members_of, Stays, Fits, Ruled, Meets, KeepsAll, world}
-use Rattle.of_row.specs.Told.{IsAsTold}
-use Rattle.of_row.specs.Trail.{first_of, moment, Leaves, IsToldBy, TellAll, EvictsSo}
-use Rattle.of_row.specs.Runs.{IsRunBy, HasRun}
-use Rattle.of_row.proofs.Fronts.{each_both}
-use Rattle.of_row.proofs.Wholes.{sees_whole}
+use Rattle.of_row.specs.Rule.{members_of, IsRaised, Fits, Meets, KeepsAll}
+use Rattle.of_row.specs.RowLaws.{RowLaws}
+use Rattle.of_row.specs.Trail.{first_of, moment, at_once, IsRunBy}
+use Rattle.of_row.specs.Runs.{HasRun}
+use Rattle.of_row.proofs.AtOnce.{Follows, lifted_done, at_once_follows, operations_at_once, turns_at_once, prompt_at_once, evicts_loaded}
+use Rattle.of_row.proofs.Fronts.{each_map}
+use Rattle.of_row.proofs.RowLaws.{word_at, room_of}
+use Rattle.of_row.proofs.Wholes.{sees_whole, evictions_raised}
 
--- what the events tell of a kept caller
-pub told_of : (S : Setup) (B : Start) (told : ℕ → Kept) (es : List Event) → TellAll S B es told → (x : Kept) → x.machine.caller < S.callers → IsAsTold told x → IsToldBy S B es x.machine.caller x
-told_of S B told es tells x below t = subst (IsToldBy S B es x.machine.caller) t (tells x.machine.caller below)
-
--- each caller that a seat keeps has run so as events tell that leave the row's machines
-pub runs_by : (S : Setup) (L : List ℕ → Type 0) (B : Start) (s : State (Unit {0}) Sight) (r : Ruled S L B s) (es : List Event) (pending : List (ℕ × ℕ)) → Leaves S B es pending (world s.words r.machines r.batches r.reads) → TellAll S B es r.told
-    → (j : ℕ) (v : Sight) → get_elem? s.views j ≡ some v → v.spent ≡ false → Each (IsRunBy S B es) v.kept
-runs_by S L B s r es pending l tells j v at live = each_both (Stays S r.machines r.home (members_of S s.words) j) (IsAsTold r.told) (IsRunBy S B es) v.kept run_by f.kept (r.mine j v at live)
-  where
-    f : Fits S B s.words r.machines r.batches r.home r.chief j v
-    f = r.each j v at live
-
-    run_by : (x : Kept) → Stays S r.machines r.home (members_of S s.words) j x → IsAsTold r.told x → IsRunBy S B es x
-    run_by x q t = record {
-      told = told_of S B r.told es tells x q.in_range t;
-      machine_is = ap (λ (ms : List Data). get_or ms x.machine.caller no_machine) (sym l.agrees.machines) ∙ (get_or_default r.machines x.machine.caller no_machine x.machine (omega (arith, r.good.core.members, q.in_range)) ∙ q.machine_is);
-    }
-
-pub runs_are_schedules : (S : Setup) (L : List ℕ → Type 0) (B : Start) (ws : List ℕ) (v : Sight) → Meets S L B ws v → v.spent ≡ false → v.first ≡ true → v.loaded ≡ [] → KeepsAll S ws v → (es : List Event) × HasRun S L B ws v es
-runs_are_schedules S L B ws v m live first none all = (
-  es,
+pub runs_are_schedules : (S : Setup) (L : List ℕ → Type 0) → RowLaws S L → (B : Start) (ws : List ℕ) (v : Sight) → Meets S L B ws v → v.spent ≡ false → v.first ≡ true → v.loaded ≡ [] → KeepsAll S ws v → (es : List Event) × HasRun S L B ws v es
+runs_are_schedules S L laws B ws v m live first none all = (
+  at_once es,
   record {
     from = m.rule.from;
-    schedule = l.schedule;
-    prompt = m.rule.trail.prompt;
-    words = λ c low. ap (λ (z : List ℕ). get_or z c 0) (sym m.words) ∙ l.agrees.words c low;
-    batches = sees_whole S L B ws v m live all ∙ l.agrees.batches;
-    callers = runs_by S L B m.state m.rule es [] l m.rule.trail.tells m.seat v m.view live;
+    schedule = same.schedule;
+    prompt = prompt_at_once es m.rule.steps;
+    room = ap length (sym m.words) ∙ room_of S L laws B m.state m.rule;
+    words = ap (λ (z : List ℕ). set z (table_size S) 0) (sym m.words) ∙ (m.rule.words ∙ sym unraised);
+    batches = sees_whole S L laws B ws v m live all ∙ same.alike.batches;
+    callers = each_map (IsRunBy S B es) (IsRunBy S B (at_once es)) v.kept run_at_once fits.runs;
     others = λ n b off.
-        let t = m.rule.trail.tells n b in
-        let u = m.rule.untold n b (ap (λ (z : List ℕ). bit_at (members_of S z) n) m.words ∙ off) in
-        (sym t.begun ∙ u.0, sym t.turned ∙ u.2);
-    evicted = sym (append-nil v.evicted) ∙ ((λ k. v.evicted ++ map (λ (e : ℕ × ℕ). e.0) (sym empty k)) ∙ mine.evicted first);
+        let h = m.rule.free n b (ap (λ (z : List ℕ). bit_at (members_of S z) n) m.words ∙ off) in
+        (operations_at_once es n ∙ h.0, turns_at_once es n ∙ h.1);
+    evicted = ap (map (λ (e : ℕ × ℕ). e.0)) evicted ∙ evicts_loaded S (first_of S B) es m.rule.steps;
+    raised = evictions_raised S L B ws v m live;
   },
 )
   where
     es : List Event
-    es = m.rule.trail.events
+    es = m.rule.events
 
-    mine : EvictsSo es m.rule.trail.pending v
-    mine = m.rule.trail.views m.seat v m.view live
+    W : World
+    W = moment S B m.rule.events
 
-    empty : m.rule.trail.pending ≡ []
-    empty = sym (mine.loaded first) ∙ none
+    fits : Fits S B m.state.words m.rule.events m.rule.home m.rule.chief m.seat v
+    fits = m.rule.each m.seat v m.view live
 
-    l : Leaves S B es [] (world m.state.words m.rule.machines m.rule.batches m.rule.reads)
-    l = subst (λ (z : List (ℕ × ℕ)). Leaves S B es z (world m.state.words m.rule.machines m.rule.batches m.rule.reads)) empty m.rule.trail.leaves
+    same : Follows S (first_of S B) (first_of S B) m.rule.events (at_once m.rule.events)
+    same = at_once_follows S L laws B m.rule.from m.rule.events m.rule.schedule
+
+    words : (c : ℕ) → c < table_size S → get_or ws c 0 ≡ get_or (moment S B m.rule.events).words c 0
+    words c low = ap (λ (z : List ℕ). get_or z c 0) (sym m.words) ∙ word_at S L B m.state m.rule c low
+
+    -- all evictions are the pass's, and each is raised
+    evicted : v.evicted ≡ (moment S B m.rule.events).loaded
+    evicted = sym (append-nil v.evicted) ∙ (ap (λ (l : List (ℕ × ℕ)). v.evicted ++ l) (sym none) ∙ (fits.first first).evicts)
+
+    raised : Each (λ (e : ℕ × ℕ). e.1 ≤ durable_word S (moment S B m.rule.events).words e.0) (moment S B m.rule.events).loaded
+    raised = subst (Each (λ (e : ℕ × ℕ). e.1 ≤ durable_word S (moment S B m.rule.events).words e.0)) evicted
+        (each_map (IsRaised S ws) (λ (e : ℕ × ℕ). e.1 ≤ durable_word S (moment S B m.rule.events).words e.0) v.evicted
+        (λ e q. let at = words (durable_at S e.0) (omega (arith, q.0)) in omega (arith, q.1, at)) (evictions_raised S L B ws v m live))
+
+    -- so nothing is left to be raised
+    unraised : (moment S B (at_once m.rule.events)).words ≡ (moment S B m.rule.events).words
+    unraised = same.alike.words ∙ lifted_done S (moment S B m.rule.events).loaded (moment S B m.rule.events).words raised
+
+    run_at_once : (x : Kept) → IsRunBy S B m.rule.events x → IsRunBy S B (at_once m.rule.events) x
+    run_at_once x r =
+        let i : ℕ = x.machine.caller in
+        record {
+          told = record {
+            begun = r.told.begun ∙ sym (operations_at_once es i);
+            ended = r.told.ended ∙ sym (same.ended i);
+            turned = r.told.turned ∙ sym (turns_at_once es i);
+            busy = same.busy i r.told.busy;
+          };
+          machine_is = ap (λ (ms : List Data). get_or ms i no_machine) (sym same.alike.machines) ∙ r.machine_is;
+        }
 
 -- what holds of every schedule holds of it
 pub runs_are_linearizable : (S : Setup) (L : List ℕ → Type 0) → EveryMoment S L → EveryOrder S L → (B : Start) (ws : List ℕ) (v : Sight) (es : List Event) → HasRun S L B ws v es → IsSound S B (moment S B es) × IsDurablyLinearizable S B (first_of S B) es

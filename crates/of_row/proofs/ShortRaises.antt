@@ -10,11 +10,12 @@ use Rattle.of_core.specs.Invariant.{Good}
 use Rattle.of_core.specs.Events.{Event, Loads, Evicts, happens, evicted, run, counted, IsSchedule}
 use Rattle.of_core.specs.Raised.{goes_round, lower_changes, is_pending, pending_among, EvictionsAreShort, RaisesUndisturbed, EvictionsUndisturbed}
 use Rattle.of_core.specs.Laws.{LoadKept, StartKept, ScheduleKept}
+use Rattle.of_core.specs.Grounds.{GoodGrounds}
 use Rattle.of_core.proofs.Parts.{run_append, first_part, second_part}
 use Rattle.of_core.proofs.ShortRaises.{stands, not_pending}
 use Rattle.of_row.specs.Trail.{first_of, moment}
 use Rattle.of_row.specs.ShortRaises.{moment_at, durable_after, IsShort, HasShortRaises}
-use Rattle.of_row.proofs.Trails.{schedule_append}
+use Rattle.of_row.proofs.Events.{schedule_append}
 
 -- ---- events in two parts
 
@@ -96,7 +97,7 @@ module _ (S : Setup) (B : Start) (es : List Event) where
 
 -- ---- the core's laws there
 
-module _ (S : Setup) (L : List ℕ → Type 0) (start : StartKept S L) (runs : ScheduleKept S L) (loads : LoadKept S L) (short_evictions : EvictionsAreShort S L) (undisturbed : RaisesUndisturbed S L) (loaded : EvictionsUndisturbed S L) (B : Start) (may : MayStart S L B) (es : List Event) (is : IsSchedule S (first_of S B) es) where
+module _ (S : Setup) (L : List ℕ → Type 0) (start : StartKept S L) (runs : ScheduleKept S L) (grounds : GoodGrounds S L) (loads : LoadKept S L) (short_evictions : EvictionsAreShort S L) (undisturbed : RaisesUndisturbed S L) (loaded : EvictionsUndisturbed S L) (B : Start) (may : MayStart S L B) (es : List Event) (is : IsSchedule S (first_of S B) es) where
   module _ (k : ℕ) where
     abbrev w : World
     w = moment_at S B es k
@@ -154,7 +155,7 @@ module _ (S : Setup) (L : List ℕ → Type 0) (start : StartKept S L) (runs : S
 
         raised : durable_word S (evicted S again e).words c ≡ e.1
         raised = subst (λ (x : ℕ). durable_word S (evicted S again e).words x ≡ e.1) here
-            (get_or-set_same w.words (durable_at S e.0) (max (durable_word S w.words e.0) e.1) 0 (omega (arith, good.core.shared.room, here, low))
+            (get_or-set_same w.words (durable_at S e.0) (max (durable_word S w.words e.0) e.1) 0 (omega (arith, (grounds B w good).room, here, low))
             ∙ omega (arith, above, ap (durable_word S w.words) here))
 
         counts : lower_changes S again (Evicts y ∷ []) c v ≡ 1

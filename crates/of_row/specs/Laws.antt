@@ -10,23 +10,36 @@ use Rattle.of_core.specs.Seen.{Seen, setup}
 use Rattle.of_row.specs.declared.member.Member.{Member}
 use Rattle.of_row.specs.declared.member.Pass.{Pass}
 use Rattle.of_row.specs.declared.row.Row.{Row}
-use Rattle.of_row.specs.Views.{Sight, bare}
-use Rattle.of_row.specs.Rule.{KeepsOwn, Meets, KeepsAll}
+use Rattle.of_row.specs.Views.{Sight, bare, Each}
+use Rattle.of_row.specs.Trail.{moment}
+use Rattle.of_row.specs.Rule.{KeepsOwn, IsLegalFront, IsRaised, Meets, KeepsAll}
 use Rattle.of_row.specs.Rows.{key_of, IsOf, RunsOn, IsMemberOf, HasNoCall}
 use Rattle.of_row.specs.Passes.{HasEnrolled}
 
 -- a view that keeps every number that is taken has seen the whole history
-abbrev pub SeesWhole : (List ℕ → Type 0) → Type 0
-SeesWhole Lawful =
-    (S : Setup) (B : Start) (ws : List ℕ) (v : Sight) (m : Meets S Lawful B ws v)
-    → v.spent ≡ false → KeepsAll S ws v → v.seen ≡ map bare m.rule.batches
+abbrev pub SeesWhole : (List ℕ → Type 0) → Setup → Type 0
+SeesWhole Lawful S =
+    (B : Start) (ws : List ℕ) (v : Sight) (m : Meets S Lawful B ws v)
+    → v.spent ≡ false → KeepsAll S ws v → v.seen ≡ map bare (moment S B m.rule.events).batches
 
 -- of each caller that a view keeps, its calls as far as was seen are just those that it made, and they have
 -- ended as their outcomes say
-abbrev pub SeesOwn : (List ℕ → Type 0) → Type 0
-SeesOwn Lawful =
-    (S : Setup) (B : Start) (ws : List ℕ) (v : Sight) → Meets S Lawful B ws v
+abbrev pub SeesOwn : (List ℕ → Type 0) → Setup → Type 0
+SeesOwn Lawful S =
+    (B : Start) (ws : List ℕ) (v : Sight) → Meets S Lawful B ws v
     → v.spent ≡ false → KeepsOwn S B v
+
+-- what a view has seen is a legal history
+abbrev pub SeesLegal : (List ℕ → Type 0) → Setup → Type 0
+SeesLegal Lawful S =
+    (B : Start) (ws : List ℕ) (v : Sight) → Meets S Lawful B ws v
+    → v.spent ≡ false → IsLegalFront S B v.seen
+
+-- each eviction that a view has made has raised the durable word of its cell to the word that it loaded
+abbrev pub EvictionsAreRaised : (List ℕ → Type 0) → Type 0
+EvictionsAreRaised Lawful =
+    (S : Setup) (B : Start) (ws : List ℕ) (v : Sight) → Meets S Lawful B ws v
+    → v.spent ≡ false → Each (IsRaised S ws) v.evicted
 
 -- a member that has no open call stands for a fresh machine of its number, with as many calls behind
 -- it

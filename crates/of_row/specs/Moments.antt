@@ -12,8 +12,7 @@ use Rattle.of_core.specs.Events.{Event, IsSchedule}
 use Rattle.of_core.specs.Linear.{Explains, Linearizes, IsRecovered}
 use Rattle.of_row.specs.Views.{Kept, Sight, IsFront, Each}
 use Rattle.of_row.specs.Rule.{Ruled, Meets, ticket_at, op_at, outcome_at}
-use Rattle.of_row.specs.Trail.{first_of, moment, HasPast, EachView}
-use Rattle.of_row.specs.Runs.{IsRunBy}
+use Rattle.of_row.specs.Trail.{first_of, moment, HasPast, IsRunBy, EachView}
 
 -- The events lead from the row's start to this moment. A step of a member is a turn of its caller; a
 -- call begins right before its first turn; an eviction is a load and, later, a raise.

@@ -42,7 +42,7 @@ pub record HasEnrolled {W : Type 0} (meaning : W → Meaning) (r : Row W) (n : �
 
 -- the pass has evicted the cell: it loaded it, and raised its durable word to what it loaded
 abbrev pub HasEvicted : ℕ → (before now : Pass) → Type 0
-HasEvicted cell before now = (n : ℕ) × (now.seat.me.0 ≡ raised cell (fetched cell n before.seat.me.0))
+HasEvicted cell before now = (n : ℕ) × (now.seat.me.0 ≡ raised (fetched cell n before.seat.me.0))
 
 -- the words meet the row's rule, and so does what the pass knew
 abbrev pub ClosesWith : {W : Type 0} → (W → Meaning) → (W → List ℕ → Type 0) → Row W → Pass → List ℕ → Type 0

@@ -1,24 +1,37 @@
 //! What follows from the rule of a row: functions that do nothing, whose contracts are theorems.
 
-ghost use Rattle.of_row.specs.Laws.{SeesWhole, SeesOwn, NewRuns, StillRuns};
+ghost use Rattle.of_row.specs.Laws.{SeesWhole, SeesOwn, SeesLegal, EvictionsAreRaised};
+ghost use Rattle.of_row.specs.Laws.{NewRuns, StillRuns};
 ghost use Rattle.of_core.specs.Laws.{setup_for};
 ghost use Rattle.of_row.specs.Runs.{RunsAreSchedules, RunsAreLinearizable};
 ghost use Rattle.of_row.specs.Moments.{StopsLoseNothing, ClosedHoldsCalls};
 ghost use Rattle.of_row.specs.ShortRaises.{MomentsHaveShortRaises, RunsHaveShortRaises};
 ghost use Rattle.of_row.specs.Laws.{FreshMember, IdleMember, MemberInRange, NewMember, BegunMember};
 
+use crate::protocol::protocol;
 use of_core::laws::{every_moment, every_order, starts, step_kept};
 use of_mem::Work;
 
-/// Whoever keeps every number that is taken has seen the whole history.
-pub fn sees_whole<W: Work>(work: W)
-    ensures { SeesWhole (W.lawful work) }
-{}
+/// A pass or a member that keeps every number that is taken has seen the whole history.
+pub fn sees_whole<W: Work>(limit: u32, work: W)
+    ensures { SeesWhole (W.lawful work) (setup_for W.many W.size W.meaning limit work) }
+{
+    protocol(limit, work);
+}
 
-/// Whoever keeps a caller has its own calls in what was seen, each as it ended, whatever passes and
-/// members were parted, met or joined before.
-pub fn sees_own<W: Work>(work: W)
-    ensures { SeesOwn (W.lawful work) }
+/// A pass or a member that keeps a caller has its own calls in what was seen, each as it ended,
+/// whatever passes and members were parted, met or joined before. What was seen is a legal history.
+pub fn sees_own<W: Work>(limit: u32, work: W)
+    ensures own { SeesOwn (W.lawful work) (setup_for W.many W.size W.meaning limit work) }
+    ensures legal { SeesLegal (W.lawful work) (setup_for W.many W.size W.meaning limit work) }
+{
+    protocol(limit, work);
+}
+
+/// Each eviction that a pass has made has raised the durable word of its cell, at least to the word
+/// that it loaded.
+pub fn evictions_are_raised<W: Work>(work: W)
+    ensures { EvictionsAreRaised (W.lawful work) }
 {}
 
 /// When a member stands for a machine: while it has no open call, as at first, for a fresh one of its
@@ -44,9 +57,11 @@ pub fn machines<W: Work>(work: W)
 
 /// A run of threads is a schedule: the words of a closed row, and what its first pass keeps if it keeps
 /// every number that is taken, are what the events of some schedule leave.
-pub fn runs_are_schedules<W: Work>(work: W)
-    ensures { RunsAreSchedules (W.lawful work) }
-{}
+pub fn runs_are_schedules<W: Work>(limit: u32, work: W)
+    ensures { RunsAreSchedules (W.lawful work) (setup_for W.many W.size W.meaning limit work) }
+{
+    protocol(limit, work);
+}
 
 /// What holds of every schedule holds of a run: it is durably linearizable, and what it leaves is
 /// sound.
@@ -68,6 +83,7 @@ pub fn stops_lose_nothing<W: Work>(limit: u32, work: W)
     ensures closed { ClosedHoldsCalls (W.lawful work)
         (setup_for W.many W.size W.meaning limit work) }
 {
+    protocol(limit, work);
     every_order(limit, work);
     starts(limit, work);
 }

@@ -1,15 +1,16 @@
 //! What those hold who step on a row: passes and members, and how they are refused.
 
-ghost use Rattle.std.specs.Prelude.{◌≡◌};
+ghost use Rattle.std.specs.Prelude.{◌≡◌, []};
 ghost use Rattle.of_row.specs.Views.{IsSole};
 
 use crate::view::View;
 use atomic_table::Seat;
 
-/// What a thread holds that makes no calls. Contracts see what it knows.
+/// What a thread holds that makes no calls. Contracts see what it knows. It has no eviction half done.
 #[derive(Drop)]
 pub struct Pass {
     pub(crate) seat: Seat<(), View>,
+    ghost none: { seat.me.0.loaded ≡ [] },
 }
 
 /// What a caller's thread holds. Contracts see what it knows: its number, its machine and its own

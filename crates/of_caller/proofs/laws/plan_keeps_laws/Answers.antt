@@ -1,17 +1,19 @@
-use Rattle.of_caller.specs.PlanLaws.{KeepsLaws}
-use Rattle.of_caller.proofs.PlansKeepLaws.{laws_at}
+use Rattle.of_caller.specs.PlanLaws.{TableLaws, KeepsLaws}
+use Rattle.of_caller.proofs.PlansKeepLaws.{at_plan}
 use Rattle.of_caller.proofs.Schedules.{schedules_are_moments, starts_are_runs}
 use Rattle.of_caller.proofs.StoresZeros.{zeros_are_empty}
 use Rattle.of_caller.proofs.laws.plan_keeps_laws.Goals as goal
 
 kept : (c : goal.After-machines) → KeepsLaws c.args.plan.now
 kept c =
-    laws_at c.args.plan.now c.callers.result c.blocks-2.result c.limit-limit.result c.callers.ensures.value c.blocks-2.ensures.value c.limit-limit.ensures.value
+    at_plan c.args.plan.now c.callers.result c.blocks-2.result c.limit-limit.result c.callers.ensures.value c.blocks-2.ensures.value c.limit-limit.ensures.value TableLaws
     (record {
       starts = c.step_kept.ensures.start;
       events = c.every_moment.ensures.kept;
       schedules = c.every_moment.ensures.runs;
       sound = c.step_kept.ensures.sound;
+      beside = c.step_kept.ensures.beside;
+      beside_calls = c.calls_kept.ensures.beside;
       finds = c.machines.ensures.finds;
       steps = c.step_kept.ensures.taken;
       moments = c.every_moment.ensures.sound;

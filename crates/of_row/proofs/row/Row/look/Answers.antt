@@ -1,9 +1,9 @@
 use Rattle.std.proofs.Common.{arith, subst, sym}
-use Rattle.of_core.specs.Laws.{GoodIsSound}
+use Rattle.of_row.specs.RowLaws.{RowLaws}
 use Rattle.of_core.specs.Table.{Setup}
 use Rattle.of_core.specs.World.{Start}
 use Rattle.of_row.specs.Keys.{FitsWork}
-use Rattle.of_row.specs.Rule.{KeepsOwn, KeepsOnce}
+use Rattle.of_row.specs.Rule.{KeepsOwn, KeepsOnce, IsLegalFront}
 use Rattle.of_row.specs.Views.{Sight, KnowsMet}
 use Rattle.of_row.proofs.Moves.{looks_for}
 use Rattle.of_row.proofs.RowLaws.{at_row}
@@ -15,7 +15,7 @@ load-requires g c =
       c.requires.row.0,
       omega (arith, c.args.self.now.words_is),
       looks_for (FitsWork g.W.Work.many g.W.Work.size key) _ _ _ _ _
-          (λ z. at_row g.W.Work.meaning g.W.Work.lawful g.W.Work.many g.W.Work.size key.callers key.cells key.limit c.limit-limit.result key.work c.work-work.result z (sym c.limit-limit.ensures.is) (sym c.work-work.ensures) GoodIsSound c.step_kept.ensures.sound) _ _ _ _ c.requires.setup c.requires.start c.requires.row.2,
+          (λ z. at_row g.W.Work.meaning g.W.Work.lawful g.W.Work.many g.W.Work.size key.callers key.cells key.limit c.limit-limit.result key.work c.work-work.result z (sym c.limit-limit.ensures.is) (sym c.work-work.ensures) RowLaws c.protocol.ensures) _ _ _ _ c.requires.setup c.requires.start c.requires.row.2,
     )
 
 pub returns-clause-own : goal.returns-clause-own
@@ -28,3 +28,7 @@ returns-clause-once g c =
 
 pub returns-clause-met : goal.returns-clause-met
 returns-clause-met g c = subst KnowsMet (λ i. (sym c.load.ensures.2.0 i).0) c.load.ensures.2.3
+
+pub returns-clause-legal : goal.returns-clause-legal
+returns-clause-legal g c =
+    subst (λ (z : Setup × Start × Sight). IsLegalFront z.0 z.1 z.2.seen) (λ i. (c.requires.setup i, c.requires.start i, (sym c.load.ensures.2.0 i).0)) c.load.ensures.2.4
