@@ -1,10 +1,10 @@
 //! One call as a machine of atomic steps.
 
-ghost use Rattle.std.specs.Prelude.{◌≡◌, ◌≢◌, ◌<◌, ◌≤◌, ◌+◌, IfOk, IsTrue, ◌↔◌, length};
+ghost use Rattle.std.specs.Prelude.{◌≡◌, ◌≢◌, ◌<◌, ◌≤◌, ◌+◌, ◌*◌, IfOk, IsTrue, ◌↔◌, length};
 ghost use Rattle.std.proofs.Common.{get_or};
 ghost use Rattle.of_mem.specs.declared.work.TheConstants.{MOST_INSTRS};
 ghost use Rattle.of_cell.specs.declared.word.TheConstants.{PAYLOADS};
-ghost use Rattle.of_core.specs.Table.{size, table_size, data_at, ticket_cell, shape_cell, reply_cell};
+ghost use Rattle.of_core.specs.Table.{size, table_size, data_at, log_at, durable_at, ticket_cell, shape_cell, reply_cell};
 ghost use Rattle.of_core.specs.Seen.{setup, ended};
 ghost use Rattle.of_core.specs.Machine.{idle, opened, log_words};
 ghost use Rattle.of_core.specs.Steps.{want, want_at, took, took_at, counted_at, word_of};
@@ -42,6 +42,10 @@ const OWN_CELLS: u32 = MOST_INSTRS as u32 + 2;
 pub struct Machine<W: Work> {
     work: W,
     shape: Shape,
+    /// How many cells there are; the durable word of each stands as many words behind it.
+    durable: u32,
+    /// The first word of one's own log.
+    own_log: u32,
     limit: u32,
     caller: u32,
     made: u32,
@@ -112,6 +116,8 @@ impl<W: Work> Machine<W> {
         Ok(Machine {
             work,
             shape,
+            durable: shape.durable_cells(),
+            own_log: shape.log_word(caller, 0),
             limit,
             caller,
             made,
@@ -234,6 +240,25 @@ impl<W: Work> Machine<W> {
         if at % 2 == 1 { addr } else { value }
     }
 
+    /// The place of a cell's durable word.
+    fn durable_word(&self, cell: u32) -> u32
+        requires { cell < size (setup W.meaning self.now) }
+        ensures value { result ≡ durable_at (setup W.meaning self.now) cell }
+        ensures below { result < table_size (setup W.meaning self.now) }
+    {
+        self.durable + cell
+    }
+
+    #[tactic(auto, using(crate::proofs::Stability::log_in))]
+    /// The cell of word `at` of one's own log.
+    fn own_log_cell(&self, at: u32) -> u32
+        requires { at < 2 * self.now.cells + 1 }
+        ensures value { result ≡ log_at (setup W.meaning self.now) self.now.call.caller at }
+        ensures below { result < size (setup W.meaning self.now) }
+    {
+        self.own_log + at
+    }
+
     /// The word of a caller's ticket cell.
     fn ticket_word(&self, caller: u32) -> u32
         requires { caller < self.now.callers }
@@ -308,24 +333,23 @@ impl<W: Work> Machine<W> {
             Place::LoadScript(at) => by.load(hand, self.shape.script_word(self.scan, at)),
             Place::RaiseOld => by.raise(
                 hand,
-                self.shape.durable_word(self.shape.request(self.caller)),
+                self.durable_word(self.shape.request(self.caller)),
                 self.kept,
             ),
             Place::StoreLog(at) => by.store(
                 hand,
-                self.shape.log_word(self.caller, at),
+                self.own_log_cell(at),
                 pack(self.seq + 1, self.log_word(at)),
             ),
             Place::RaiseLog(at) => by.raise(
                 hand,
-                self.shape
-                    .durable_word(self.shape.log_word(self.caller, at)),
+                self.durable_word(self.own_log_cell(at)),
                 pack(self.seq + 1, self.log_word(at)),
             ),
             Place::StoreRequest => by.store(hand, self.shape.request(self.caller), pack(self.seq + 1, 0)),
             Place::RaiseRequest => by.raise(
                 hand,
-                self.shape.durable_word(self.shape.request(self.caller)),
+                self.durable_word(self.shape.request(self.caller)),
                 pack(self.seq + 1, 0),
             ),
             Place::ExchangeCurrent => by.exchange(
@@ -334,7 +358,7 @@ impl<W: Work> Machine<W> {
                 pack(self.seq, self.owner),
                 pack(self.seq + 1, self.caller),
             ),
-            Place::RaiseCurrent => by.raise(hand, self.shape.durable_word(0), pack(self.seq, self.owner)),
+            Place::RaiseCurrent => by.raise(hand, self.durable_word(0), pack(self.seq, self.owner)),
             Place::LoadTarget(entry) => by.load(hand, self.shape.data_cell(self.log.entry(entry).0)),
             Place::ReloadTarget(entry) => by.load(hand, self.shape.data_cell(self.log.entry(entry).0)),
             Place::ExchangeTarget(entry, found) => {
@@ -343,8 +367,7 @@ impl<W: Work> Machine<W> {
             }
             Place::RaiseTarget(entry, found) => by.raise(
                 hand,
-                self.shape
-                    .durable_word(self.shape.data_cell(self.log.entry(entry).0)),
+                self.durable_word(self.shape.data_cell(self.log.entry(entry).0)),
                 found,
             ),
             Place::CloseRequest => by.exchange(
@@ -355,7 +378,7 @@ impl<W: Work> Machine<W> {
             ),
             Place::RaiseClosed => by.raise(
                 hand,
-                self.shape.durable_word(self.shape.request(self.owner)),
+                self.durable_word(self.shape.request(self.owner)),
                 pack(self.seq, 1),
             ),
         }
