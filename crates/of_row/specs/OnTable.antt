@@ -1,5 +1,5 @@
 -- Which steps the table takes of a machine, and what they make.
-use Rattle.std.specs.Prelude.{◌≡◌, ◌<◌, ◌×◌, ℕ, List, Option}
+use Rattle.std.specs.Prelude.{◌≡◌, ◌<◌, ℕ, List, Option}
 use Rattle.atomic_table.specs.Table.{Allows}
 use Rattle.atomic_table.specs.Seated.{TableId}
 use Rattle.atomic_table.specs.declared.shared.Seat.{Seat}
@@ -29,10 +29,10 @@ abbrev pub Takes : {W : Type 0} → (many size : W → ℕ) → (W → Meaning) 
 Takes many size meaning lawful B m key table seat op =
     (seat.table_id ≡ table) × (word_of op < table.words)
     × Allows (λ s. FitsWork many size key
-            × Ruled (key_setup meaning key) (lawful key.work) (key_start meaning key) s)
-        table.slots seat.id seat.me (word_of op) (left op)
-        (λ n after. (after.1 ≡ seat.me.1)
-            × TurnedBy meaning lawful B m seat.me.0 (told op n) after.0)
+    × Ruled (key_setup meaning key) (lawful key.work) (key_start meaning key) s)
+    table.slots seat.id seat.me (word_of op) (left op)
+    (λ n after. (after.1 ≡ seat.me.1)
+    × TurnedBy meaning lawful B m seat.me.0 (told op n) after.0)
 
 -- after a step the seat is where it was, and its view was turned by what the step gave
 abbrev pub Makes : {W : Type 0} → (W → Meaning) → (W → List ℕ → Type 0)

@@ -40,11 +40,13 @@ impl<'a, W: Work, O: Told<W>> Performer for OnTable<'a, W, O> {
 
     #[inline(always)]
     fn exchange(&self, hand: &mut Seat<(), View>, word: u32, old: u64, new: u64) -> u64 {
-        self.shared.compare_exchange::<Turn<W, O>>(hand, word as usize, old, new)
+        self.shared
+            .compare_exchange::<Turn<W, O>>(hand, word as usize, old, new)
     }
 
     #[inline(always)]
     fn raise(&self, hand: &mut Seat<(), View>, word: u32, value: u64) -> u64 {
-        self.shared.fetch_max::<Turn<W, O>>(hand, word as usize, value)
+        self.shared
+            .fetch_max::<Turn<W, O>>(hand, word as usize, value)
     }
 }
