@@ -35,3 +35,8 @@ is_listed n xs = list_any (λ m. m == n) xs
 abbrev pub Heard : (before after : Option ℕ) → Type 0
 Heard None after = after ≡ None
 Heard (Some n) after = after ≡ Some (next n)
+
+-- it was asked once more, where asks are counted
+abbrev pub Asked : (before after : Option ℕ) → Type 0
+Asked None after = after ≡ None
+Asked (Some n) after = after ≡ Some (next n)

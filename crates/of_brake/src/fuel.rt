@@ -31,6 +31,8 @@ impl Brake for Fuel {
 
     ghost answers = { λ _. None };
 
+    ghost asks = { λ _. None };
+
     fn arm(&mut self, stop: Option<u64>) {
         self.left = stop;
     }

@@ -66,6 +66,8 @@ impl Brake for Holder {
 
     ghost answers = { λ _. None };
 
+    ghost asks = { λ _. None };
+
     fn arm(&mut self, _stop: Option<u64>) {}
 
     fn ask(&mut self) -> bool
@@ -92,6 +94,8 @@ impl Brake for Teller {
     ghost left = { λ _. None };
 
     ghost answers = { λ _. None };
+
+    ghost asks = { λ _. None };
 
     fn arm(&mut self, _stop: Option<u64>) {}
 

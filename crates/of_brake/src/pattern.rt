@@ -1,6 +1,6 @@
 //! A brake that denies the asks of a list.
 
-ghost use Rattle.std.specs.Prelude.{◌≡◌, ◌≤◌, false, not, None};
+ghost use Rattle.std.specs.Prelude.{◌≡◌, ◌≤◌, false, not, None, Some};
 ghost use Rattle.of_brake.specs.Stops.{Rose, next, is_listed};
 
 use crate::brake::Brake;
@@ -34,6 +34,8 @@ impl Brake for Pattern {
     ghost left = { λ _. None };
 
     ghost answers = { λ _. None };
+
+    ghost asks = { λ p. Some p.asked };
 
     fn arm(&mut self, _stop: Option<u64>) {}
 

@@ -1,7 +1,7 @@
 -- What asks take off the steps of a brake, one after the other.
-use Rattle.std.proofs.Common.{◌≡◌, ℕ, ◌+◌, ◌≤◌, true, false, Option, Some, None, refl, sym, subst, arith}
-use Rattle.of_brake.specs.Stops.{Rose, Counts, CountsFrom, Heard}
-use Rattle.of_caller.specs.Brakes.{Gave, GaveOf, StopsOf, StopsTold}
+use Rattle.std.proofs.Common.{◌≡◌, ℕ, ◌+◌, ◌≤◌, true, false, Option, Some, None, refl, sym, ap, ◌∙◌, suc, subst, arith}
+use Rattle.of_brake.specs.Stops.{Rose, Counts, CountsFrom, Heard, Asked, next}
+use Rattle.of_caller.specs.Brakes.{Gave, GaveOf, StopsOf, StopsTold, AskedFor, later}
 
 gave_of_more : (a b c : Option ℕ) (n : ℕ) → GaveOf a b n → CountsFrom b c true → GaveOf a c (n + 1)
 gave_of_more None (Some b) c n u k = cc
@@ -50,3 +50,20 @@ gave_same a b c n u same = subst (λ (left : Option (Option ℕ)). Gave a left n
 -- an answer of which a brake is told behind asks, which it doesn't count
 pub heard_from : (a b c : Option ℕ) → b ≡ a → Heard b c → Heard a c
 heard_from a b c same heard = subst (λ (count : Option ℕ). Heard count c) same heard
+
+-- one ask more, behind so many
+pub asked_more : (a b c : Option ℕ) (n : ℕ) → AskedFor a b n → Asked b c → AskedFor a c (n + 1)
+unfolding later
+asked_more None b c n u k = subst (λ (it : Option ℕ). Asked it c) u k
+asked_more (Some m) b c n u k =
+    subst (λ (it : Option ℕ). Asked it c) u k ∙ ap (λ (more : ℕ). Some (later more m)) (let e : suc n ≡ n + 1 = omega arith in e)
+
+-- before the first ask it was asked no times
+pub asked_none : (a : Option ℕ) → AskedFor a a 0
+unfolding later
+asked_none None = refl
+asked_none (Some m) = refl
+
+-- asks that stay as they are
+pub asked_same : (a b c : Option ℕ) (n : ℕ) → AskedFor a b n → c ≡ b → AskedFor a c n
+asked_same a b c n u same = subst (λ (asks : Option ℕ). AskedFor a asks n) (sym same) u

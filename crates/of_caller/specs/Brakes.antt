@@ -1,6 +1,7 @@
 -- What a call takes off the steps of its brake, and what it tells it.
 use Rattle.std.specs.Prelude.{◌≡◌, ℕ, ◌+◌, Option, Some, None, Result, Ok, Err}
-use Rattle.of_brake.specs.Stops.{Heard}
+use Rattle.std.proofs.Common.{zero, suc}
+use Rattle.of_brake.specs.Stops.{Heard, next}
 use Rattle.of_core.specs.declared.place.Outcome.{Outcome}
 use Rattle.of_caller.specs.declared.caller.CallErr.{CallErr}
 use Rattle.of_caller.specs.declared.caller.CallErr.TheVariants.{Stopped, Spent}
@@ -46,3 +47,23 @@ StopsAt left (Err (Spent seq)) = Unit {0}
 abbrev pub HearsOf : (before after : Option ℕ) → Result Outcome CallErr → Type 0
 HearsOf before after (Ok o) = Heard before after
 HearsOf before after (Err e) = after ≡ before
+
+-- a count that went up so many times; it stops at its type's end
+unfoldable pub later : (more : ℕ) → ℕ → ℕ
+later zero n = n
+later (suc more) n = next (later more n)
+
+-- it was asked so many times, where asks are counted
+abbrev pub AskedFor : (before after : Option ℕ) → (more : ℕ) → Type 0
+AskedFor None after more = after ≡ None
+AskedFor (Some n) after more = after ≡ Some (later more n)
+
+-- the brake was asked once for each step that was counted from a to b
+abbrev pub AskedForEach : (before after : Option ℕ) → (a b : ℕ) → Type 0
+AskedForEach before after a b = (n : ℕ) × (b ≡ a + n) × AskedFor before after n
+
+-- a stopped call asked the brake as often as it says, and any other once for each of its steps
+abbrev pub AsksOf : (before after : Option ℕ) → (a b : ℕ) → Result Outcome CallErr → Type 0
+AsksOf before after a b (Ok o) = AskedForEach before after a b
+AsksOf before after a b (Err (Stopped asked)) = AskedFor before after asked
+AsksOf before after a b (Err (Spent seq)) = AskedForEach before after a b

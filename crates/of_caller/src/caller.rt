@@ -37,6 +37,7 @@ fn tell(brake: &mut Box<dyn Brake + Send>)
     ensures denials { denials brake.old ≤ denials brake.new }
     ensures left { left brake.new ≡ left brake.old }
     ensures answers { Heard (answers brake.old) (answers brake.new) }
+    ensures asks { asks brake.new ≡ asks brake.old }
 {
     brake.answered();
 }
@@ -44,7 +45,7 @@ fn tell(brake: &mut Box<dyn Brake + Send>)
 impl<W: Work> Caller<W> {
     ghost use Rattle.of_caller.specs.Callers.{IsCaller, LeavesIdle, call_of, made_of};
     ghost use Rattle.of_caller.specs.CallsTold.{CallTold, begun_by};
-    ghost use Rattle.of_caller.specs.Brakes.{IsStop, StopsAt, Uses, HearsOf};
+    ghost use Rattle.of_caller.specs.Brakes.{IsStop, StopsAt, Uses, HearsOf, AsksOf};
 
     /// The caller of a member that has no open call, whether it has made calls or none: it goes on
     /// with the next ticket. Without memory the error hands the member back.
@@ -94,6 +95,7 @@ impl<W: Work> Caller<W> {
         ensures stop { StopsAt (left brake.old) result }
         ensures left { Uses (left brake.old) (left brake.new) steps.old steps.new }
         ensures answers { HearsOf (answers brake.old) (answers brake.new) result }
+        ensures asks { AsksOf (asks brake.old) (asks brake.new) steps.old steps.new result }
     {
         members(row.work());
         machines(row.work());
@@ -119,6 +121,7 @@ impl<W: Work> Caller<W> {
         ensures stop { StopsAt (left brake.old) result }
         ensures left { Uses (left brake.old) (left brake.new) steps.old steps.new }
         ensures answers { HearsOf (answers brake.old) (answers brake.new) result }
+        ensures asks { AsksOf (asks brake.old) (asks brake.new) steps.old steps.new result }
     {
         of_core::laws::machines();
         let mut asked: u64 = 0;

@@ -2,6 +2,7 @@
 use Rattle.std.specs.Prelude.{◌≡◌, ℕ, map}
 use Rattle.std.proofs.Common.{take}
 use Rattle.std.specs.Vec.{vec_capacity}
+use Rattle.of_cell.specs.Cells.{durable_cells, log_cell}
 use Rattle.of_mem.specs.Meaning.{Meaning}
 use Rattle.of_mem.specs.declared.work.TheConstants.{MOST_INSTRS}
 use Rattle.of_core.specs.declared.ran.RanCall.{RanCall}
@@ -46,5 +47,7 @@ seen m = record {
 
 pub record IsFit {W : Type 0} (many size : W → ℕ) (meaning : W → Meaning) (m : Inside W) : Type 0 where
   pub instrs : m.shape.instrs ≡ MOST_INSTRS
+  pub durable : m.durable ≡ durable_cells m.shape.callers m.shape.cells
+  pub own_log : m.own_log ≡ log_cell m.shape.callers m.shape.cells m.caller 0
   pub fit : Fit (many m.work) (size m.work) (setup meaning (seen m)) (seen m).call
   pub room : Room (setup meaning (seen m)) (seen m).call m.log.room (vec_capacity m.op) (vec_capacity m.script) (vec_capacity m.copy) (vec_capacity m.calls) m.part.batch m.part.script

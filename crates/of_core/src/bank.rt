@@ -14,6 +14,7 @@ ghost use Rattle.of_core.specs.Moment.{Reached, Alike, after, held, machine_of, 
 ghost use Rattle.of_core.specs.Turn.{turn_of, told, IsIdle};
 
 use crate::machine::{GREATEST_LIMIT, Machine};
+use crate::performer::OnWords;
 use crate::place::Outcome;
 use of_cell::{Shape, pack, payload_of, seq_of};
 use of_mem::{MOST_INSTRS, Work};
@@ -269,7 +270,7 @@ impl<W: Work> Bank<W> {
         }
         let machine = &mut self.machines[caller as usize];
         let place = machine.place();
-        let found = machine.want_by(place, &mut self.words);
+        let found = machine.want_by(place, &OnWords, &mut self.words);
         machine.take_at(place, found);
         turn_to(machine.answer())
     }

@@ -1,10 +1,10 @@
 //! One call as a machine of atomic steps.
 
-ghost use Rattle.std.specs.Prelude.{◌≡◌, ◌≢◌, ◌<◌, ◌≤◌, ◌+◌, IfOk, IsTrue, ◌↔◌, length};
+ghost use Rattle.std.specs.Prelude.{◌≡◌, ◌≢◌, ◌<◌, ◌≤◌, ◌+◌, ◌*◌, IfOk, IsTrue, ◌↔◌, length};
 ghost use Rattle.std.proofs.Common.{get_or};
 ghost use Rattle.of_mem.specs.declared.work.TheConstants.{MOST_INSTRS};
 ghost use Rattle.of_cell.specs.declared.word.TheConstants.{PAYLOADS};
-ghost use Rattle.of_core.specs.Table.{size, table_size, data_at, ticket_cell, shape_cell, reply_cell};
+ghost use Rattle.of_core.specs.Table.{size, table_size, data_at, log_at, durable_at, ticket_cell, shape_cell, reply_cell};
 ghost use Rattle.of_core.specs.Seen.{setup, ended};
 ghost use Rattle.of_core.specs.Machine.{idle, opened, log_words};
 ghost use Rattle.of_core.specs.Steps.{want, want_at, took, took_at, counted_at, word_of};
@@ -42,6 +42,10 @@ const OWN_CELLS: u32 = MOST_INSTRS as u32 + 2;
 pub struct Machine<W: Work> {
     work: W,
     shape: Shape,
+    /// How many cells there are; the durable word of each stands as many words behind it.
+    durable: u32,
+    /// The first word of one's own log.
+    own_log: u32,
     limit: u32,
     caller: u32,
     made: u32,
@@ -112,6 +116,8 @@ impl<W: Work> Machine<W> {
         Ok(Machine {
             work,
             shape,
+            durable: shape.durable_cells(),
+            own_log: shape.log_word(caller, 0),
             limit,
             caller,
             made,
@@ -234,6 +240,25 @@ impl<W: Work> Machine<W> {
         if at % 2 == 1 { addr } else { value }
     }
 
+    /// The place of a cell's durable word.
+    fn durable_word(&self, cell: u32) -> u32
+        requires { cell < size (setup W.meaning self.now) }
+        ensures value { result ≡ durable_at (setup W.meaning self.now) cell }
+        ensures below { result < table_size (setup W.meaning self.now) }
+    {
+        self.durable + cell
+    }
+
+    #[tactic(auto, using(crate::proofs::Stability::log_in))]
+    /// The cell of word `at` of one's own log.
+    fn own_log_cell(&self, at: u32) -> u32
+        requires { at < 2 * self.now.cells + 1 }
+        ensures value { result ≡ log_at (setup W.meaning self.now) self.now.call.caller at }
+        ensures below { result < size (setup W.meaning self.now) }
+    {
+        self.own_log + at
+    }
+
     /// The word of a caller's ticket cell.
     fn ticket_word(&self, caller: u32) -> u32
         requires { caller < self.now.callers }
@@ -268,85 +293,92 @@ impl<W: Work> Machine<W> {
         ensures value { result ≡ want (setup W.meaning self.now) self.now.call }
         ensures range { word_of result < table_size (setup W.meaning self.now) }
     {
-        self.want_by(self.place, &mut Naming)
+        self.want_by(self.place, &Naming, &mut ())
     }
 
     /// Has the next atomic step performed: that of `place`, where the machine stands.
     // in line, and with an arm for each place: it performs its own form of step and goes straight on from there, with one jump by the place
     #[inline(always)]
-    pub(crate) fn want_by<P: Performer>(&self, place: Place, by: &mut P) -> P::Given
+    pub fn want_by<P: Performer>(&self, place: Place, by: &P, hand: &mut P::Hand) -> P::Given
         requires here { place ≡ self.now.call.place }
-        requires takes { (op : Op) → word_of op < table_size (setup W.meaning self.now) → P.takes by.old op }
-        ensures given { result ≡ P.gives by.old (want_at (setup W.meaning self.now) self.now.call place) }
-        ensures left { by.new ≡ P.leaves by.old (want_at (setup W.meaning self.now) self.now.call place) }
+        requires takes { (op : Op) → op ≡ want_at (setup W.meaning self.now) self.now.call place → word_of op < table_size (setup W.meaning self.now) → P.takes by.now hand.old op }
+        ensures made { P.made by.now hand.old (want_at (setup W.meaning self.now) self.now.call place) result hand.new }
         ensures range { word_of (want_at (setup W.meaning self.now) self.now.call place) < table_size (setup W.meaning self.now) }
     {
         match place {
-            Place::Idle => by.load(0),
-            Place::TryCurrent => by.load(0),
-            Place::LoadCurrent => by.load(0),
-            Place::TryRequest => by.load(self.shape.request(self.owner)),
-            Place::LoadRequest => by.load(self.shape.request(self.owner)),
-            Place::LookAgain => by.load(self.shape.request(self.owner)),
-            Place::TryCell(addr) => by.load(self.shape.data_cell(addr)),
-            Place::LoadCell(addr) => by.load(self.shape.data_cell(addr)),
+            Place::Idle => by.load(hand, 0),
+            Place::TryCurrent => by.load(hand, 0),
+            Place::LoadCurrent => by.load(hand, 0),
+            Place::TryRequest => by.load(hand, self.shape.request(self.owner)),
+            Place::LoadRequest => by.load(hand, self.shape.request(self.owner)),
+            Place::LookAgain => by.load(hand, self.shape.request(self.owner)),
+            Place::TryCell(addr) => by.load(hand, self.shape.data_cell(addr)),
+            Place::LoadCell(addr) => by.load(hand, self.shape.data_cell(addr)),
             Place::StoreScript(at) => by.store(
+                hand,
                 self.shape.script_word(self.caller, at),
                 self.op[at as usize],
             ),
             Place::StoreAnnouncement => by.store(
+                hand,
                 self.shape.announce_word(self.caller),
                 pack(self.made, self.op.len() as u32),
             ),
-            Place::CopyLog(at) => by.load(self.shape.log_word(self.owner, at)),
-            Place::LoadOwnTicket => by.load(self.ticket_word(self.caller)),
-            Place::LoadShape => by.load(self.shape_word()),
-            Place::LoadReply(at) => by.load(self.reply_word(at)),
-            Place::LoadAnnouncement => by.load(self.shape.announce_word(self.scan)),
-            Place::LoadTicket => by.load(self.ticket_word(self.scan)),
-            Place::LoadScript(at) => by.load(self.shape.script_word(self.scan, at)),
+            Place::CopyLog(at) => by.load(hand, self.shape.log_word(self.owner, at)),
+            Place::LoadOwnTicket => by.load(hand, self.ticket_word(self.caller)),
+            Place::LoadShape => by.load(hand, self.shape_word()),
+            Place::LoadReply(at) => by.load(hand, self.reply_word(at)),
+            Place::LoadAnnouncement => by.load(hand, self.shape.announce_word(self.scan)),
+            Place::LoadTicket => by.load(hand, self.ticket_word(self.scan)),
+            Place::LoadScript(at) => by.load(hand, self.shape.script_word(self.scan, at)),
             Place::RaiseOld => by.raise(
-                self.shape.durable_word(self.shape.request(self.caller)),
+                hand,
+                self.durable_word(self.shape.request(self.caller)),
                 self.kept,
             ),
             Place::StoreLog(at) => by.store(
-                self.shape.log_word(self.caller, at),
+                hand,
+                self.own_log_cell(at),
                 pack(self.seq + 1, self.log_word(at)),
             ),
             Place::RaiseLog(at) => by.raise(
-                self.shape
-                    .durable_word(self.shape.log_word(self.caller, at)),
+                hand,
+                self.durable_word(self.own_log_cell(at)),
                 pack(self.seq + 1, self.log_word(at)),
             ),
-            Place::StoreRequest => by.store(self.shape.request(self.caller), pack(self.seq + 1, 0)),
+            Place::StoreRequest => by.store(hand, self.shape.request(self.caller), pack(self.seq + 1, 0)),
             Place::RaiseRequest => by.raise(
-                self.shape.durable_word(self.shape.request(self.caller)),
+                hand,
+                self.durable_word(self.shape.request(self.caller)),
                 pack(self.seq + 1, 0),
             ),
             Place::ExchangeCurrent => by.exchange(
+                hand,
                 0,
                 pack(self.seq, self.owner),
                 pack(self.seq + 1, self.caller),
             ),
-            Place::RaiseCurrent => by.raise(self.shape.durable_word(0), pack(self.seq, self.owner)),
-            Place::LoadTarget(entry) => by.load(self.shape.data_cell(self.log.entry(entry).0)),
-            Place::ReloadTarget(entry) => by.load(self.shape.data_cell(self.log.entry(entry).0)),
+            Place::RaiseCurrent => by.raise(hand, self.durable_word(0), pack(self.seq, self.owner)),
+            Place::LoadTarget(entry) => by.load(hand, self.shape.data_cell(self.log.entry(entry).0)),
+            Place::ReloadTarget(entry) => by.load(hand, self.shape.data_cell(self.log.entry(entry).0)),
             Place::ExchangeTarget(entry, found) => {
                 let (addr, value) = self.log.entry(entry);
-                by.exchange(self.shape.data_cell(addr), found, pack(self.seq, value))
+                by.exchange(hand, self.shape.data_cell(addr), found, pack(self.seq, value))
             }
             Place::RaiseTarget(entry, found) => by.raise(
-                self.shape
-                    .durable_word(self.shape.data_cell(self.log.entry(entry).0)),
+                hand,
+                self.durable_word(self.shape.data_cell(self.log.entry(entry).0)),
                 found,
             ),
             Place::CloseRequest => by.exchange(
+                hand,
                 self.shape.request(self.owner),
                 pack(self.seq, 0),
                 pack(self.seq, 1),
             ),
             Place::RaiseClosed => by.raise(
-                self.shape.durable_word(self.shape.request(self.owner)),
+                hand,
+                self.durable_word(self.shape.request(self.owner)),
                 pack(self.seq, 1),
             ),
         }
@@ -365,7 +397,7 @@ impl<W: Work> Machine<W> {
 
     /// Goes on from `place`, where the machine stands, with the word that its step found.
     #[inline(always)]
-    pub(crate) fn take_at(&mut self, place: Place, found: u64)
+    pub fn take_at(&mut self, place: Place, found: u64)
         requires here { place ≡ self.old.call.place }
         requires open { place ≢ Place.Idle }
         requires good { Meets (setup W.meaning self.old) (W.lawful self.old.work) self.old.call found }

@@ -10,40 +10,37 @@ ghost use Rattle.of_core.specs.Steps.{word_of, words_after};
 use crate::place::Op;
 
 /// Performs the steps that a machine wants, so that one table of them serves whoever asks.
-pub(crate) trait Performer {
+pub trait Performer {
     /// What it gives for a step.
     type Given;
 
-    // which steps it takes, what it gives for one, and what one leaves of it
-    ghost takes: { Self → Op → Type 0 };
+    /// What it makes steps with, which they change.
+    type Hand;
 
-    ghost gives: { Self → Op → Self.Given };
+    // which steps it may be asked for, and what holds after one of what it gave and left
+    ghost takes: { Self → Self.Hand → Op → Type 0 };
 
-    ghost leaves: { Self → Op → Self };
+    ghost made: { Self → Self.Hand → Op → Self.Given → Self.Hand → Type 0 };
 
     /// A load.
-    fn load(&mut self, word: u32) -> Self::Given
-        requires { takes self.old (Load word) }
-        ensures given { result ≡ gives self.old (Load word) }
-        ensures left { self.new ≡ leaves self.old (Load word) };
+    fn load(&self, hand: &mut Self::Hand, word: u32) -> Self::Given
+        requires { takes self.now hand.old (Load word) }
+        ensures { made self.now hand.old (Load word) result hand.new };
 
     /// A store.
-    fn store(&mut self, word: u32, value: u64) -> Self::Given
-        requires { takes self.old (Store word value) }
-        ensures given { result ≡ gives self.old (Store word value) }
-        ensures left { self.new ≡ leaves self.old (Store word value) };
+    fn store(&self, hand: &mut Self::Hand, word: u32, value: u64) -> Self::Given
+        requires { takes self.now hand.old (Store word value) }
+        ensures { made self.now hand.old (Store word value) result hand.new };
 
     /// An exchange.
-    fn exchange(&mut self, word: u32, old: u64, new: u64) -> Self::Given
-        requires { takes self.old (Exchange word old new) }
-        ensures given { result ≡ gives self.old (Exchange word old new) }
-        ensures left { self.new ≡ leaves self.old (Exchange word old new) };
+    fn exchange(&self, hand: &mut Self::Hand, word: u32, old: u64, new: u64) -> Self::Given
+        requires { takes self.now hand.old (Exchange word old new) }
+        ensures { made self.now hand.old (Exchange word old new) result hand.new };
 
     /// A raise.
-    fn raise(&mut self, word: u32, value: u64) -> Self::Given
-        requires { takes self.old (Raise word value) }
-        ensures given { result ≡ gives self.old (Raise word value) }
-        ensures left { self.new ≡ leaves self.old (Raise word value) };
+    fn raise(&self, hand: &mut Self::Hand, word: u32, value: u64) -> Self::Given
+        requires { takes self.now hand.old (Raise word value) }
+        ensures { made self.now hand.old (Raise word value) result hand.new };
 }
 
 /// Makes no step, and gives the step itself.
@@ -53,61 +50,65 @@ pub(crate) struct Naming;
 impl Performer for Naming {
     type Given = Op;
 
-    ghost takes = { λ s op. Unit {0} };
+    type Hand = ();
 
-    ghost gives = { λ s op. op };
+    ghost takes = { λ s hand op. Unit {0} };
 
-    ghost leaves = { λ s op. s };
+    ghost made = { λ s hand op given after. given ≡ op };
 
     #[inline(always)]
-    fn load(&mut self, word: u32) -> Op {
+    fn load(&self, _hand: &mut (), word: u32) -> Op {
         Op::Load { word }
     }
 
     #[inline(always)]
-    fn store(&mut self, word: u32, value: u64) -> Op {
+    fn store(&self, _hand: &mut (), word: u32, value: u64) -> Op {
         Op::Store { word, value }
     }
 
     #[inline(always)]
-    fn exchange(&mut self, word: u32, old: u64, new: u64) -> Op {
+    fn exchange(&self, _hand: &mut (), word: u32, old: u64, new: u64) -> Op {
         Op::Exchange { word, old, new }
     }
 
     #[inline(always)]
-    fn raise(&mut self, word: u32, value: u64) -> Op {
+    fn raise(&self, _hand: &mut (), word: u32, value: u64) -> Op {
         Op::Raise { word, value }
     }
 }
 
-/// Makes the step on these words, and gives the word that it found.
-impl Performer for Vec<u64> {
+/// Makes the step on words, and gives the word that it found.
+#[derive(Clone, Copy)]
+pub(crate) struct OnWords;
+
+impl Performer for OnWords {
     type Given = u64;
 
-    ghost takes = { λ words op. word_of op < length words.items };
+    type Hand = Vec<u64>;
 
-    ghost gives = { λ words op. get_or words.items (word_of op) 0 };
+    ghost takes = { λ s words op. word_of op < length words.items };
 
-    ghost leaves = { λ words op. with_items words (words_after op words.items) };
+    ghost made = { λ s words op found after. (found ≡ get_or words.items (word_of op) 0)
+        × (after ≡ with_items words (words_after op words.items)) };
 
     #[inline(always)]
-    fn load(&mut self, word: u32) -> u64 {
-        load_on(self.as_mut_slice(), word)
+    fn load(&self, hand: &mut Vec<u64>, word: u32) -> u64 {
+        load_on(hand.as_mut_slice(), word)
     }
 
     #[inline(always)]
-    fn store(&mut self, word: u32, value: u64) -> u64 {
-        store_on(self.as_mut_slice(), word, value)
+    fn store(&self, hand: &mut Vec<u64>, word: u32, value: u64) -> u64 {
+        store_on(hand.as_mut_slice(), word, value)
     }
 
     #[inline(always)]
-    fn exchange(&mut self, word: u32, old: u64, new: u64) -> u64 {
-        exchange_on(self.as_mut_slice(), word, old, new)
+    fn exchange(&self, hand: &mut Vec<u64>, word: u32, old: u64, new: u64) -> u64 {
+        exchange_on(hand.as_mut_slice(), word, old, new)
     }
 
     #[inline(always)]
-    fn raise(&mut self, word: u32, value: u64) -> u64 {
-        raise_on(self.as_mut_slice(), word, value)
+    fn raise(&self, hand: &mut Vec<u64>, word: u32, value: u64) -> u64 {
+        raise_on(hand.as_mut_slice(), word, value)
     }
 }
 

@@ -1,9 +1,9 @@
-use Rattle.std.proofs.Common.{◌∙◌, arith, le_trans}
+use Rattle.std.proofs.Common.{◌∙◌, arith, rules, le_trans}
 use Rattle.of_caller.specs.declared.caller.Caller.{Caller}
 use Rattle.of_caller.specs.Callers.{call_of}
 use Rattle.of_caller.proofs.CallerSteps.{within_after, falls, goes}
 use Rattle.of_caller.proofs.CallSteps.{open_where}
-use Rattle.of_caller.proofs.BrakeCharges.{gave_more, gave_same, heard_from}
+use Rattle.of_caller.proofs.BrakeCharges.{gave_more, gave_same, heard_from, asked_more, asked_none, asked_same, gave_none}
 use Rattle.of_caller.proofs.caller.Caller.go_on.Goals as goal
 
 pub loop-asked-preserved : goal.loop-asked-preserved
@@ -25,6 +25,10 @@ loop-asked-preserved g c =
       steps = omega (arith, inv.steps, c.tick.ensures);
       denials = le_trans inv.denials c.in-Ok.ensures.denials;
       answers = c.in-Ok.ensures.answers ∙ inv.answers;
+      asks =
+          let b0 = c.args.brake.now in let b1 = c.loop-asked.brake in let b2 = c.step.new.brake in
+          let asks0 = (goal.Brake-dyn g (b0.vtable, b0.value)).asks b0.value in let asks1 = (goal.Brake-dyn g (b1.vtable, b1.value)).asks b1.value in let asks2 = (goal.Brake-dyn g (b2.vtable, b2.value)).asks b2.value in
+          asked_more asks0 asks1 asks2 c.loop-asked.asked inv.asks c.in-Ok.ensures.asks;
       uses =
           let b0 = c.args.brake.now in let b1 = c.loop-asked.brake in let b2 = c.step.new.brake in
           let left0 = (goal.Brake-dyn g (b0.vtable, b0.value)).left b0.value in let left1 = (goal.Brake-dyn g (b1.vtable, b1.value)).left b1.value in let left2 = (goal.Brake-dyn g (b2.vtable, b2.value)).left b2.value in
@@ -47,3 +51,24 @@ returns-in-Some-clause-left g c =
 
 pub returns-in-Some-clause-answers : goal.returns-in-Some-clause-answers
 returns-in-Some-clause-answers g c = heard_from _ _ _ c.loop-asked.invariant.answers c.tell.ensures.answers
+
+pub returns-in-Some-clause-asks : goal.returns-in-Some-clause-asks
+returns-in-Some-clause-asks g c =
+    let inv = c.loop-asked.invariant in
+    (c.loop-asked.asked, inv.steps, asked_same _ _ _ _ inv.asks c.tell.ensures.asks)
+
+pub returns-in_default-clause-asks : goal.returns-in_default-clause-asks
+returns-in_default-clause-asks g c = asked_more _ _ _ _ c.loop-asked.invariant.asks c.step.ensures.asks
+
+pub loop-asked-init : goal.loop-asked-init
+loop-asked-init g c =
+    let b = c.args.brake.now in
+    record {
+      caller = c.requires.caller;
+      progress = search rules;
+      steps = omega arith;
+      denials = omega arith;
+      uses = gave_none _;
+      asks = asked_none _;
+      answers = search rules;
+    }

@@ -2,7 +2,7 @@ use Rattle.std.proofs.Common.{◌≡◌, ◌+◌, ◌≤◌}
 use Rattle.of_core.specs.Seen.{setup}
 use Rattle.of_row.specs.Rows.{key_of, setup_at, start_at}
 use Rattle.of_caller.specs.Callers.{IsCaller, call_of, sight_of}
-use Rattle.of_caller.specs.Brakes.{Gave}
+use Rattle.of_caller.specs.Brakes.{Gave, AskedFor}
 use Rattle.of_caller.proofs.CallSteps.{Progress, left_of}
 use Rattle.of_caller.proofs.caller.Caller.go_on.Given as goal
 
@@ -16,5 +16,6 @@ invariant-loop-asked g l = record {
   steps : l.steps ≡ l.initial.steps + l.asked;
   denials : (goal.Brake-dyn g (l.initial.brake.vtable, l.initial.brake.value)).denials l.initial.brake.value ≤ (goal.Brake-dyn g (l.brake.vtable, l.brake.value)).denials l.brake.value;
   uses : Gave ((goal.Brake-dyn g (l.initial.brake.vtable, l.initial.brake.value)).left l.initial.brake.value) ((goal.Brake-dyn g (l.brake.vtable, l.brake.value)).left l.brake.value) l.asked;
+  asks : AskedFor ((goal.Brake-dyn g (l.initial.brake.vtable, l.initial.brake.value)).asks l.initial.brake.value) ((goal.Brake-dyn g (l.brake.vtable, l.brake.value)).asks l.brake.value) l.asked;
   answers : (goal.Brake-dyn g (l.brake.vtable, l.brake.value)).answers l.brake.value ≡ (goal.Brake-dyn g (l.initial.brake.vtable, l.initial.brake.value)).answers l.initial.brake.value;
 }

@@ -57,3 +57,25 @@ returns g c =
     let machines : held (set b.machines.items i t) ≡ set (held b.machines.items) i d = held_put b.work b.shape.callers b.shape.cells b.limit b.machines.items i t d (ap (λ (x : Seen _). x.call) put) in
     let old : Bench _ = bench b in
     carry M _ old _ (Begins i c.args.op.now ∷ []) c.self.view_is (begun_after M old i s.call seen.1 c.args.op.now _ machines)
+
+pub begin-requires-clause-idle : goal.begin-requires-clause-idle
+begin-requires-clause-idle g c κs within =
+    let b = c.self.inside in
+    let inv = c.self.invariant in
+    let i : ℕ = c.args.caller in
+    let inside : i < b.shape.callers = rw (← c.self.view_is) at c.requires.caller in
+    let here : i < length b.machines.items = omega (arith, inv.members) in
+    let s = c.index_mut-machine.result.now in
+    let seen = seen_at b.work b.shape.callers b.shape.cells b.limit b.machines.items i s inv.alike here c.index_mut-machine.ensures.value in
+    rw (← seen.1) (rw (← c.self.view_is) at c.requires.idle)
+
+pub begin-requires-clause-made : goal.begin-requires-clause-made
+begin-requires-clause-made g c κs within =
+    let b = c.self.inside in
+    let inv = c.self.invariant in
+    let i : ℕ = c.args.caller in
+    let inside : i < b.shape.callers = rw (← c.self.view_is) at c.requires.caller in
+    let here : i < length b.machines.items = omega (arith, inv.members) in
+    let s = c.index_mut-machine.result.now in
+    let seen = seen_at b.work b.shape.callers b.shape.cells b.limit b.machines.items i s inv.alike here c.index_mut-machine.ensures.value in
+    rw (← seen.1) (rw (← c.self.view_is) at c.requires.made)

@@ -11,6 +11,8 @@ invariant_of-result g c =
     let r = c.requires in
     record {
       instrs = r.instrs;
+      durable = search rules;
+      own_log = search rules;
       fit = record {
         callers = sym r.callers;
         cells = sym r.cells;

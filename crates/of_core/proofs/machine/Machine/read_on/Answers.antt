@@ -27,6 +27,8 @@ invariant_of-self-in-Err g c =
     let batch : c.run.new.part.batch ≡ [] = ap (λ (p : Pad). p.batch) c.run.ensures.part ∙ before in
     record {
       instrs = i.instrs;
+      durable = i.durable;
+      own_log = i.own_log;
       fit = record { callers = i.fit.callers; cells = i.fit.cells; own_in = i.fit.own_in; limit = i.fit.limit; caller = i.fit.caller; owner = i.fit.owner; upto = i.fit.upto; words = i.fit.words; script = i.fit.script; known = rw known i.fit.known; place = here };
       room = record { log = i.room.log; op = i.room.op; scripts_in = i.room.scripts_in; copy = i.room.copy; calls = i.room.calls; scanning = no_case; reading = λ e. batch; empty = c.in-Err.ensures.walk.1 };
     }

@@ -44,6 +44,8 @@ invariant_of-self-in-Err g c =
     let s = rw (← c.self.view_is) at c.requires.scan in
     record {
       instrs = i.instrs;
+      durable = i.durable;
+      own_log = i.own_log;
       fit = record {
         callers = i.fit.callers;
         cells = i.fit.cells;

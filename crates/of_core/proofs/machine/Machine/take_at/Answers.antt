@@ -1,10 +1,10 @@
-use Rattle.std.proofs.Common.{◌≡◌, refl, sym, ◌∙◌}
+use Rattle.std.proofs.Common.{◌≡◌, ◌+◌, ◌<◌, refl, sym, ◌∙◌, arith}
 use Rattle.of_mem.specs.Meaning.{Sound}
-use Rattle.of_core.specs.declared.place.Place.TheVariants.{TryCurrent, TryCell, LoadCurrent, CopyLog, LookAgain, LoadAnnouncement, LoadScript, LoadCell, RaiseClosed}
+use Rattle.of_core.specs.declared.place.Place.TheVariants.{TryCurrent, TryRequest, TryCell, LoadCurrent, CopyLog, LookAgain, LoadAnnouncement, LoadScript, LoadCell, RaiseClosed}
 use Rattle.of_core.specs.Table.{Setup, setup_of, base}
 use Rattle.of_core.specs.Seen.{setup}
 use Rattle.of_core.proofs.Puts.{sound_at}
-use Rattle.of_core.proofs.Allows.{try_current_owner, try_current_upto, try_agrees, load_current_owner, load_current_upto, copy_count, look_words, look_log, announced_small, announced_some, ticket_unnamed, script_agrees, cell_agrees, closed_words}
+use Rattle.of_core.proofs.Allows.{few_steps, request_words, cell_words, try_current_owner, try_current_upto, try_agrees, load_current_owner, load_current_upto, copy_count, look_words, look_log, announced_small, announced_some, ticket_unnamed, script_agrees, cell_agrees, closed_words}
 use Rattle.of_core.proofs.machine.Machine.take_at.Goals as goal
 
 pub after_try_current-requires-clause-owner : goal.after_try_current-requires-clause-owner
@@ -88,3 +88,19 @@ pub after_raise_closed-requires-clause-some : goal.after_raise_closed-requires-c
 after_raise_closed-requires-clause-some g c κs within =
     let place : c.args.self.now.call.place ≡ RaiseClosed = sym c.requires.here ∙ c.in-RaiseClosed.is in
     rw (← c.self.view_is) at (closed_words (setup g.W.Work.meaning c.args.self.now) (g.W.Work.lawful c.args.self.now.work) c.args.self.now.call c.args.found c.requires.good place)
+
+pub overflow_add-self : goal.overflow_add-self
+overflow_add-self g c =
+    let b = c.self.inside in
+    let few : b.steps + 1 < 18446744073709551616 = few_steps b.shape.callers b.shape.cells b.limit (g.W.Work.meaning b.work) (g.W.Work.lawful b.work) _ c.args.found b.shape.few_callers b.shape.few_cells (rw (← c.self.view_is) at c.requires.good) in
+    search arith
+
+pub after_try_request-requires-clause-some : goal.after_try_request-requires-clause-some
+after_try_request-requires-clause-some g c κs within =
+    let place : c.args.self.now.call.place ≡ TryRequest = sym c.requires.here ∙ c.in-TryRequest.is in
+    rw (← c.self.view_is) at (request_words (setup g.W.Work.meaning c.args.self.now) (g.W.Work.lawful c.args.self.now.work) c.args.self.now.call c.args.found c.requires.good place)
+
+pub after_try_cell-requires-clause-some : goal.after_try_cell-requires-clause-some
+after_try_cell-requires-clause-some g c κs within =
+    let place : c.args.self.now.call.place ≡ TryCell c.in-TryCell.addr = sym c.requires.here ∙ c.in-TryCell.is in
+    rw (← c.self.view_is) at (cell_words (setup g.W.Work.meaning c.args.self.now) (g.W.Work.lawful c.args.self.now.work) c.args.self.now.call c.args.found c.requires.good c.in-TryCell.addr place)
