@@ -120,7 +120,7 @@ fn sub(plot: &Plot, part: &mut Part, reg: u8, value: u32) -> Result<Answer, Need
 
 /// Answers the value at a key.
 #[tactic(auto, using(of_mem::proofs::Runs::run_then_gives, of_mem::proofs::Runs::run_then_needs))]
-fn get(plot: &Plot, part: &Part, key: u32) -> Result<Answer, Need>
+fn get(plot: &Plot, part: &mut Part, key: u32) -> Result<Answer, Need>
     requires { HasStore plot.now part.now }
     ensures { RunsOn (step plot.now (Get key)) part.now part.now result }
 {
@@ -154,7 +154,7 @@ fn del(plot: &Plot, part: &mut Part, key: u32) -> Result<Answer, Need>
 
 /// Aborts unless the value at a key is this one.
 #[tactic(auto, using(of_mem::proofs::Runs::run_then_gives, of_mem::proofs::Runs::run_then_needs))]
-fn need(plot: &Plot, part: &Part, key: u32, value: u32) -> Result<Answer, Need>
+fn need(plot: &Plot, part: &mut Part, key: u32, value: u32) -> Result<Answer, Need>
     requires { HasStore plot.now part.now }
     ensures { RunsOn (step plot.now (Needs key value)) part.now part.now result }
 {

@@ -35,11 +35,10 @@ pub(crate) fn run_words(
     ensures room { kept.new.room ≡ kept.old.room }
 {
     let last = op.len() - 1;
-    if kept.is_of(plot.callers, plot.blocks, op) {
-        kept.restore(part);
-    } else {
+    if !kept.is_of(plot.callers, plot.blocks, op) {
         kept.begin(plot.callers, plot.blocks, op);
     }
+    kept.restore(part);
     for i in kept.done()..op.len() {
         match run_word(plot, part, op[i])? {
             Err(cause) => return Ok(aborted(op.len(), i, cause)),

@@ -14,35 +14,55 @@ ghost use Rattle.of_map.specs.Means.{IsPair, Puts, after_del};
 
 mod answers;
 
-use crate::answers::Position;
+use crate::answers::{Look, Position};
 pub use answers::Put;
-use of_mem::{BUCKETS, Need, Part, Plot};
+use of_mem::{BUCKETS, Need, Part, Plot, Walk};
 
 /// Where the block of a key stands, None where the key is absent.
-fn seek(plot: &Plot, part: &Part, key: u32) -> Result<Option<Position>, Need>
-    requires { Leads plot.now part.now key }
-    ensures { RunsOn (seek plot.now key) part.now part.now result }
+fn seek(plot: &Plot, part: &mut Part, key: u32) -> Result<Option<Position>, Need>
+    requires { Leads plot.now part.old key }
+    ensures { RunsOn (seek plot.now key) part.old part.new result }
 {
-    let mut cell = plot.bucket(key % BUCKETS);
-    for step in 0..plot.blocks + 1 {
-        let pointer = part.read(cell)?;
-        if pointer == 0 {
-            return Ok(None);
+    let start = part.walk(plot, key);
+    let mut cell = start.cell;
+    for passed in start.passed..plot.blocks + 1 {
+        match look(plot, part, key, cell) {
+            Err(need) => {
+                part.keep_walk(plot, key, Walk { cell, passed });
+                return Err(need);
+            }
+            Ok(Look::End) => {
+                part.keep_walk(plot, key, Walk { cell, passed });
+                return Ok(None);
+            }
+            Ok(Look::Here(block)) => {
+                part.keep_walk(plot, key, Walk { cell, passed });
+                return Ok(Some(Position { cell, block }));
+            }
+            Ok(Look::Past(link)) => cell = link,
         }
-        let block = pointer - 1;
-        let found = part.read(plot.block(block, 0))?;
-        if found == key {
-            return Ok(Some(Position { cell, block }));
-        }
-        cell = plot.block(block, 2);
     }
     Ok(None)
+}
+
+/// Looks at the block to which a cell points.
+fn look(plot: &Plot, part: &Part, key: u32, cell: u32) -> Result<Look, Need> {
+    let pointer = part.read(cell)?;
+    if pointer == 0 {
+        return Ok(Look::End);
+    }
+    let block = pointer - 1;
+    let found = part.read(plot.block(block, 0))?;
+    if found == key {
+        return Ok(Look::Here(block));
+    }
+    Ok(Look::Past(plot.block(block, 2)))
 }
 
 /// The value at a key, None where the key is absent. The error names a cell that is read and isn't
 /// known.
 #[tactic(auto, using(of_mem::proofs::Runs::run_then_needs))]
-pub fn get(plot: &Plot, part: &Part, key: u32) -> Result<Option<u32>, Need>
+pub fn get(plot: &Plot, part: &mut Part, key: u32) -> Result<Option<u32>, Need>
     requires { HasStore plot.now part.now }
     ensures runs { RunsOn (get plot.now key) part.now part.now result }
     ensures answers { Answers plot.now part.now result (λ s. fin.get s.map key) }
