@@ -39,6 +39,17 @@ pub(crate) fn word_reads(word: u64) -> bool
     }
 }
 
+/// The key that a word looks for before all else, if it is that of an instruction which does.
+pub(crate) fn word_seeks(word: u64) -> Option<u32> {
+    match from_word(word)? {
+        Instr::Get { key } => Some(key),
+        Instr::Put { key, .. } => Some(key),
+        Instr::Del { key } => Some(key),
+        Instr::Need { key, .. } => Some(key),
+        _ => None,
+    }
+}
+
 /// Runs one instruction.
 fn step(plot: &Plot, part: &mut Part, instr: Instr) -> Result<Answer, Need>
     requires stands { HasStore plot.now part.old }

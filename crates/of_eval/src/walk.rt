@@ -11,12 +11,28 @@ ghost use Rattle.of_eval.specs.Stored.{HasState};
 ghost use Rattle.of_eval.specs.Words.{IsOperation, reply_to};
 ghost use Rattle.of_store.specs.State.{Aborted};
 
-use crate::step::run_word;
+use crate::step::{run_word, word_seeks};
 use of_mem::{Kept, Need, Part, Plot};
 use of_script::{Abort, Cause, MOST_INSTRS, Reply};
 
+/// Walks towards the key that the next word looks for, where `kept` is of these words and has one.
+/// The error names a cell that is read and isn't known. It saves what a whole run costs for each
+/// cell that a bucket lacks.
+pub(crate) fn reach(plot: &Plot, part: &mut Part, kept: &Kept, op: &[u64]) -> Result<(), Need> {
+    let Some(key) = kept.sought() else {
+        return Ok(());
+    };
+    if !kept.is_of(plot.callers, plot.blocks, op) {
+        return Ok(());
+    }
+    kept.restore(part);
+    let reached = of_map::reach(plot, part, key);
+    reached
+}
+
 /// Runs the words in order, to their end or to the first abort, from the first that hasn't run where
 /// `kept` is of them. The error names a cell that is read and isn't known.
+#[inline(never)]
 pub(crate) fn run_words(
     plot: &Plot,
     part: &mut Part,
@@ -40,11 +56,15 @@ pub(crate) fn run_words(
     }
     kept.restore(part);
     for i in kept.done()..op.len() {
-        match run_word(plot, part, op[i])? {
-            Err(cause) => return Ok(aborted(op.len(), i, cause)),
+        match run_word(plot, part, op[i]) {
+            Err(need) => {
+                kept.seek(word_seeks(op[i]));
+                return Err(need);
+            }
+            Ok(Err(cause)) => return Ok(aborted(op.len(), i, cause)),
             // no word goes on behind the last one, so what it answers and writes need not be kept
-            Ok(value) if i == last => return Ok(answered(op.len(), kept.values(), value)),
-            Ok(value) => kept.advance(value, part),
+            Ok(Ok(value)) if i == last => return Ok(answered(op.len(), kept.values(), value)),
+            Ok(Ok(value)) => kept.advance(value, part),
         }
     }
     // the last word ends the run

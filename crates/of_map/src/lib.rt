@@ -1,7 +1,7 @@
 //! The map over cells: buckets of blocks.
 #![tactic(auto)]
 
-ghost use Rattle.std.specs.Prelude.{◌≡◌, ◌≢◌, ◌%◌, ◌<◌, ◌≤◌, ℕ, Some, length, IfOk};
+ghost use Rattle.std.specs.Prelude.{◌≡◌, ◌≢◌, ◌%◌, ◌<◌, ◌≤◌, ℕ, Some, length, IfOk, OnErr};
 ghost use Rattle.std.specs.FinMap as fin;
 ghost use Rattle.of_mem.specs.Plots.{base, size};
 ghost use Rattle.of_mem.specs.Places.{keys_at};
@@ -9,7 +9,8 @@ ghost use Rattle.of_mem.specs.Pad.{newest};
 ghost use Rattle.of_mem.specs.Calls.{RunsOn, HasStore, Answers, Acts};
 ghost use Rattle.of_map.specs.declared.answers.Put.TheVariants.{Full};
 ghost use Rattle.of_map.specs.MapPrograms.{seek, get, read_value, put, change, insert, fill, del, unlink, give_back, count_down, count};
-ghost use Rattle.of_map.specs.Found.{Leads, CanFill, IsKept, IsUnlinked};
+ghost use Rattle.of_mem.specs.Programs.{NeedsAt};
+ghost use Rattle.of_map.specs.Found.{Leads, LeadsFrom, Looks, CanFill, IsKept, IsUnlinked};
 ghost use Rattle.of_map.specs.Means.{IsPair, Puts, after_del};
 
 mod answers;
@@ -21,7 +22,8 @@ use of_mem::{BUCKETS, Need, Part, Plot, Walk};
 /// Where the block of a key stands, None where the key is absent.
 fn seek(plot: &Plot, part: &mut Part, key: u32) -> Result<Option<Position>, Need>
     requires { Leads plot.now part.old key }
-    ensures { RunsOn (seek plot.now key) part.old part.new result }
+    ensures part { part.new ≡ part.old }
+    ensures runs { RunsOn (seek plot.now key) part.old part.new result }
 {
     let start = part.walk(plot, key);
     let mut cell = start.cell;
@@ -46,7 +48,10 @@ fn seek(plot: &Plot, part: &mut Part, key: u32) -> Result<Option<Position>, Need
 }
 
 /// Looks at the block to which a cell points.
-fn look(plot: &Plot, part: &Part, key: u32, cell: u32) -> Result<Look, Need> {
+fn look(plot: &Plot, part: &Part, key: u32, cell: u32) -> Result<Look, Need>
+    requires { LeadsFrom plot.now part.now cell }
+    ensures { Looks plot.now part.now key cell result }
+{
     let pointer = part.read(cell)?;
     if pointer == 0 {
         return Ok(Look::End);
@@ -59,13 +64,25 @@ fn look(plot: &Plot, part: &Part, key: u32, cell: u32) -> Result<Look, Need> {
     Ok(Look::Past(plot.block(block, 2)))
 }
 
+/// Walks towards a key as far as cells are known. The error names a cell that is read and isn't
+/// known.
+pub fn reach(plot: &Plot, part: &mut Part, key: u32) -> Result<(), Need>
+    requires { HasStore plot.now part.old }
+    ensures part { part.new ≡ part.old }
+    ensures needs { OnErr result (λ need. NeedsAt (seek plot.now key) part.old need.addr) }
+{
+    seek(plot, part, key)?;
+    Ok(())
+}
+
 /// The value at a key, None where the key is absent. The error names a cell that is read and isn't
 /// known.
 #[tactic(auto, using(of_mem::proofs::Runs::run_then_needs))]
 pub fn get(plot: &Plot, part: &mut Part, key: u32) -> Result<Option<u32>, Need>
-    requires { HasStore plot.now part.now }
-    ensures runs { RunsOn (get plot.now key) part.now part.now result }
-    ensures answers { Answers plot.now part.now result (λ s. fin.get s.map key) }
+    requires { HasStore plot.now part.old }
+    ensures part { part.new ≡ part.old }
+    ensures runs { RunsOn (get plot.now key) part.old part.new result }
+    ensures answers { Answers plot.now part.old result (λ s. fin.get s.map key) }
 {
     match seek(plot, part, key)? {
         None => Ok(None),
