@@ -1,7 +1,7 @@
 //! The map over cells: buckets of blocks.
 #![tactic(auto)]
 
-ghost use Rattle.std.specs.Prelude.{◌≡◌, ◌≢◌, ◌%◌, ◌<◌, ◌≤◌, ℕ, Some, length, IfOk, OnErr};
+ghost use Rattle.std.specs.Prelude.{◌≡◌, ◌≢◌, ◌%◌, ◌<◌, ◌≤◌, ℕ, Some, length, IfOk, MatchResult};
 ghost use Rattle.std.specs.FinMap as fin;
 ghost use Rattle.of_mem.specs.Plots.{base, size};
 ghost use Rattle.of_mem.specs.Places.{keys_at};
@@ -69,7 +69,8 @@ fn look(plot: &Plot, part: &Part, key: u32, cell: u32) -> Result<Look, Need>
 pub fn reach(plot: &Plot, part: &mut Part, key: u32) -> Result<(), Need>
     requires { HasStore plot.now part.old }
     ensures part { part.new ≡ part.old }
-    ensures needs { OnErr result (λ need. NeedsAt (seek plot.now key) part.old need.addr) }
+    ensures needs { MatchResult result (λ _. Unit {0})
+        (λ need. NeedsAt (seek plot.now key) part.old need.addr) }
 {
     seek(plot, part, key)?;
     Ok(())

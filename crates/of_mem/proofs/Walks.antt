@@ -1,5 +1,5 @@
 -- The walk of a key: one block more, and what it passed where more is known.
-use Rattle.std.proofs.Common.{◌≡◌, ◌≢◌, ℕ, zero, suc, ◌+◌, ◌<◌, Option, Some, None, get_or, set, refl, sym, ◌∙◌, ap, subst, arith}
+use Rattle.std.proofs.Common.{◌≡◌, ◌≢◌, ℕ, zero, suc, ◌+◌, Some, None, get_or, set, refl, sym, subst, arith}
 use Rattle.of_mem.specs.Pad.{Pad, newest, learnt}
 use Rattle.of_mem.specs.Stores.{first_at, link_at}
 use Rattle.of_mem.specs.Walks.{Passes}

@@ -47,7 +47,7 @@ pub struct Part {
     undone: bool,
     /// The last walk of a key that was kept, so that a run that lacked a cell goes on in the middle
     /// of a bucket. None is kept where it passed no block.
-    walk: KeyWalk,
+    last: KeyWalk,
 }
 
 impl Model for Part {
@@ -63,8 +63,8 @@ impl Model for Part {
 
     ghost view = { λ p. shown p.undone p.layers };
 
-    ghost invariant = { λ p. 1 ≤ p.walk.walk.passed
-        → Passes p.walk.base p.walk.key p.layers p.walk.walk.passed (bucket_at p.walk.base (p.walk.key % BUCKETS)) p.walk.walk.cell };
+    ghost invariant = { λ p. 1 ≤ p.last.walk.passed
+        → Passes p.last.base p.last.key p.layers p.last.walk.passed (bucket_at p.last.base (p.last.key % BUCKETS)) p.last.walk.cell };
 }
 
 impl Part {
@@ -77,7 +77,7 @@ impl Part {
         Ok(Part {
             layers,
             undone: false,
-            walk: KeyWalk {
+            last: KeyWalk {
                 base: 0,
                 key: 0,
                 walk: Walk { cell: 0, passed: 0 },
@@ -90,8 +90,8 @@ impl Part {
         requires { addr < length self.old.known }
         ensures { self.new ≡ learnt self.old addr value }
     {
-        if self.walk.walk.passed > 0 && self.layers.knows(addr) {
-            self.walk.walk.passed = 0;
+        if self.last.walk.passed > 0 && self.layers.knows(addr) {
+            self.last.walk.passed = 0;
         }
         self.layers.learn(addr, value);
     }
@@ -128,7 +128,7 @@ impl Part {
             self.layers.undo();
             self.undone = false;
         }
-        self.walk.walk.passed = 0;
+        self.last.walk.passed = 0;
         self.layers.write(addr, value);
     }
 
@@ -161,7 +161,7 @@ impl Part {
             self.layers.undo();
             self.undone = false;
         }
-        self.walk.walk.passed = 0;
+        self.last.walk.passed = 0;
         self.layers.keep();
     }
 
@@ -178,7 +178,7 @@ impl Part {
     {
         self.layers.clear();
         self.undone = false;
-        self.walk.walk.passed = 0;
+        self.last.walk.passed = 0;
     }
 
     /// How far the walk of a key came that was kept; if none was, it is at the front of the bucket.
@@ -187,10 +187,10 @@ impl Part {
             (bucket_at (base plot.now) (key % BUCKETS)) result.cell }
         ensures few { result.passed ≤ plot.now.blocks }
     {
-        let kept = self.walk;
-        let is_of_key = kept.key == key && kept.base == plot.base();
-        if is_of_key && !self.undone && kept.walk.passed > 0 && kept.walk.passed <= plot.blocks {
-            return kept.walk;
+        let last = self.last;
+        let is_of_key = last.key == key && last.base == plot.base();
+        if is_of_key && !self.undone && last.walk.passed > 0 && last.walk.passed <= plot.blocks {
+            return last.walk;
         }
         Walk {
             cell: plot.bucket(key % BUCKETS),
@@ -205,9 +205,9 @@ impl Part {
         ensures { self.new ≡ self.old }
     {
         if self.undone {
-            self.walk.walk.passed = 0;
+            self.last.walk.passed = 0;
         } else {
-            self.walk = KeyWalk {
+            self.last = KeyWalk {
                 base: plot.base(),
                 key,
                 walk,
@@ -235,7 +235,7 @@ impl Part {
         ensures { self.new ≡ record self.old { script = writes.now.entries } }
     {
         if !self.layers.has_written(writes) {
-            self.walk.walk.passed = 0;
+            self.last.walk.passed = 0;
             self.layers.set_script(writes);
         }
         self.undone = false;

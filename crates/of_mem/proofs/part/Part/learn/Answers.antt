@@ -1,4 +1,4 @@
-use Rattle.std.proofs.Common.{◌≡◌, ◌∙◌, ◌≤◌, arith, sym}
+use Rattle.std.proofs.Common.{◌∙◌, arith, sym}
 use Rattle.of_mem.proofs.Unread.{unknown_there}
 use Rattle.of_mem.proofs.Walks.{passes_learnt}
 use Rattle.of_mem.proofs.part.Part.learn.Goals as goal
