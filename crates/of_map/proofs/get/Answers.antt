@@ -1,9 +1,7 @@
-use Rattle.std.proofs.Common.{◌≡◌, ◌∙◌, Some, None, Ok, rules, subst}
-use Rattle.of_mem.specs.Calls.{RunsOn}
-use Rattle.of_mem.specs.Pad.{Pad}
+use Rattle.std.proofs.Common.{Some, None, Ok, rules}
 use Rattle.of_mem.specs.Plots.{base}
 use Rattle.of_mem.proofs.Calls.{goes_on}
-use Rattle.of_map.specs.MapPrograms.{seek, got, get}
+use Rattle.of_map.specs.MapPrograms.{seek, got}
 use Rattle.of_map.proofs.Knows.{leads_bucket, seek_kept, kept_below}
 use Rattle.of_map.proofs.Wholes.{get_answers}
 use Rattle.of_map.proofs.get.Goals as goal

@@ -1,8 +1,7 @@
-use Rattle.std.proofs.Common.{◌≡◌, ℕ, suc, ◌+◌, ◌<◌, ◌≤◌, refl, subst, arith, Some}
-use Rattle.of_mem.specs.Pad.{Pad, newest}
+use Rattle.std.proofs.Common.{◌≡◌, ℕ, suc, ◌+◌, refl, subst, arith}
+use Rattle.of_mem.specs.Pad.{Pad}
 use Rattle.of_mem.specs.Plots.{base}
 use Rattle.of_mem.specs.Programs.{NeedsAt}
-use Rattle.of_mem.specs.Stores.{first_at}
 use Rattle.of_mem.proofs.Walks.{passes_on}
 use Rattle.of_map.specs.Found.{Sees}
 use Rattle.of_map.specs.MapPrograms.{seek_from}
