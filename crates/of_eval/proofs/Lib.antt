@@ -22,3 +22,4 @@ pub mod FaultLaws
 pub mod Noted
 pub mod OneFault
 pub mod Exact
+mod Looks

@@ -1,22 +1,25 @@
 -- A script goes on behind the words that have run, whatever else is known.
-use Rattle.std.proofs.Common.{◌≡◌, ℕ, zero, suc, ◌+◌, ◌<◌, ◌≤◌, refl, sym, ◌∙◌, ap, subst, arith, Option, None, Ok, List, [], length, get_or, set, take, drop, replicate, length-set}
+use Rattle.std.proofs.Common.{◌≡◌, ℕ, zero, suc, ◌+◌, ◌<◌, ◌≤◌, refl, sym, ◌∙◌, ap, subst, arith, Option, Some, None, Ok, List, [], length, get_or, set, take, drop, replicate, length-set}
+use Rattle.std.specs.Prelude.{IfSome}
 use Rattle.std.proofs.lemmas.List.{length-replicate}
+use Rattle.std.proofs.lemmas.Option.{none-some}
 use Rattle.of_mem.specs.declared.plot.Plot.{Plot}
 use Rattle.of_mem.specs.declared.plot.TheConstants.{MOST_BLOCKS}
 use Rattle.of_mem.specs.Pad.{Pad, Extends}
 use Rattle.of_mem.specs.Places.{base_of}
 use Rattle.of_mem.specs.Plots.{base}
-use Rattle.of_mem.specs.Programs.{Ends, run}
+use Rattle.of_mem.specs.Programs.{Lacks, Ends, run}
 use Rattle.of_mem.specs.Calls.{HasStore}
 use Rattle.of_mem.specs.Remains.{Remains, begun, IsOf}
 use Rattle.of_mem.proofs.Extended.{ends_again}
+use Rattle.of_map.specs.MapPrograms.{seek_program}
 use Rattle.of_script.specs.declared.instr.TheConstants.{MOST_INSTRS}
 use Rattle.of_store.specs.Replies.{IsSmall}
 use Rattle.of_store.proofs.Values.{small_values, none_left}
 use Rattle.of_eval.specs.ScriptPrograms.{word_program, words_program, script_program}
-use Rattle.of_eval.specs.Stopped.{pad, IsOfStore, GoesOn, HoldsScript}
+use Rattle.of_eval.specs.Stopped.{pad, IsOfStore, LooksFor, GoesOn, HoldsScript}
 use Rattle.of_eval.specs.Stored.{plain, HasState}
-use Rattle.of_eval.proofs.Walks.{script_is, ran_more, word_leaves}
+use Rattle.of_eval.proofs.Walks.{script_is, ran_more, ran_lacks, word_leaves}
 
 -- nothing has run yet
 pub begun_goes : (o blocks room callers n : ℕ) (words : List ℕ) (p : Pad) → 1 ≤ length words → GoesOn o blocks (begun room callers n words) p
@@ -27,6 +30,7 @@ begun_goes o blocks room callers n words p some = record {
   width = length-replicate {A = Option ℕ} MOST_INSTRS None;
   past = λ i l. none_there MOST_INSTRS i;
   small = λ i. subst IsSmall (sym (none_there MOST_INSTRS i)) tt;
+  looks = λ key e. absurd (none-some key e);
 }
   where
     none_there : (n i : ℕ) → get_or {A = Option ℕ} (replicate n None) i None ≡ None
@@ -46,7 +50,7 @@ module _ (o blocks : ℕ) (few : blocks ≤ MOST_BLOCKS) (k : Remains) (p : Pad)
 
     -- one word more has run, and another one is left
     pub goes_more : IsOfStore o blocks (pad p.known p.batch []) → k.done + 1 < length k.words → length k.words ≤ MOST_INSTRS
-        → GoesOn o blocks (record k { done = k.done + 1; values = set k.values k.done v; writes = q.script }) p
+        → GoesOn o blocks (record k { done = k.done + 1; values = set k.values k.done v; writes = q.script; sought = None }) p
     goes_more h l most = record {
       runs = λ more x. g.runs more x ∙ ran_more o blocks (length k.words) k.words k.done g.left k.values (pad more p.batch k.writes) (pad more p.batch q.script) v (omega (arith, g.width, most, l)) (word_again more x);
       stands = λ more x y. (after_word more x y).0;
@@ -54,6 +58,7 @@ module _ (o blocks : ℕ) (few : blocks ≤ MOST_BLOCKS) (k : Remains) (p : Pad)
       width = length-set k.values k.done v ∙ g.width;
       past = none_left k.values k.done v g.past;
       small = small_values k.values k.done v g.small (after_word p.known (λ a w x. x) h).1;
+      looks = λ key e. absurd (none-some key e);
     }
 
   -- the script from its first word, in the memory in which the words have run
@@ -74,6 +79,30 @@ pub has_store : (plot : Plot) (k : Remains) (p q : Pad) → GoesOn (base plot) p
 has_store plot k p q g h none here =
     let s = g.stands p.known (λ a w x. x) (of_store plot p h none) in
     subst (HasStore plot) (sym here) (record { fits = h.fits; memory = s.0; store = plain s.1.0; part = s.2; stands = s.1.1.stands })
+
+-- a key that the next word looks for
+pub goes_sought : (o blocks : ℕ) (k : Remains) (p : Pad) → GoesOn o blocks k p → (r : Option ℕ) → IfSome r (λ key. LooksFor o blocks (get_or k.words k.done 0) key) → GoesOn o blocks (record k { sought = r }) p
+goes_sought o blocks k p g r h = record {
+  runs = g.runs;
+  stands = g.stands;
+  left = g.left;
+  width = g.width;
+  past = g.past;
+  small = g.small;
+  looks = λ key e. subst (λ (x : Option ℕ). IfSome x (λ key. LooksFor o blocks (get_or k.words k.done 0) key)) e h;
+}
+
+pub looks_word : (o blocks w x : ℕ) (r : Option ℕ) → w ≡ x → IfSome r (λ key. (o blocks : ℕ) → LooksFor o blocks w key) → IfSome r (λ key. LooksFor o blocks x key)
+looks_word o blocks w x None e h = tt
+looks_word o blocks w x (Some key) e h = subst (λ (y : ℕ). LooksFor o blocks y key) e (h o blocks)
+
+-- where the walk to the key that is kept lacks a cell, the script lacks it
+pub reaches : (o blocks : ℕ) (few : blocks ≤ MOST_BLOCKS) (k : Remains) (p q : Pad) → GoesOn o blocks k p → p.script ≡ [] → (op : List ℕ) → k.words ≡ op → length op ≤ MOST_INSTRS → q ≡ pad p.known p.batch k.writes
+    → (key a : ℕ) → k.sought ≡ Some key → run (seek_program o blocks key) q ≡ Lacks a → run (script_program o blocks op) p ≡ Lacks a
+reaches o blocks few k p q g none op is most here key a e lacks =
+    let left : k.done < length op = omega (arith, g.left, ap length is) in
+    let word : run (word_program o blocks (get_or op k.done 0)) q ≡ Lacks a = subst (λ (ws : List ℕ). run (word_program o blocks (get_or ws k.done 0)) q ≡ Lacks a) is (g.looks key e q a lacks) in
+    ran_so o blocks few k p g none op is most k.done refl q here ∙ ran_lacks o blocks (length op) op k.done left k.values q q a word
 
 -- how the call reads and leaves what is kept
 module _ (plot : Plot) (k : Remains) (p : Pad) (words : List ℕ) (is : IsOf k plot.callers plot.blocks words) (instrs : plot.instrs ≡ MOST_INSTRS) where

@@ -1,8 +1,9 @@
 -- The reply of words is a reply of a work: it is made of words, and it marks numbers of its own instructions alone.
-use Rattle.std.proofs.Common.{◌≡◌, ℕ, zero, suc, ◌+◌, ◌-◌, ◌*◌, ◌<◌, ◌≤◌, ◌/◌, ◌%◌, ◌^◌, true, sym, ◌∙◌, ap, subst, arith, Option, Some, None, Ok, Err, List, [], ◌∷◌, ◌++◌, length, get_or, map, replicate, length-append}
+use Rattle.std.proofs.Common.{◌≡◌, ℕ, zero, suc, ◌+◌, ◌-◌, ◌*◌, ◌<◌, ◌≤◌, ◌/◌, ◌%◌, ◌^◌, ◌==◌, true, false, refl, sym, ◌∙◌, ap, subst, arith, Option, Some, None, Ok, Err, List, [], ◌∷◌, ◌++◌, length, get_or, map, replicate, length-append}
 use Rattle.std.specs.List.{AllByRecursion as Each}
 use Rattle.std.specs.Option.{unwrap_or}
 use Rattle.std.proofs.Math.Nat.{div-div-eq-div-mul}
+use Rattle.std.proofs.lemmas.Bool.{false≢true}
 use Rattle.std.proofs.lemmas.Bool.Decides.{nat_tests}
 use Rattle.std.proofs.lemmas.List.{length-map, length-replicate}
 use Rattle.of_mem.specs.Numbers.{FitsCell}
@@ -46,6 +47,25 @@ marked_has vs shape x e j l h =
     let k : shape / 2 ^ j % 2 ≡ 1 = grind (arith, nat_tests) in
     sym b ∙ k
 
+none_of : (o : Option ℕ) → (mark o ≡ 1 → ⊥) → o ≡ None
+none_of None h = refl
+none_of (Some v) h = absurd (h refl)
+
+-- an unmarked place has none
+unmarked_none : (vs : List (Option ℕ)) (shape x : ℕ) → shape ≡ mask_of vs + x * 2 ^ MOST_INSTRS → (j : ℕ) → j < MOST_INSTRS → marked shape j ≡ false → get_or vs j None ≡ None
+unfolding marked
+unmarked_none vs shape x e j l h =
+    let b : shape / 2 ^ j % 2 ≡ mark (get_or vs j None) = ap (λ (q : ℕ). q / 2 ^ j % 2) e ∙ bit_of vs x MOST_INSTRS j l in
+    none_of (get_or vs j None) (λ (m : mark (get_or vs j None) ≡ 1). let k : shape / 2 ^ j % 2 ≡ 1 = b ∙ m in unmarked (shape / 2 ^ j % 2) k h)
+  where
+    unmarked : (n : ℕ) → n ≡ 1 → (n == 1) ≡ false → ⊥
+    unmarked n is not = let k : (n == 1) ≡ true = grind (arith, nat_tests) in false≢true (sym not ∙ k)
+
+zero_there : (vs : List (Option ℕ)) (j : ℕ) → get_or vs j None ≡ None → get_or (map (λ v. unwrap_or v 0) vs) j 0 ≡ 0
+zero_there [] j e = refl
+zero_there (v ∷ vs) zero e = ap (λ (o : Option ℕ). unwrap_or o 0) e
+zero_there (v ∷ vs) (suc j) e = zero_there vs j e
+
 none_past : (vs : List (Option ℕ)) (k j : ℕ) → mark (get_or (vs ++ replicate k None) j None) ≡ 1 → j < length vs
 none_past (v ∷ vs) k zero h = omega arith
 none_past (v ∷ vs) k (suc j) h = let r : j < length vs = none_past vs k j h in omega (arith, r)
@@ -78,6 +98,7 @@ reply_fits op ws (Ok e) few part h =
       shape = omega (arith, small, few);
       values = all_each FitsCell (map (λ v. unwrap_or v 0) vs) (words_small e.1 (MOST_INSTRS - length e.1) h.1);
       marks = λ j l m. (omega (arith, small, few), omega (arith, part, h.0, none_past e.1 (MOST_INSTRS - length e.1) j (marked_has vs (mask_of vs + length ws * 2 ^ 16 + 0) (length ws) (omega arith) j l m)), omega (arith, length-map vs (λ (v : Option ℕ). unwrap_or v 0), wide, few, h.0, none_past e.1 (MOST_INSTRS - length e.1) j (marked_has vs (mask_of vs + length ws * 2 ^ 16 + 0) (length ws) (omega arith) j l m)));
+      rest = λ j l m. zero_there vs j (unmarked_none vs (mask_of vs + length ws * 2 ^ 16 + 0) (length ws) (omega arith) j l m);
     }
 reply_fits op ws (Err p) few part h =
     let code = code_some p.1 in
@@ -85,4 +106,5 @@ reply_fits op ws (Err p) few part h =
       shape = omega (arith, h, few, code.1);
       values = all_each FitsCell (map (λ v. unwrap_or v 0) (replicate MOST_INSTRS None)) (words_small [] MOST_INSTRS tt);
       marks = λ j l m. absurd (let r : j < 0 = none_past [] MOST_INSTRS j (marked_has (replicate MOST_INSTRS None) (shape_of (reply_to (length ws) (Aborted (0 + p.0) p.1))) (length ws + p.0 * 32 + code_of p.1 * 1024) (omega arith) j l m) in omega (arith, r));
+      rest = λ j l m. zero_there (replicate MOST_INSTRS None) j (unmarked_none (replicate MOST_INSTRS None) (shape_of (reply_to (length ws) (Aborted (0 + p.0) p.1))) (length ws + p.0 * 32 + code_of p.1 * 1024) (omega arith) j l m);
     }

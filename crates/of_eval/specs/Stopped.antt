@@ -1,14 +1,15 @@
 -- What is kept of a script whose run lacked a cell.
-use Rattle.std.specs.Prelude.{◌≡◌, ℕ, ◌≤◌, ◌<◌, List, [], length, take, drop, Option, None}
+use Rattle.std.specs.Prelude.{◌≡◌, ℕ, ◌≤◌, ◌<◌, List, [], length, take, drop, Option, Some, None}
 use Rattle.std.proofs.Common.{get_or, arith, ap}
 use Rattle.of_mem.specs.declared.work.TheConstants.{MOST_INSTRS}
 use Rattle.of_mem.specs.Pad.{Pad, Extends, learnt}
 use Rattle.of_mem.specs.Places.{base_of}
-use Rattle.of_mem.specs.Programs.{run, IsPartOf}
+use Rattle.of_mem.specs.Programs.{Lacks, run, IsPartOf}
 use Rattle.of_mem.specs.Remains.{Remains}
 use Rattle.of_mem.proofs.Extended.{extends_learnt}
+use Rattle.of_map.specs.MapPrograms.{seek_program}
 use Rattle.of_store.specs.Replies.{IsSmall}
-use Rattle.of_eval.specs.ScriptPrograms.{words_program}
+use Rattle.of_eval.specs.ScriptPrograms.{word_program, words_program}
 use Rattle.of_eval.specs.Scripts.{StandsForSome}
 
 -- partial memory with these writes of a script
@@ -18,6 +19,10 @@ pad known batch script = record { known = known; batch = batch; script = script 
 -- the partial memory is part of one that stands for some store
 abbrev pub IsOfStore : ℕ → ℕ → Pad → Type 0
 IsOfStore o blocks p = (m : ℕ → ℕ) × StandsForSome o blocks m × IsPartOf p m
+
+-- where the walk to the key lacks a cell, the word lacks it too
+abbrev pub LooksFor : ℕ → ℕ → ℕ → ℕ → Type 0
+LooksFor o blocks w key = (p : Pad) (a : ℕ) → run (seek_program o blocks key) p ≡ Lacks a → run (word_program o blocks w) p ≡ Lacks a
 
 -- whatever else is known, the script goes on behind the words that have run, with what these answered and wrote
 pub record GoesOn (o blocks : ℕ) (k : Remains) (p : Pad) : Type 0 where
@@ -29,6 +34,8 @@ pub record GoesOn (o blocks : ℕ) (k : Remains) (p : Pad) : Type 0 where
   pub width : length k.values ≡ MOST_INSTRS
   pub past : (i : ℕ) → k.done ≤ i → get_or k.values i None ≡ None
   pub small : (i : ℕ) → IsSmall (get_or k.values i None)
+  -- the next word looks for the key that is kept
+  pub looks : (key : ℕ) → k.sought ≡ Some key → LooksFor o blocks (get_or k.words k.done 0) key
 
 -- where a script is kept, it goes on so on the cells of the work that kept it
 abbrev pub HoldsScript : Remains → Pad → Type 0
@@ -47,4 +54,5 @@ holds_learnt k p a v none h l =
       width = g.width;
       past = g.past;
       small = g.small;
+      looks = g.looks;
     }

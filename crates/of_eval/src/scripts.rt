@@ -6,7 +6,7 @@ ghost use Rattle.of_mem.specs.declared.plot.TheConstants.{MOST_BLOCKS};
 
 use crate::reply::reply_cells;
 use crate::step::word_reads;
-use crate::walk::run_words;
+use crate::walk::{keep_sought, reach, run_words};
 use of_mem::{Keeps, Kept, MOST_INSTRS, Need, Part, Plot, RawReply, Work};
 
 /// What runs scripts on cells: so many callers, 1 to `MOST_CALLERS`, and room for so
@@ -73,7 +73,11 @@ impl Work for Scripts {
         op: &[u64],
         out: &mut RawReply,
     ) -> Result<(), Need> {
-        match run_words(&self.plot(), part, kept, op) {
+        let plot = self.plot();
+        if let Err(need) = reach(&plot, part, kept, op) {
+            return Err(need);
+        }
+        match run_words(&plot, part, kept, op) {
             Ok(reply) => {
                 if reply.abort.is_some() {
                     part.undo();
@@ -82,6 +86,7 @@ impl Work for Scripts {
                 Ok(())
             }
             Err(need) => {
+                keep_sought(kept, op);
                 part.undo();
                 Err(need)
             }

@@ -1,6 +1,6 @@
 //! One instruction over cells.
 
-ghost use Rattle.std.specs.Prelude.{◌≡◌};
+ghost use Rattle.std.specs.Prelude.{◌≡◌, ℕ, IfSome};
 ghost use Rattle.of_mem.specs.Calls.{RunsOn, HasStore};
 ghost use Rattle.of_mem.specs.Programs.{Done};
 ghost use Rattle.of_script.specs.Language.{InRange};
@@ -9,6 +9,7 @@ ghost use Rattle.of_eval.specs.ScriptPrograms.{need_answers};
 ghost use Rattle.of_script.specs.Reading.{instr_at};
 ghost use Rattle.of_eval.specs.Calls.{step, run_word};
 ghost use Rattle.of_eval.specs.Scripts.{instr_reads};
+ghost use Rattle.of_eval.specs.Stopped.{LooksFor};
 
 use of_map::Put;
 use of_mem::{Need, Part, Plot};
@@ -36,6 +37,19 @@ pub(crate) fn word_reads(word: u64) -> bool
     match from_word(word) {
         None => false,
         Some(instr) => instr.reads_only(),
+    }
+}
+
+/// The key that a word looks for before all else, if it is that of an instruction which does.
+pub(crate) fn word_seeks(word: u64) -> Option<u32>
+    ensures { IfSome result (λ key. (o blocks : ℕ) → LooksFor o blocks word key) }
+{
+    match from_word(word)? {
+        Instr::Get { key } => Some(key),
+        Instr::Put { key, .. } => Some(key),
+        Instr::Del { key } => Some(key),
+        Instr::Need { key, .. } => Some(key),
+        _ => None,
     }
 }
 
@@ -120,9 +134,9 @@ fn sub(plot: &Plot, part: &mut Part, reg: u8, value: u32) -> Result<Answer, Need
 
 /// Answers the value at a key.
 #[tactic(auto, using(of_mem::proofs::Runs::run_then_gives, of_mem::proofs::Runs::run_then_needs))]
-fn get(plot: &Plot, part: &Part, key: u32) -> Result<Answer, Need>
-    requires { HasStore plot.now part.now }
-    ensures { RunsOn (step plot.now (Get key)) part.now part.now result }
+fn get(plot: &Plot, part: &mut Part, key: u32) -> Result<Answer, Need>
+    requires { HasStore plot.now part.old }
+    ensures { RunsOn (step plot.now (Get key)) part.old part.new result }
 {
     let value = of_map::get(plot, part, key)?;
     Ok(Ok(value))
@@ -154,9 +168,9 @@ fn del(plot: &Plot, part: &mut Part, key: u32) -> Result<Answer, Need>
 
 /// Aborts unless the value at a key is this one.
 #[tactic(auto, using(of_mem::proofs::Runs::run_then_gives, of_mem::proofs::Runs::run_then_needs))]
-fn need(plot: &Plot, part: &Part, key: u32, value: u32) -> Result<Answer, Need>
-    requires { HasStore plot.now part.now }
-    ensures { RunsOn (step plot.now (Needs key value)) part.now part.now result }
+fn need(plot: &Plot, part: &mut Part, key: u32, value: u32) -> Result<Answer, Need>
+    requires { HasStore plot.now part.old }
+    ensures { RunsOn (step plot.now (Needs key value)) part.old part.new result }
 {
     let found = of_map::get(plot, part, key)?;
     Ok(compare(found, value))

@@ -8,6 +8,16 @@ pub(crate) struct Position {
     pub block: u32,
 }
 
+/// What a walk finds at a cell that points to a block.
+pub(crate) enum Look {
+    /// There is none.
+    End,
+    /// The block has the key.
+    Here(u32),
+    /// It has another one, and its link is this cell.
+    Past(u32),
+}
+
 /// What a put answers.
 #[derive(Clone, Copy, Debug, PartialEq, Eq)]
 pub enum Put {

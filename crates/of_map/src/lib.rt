@@ -1,7 +1,7 @@
 //! The map over cells: buckets of blocks.
 #![tactic(auto)]
 
-ghost use Rattle.std.specs.Prelude.{◌≡◌, ◌≢◌, ◌%◌, ◌<◌, ◌≤◌, ℕ, Some, length, IfOk};
+ghost use Rattle.std.specs.Prelude.{◌≡◌, ◌≢◌, ◌%◌, ◌<◌, ◌≤◌, ℕ, Some, length, IfOk, MatchResult};
 ghost use Rattle.std.specs.FinMap as fin;
 ghost use Rattle.of_mem.specs.Plots.{base, size};
 ghost use Rattle.of_mem.specs.Places.{keys_at};
@@ -9,43 +9,81 @@ ghost use Rattle.of_mem.specs.Pad.{newest};
 ghost use Rattle.of_mem.specs.Calls.{RunsOn, HasStore, Answers, Acts};
 ghost use Rattle.of_map.specs.declared.answers.Put.TheVariants.{Full};
 ghost use Rattle.of_map.specs.MapPrograms.{seek, get, read_value, put, change, insert, fill, del, unlink, give_back, count_down, count};
-ghost use Rattle.of_map.specs.Found.{Leads, CanFill, IsKept, IsUnlinked};
+ghost use Rattle.of_mem.specs.Programs.{NeedsAt};
+ghost use Rattle.of_map.specs.Found.{Leads, LeadsFrom, Looks, CanFill, IsKept, IsUnlinked};
 ghost use Rattle.of_map.specs.Means.{IsPair, Puts, after_del};
 
 mod answers;
 
-use crate::answers::Position;
+use crate::answers::{Look, Position};
 pub use answers::Put;
-use of_mem::{BUCKETS, Need, Part, Plot};
+use of_mem::{BUCKETS, Need, Part, Plot, Walk};
 
 /// Where the block of a key stands, None where the key is absent.
-fn seek(plot: &Plot, part: &Part, key: u32) -> Result<Option<Position>, Need>
-    requires { Leads plot.now part.now key }
-    ensures { RunsOn (seek plot.now key) part.now part.now result }
+fn seek(plot: &Plot, part: &mut Part, key: u32) -> Result<Option<Position>, Need>
+    requires { Leads plot.now part.old key }
+    ensures part { part.new ≡ part.old }
+    ensures runs { RunsOn (seek plot.now key) part.old part.new result }
 {
-    let mut cell = plot.bucket(key % BUCKETS);
-    for step in 0..plot.blocks + 1 {
-        let pointer = part.read(cell)?;
-        if pointer == 0 {
-            return Ok(None);
+    let start = part.walk(plot, key);
+    let mut cell = start.cell;
+    for passed in start.passed..plot.blocks + 1 {
+        match look(plot, part, key, cell) {
+            Err(need) => {
+                part.keep_walk(plot, key, Walk { cell, passed });
+                return Err(need);
+            }
+            Ok(Look::End) => {
+                part.keep_walk(plot, key, Walk { cell, passed });
+                return Ok(None);
+            }
+            Ok(Look::Here(block)) => {
+                part.keep_walk(plot, key, Walk { cell, passed });
+                return Ok(Some(Position { cell, block }));
+            }
+            Ok(Look::Past(link)) => cell = link,
         }
-        let block = pointer - 1;
-        let found = part.read(plot.block(block, 0))?;
-        if found == key {
-            return Ok(Some(Position { cell, block }));
-        }
-        cell = plot.block(block, 2);
     }
     Ok(None)
+}
+
+/// Looks at the block to which a cell points.
+fn look(plot: &Plot, part: &Part, key: u32, cell: u32) -> Result<Look, Need>
+    requires { LeadsFrom plot.now part.now cell }
+    ensures { Looks plot.now part.now key cell result }
+{
+    let pointer = part.read(cell)?;
+    if pointer == 0 {
+        return Ok(Look::End);
+    }
+    let block = pointer - 1;
+    let found = part.read(plot.block(block, 0))?;
+    if found == key {
+        return Ok(Look::Here(block));
+    }
+    Ok(Look::Past(plot.block(block, 2)))
+}
+
+/// Walks towards a key as far as cells are known. The error names a cell that is read and isn't
+/// known.
+pub fn reach(plot: &Plot, part: &mut Part, key: u32) -> Result<(), Need>
+    requires { HasStore plot.now part.old }
+    ensures part { part.new ≡ part.old }
+    ensures needs { MatchResult result (λ _. Unit {0})
+        (λ need. NeedsAt (seek plot.now key) part.old need.addr) }
+{
+    seek(plot, part, key)?;
+    Ok(())
 }
 
 /// The value at a key, None where the key is absent. The error names a cell that is read and isn't
 /// known.
 #[tactic(auto, using(of_mem::proofs::Runs::run_then_needs))]
-pub fn get(plot: &Plot, part: &Part, key: u32) -> Result<Option<u32>, Need>
-    requires { HasStore plot.now part.now }
-    ensures runs { RunsOn (get plot.now key) part.now part.now result }
-    ensures answers { Answers plot.now part.now result (λ s. fin.get s.map key) }
+pub fn get(plot: &Plot, part: &mut Part, key: u32) -> Result<Option<u32>, Need>
+    requires { HasStore plot.now part.old }
+    ensures part { part.new ≡ part.old }
+    ensures runs { RunsOn (get plot.now key) part.old part.new result }
+    ensures answers { Answers plot.now part.old result (λ s. fin.get s.map key) }
 {
     match seek(plot, part, key)? {
         None => Ok(None),

@@ -20,7 +20,7 @@ by_more (Some x) b k l v h e = e
 by_more None (Some x) k l v h e = e
 by_more None None k l v h e = h v e
 
-newest_more : (more : List (Option ℕ)) (p : Pad) (a v : ℕ) → Extends more p.known → newest p a ≡ Some v → newest (with_known more p) a ≡ Some v
+pub newest_more : (more : List (Option ℕ)) (p : Pad) (a v : ℕ) → Extends more p.known → newest p a ≡ Some v → newest (with_known more p) a ≡ Some v
 unfolding newest
 newest_more more p a v h e = by_more (value_at p.script a) (value_at p.batch a) (get_or p.known a None) (get_or more a None) v (h a) e
 

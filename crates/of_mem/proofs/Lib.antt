@@ -17,3 +17,4 @@ pub mod Counts
 pub mod Calls
 pub mod Extended
 pub mod Filled
+pub mod Walks

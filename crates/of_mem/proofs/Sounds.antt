@@ -1,17 +1,17 @@
 -- A work whose operations are programs keeps the rules of a work.
-use Rattle.std.proofs.Common.{◌≡◌, ℕ, ◌+◌, ◌-◌, ◌<◌, ◌≤◌, inl, inr, refl, sym, ◌∙◌, ap, subst, arith, cond, Bool, true, false, Option, None, List, [], ◌∷◌, length, get_or, set, drop, length-set}
+use Rattle.std.proofs.Common.{◌≡◌, ℕ, ◌+◌, ◌-◌, ◌<◌, ◌≤◌, inl, inr, refl, sym, ◌∙◌, ap, subst, arith, cond, Bool, true, false, Option, Some, None, List, [], ◌∷◌, length, get_or, set, drop, length-set}
 use Rattle.std.specs.List.{AllByRecursion as Each}
 use Rattle.std.proofs.lemmas.Bool.{cases_eq}
 use Rattle.std.proofs.lemmas.List.{get_or-set_same, get_or-set_other, get_or-drop}
 use Rattle.of_mem.specs.Numbers.{FitsCell}
 use Rattle.of_mem.specs.declared.work.RawReply.{RawReply}
-use Rattle.of_mem.specs.Pairs.{put_all}
-use Rattle.of_mem.specs.Pad.{Pad, newest}
-use Rattle.of_mem.specs.Programs.{Program, Done, Read, Write, Ran, Lacks, Ends, run, changed, answer, after, writes, Inside, StaysFrom, OnlyReads, IsPartOf}
-use Rattle.of_mem.specs.Meaning.{Sound, written, Agrees, SameFrom, Once, Finishes, Fits}
+use Rattle.of_mem.specs.Pairs.{put, put_all}
+use Rattle.of_mem.specs.Pad.{Pad, newest, wrote}
+use Rattle.of_mem.specs.Programs.{Program, Done, Read, Write, Ran, Lacks, Ends, with_number, run, changed, answer, after, writes, Inside, StaysFrom, OnlyReads, IsPartOf}
+use Rattle.of_mem.specs.Meaning.{Sound, Gives, written, Agrees, SameFrom, Once, Finishes, Fits}
 use Rattle.of_mem.specs.ProgramWork.{memory, fresh_pad, walked, meaning_of, IsReply, AreSound}
 use Rattle.of_mem.proofs.Changes.{changed_same, changed_other}
-use Rattle.of_mem.proofs.Runs.{Ended, Follows, run_follows}
+use Rattle.of_mem.proofs.Runs.{newest_same, newest_other, Ended, Follows, run_follows}
 use Rattle.of_mem.proofs.Writes.{once_put_all, once_none, each_put_all, all_each, written_length, written_put_all, written_from}
 
 -- a list with one cell written is the memory with that cell written
@@ -66,6 +66,36 @@ newest_fresh known a = refl
 pub part_fresh : (known : List (Option ℕ)) (xs : List ℕ) → Agrees known xs → IsPartOf (fresh_pad known) (memory xs)
 part_fresh known xs h a v q = h a v (sym (newest_fresh known a) ∙ q)
 
+known_same : (low : ℕ) (known others : List (Option ℕ)) → drop low known ≡ drop low others → (a : ℕ) → low ≤ a → get_or known a None ≡ get_or others a None
+known_same low known others same a k =
+    let e : get_or (drop low known) (a - low) None ≡ get_or (drop low others) (a - low) None = ap (λ (l : List (Option ℕ)). get_or l (a - low) None) same in
+    let b : low + (a - low) ≡ a = omega arith in
+    let p : get_or known (low + (a - low)) None ≡ get_or others (low + (a - low)) None = sym (get_or-drop low known (a - low) None) ∙ e ∙ get_or-drop low others (a - low) None in
+    rw b at p
+
+wrote_from : (low : ℕ) (p q : Pad) (b v : ℕ) → ((a : ℕ) → low ≤ a → newest p a ≡ newest q a) → (a : ℕ) → low ≤ a → newest (wrote p b v) a ≡ newest (wrote q b v) a
+wrote_from low p q b v h a l = elim (cases_eq a b) [
+  | inl e ↦ rw e (newest_same p b v ∙ sym (newest_same q b v))
+  | inr e ↦ newest_other p b v a e ∙ h a l ∙ sym (newest_other q b v a e)
+]
+
+wrote_script : (p q : Pad) (b v : ℕ) → p.script ≡ q.script → (wrote p b v).script ≡ (wrote q b v).script
+unfolding wrote
+wrote_script p q b v e = ap (λ (es : List (ℕ × ℕ)). put es b v) e
+
+read_from : (keeps : RawReply → Bool) (a : ℕ) (k : ℕ → Program RawReply) (p q : Pad) → ((v : ℕ) → walked keeps (run (k v) p) ≡ walked keeps (run (k v) q))
+    → (o : Option ℕ) → walked keeps (with_number o a (λ v. run (k v) p)) ≡ walked keeps (with_number o a (λ v. run (k v) q))
+read_from keeps a k p q again None = refl
+read_from keeps a k p q again (Some v) = again v
+
+-- partial memories that are alike from a cell on give the same walk to a program that stays there
+walk_from : (keeps : RawReply → Bool) (low : ℕ) (f : Program RawReply) (p q : Pad) → StaysFrom low f → p.script ≡ q.script → ((a : ℕ) → low ≤ a → newest p a ≡ newest q a) → walked keeps (run f p) ≡ walked keeps (run f q)
+walk_from keeps low (Done r) p q s e h = ap (λ (es : List (ℕ × ℕ)). Gives (cond (keeps r) es []) r) e
+walk_from keeps low (Read a k) p q s e h =
+    read_from keeps a k p q (λ v. walk_from keeps low (k v) p q (s.1 v) e h) (newest p a)
+    ∙ ap (λ (o : Option ℕ). walked keeps (with_number o a (λ v. run (k v) q))) (h a s.0)
+walk_from keeps low (Write a v f) p q s e h = walk_from keeps low f (wrote p a v) (wrote q a v) s.1 (wrote_script p q a v e) (wrote_from low p q a v h)
+
 drop_same : (low : ℕ) (xs ys : List ℕ) → SameFrom low xs ys → (a : ℕ) → low ≤ a → memory xs a ≡ memory ys a
 drop_same low xs ys same a k =
     let e : get_or (drop low xs) (a - low) 0 ≡ get_or (drop low ys) (a - low) 0 = ap (λ (l : List ℕ). get_or l (a - low) 0) same in
@@ -112,6 +142,7 @@ module _ (keeps : RawReply → Bool) (reads : List ℕ → Bool) (program : List
     shape = reply.shape;
     values = reply.values;
     marks = reply.marks;
+    rest = reply.rest;
     reads = λ only. none_kept q.script (keeps r) (e.script ∙ ap (put_all []) (no_writes (program op) (memory xs) (h.reads_only op only)));
   }
     where
@@ -137,5 +168,6 @@ module _ (keeps : RawReply → Bool) (reads : List ℕ → Bool) (program : List
     lawful_from = λ xs ys e d same l. h.lawful_from (memory xs) (memory ys) (drop_same low xs ys same) l;
     cells_from = λ xs ys op e d same. rw (← (same_run xs ys op same).0, ← (same_run xs ys op same).1) (cells_from xs ys (writes (program op) (memory xs)) (keeps (answer (program op) (memory xs))) same);
     reply_from = λ xs ys op e d same. (same_run xs ys op same).0;
+    walk_from = λ known others op e d same. walk_from keeps low (program op) (fresh_pad known) (fresh_pad others) (h.stays op) refl (λ a l. newest_fresh known a ∙ known_same low known others same a l ∙ sym (newest_fresh others a));
     walks = λ known xs op e l agrees. fits known xs op l (run (program op) (fresh_pad known)) (run_follows low size (program op) (fresh_pad known) (memory xs) (part_fresh known xs agrees) (h.inside (memory xs) op l));
   }

@@ -12,3 +12,4 @@ pub mod Programs
 pub mod Stores
 pub mod ProgramWork
 pub mod Calls
+pub mod Walks

@@ -1,5 +1,5 @@
 -- What a work means: what an operation does to a lawful list of cells, and how a run that knows only some cells goes.
-use Rattle.std.specs.Prelude.{◌≡◌, ℕ, ◌+◌, ◌*◌, ◌^◌, ◌/◌, ◌%◌, ◌==◌, ◌<◌, ◌≤◌, List, [], ◌∷◌, length, Option, Some, None, Bool, true, Result, MatchResult}
+use Rattle.std.specs.Prelude.{◌≡◌, ℕ, ◌+◌, ◌*◌, ◌^◌, ◌/◌, ◌%◌, ◌==◌, ◌<◌, ◌≤◌, List, [], ◌∷◌, length, Option, Some, None, Bool, true, false, Result, MatchResult}
 use Rattle.std.specs.List.{All}
 use Rattle.of_mem.specs.declared.work.TheConstants.{MOST_INSTRS, MOST_CALLERS, MOST_DATA_CELLS, LEAST_ABORT}
 use Rattle.of_mem.specs.Numbers.{FitsCell}
@@ -64,6 +64,8 @@ pub record Finishes (M : Meaning) (base size : ℕ) (xs op : List ℕ) (es : Lis
   pub values : All FitsCell r.values
   -- a number is marked only for an instruction of a script that wasn't aborted
   pub marks : (j : ℕ) → j < MOST_INSTRS → marked r.shape j ≡ true → (r.shape < LEAST_ABORT) × (j < length op) × (j < length r.values)
+  -- 0 stands where none is marked
+  pub rest : (j : ℕ) → j < MOST_INSTRS → marked r.shape j ≡ false → get_or r.values j 0 ≡ 0
   -- an operation that only reads writes nothing
   pub reads : M.reads_only op ≡ true → es ≡ []
 
@@ -88,4 +90,5 @@ pub record Sound (M : Meaning) (lawful : List ℕ → Type 0) (base size : ℕ) 
   pub lawful_from : (xs ys : List ℕ) → length xs ≡ size → length ys ≡ size → SameFrom base xs ys → lawful xs → lawful ys
   pub cells_from : (xs ys op : List ℕ) → length xs ≡ size → length ys ≡ size → SameFrom base xs ys → SameFrom base (M.cells xs op) (M.cells ys op)
   pub reply_from : (xs ys op : List ℕ) → length xs ≡ size → length ys ≡ size → SameFrom base xs ys → M.reply xs op ≡ M.reply ys op
+  pub walk_from : (known others : List (Option ℕ)) (op : List ℕ) → length known ≡ size → length others ≡ size → drop base known ≡ drop base others → M.walk known op ≡ M.walk others op
   pub walks : (known : List (Option ℕ)) (xs op : List ℕ) → length xs ≡ size → lawful xs → Agrees known xs → Fits M base size known xs op (M.walk known op)

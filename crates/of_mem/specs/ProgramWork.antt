@@ -1,5 +1,5 @@
 -- Works whose operations are programs.
-use Rattle.std.specs.Prelude.{◌≡◌, ℕ, ◌<◌, ◌≤◌, Bool, true, cond, List, [], length, Option}
+use Rattle.std.specs.Prelude.{◌≡◌, ℕ, ◌<◌, ◌≤◌, Bool, true, false, cond, List, [], length, Option}
 use Rattle.std.specs.List.{All}
 use Rattle.std.proofs.Common.{get_or}
 use Rattle.of_mem.specs.declared.work.RawReply.{RawReply}
@@ -31,11 +31,12 @@ meaning_of keeps reads program = record {
   reads_only = reads;
 }
 
--- a reply of words, whose marked numbers belong to instructions of a script that wasn't aborted
+-- a reply of words, whose marked numbers belong to instructions of a script that wasn't aborted, and that has 0 elsewhere
 pub record IsReply (op : List ℕ) (r : RawReply) : Type 0 where
   pub shape : FitsCell r.shape
   pub values : All FitsCell r.values
   pub marks : (j : ℕ) → j < MOST_INSTRS → marked r.shape j ≡ true → (r.shape < LEAST_ABORT) × (j < length op) × (j < length r.values)
+  pub rest : (j : ℕ) → j < MOST_INSTRS → marked r.shape j ≡ false → get_or r.values j 0 ≡ 0
 
 -- what is asked of the programs, for a work of this size whose operations begin at this cell and keep memory lawful
 pub record AreSound (keeps : RawReply → Bool) (reads : List ℕ → Bool) (program : List ℕ → Program RawReply) (lawful : (ℕ → ℕ) → Type 0) (low size : ℕ) : Type 0 where

@@ -15,6 +15,8 @@ pub record Remains : Type 0 where
   pub writes : List (ℕ × ℕ)
   -- cells are below it
   pub room : ℕ
+  -- the key that the next word looks for before all else, where that was kept
+  pub sought : Option ℕ
 
 -- an operation of which nothing has run
 abbrev pub begun : ℕ → ℕ → ℕ → List ℕ → Remains
@@ -26,6 +28,7 @@ begun room callers blocks words = record {
   values = replicate MOST_INSTRS None;
   writes = [];
   room = room;
+  sought = None;
 }
 
 -- nothing is kept

@@ -1,6 +1,6 @@
 //! What a work keeps between two runs.
 
-ghost use Rattle.std.specs.Prelude.{◌≡◌, ◌≤◌, ◌<◌, ◌+◌, ◌↔◌, IsTrue, length, IfOk};
+ghost use Rattle.std.specs.Prelude.{◌≡◌, ◌≤◌, ◌<◌, ◌+◌, ◌↔◌, IsTrue, length, IfOk, None};
 ghost use Rattle.std.proofs.Common.{set};
 ghost use Rattle.of_mem.specs.declared.work.TheConstants.{MOST_INSTRS};
 ghost use Rattle.of_mem.specs.Remains.{no_remains, begun, IsOf};
@@ -12,7 +12,8 @@ use std::alloc::{AllocError, Global};
 use std::marker::Model;
 
 /// What a work keeps of an operation whose run lacked a cell: the work's own numbers, the
-/// operation's words, how many of the first words have run, and what these answered and wrote.
+/// operation's words, how many of the first words have run, what these answered and wrote, and the
+/// key that the next word looks for before all else, if it does.
 /// There are no words where nothing is kept. Only `new` takes memory.
 #[derive(Drop)]
 pub struct Kept {
@@ -23,6 +24,7 @@ pub struct Kept {
     done: u32,
     values: [Option<u32>; MOST_INSTRS],
     writes: CellMap,
+    sought: Option<u32>,
 }
 
 impl Model for Kept {
@@ -42,6 +44,7 @@ impl Model for Kept {
       values = take k.done k.values ++ replicate (MOST_INSTRS - k.done) None;
       writes = k.writes.entries;
       room = k.writes.room;
+      sought = k.sought;
     } };
 
     ghost invariant = { λ k. (k.done ≤ k.count) × (k.count ≤ MOST_INSTRS) × (length k.words ≡ MOST_INSTRS)
@@ -63,6 +66,7 @@ impl Kept {
             done: 0,
             values: [None; MOST_INSTRS],
             writes,
+            sought: None,
         })
     }
 
@@ -75,6 +79,7 @@ impl Kept {
         self.count = 0;
         self.done = 0;
         self.writes.clear();
+        self.sought = None;
     }
 
     /// Keeps an operation of at most `MOST_INSTRS` words of which nothing has run.
@@ -88,6 +93,7 @@ impl Kept {
         self.words[..words.len()].copy_from_slice(words);
         self.done = 0;
         self.writes.clear();
+        self.sought = None;
     }
 
     /// Whether it is kept of this operation, by the work with these numbers.
@@ -125,11 +131,27 @@ impl Kept {
           done = self.old.done + 1;
           values = set self.old.values self.old.done value;
           writes = part.now.script;
+          sought = None;
         } }
     {
         self.values[self.done as usize] = value;
         self.done += 1;
+        self.sought = None;
         part.copy_script(&mut self.writes);
+    }
+
+    /// The key that the next word looks for before all else, where that was kept.
+    pub fn sought(&self) -> Option<u32>
+        ensures { result ≡ self.now.sought }
+    {
+        self.sought
+    }
+
+    /// Keeps the key that the next word looks for before all else, or that there is none.
+    pub fn seek(&mut self, key: Option<u32>)
+        ensures { self.new ≡ record self.old { sought = key } }
+    {
+        self.sought = key;
     }
 
     /// Lets the script have written what the words wrote that have run.

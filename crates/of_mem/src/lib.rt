@@ -12,7 +12,7 @@ mod work;
 mod workspace;
 
 pub use kept::{Keeps, Kept};
-pub use part::{Need, Part};
+pub use part::{Need, Part, Walk};
 pub use plot::{BUCKETS, MOST_BLOCKS, Plot, QUEUES, REGISTERS};
 pub use work::{LEAST_ABORT, MOST_CALLERS, MOST_DATA_CELLS, MOST_INSTRS, RawReply, Work};
 pub use workspace::Workspace;

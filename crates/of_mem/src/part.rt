@@ -1,11 +1,16 @@
 //! Partial memory.
 
-ghost use Rattle.std.specs.Prelude.{◌≡◌, ◌<◌, ◌≤◌, [], length, slice_index_or, IfOk, None};
+ghost use Rattle.std.specs.Prelude.{◌≡◌, ◌<◌, ◌≤◌, ◌%◌, [], length, slice_index_or, IfOk, None};
 ghost use Rattle.std.proofs.Common.{get_or, is_some};
 ghost use Rattle.of_mem.specs.Pad.{unknown, learnt, wrote, kept, ReadsAt};
+ghost use Rattle.of_mem.specs.declared.plot.TheConstants.{BUCKETS};
+ghost use Rattle.of_mem.specs.Places.{bucket_at};
+ghost use Rattle.of_mem.specs.Plots.{base};
+ghost use Rattle.of_mem.specs.Walks.{Passes};
 
 use crate::cell_map::CellMap;
 use crate::layers::Layers;
+use crate::plot::{BUCKETS, Plot};
 use std::alloc::{AllocError, Global};
 use std::marker::Model;
 
@@ -13,6 +18,22 @@ use std::marker::Model;
 #[derive(Clone, Copy, Debug, PartialEq, Eq)]
 pub struct Need {
     pub addr: u32,
+}
+
+/// How far the walk of a key came through its bucket: past so many blocks with other keys, to this
+/// cell, which points to the next one.
+#[derive(Clone, Copy, Debug, PartialEq, Eq)]
+pub struct Walk {
+    pub cell: u32,
+    pub passed: u32,
+}
+
+/// The walk of which key, over cells of a store that begin at which one.
+#[derive(Clone, Copy, Debug, PartialEq, Eq)]
+struct KeyWalk {
+    base: u32,
+    key: u32,
+    walk: Walk,
 }
 
 /// Partial memory: the cells that are known, what a batch of scripts wrote over them, and what a
@@ -24,6 +45,9 @@ pub struct Part {
     /// Whether the script's writes are undone, though they still stand in the layers: a script that
     /// goes on where it stopped has written the same.
     undone: bool,
+    /// The last walk of a key that was kept, so that a run that lacked a cell goes on in the middle
+    /// of a bucket. None is kept where it passed no block.
+    last: KeyWalk,
 }
 
 impl Model for Part {
@@ -31,9 +55,16 @@ impl Model for Part {
 
     ghost Value = { Pad };
 
+    ghost use Rattle.std.specs.Prelude.{◌≤◌, ◌%◌};
+    ghost use Rattle.of_mem.specs.declared.plot.TheConstants.{BUCKETS};
     ghost use Rattle.of_mem.specs.Pad.{shown};
+    ghost use Rattle.of_mem.specs.Places.{bucket_at};
+    ghost use Rattle.of_mem.specs.Walks.{Passes};
 
     ghost view = { λ p. shown p.undone p.layers };
+
+    ghost invariant = { λ p. 1 ≤ p.last.walk.passed
+        → Passes p.last.base p.last.key p.layers p.last.walk.passed (bucket_at p.last.base (p.last.key % BUCKETS)) p.last.walk.cell };
 }
 
 impl Part {
@@ -46,6 +77,11 @@ impl Part {
         Ok(Part {
             layers,
             undone: false,
+            last: KeyWalk {
+                base: 0,
+                key: 0,
+                walk: Walk { cell: 0, passed: 0 },
+            },
         })
     }
 
@@ -54,6 +90,9 @@ impl Part {
         requires { addr < length self.old.known }
         ensures { self.new ≡ learnt self.old addr value }
     {
+        if self.last.walk.passed > 0 && self.layers.knows(addr) {
+            self.last.walk.passed = 0;
+        }
         self.layers.learn(addr, value);
     }
 
@@ -89,6 +128,7 @@ impl Part {
             self.layers.undo();
             self.undone = false;
         }
+        self.last.walk.passed = 0;
         self.layers.write(addr, value);
     }
 
@@ -121,6 +161,7 @@ impl Part {
             self.layers.undo();
             self.undone = false;
         }
+        self.last.walk.passed = 0;
         self.layers.keep();
     }
 
@@ -137,6 +178,41 @@ impl Part {
     {
         self.layers.clear();
         self.undone = false;
+        self.last.walk.passed = 0;
+    }
+
+    /// How far the walk of a key came that was kept; if none was, it is at the front of the bucket.
+    pub fn walk(&self, plot: &Plot, key: u32) -> Walk
+        ensures passes { Passes (base plot.now) key self.now result.passed
+            (bucket_at (base plot.now) (key % BUCKETS)) result.cell }
+        ensures few { result.passed ≤ plot.now.blocks }
+    {
+        let last = self.last;
+        let is_of_key = last.key == key && last.base == plot.base();
+        if is_of_key && !self.undone && last.walk.passed > 0 && last.walk.passed <= plot.blocks {
+            return last.walk;
+        }
+        Walk {
+            cell: plot.bucket(key % BUCKETS),
+            passed: 0,
+        }
+    }
+
+    /// Keeps how far the walk of a key came, until the script writes or a cell changes.
+    pub fn keep_walk(&mut self, plot: &Plot, key: u32, walk: Walk)
+        requires { Passes (base plot.now) key self.old walk.passed
+            (bucket_at (base plot.now) (key % BUCKETS)) walk.cell }
+        ensures { self.new ≡ self.old }
+    {
+        if self.undone {
+            self.last.walk.passed = 0;
+        } else {
+            self.last = KeyWalk {
+                base: plot.base(),
+                key,
+                walk,
+            };
+        }
     }
 
     /// Copies what the script wrote.
@@ -159,6 +235,7 @@ impl Part {
         ensures { self.new ≡ record self.old { script = writes.now.entries } }
     {
         if !self.layers.has_written(writes) {
+            self.last.walk.passed = 0;
             self.layers.set_script(writes);
         }
         self.undone = false;

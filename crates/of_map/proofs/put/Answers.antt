@@ -10,13 +10,13 @@ pub seek-requires : goal.seek-requires
 seek-requires c = leads_bucket c.args.plot.now c.args.part.now c.args.key c.requires.stands
 
 pub change-requires-clause-block : goal.change-requires-clause-block
-change-requires-clause-block c = kept_below c.args.plot.now c.args.part.now c.args.key c.in-Some.place (seek_kept c.args.plot.now c.args.part.now c.args.key _ c.in-Some.place c.requires.stands c.in_ok-place.ensures c.in-Some.is)
+change-requires-clause-block c = kept_below c.args.plot.now c.args.part.now c.args.key c.in-Some.place (seek_kept c.args.plot.now c.args.part.now c.seek.new.part c.args.key _ c.in-Some.place c.requires.stands c.in_ok-place.ensures.runs c.in-Some.is)
 
 pub returns-in-Some-clause-runs : goal.returns-in-Some-clause-runs
-returns-in-Some-clause-runs c = goes_on (seek c.args.plot.now c.args.key) (put_found (base c.args.plot.now) c.args.plot.now.blocks c.args.key c.args.value) _ _ _ _ (Some c.in-Some.place) c.change.result c.in_ok-place.ensures c.in-Some.is c.change.ensures.runs
+returns-in-Some-clause-runs c = goes_on (seek c.args.plot.now c.args.key) (put_found (base c.args.plot.now) c.args.plot.now.blocks c.args.key c.args.value) _ _ _ _ (Some c.in-Some.place) c.change.result c.in_ok-place.ensures.runs c.in-Some.is c.change.ensures.runs
 
 pub returns-in-None-clause-runs : goal.returns-in-None-clause-runs
-returns-in-None-clause-runs c = goes_on (seek c.args.plot.now c.args.key) (put_found (base c.args.plot.now) c.args.plot.now.blocks c.args.key c.args.value) _ _ _ _ None c.insert.result c.in_ok-place.ensures c.in-None.is c.insert.ensures.runs
+returns-in-None-clause-runs c = goes_on (seek c.args.plot.now c.args.key) (put_found (base c.args.plot.now) c.args.plot.now.blocks c.args.key c.args.value) _ _ _ _ None c.insert.result c.in_ok-place.ensures.runs c.in-None.is c.insert.ensures.runs
 
 pub returns-in-Some-clause-puts : goal.returns-in-Some-clause-puts
 returns-in-Some-clause-puts c = record {
@@ -27,5 +27,5 @@ returns-in-Some-clause-puts c = record {
 pub returns-in-None-clause-puts : goal.returns-in-None-clause-puts
 returns-in-None-clause-puts c = record {
   acts = put_acts c.args.plot.now c.args.key c.args.value c.requires.pair _ _ _ (returns-in-None-clause-runs c);
-  full = c.insert.ensures.full;
+  full = rw c.in_ok-place.ensures.part at c.insert.ensures.full;
 }

@@ -8,4 +8,4 @@ use Rattle.of_eval.proofs.step.need.Goals as goal
 pub returns : goal.returns
 returns c =
     goes_on (get c.args.plot.now c.args.key) (need_answers c.args.value) _ _ _ _ c.in_ok-found.found (Ok c.compare.result) c.in_ok-found.ensures.runs refl
-    (record { walk = ap (λ (f : Program Answer). run f c.args.part.now) c.compare.ensures; known = refl; batch = refl })
+    (record { walk = ap (λ (f : Program Answer). run f c.get.new.part) c.compare.ensures; known = refl; batch = refl })

@@ -13,33 +13,33 @@ use Rattle.of_eval.specs.Stopped.{pad, GoesOn}
 use Rattle.of_eval.proofs.Walks.{ran_aborts, ran_lacks, ran_more, ran_ends}
 use Rattle.of_eval.proofs.Resumed.{begun_goes, after_word, goes_more, ran_so, of_store, has_store, goes_there, holds_so}
 use Rattle.of_eval.proofs.walk.run_words.Goals as goal
-use Rattle.of_eval.proofs.walk.run_words.Goals.{then-is_of, else-is_of}
+use Rattle.of_eval.proofs.walk.run_words.Goals.{then-not-is_of, else-not-is_of}
 
 pub loop-i-init : goal.loop-i-init
-loop-i-init c = elim c.if-is_of.branch [
-  | then-is_of w ↦ (
-      let was = c.is_of.ensures.0 w.if-is_of.true in
-      let of : IsOf c.if-is_of.kept c.args.plot.now.callers c.args.plot.now.blocks c.args.op.now = rw w.kept-is was in
-      let goes : GoesOn (base c.args.plot.now) c.args.plot.now.blocks c.if-is_of.kept c.args.part.now = rw w.kept-is (goes_there c.args.plot.now c.args.kept.now c.args.part.now c.args.op.now was c.requires.instrs c.requires.words.some c.requires.holds) in
+loop-i-init c = elim c.if-not-is_of.branch [
+  | then-not-is_of w ↦ (
+      let new : c.if-not-is_of.kept ≡ begun c.args.kept.now.room c.args.plot.now.callers c.args.plot.now.blocks c.args.op.now = w.kept-is ∙ w.begin.ensures in
+      let of : IsOf c.if-not-is_of.kept c.args.plot.now.callers c.args.plot.now.blocks c.args.op.now = rw new (record { callers = refl; blocks = refl; words = refl }) in
+      let goes : GoesOn (base c.args.plot.now) c.args.plot.now.blocks c.if-not-is_of.kept c.args.part.now = rw new (begun_goes (base c.args.plot.now) c.args.plot.now.blocks c.args.kept.now.room c.args.plot.now.callers c.args.plot.now.blocks c.args.op.now c.args.part.now c.requires.words.some) in
       record {
         of = of;
         done = sym c.done-i.ensures.value;
         below = omega (arith, c.done-i.ensures.value, goes.left, ap length of.words);
         goes = goes;
-        part = rw (w.part-is, w.kept-is) w.restore.ensures;
-        room = ap (λ k. k.room) w.kept-is;
-      })
-  | else-is_of w ↦ (
-      let new : c.if-is_of.kept ≡ begun c.args.kept.now.room c.args.plot.now.callers c.args.plot.now.blocks c.args.op.now = w.kept-is ∙ w.begin.ensures in
-      let of : IsOf c.if-is_of.kept c.args.plot.now.callers c.args.plot.now.blocks c.args.op.now = rw new (record { callers = refl; blocks = refl; words = refl }) in
-      let goes : GoesOn (base c.args.plot.now) c.args.plot.now.blocks c.if-is_of.kept c.args.part.now = rw new (begun_goes (base c.args.plot.now) c.args.plot.now.blocks c.args.kept.now.room c.args.plot.now.callers c.args.plot.now.blocks c.args.op.now c.args.part.now c.requires.words.some) in
-      record {
-        of = of;
-        done = sym c.done-i.ensures.value;
-        below = omega (arith, c.done-i.ensures.value, goes.left, ap length of.words);
-        goes = goes;
-        part = rw (w.part-is, new) (ap (pad c.args.part.now.known c.args.part.now.batch) c.requires.empty);
+        part = c.restore.ensures;
         room = ap (λ k. k.room) new;
+      })
+  | else-not-is_of w ↦ (
+      let was = c.is_of.ensures.0 w.if-not-is_of.false in
+      let of : IsOf c.if-not-is_of.kept c.args.plot.now.callers c.args.plot.now.blocks c.args.op.now = rw w.kept-is was in
+      let goes : GoesOn (base c.args.plot.now) c.args.plot.now.blocks c.if-not-is_of.kept c.args.part.now = rw w.kept-is (goes_there c.args.plot.now c.args.kept.now c.args.part.now c.args.op.now was c.requires.instrs c.requires.words.some c.requires.holds) in
+      record {
+        of = of;
+        done = sym c.done-i.ensures.value;
+        below = omega (arith, c.done-i.ensures.value, goes.left, ap length of.words);
+        goes = goes;
+        part = c.restore.ensures;
+        room = ap (λ k. k.room) w.kept-is;
       })
 ]
 
@@ -55,6 +55,9 @@ returns-in_err-cause-clause-runs c =
       known = c.in_err-cause.ensures.known ∙ ap (λ (x : Pad). x.known) c.loop-i.invariant.part;
       batch = c.in_err-cause.ensures.batch ∙ ap (λ (x : Pad). x.batch) c.loop-i.invariant.part;
     })
+
+pub returns-in_err-cause-clause-holds : goal.returns-in_err-cause-clause-holds
+returns-in_err-cause-clause-holds c = holds_so c.args.plot.now c.loop-i.kept c.args.part.now c.args.op.now c.loop-i.invariant.of c.requires.instrs c.loop-i.invariant.goes
 
 pub returns-in-Err-clause-runs : goal.returns-in-Err-clause-runs
 returns-in-Err-clause-runs c = rw c.aborted.ensures (record {
