@@ -1,0 +1,61 @@
+-- What a closed row of scripts holds: one serial history of scripts on the plain store.
+use Rattle.std.specs.Prelude.{◌≡◌, ℕ, ◌<◌, ◌≤◌, ◌+◌, ◌⊎◌, List, [], ◌∷◌, length, map, false}
+use Rattle.std.proofs.Common.{get_or}
+use Rattle.std.specs.List.{All}
+use Rattle.of_cell.specs.Words.{pay}
+use Rattle.of_recover.specs.Recovered.{recovered}
+use Rattle.of_mem.specs.ProgramWork.{memory}
+use Rattle.of_store.specs.State.{State}
+use Rattle.of_eval.specs.declared.scripts.Scripts.{Scripts}
+use Rattle.of_eval.specs.Scripts.{store_at, cells_in, LawfulCells, scripts_meaning}
+use Rattle.of_eval.specs.Stored.{IsStored}
+use Rattle.of_core.specs.Table.{Setup, setup_of}
+use Rattle.of_core.specs.World.{Start}
+use Rattle.of_core.specs.Starts.{IsDurable, IsStartRow, start_of}
+use Rattle.of_row.specs.Views.{Kept, Sight, Each}
+use Rattle.of_row.specs.Rule.{Meets, done_before}
+use Rattle.of_memory.specs.History.{Entry, Made, IsSerial, store_after, StandsInOrder, ExplainsAll}
+use Rattle.of_memory.specs.Calls.{RunsScripts, AreMade}
+
+-- what the machines on a table for these scripts have in common
+abbrev pub setup_with : Scripts → (limit : ℕ) → Setup
+setup_with w limit = setup_of w.callers (cells_in w) limit (scripts_meaning w)
+
+-- the cells of a start stand for this store
+abbrev pub StandsAt : Scripts → Start → State → Type 0
+StandsAt w B s = IsStored (store_at w) w.blocks (memory (map pay B.cells)) s
+
+-- a caller of this number is kept, of which this holds
+abbrev pub KeepsSo : (n : ℕ) → (Kept → Type 0) → List Kept → Type 0
+KeepsSo n P [] = ⊥
+KeepsSo n P (x ∷ xs) = ((x.machine.caller ≡ n) × P x) ⊎ KeepsSo n P xs
+
+-- each number is kept, and has made calls of scripts alone
+abbrev pub KeepScripts : Setup → Sight → Type 0
+KeepScripts S v = (n : ℕ) → n < S.callers → KeepsSo n RunsScripts v.kept
+
+-- the history has the calls of the kept caller as they have ended
+abbrev pub ExplainsKept : Setup → Start → List Entry → Kept → Type 0
+ExplainsKept S B h x =
+    (ms : List Made) → AreMade x.ended ms
+    → ExplainsAll h x.machine.caller (done_before S B x.machine.caller) ms
+
+-- a serial history leads from the store to the one that the row stands for
+pub record Leads (w : Scripts) (limit : ℕ) (B : Start) (v : Sight) (s : State) (row : List ℕ)
+    (h : List Entry) : Type 0 where
+  pub serial : IsSerial s h
+  pub ends : StandsAt w (start_of w.callers (cells_in w) row) (store_after s h)
+  pub order : StandsInOrder h
+  pub calls : Each (ExplainsKept (setup_with w limit) B h) v.kept
+
+-- Where words and a view meet the rule of a row of these scripts, and the view keeps each caller,
+-- recovery of the durable words finds a row from which a table may start, and a serial history leads
+-- there from each store that the row has started with.
+abbrev pub HoldsHistory : Scripts → (limit : ℕ) → Type 0
+HoldsHistory w limit =
+    let S : Setup = setup_with w limit in
+    (B : Start) (ws : List ℕ) (v : Sight) → Meets S (LawfulCells w) B ws v → v.spent ≡ false
+    → KeepScripts S v → (row : List ℕ) → IsDurable S ws row
+    → IsStartRow S (LawfulCells w) (recovered w.callers (cells_in w) row)
+    × ((s : State) → StandsAt w B s
+    → (h : List Entry) × Leads w limit B v s (recovered w.callers (cells_in w) row) h)
