@@ -1,2 +1,6 @@
 pub mod Replaying
 pub mod Histories
+pub mod Plans
+pub mod Called
+pub mod Seats
+pub mod Starting

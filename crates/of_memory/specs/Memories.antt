@@ -1,0 +1,72 @@
+-- A memory that a program has opened, and what its close leaves.
+use Rattle.std.specs.Prelude.{◌≡◌, ◌≢◌, ℕ, ◌<◌, List, Option, Some, None, length}
+use Rattle.std.proofs.Common.{get_or}
+use Rattle.std.specs.Arc.{arc_value}
+use Rattle.of_store.specs.State.{State}
+use Rattle.of_eval.specs.declared.scripts.Scripts.{Scripts}
+use Rattle.of_row.specs.declared.row.Row.{Row}
+use Rattle.of_row.specs.Rows.{key_of, IsOf}
+use Rattle.of_caller.specs.declared.caller.Caller.{Caller}
+use Rattle.of_memory.specs.declared.memory.Memory.{Memory}
+use Rattle.of_memory.specs.declared.handle.Handle.{Handle}
+use Rattle.of_memory.specs.declared.saved.Saved.{Saved}
+use Rattle.of_memory.specs.History.{Entry, Made, IsSerial, store_after, StandsInOrder, ExplainsAll}
+use Rattle.of_memory.specs.Calls.{AreMade}
+use Rattle.of_memory.specs.Laws.{StandsAt}
+use Rattle.of_memory.specs.Serving.{IsScriptsRow, ServeAll, ended_of, start_of_row, made_before}
+use Rattle.of_memory.specs.Saving.{Holds}
+use Rattle.of_memory.specs.Handles.{home_of}
+
+abbrev pub row_of : Memory → Row Scripts
+row_of m = arc_value m.row
+
+-- it is open, and its callers have run scripts alone
+pub record IsMemory (m : Memory) : Type 0 where
+  pub row : IsScriptsRow (row_of m)
+  pub pass : IsOf (row_of m) m.pass.seat
+  pub each : length m.callers.items ≡ (key_of (row_of m)).callers
+  pub serve : ServeAll (row_of m) m.callers.items
+
+-- how many callers it has
+abbrev pub callers_of : Memory → ℕ
+callers_of m = (key_of (row_of m)).callers
+
+-- the store that it was opened with
+abbrev pub StartsWith : Memory → State → Type 0
+StartsWith m s = StandsAt (key_of (row_of m)).work (start_of_row (row_of m)) s
+
+-- how many calls of a caller it was opened with
+abbrev pub tickets_before : Memory → ℕ → ℕ
+tickets_before m n = made_before (row_of m) n
+
+-- no handle of this number is out, and since the memory was opened its number has made these calls,
+-- which have ended
+pub record HasMadeOf (m : Memory) (n : ℕ) (ms : List Made) : Type 0 where
+  pub caller : Caller Scripts
+  pub here : get_or m.callers.items n None ≡ Some caller
+  pub made : AreMade (ended_of caller) ms
+
+-- the handle is the memory's
+abbrev pub IsFrom : Memory → Handle → Type 0
+IsFrom m h = home_of h ≡ row_of m
+
+-- it is the same memory still
+abbrev pub IsStill : (before now : Memory) → Type 0
+IsStill m k = row_of k ≡ row_of m
+
+-- of the numbers other than n it knows what it knew
+abbrev pub KnowsOthers : ℕ → (before now : Memory) → Type 0
+KnowsOthers n m k = (i : ℕ) (ms : List Made) → i ≢ n → HasMadeOf m i ms → HasMadeOf k i ms
+
+-- The history leads from the store with which the memory was opened to the saved one. It is serial;
+-- the calls of each caller stand in it in the order in which they were made, and each once at most;
+-- and it has each call that was answered, with its reply.
+pub record LeadsTo (m : Memory) (s : State) (d : Saved) (h : List Entry) : Type 0 where
+  pub serial : IsSerial s h
+  pub ends : Holds d (store_after s h)
+  pub order : StandsInOrder h
+  pub made : (n : ℕ) (ms : List Made) → HasMadeOf m n ms → ExplainsAll h n (tickets_before m n) ms
+
+-- so it is of the store with which it was opened
+abbrev pub HasHistory : Memory → Saved → Type 0
+HasHistory m d = (s : State) → StartsWith m s → (h : List Entry) × LeadsTo m s d h
