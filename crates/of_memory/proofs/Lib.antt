@@ -4,3 +4,4 @@ pub mod Plans
 pub mod Called
 pub mod Seats
 pub mod Starting
+pub mod Closing

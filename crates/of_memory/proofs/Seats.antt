@@ -1,5 +1,6 @@
 -- The callers of a memory at their places, and what a pass keeps that gathers them.
-use Rattle.std.proofs.Common.{◌≡◌, ◌≢◌, ℕ, zero, suc, ◌+◌, ◌≤◌, ◌<◌, ◌⊎◌, inl, inr, List, [], ◌∷◌, ◌++◌, length, get_or, set, Option, Some, None, refl, sym, ap, subst, ◌∙◌, arith}
+use Rattle.std.specs.Prelude.{is_some, not}
+use Rattle.std.proofs.Common.{◌≡◌, ◌≢◌, ℕ, zero, suc, ◌+◌, ◌≤◌, ◌<◌, ◌⊎◌, inl, inr, Bool, true, false, List, [], ◌∷◌, ◌++◌, length, get_or, set, Option, Some, None, refl, sym, ap, subst, ◌∙◌, arith}
 use Rattle.std.proofs.lemmas.Bool.{cases_lt}
 use mathlib.Core.Bool.{true≢false}
 use Rattle.std.proofs.lemmas.List.{get_or-set_same, get_or-set_other, get_or_append_left, get_or_past, length-set}
@@ -160,3 +161,28 @@ keeps_own r n c s =
     let last : last_kept (sight_of c).kept ≡ is.member.0 = ap last_kept is.member.1 in
     subst (KeepsSo n (IsKeptOf c)) (sym is.member.1)
     (inl (at, record { runs = subst RunsScripts last s.runs; ended = ap (λ (x : Kept). x.ended) (sym last) }))
+
+-- one place more
+pub kept_more : (fs : List (Option (Caller Scripts))) (i : ℕ) (xs ys : List Kept) → KeepsThose fs i xs → ((n : ℕ) (c : Caller Scripts) → KeepsSo n (IsKeptOf c) xs → KeepsSo n (IsKeptOf c) ys)
+    → ((c : Caller Scripts) → get_or fs i None ≡ Some c → KeepsSo i (IsKeptOf c) ys) → KeepsThose fs (i + 1) ys
+kept_more fs i xs ys all others own n c lt here = elim (cases_lt n i) [
+  | inl low ↦ others n c (all n c low here)
+  | inr high ↦
+      let at : n ≡ i = omega (arith, lt, high) in
+      subst (λ (k : ℕ). KeepsSo k (IsKeptOf c) ys) (sym at) (own c (ap (λ (k : ℕ). get_or fs k None) (sym at) ∙ here))
+]
+
+pub same_caller : (a b : Caller Scripts) (x : Option (Caller Scripts)) → x ≡ Some a → x ≡ Some b → a ≡ b
+same_caller a b x p q = cc (p, q)
+
+pub here_more : (cs : List (Option (Caller Scripts))) (i : ℕ) → AllHere cs i → (c : Caller Scripts) × (get_or cs i None ≡ Some c) → AllHere cs (i + 1)
+here_more cs i all one n lt = elim (cases_lt n i) [
+  | inl low ↦ all n low
+  | inr high ↦
+      let at : n ≡ i = omega (arith, lt, high) in
+      (one.0, ap (λ (k : ℕ). get_or cs k None) at ∙ one.1)
+]
+
+pub one_there : (o : Option (Caller Scripts)) (b : Bool) → is_some o ≡ not b → b ≡ false → (c : Caller Scripts) × (o ≡ Some c)
+one_there None b e f = absurd (true≢false (sym (ap not f) ∙ sym e))
+one_there (Some c) b e f = (c, refl)

@@ -3,17 +3,16 @@
 ghost use Rattle.std.specs.Prelude.{◌≡◌, ◌≤◌, ◌+◌, ℕ, List, length, slice_range};
 ghost use Rattle.of_cell.specs.Cells.{durable_cells, table_words};
 ghost use Rattle.of_mem.specs.declared.work.TheConstants.{MOST_INSTRS};
+ghost use Rattle.of_recover.specs.Row.{IsDurableRow};
+ghost use Rattle.of_recover.specs.Recovered.{recovered};
 ghost use Rattle.of_eval.specs.Scripts.{cells_in};
 
-use of_cell::{Shape, payload_of};
-use of_eval::{LawErr, Scripts, lawful};
+use of_cell::Shape;
+use of_eval::Scripts;
 use of_recover::laws::recovered_cells;
 use of_recover::recover;
 use of_row::{Pass, Row};
-use of_store::Store;
-use std::alloc::{AllocError, Global};
 
-use crate::error::StoreErr;
 use crate::laws::history_is_held;
 
 /// The shape of a table for scripts.
@@ -39,6 +38,15 @@ fn keep_durable(cells: usize, words: &mut Vec<u64>)
         words[cell] = words[cells + cell];
     }
     words.truncate(cells);
+}
+
+// Recovers durable words, in place.
+fn recover_words(shape: &Shape, words: &mut Vec<u64>)
+    requires { IsDurableRow shape.now.callers shape.now.cells words.old.items }
+    ensures { words.new.items ≡ recovered shape.now.callers shape.now.cells words.old.items }
+{
+    recovered_cells(shape, words);
+    recover(shape, words);
 }
 
 /// What a closed memory leaves: its durable words, recovered.
@@ -76,8 +84,7 @@ impl Saved {
         let shape = row.shape();
         let (mut words, _pass) = row.close(pass);
         keep_durable(shape.durable_cells() as usize, &mut words);
-        recovered_cells(&shape, &words);
-        recover(&shape, &mut words);
+        recover_words(&shape, &mut words);
         Saved {
             scripts,
             limit,
