@@ -5,3 +5,4 @@ pub mod Called
 pub mod Seats
 pub mod Starting
 pub mod Closing
+pub mod Holding

@@ -24,14 +24,13 @@ pub struct Memory {
 }
 
 impl Memory {
-    ghost use Rattle.std.specs.Prelude.{◌≡◌, ◌<◌, ◌≢◌, ◌↔◌, ℕ, List, [], IfOk, IfErr, IsTrue, Some, None};
-    ghost use Rattle.std.proofs.Common.{get_or};
+    ghost use Rattle.std.specs.Prelude.{◌≡◌, ◌<◌, ℕ, List, [], IfOk, IfErr, length};
     ghost use Rattle.of_store.specs.State.{State, empty_store};
     ghost use Rattle.of_row.specs.Rows.{key_of};
     ghost use Rattle.of_row.specs.Passes.{IsFirst};
     ghost use Rattle.of_memory.specs.History.{Made};
     ghost use Rattle.of_memory.specs.Calls.{AreMade};
-    ghost use Rattle.of_memory.specs.Serving.{IsScriptsRow, Serves, ended_of};
+    ghost use Rattle.of_memory.specs.Serving.{IsScriptsRow, Serves, AllHere, ended_of};
     ghost use Rattle.of_memory.specs.Saving.{IsSaved, Holds, ticket_in};
     ghost use Rattle.of_memory.specs.Handles.{IsHandle, HasMade};
     ghost use Rattle.of_memory.specs.Memories.{IsMemory, row_of, callers_of, StartsWith, tickets_before};
@@ -155,9 +154,22 @@ impl Memory {
         ensures callers { IfOk result (λ d. d.scripts.callers ≡ callers_of self) }
         ensures in_use { IfErr result (λ e. e.0 ≡ self) }
     {
-        if !all_here(&self.callers) {
-            return Err(InUse(self));
+        if all_here(&self.callers) {
+            self.close_at_home()
+        } else {
+            Err(InUse(self))
         }
+    }
+
+    // The same, where no handle is out.
+    fn close_at_home(self) -> Result<Saved, InUse>
+        requires memory { IsMemory self }
+        requires here { AllHere self.callers.items (length self.callers.items) }
+        ensures saved { IfOk result IsSaved }
+        ensures history { IfOk result (HasHistory self) }
+        ensures callers { IfOk result (λ d. d.scripts.callers ≡ callers_of self) }
+        ensures in_use { IfErr result (λ e. e.0 ≡ self) }
+    {
         let Memory {
             alloc,
             row,
