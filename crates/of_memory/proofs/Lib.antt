@@ -6,3 +6,4 @@ pub mod Seats
 pub mod Starting
 pub mod Closing
 pub mod Holding
+pub mod Reading

@@ -1,6 +1,7 @@
 //! Why something can't be done.
 
 use crate::memory::Memory;
+use of_eval::LawErr;
 use std::alloc::AllocError;
 use std::error::Error as StdError;
 use std::fmt;
@@ -51,11 +52,29 @@ pub enum RunErr {
     NoTicket,
 }
 
-/// Why a store can't be read.
-#[derive(Debug, Drop, Error)]
+/// Why a store isn't read.
+#[derive(Clone, Copy, Debug, PartialEq, Eq, Error)]
 pub enum StoreErr {
     #[error("out of memory")]
-    OutOfMemory(#[from(alloc)] AllocError),
+    OutOfMemory,
+    /// The data stand for no store, and this is the first cell at fault.
+    #[error("data cell {cell} is at fault")]
+    Unlawful { cell: u32 },
+}
+
+impl From<AllocError> for StoreErr {
+    fn from(_error: AllocError) -> StoreErr {
+        StoreErr::OutOfMemory
+    }
+}
+
+impl From<LawErr> for StoreErr {
+    fn from(error: LawErr) -> StoreErr {
+        match error {
+            LawErr::Memory => StoreErr::OutOfMemory,
+            LawErr::Unlawful { cell } => StoreErr::Unlawful { cell },
+        }
+    }
 }
 
 /// A memory isn't closed while one of its handles is out. It is handed back.

@@ -1,18 +1,22 @@
 //! What a closed memory leaves.
 
-ghost use Rattle.std.specs.Prelude.{◌≡◌, ◌≤◌, ◌+◌, ℕ, List, length, slice_range};
-ghost use Rattle.of_cell.specs.Cells.{durable_cells, table_words};
+ghost use Rattle.std.specs.Prelude.{◌≡◌, ◌<◌, ◌≤◌, ◌+◌, ℕ, List, IfOk, length, map, slice_range};
+ghost use Rattle.of_cell.specs.Words.{pay};
+ghost use Rattle.of_cell.specs.Cells.{data_cell, durable_cells};
 ghost use Rattle.of_mem.specs.declared.work.TheConstants.{MOST_INSTRS};
 ghost use Rattle.of_recover.specs.Row.{IsDurableRow};
 ghost use Rattle.of_recover.specs.Recovered.{recovered};
 ghost use Rattle.of_eval.specs.Scripts.{cells_in};
 
-use of_cell::Shape;
-use of_eval::Scripts;
+use of_cell::{Shape, payload_of};
+use of_eval::{Scripts, lawful};
 use of_recover::laws::recovered_cells;
 use of_recover::recover;
 use of_row::{Pass, Row};
+use of_store::Store;
+use std::alloc::{AllocError, Global};
 
+use crate::error::StoreErr;
 use crate::laws::history_is_held;
 
 /// The shape of a table for scripts.
@@ -27,6 +31,23 @@ pub(crate) fn shape_of(scripts: Scripts) -> Shape
         instrs: plot.instrs,
         cells: plot.cells(),
     }
+}
+
+/// The words of the data cells in a durable row.
+fn data_words(alloc: Global, shape: &Shape, row: &[u64]) -> Result<Vec<u64>, AllocError>
+    requires { IsDurableRow shape.now.callers shape.now.cells row.now }
+    ensures { let first = data_cell shape.now.callers 0 in
+        IfOk result (λ words. words.items ≡ slice_range row.now first (first + shape.now.cells)) }
+{
+    let first = shape.data_cell(0) as usize;
+    Vec::from_slice(alloc, &row[first..first + shape.cells as usize])
+}
+
+/// The numbers in these words.
+fn numbers(alloc: Global, words: &[u64]) -> Result<Vec<u32>, AllocError>
+    ensures { IfOk result (λ numbers. numbers.items ≡ map pay words.now) }
+{
+    words.iter().map(|word| payload_of(*word)).collect(alloc)
 }
 
 // Leaves the durable words of a table's words. It takes no memory.
@@ -90,5 +111,40 @@ impl Saved {
             limit,
             row: words,
         }
+    }
+    /// How many callers it has.
+    pub fn callers(&self) -> u32
+        ensures { result ≡ self.now.scripts.callers }
+    {
+        self.scripts.callers
+    }
+
+    /// The last sequence that may be committed.
+    pub fn limit(&self) -> u32
+        ensures { result ≡ self.now.limit }
+    {
+        self.limit
+    }
+
+    /// The store that it holds.
+    pub fn store(&self, alloc: Global) -> Result<Store, StoreErr>
+        requires { IsSaved self.now }
+        ensures { IfOk result (Holds self.now) }
+    {
+        let words = data_words(alloc, &shape_of(self.scripts), &self.row)?;
+        let cells = numbers(alloc, &words)?;
+        let store = lawful(alloc, &self.scripts.plot(), &cells)?;
+        Ok(store)
+    }
+
+    /// How many calls of a caller it holds: the number of its last one, whoever finished it.
+    pub fn ticket(&self, number: u32) -> u32
+        requires saved { IsSaved self.now }
+        requires number { number < self.now.scripts.callers }
+        ensures { result ≡ ticket_in self.now number }
+    {
+        let ticket = self.scripts.plot().ticket(number);
+        let cell = shape_of(self.scripts).data_cell(ticket);
+        payload_of(self.row[cell as usize])
     }
 }
