@@ -1,19 +1,22 @@
 -- A closed row of scripts holds a serial history of scripts, which recovery finds the end of.
-use Rattle.std.proofs.Common.{◌≡◌, ℕ, zero, suc, ◌+◌, ◌-◌, ◌≤◌, ◌<◌, ◌⊎◌, inl, inr, Bool, true, false, List, [], ◌∷◌, ◌++◌, length, get_or, map, refl, sym, ap, subst, ◌∙◌, arith}
+use Rattle.std.proofs.Common.{◌≡◌, ℕ, zero, suc, ◌+◌, ◌-◌, ◌≤◌, ◌<◌, ◌⊎◌, inl, inr, Bool, true, false, List, [], ◌∷◌, ◌++◌, length, get_or, map, refl, sym, ap, subst, ◌∙◌, arith, length-append}
 use Rattle.std.specs.List.{All, AllByRecursion as Every}
 use Rattle.std.proofs.lemmas.Bool.{cases_lt}
-use Rattle.std.proofs.lemmas.List.{length-map, get_or_past}
+use Rattle.std.proofs.lemmas.List.{length-map, get_or_past, get_or_append_left}
+use Rattle.std.proofs.Math.Seq.{get_or-append_seam}
+use Rattle.std.proofs.Math.ListN.{get_or-map}
 use Rattle.std.proofs.lemmas.List.Elements.{All-from_recursion, recursion_from_All, All-from_get_or}
 use Rattle.of_cell.specs.Words.{pay}
 use Rattle.of_recover.specs.Recovered.{recovered}
 use Rattle.of_mem.specs.ProgramWork.{memory}
 use Rattle.of_mem.proofs.Standing.{stands_from}
+use Rattle.of_script.proofs.WordLaws.{words_injective}
 use Rattle.of_store.specs.State.{State}
 use Rattle.of_eval.specs.declared.scripts.Scripts.{Scripts}
 use Rattle.of_eval.specs.Scripts.{store_at, cells_in, LawfulCells, scripts_meaning}
 use Rattle.of_eval.specs.Stored.{plain, IsStored}
 use Rattle.of_core.specs.Table.{Setup, risen}
-use Rattle.of_core.specs.Machine.{Call, Data, no_call, is_idle}
+use Rattle.of_core.specs.Machine.{Call, Data, no_call, is_idle, IsOpen}
 use Rattle.of_core.specs.World.{World, Start}
 use Rattle.of_core.specs.History.{state, after_calls}
 use Rattle.of_core.specs.Events.{Event, start_ticket}
@@ -21,15 +24,15 @@ use Rattle.of_core.specs.Calls.{operations}
 use Rattle.of_core.specs.Starts.{IsDurable, IsStartRow, start_of, recovered_start}
 use Rattle.of_core.specs.Laws.{GoodIsSound, Restarts}
 use Rattle.of_row.specs.Views.{Ended, Kept, Sight, no_ended, Each}
-use Rattle.of_row.specs.Rule.{Meets, world, ticket_at}
+use Rattle.of_row.specs.Rule.{Meets, world, ticket_at, done_before}
 use Rattle.of_row.specs.Told.{open_op, begun_of}
 use Rattle.of_row.specs.Runs.{IsRunBy}
 use Rattle.of_row.specs.Moments.{ExplainsAll, StopsLoseNothing, LosesNothing}
 use Rattle.of_caller.proofs.StoresReplay.{number_at}
-use Rattle.of_memory.specs.History.{Entry, Made, no_made, store_after}
+use Rattle.of_memory.specs.History.{Entry, no_entry, Made, no_made, store_after, IsOneOf}
 use Rattle.of_memory.specs.Calls.{IsOperation, IsMade, AreMade, RunsScripts}
-use Rattle.of_memory.specs.Laws.{setup_with, StandsAt, KeepsSo, KeepScripts, ExplainsKept, Leads, HoldsHistory}
-use Rattle.of_memory.proofs.Replaying.{Cells, AreScripts, entries, serial, leads, in_order, explains}
+use Rattle.of_memory.specs.Laws.{setup_with, StandsAt, KeepsSo, KeepScripts, ExplainsKept, HasOpenScript, HasOnlyKept, Leads, HoldsHistory}
+use Rattle.of_memory.proofs.Replaying.{Cells, AreScripts, IsEntryOf, entries, serial, long, leads, at, in_order, explains}
 
 -- ---- the operations that a kept caller has begun are scripts'
 
@@ -64,6 +67,34 @@ made_at (e ∷ es) (m ∷ ms) (suc y) h l = let r = made_at es ms y h.1 (omega a
 each_of : {P Q : Kept → Type 0} → ((x : Kept) → P x → Q x) → (xs : List Kept) → Each P xs → Each Q xs
 each_of f [] h = tt
 each_of f (x ∷ xs) h = (f x h.0, each_of f xs h.1)
+
+made_long : (es : List Ended) (ms : List Made) → AreMade es ms → length ms ≡ length es
+made_long [] [] h = refl
+made_long [] (m ∷ ms) h = absurd h
+made_long (e ∷ es) [] h = absurd h
+made_long (e ∷ es) (m ∷ ms) h = let r : length ms ≡ length es = made_long es ms h.1 in omega (arith, r)
+
+-- an operation that a kept caller has begun is one of those that have ended, or the open one
+begun_at : (x : Kept) (b : Bool) → is_idle x.machine.place ≡ b → (k : ℕ) → k < length (map (λ (e : Ended). e.op) x.ended ++ open_op x.machine b)
+    → ((k < length x.ended) × (get_or (map (λ (e : Ended). e.op) x.ended ++ open_op x.machine b) k [] ≡ (get_or x.ended k no_ended).op))
+    ⊎ ((k ≡ length x.ended) × IsOpen x.machine.place × (get_or (map (λ (e : Ended). e.op) x.ended ++ open_op x.machine b) k [] ≡ x.machine.op))
+begun_at x b place k lt = elim (cases_lt k (length x.ended)) [
+  | inl low ↦ inl (low, get_or_append_left (map (λ (e : Ended). e.op) x.ended) (open_op x.machine b) [] k (omega (arith, low, long)) ∙ get_or-map (λ (e : Ended). e.op) x.ended k no_ended)
+  | inr high ↦ inr (behind b place lt high)
+]
+  where
+    ops : List (List ℕ)
+    ops = map (λ (e : Ended). e.op) x.ended
+
+    long : length (map (λ (e : Ended). e.op) x.ended) ≡ length x.ended
+    long = length-map x.ended (λ (e : Ended). e.op)
+
+    behind : (b : Bool) → is_idle x.machine.place ≡ b → k < length (map (λ (e : Ended). e.op) x.ended ++ open_op x.machine b) → length x.ended ≤ k
+        → (k ≡ length x.ended) × IsOpen x.machine.place × (get_or (map (λ (e : Ended). e.op) x.ended ++ open_op x.machine b) k [] ≡ x.machine.op)
+    behind true is some high = absurd (omega (arith, length-append (map (λ (e : Ended). e.op) x.ended) [], long, some, high))
+    behind false is some high =
+        let at : k ≡ length (map (λ (e : Ended). e.op) x.ended) = omega (arith, length-append (map (λ (e : Ended). e.op) x.ended) (x.machine.op ∷ []), long, some, high) in
+        (at ∙ long, is, ap (λ (n : ℕ). get_or (map (λ (e : Ended). e.op) x.ended ++ x.machine.op ∷ []) n []) at ∙ get_or-append_seam (map (λ (e : Ended). e.op) x.ended) x.machine.op [] [])
 
 module _ (w : Scripts) (limit : ℕ) (sound : GoodIsSound (setup_with w limit) (LawfulCells w)) (restarts : Restarts (setup_with w limit) (LawfulCells w)) (stops : StopsLoseNothing (LawfulCells w) (setup_with w limit)) where
   abbrev S : Setup
@@ -149,12 +180,44 @@ module _ (w : Scripts) (limit : ℕ) (sound : GoodIsSound (setup_with w limit) (
           explains w limit order xs s are_scripts started lost.linearizes.legal (get_or x.ended y no_ended).outcome (get_or ms y no_made).ended
           x.machine.caller (ticket_at S B x y) (get_or x.ended y no_ended).op (get_or ms y no_made).script at.1.script at.1.words at.1.ended (all y at.0)
 
+      entry_of : (y : ℕ) → y < length h → IsEntryOf w (get_or order y no_call) (get_or h y no_entry)
+      entry_of y l = at w limit order xs s are_scripts started lost.linearizes.legal y l
+
+      -- each entry of a kept caller is one of its calls
+      owned : (x : Kept) → IsRunBy S B lost.events x → HasOnlyKept S B h x
+      owned x told ms made = All-from_get_or (λ (e : Entry). e.caller ≡ x.machine.caller → IsOneOf (done_before S B x.machine.caller) ms (HasOpenScript x) e) h no_entry (λ y l mine.
+          let c : Call = get_or order y no_call in
+          let e : Entry = get_or h y no_entry in
+          let is = entry_of y l in
+          let own : c.caller ≡ x.machine.caller = sym is.caller ∙ mine in
+          let b = (lost.linearizes.begun y no_call (subst (λ (n : ℕ). y < n) (long w s order are_scripts) l)).1 refl in
+          let st : ℕ = done_before S B x.machine.caller in
+          let same_ops : operations lost.events c.caller ≡ begun_of x = ap (operations lost.events) own ∙ sym told.told.begun in
+          let start_is : start_ticket S B c.caller ≡ st = ap (start_ticket S B) own in
+          let op : c.op ≡ get_or (begun_of x) (c.ticket - st - 1) [] = b.2 ∙ (λ i. get_or (same_ops i) (c.ticket - start_is i - 1) []) in
+          let low : st < c.ticket = omega (arith, b.0, start_is) in
+          let high : c.ticket - st - 1 < length (begun_of x) = omega (arith, b.0, b.1, start_is, ap length same_ops) in
+          let many : length ms ≡ length x.ended = made_long x.ended ms made in
+          elim (begun_at x (is_idle x.machine.place) refl (c.ticket - st - 1) high) [
+            | inl before ↦
+                let one = made_at x.ended ms (c.ticket - st - 1) made (omega (arith, before.0, many)) in
+                inl (c.ticket - st - 1, omega (arith, before.0, many), omega (arith, is.ticket, low),
+                words_injective e.script (get_or ms (c.ticket - st - 1) no_made).script is.script.in_range one.1.script.in_range (sym is.words ∙ op ∙ before.1 ∙ one.1.words))
+            | inr last ↦ inr (omega (arith, is.ticket, low, last.0, many), (last.1, sym last.2 ∙ sym op ∙ is.words))
+          ])
+
+      below : All (λ (e : Entry). e.caller < w.callers) h
+      below = All-from_get_or (λ (e : Entry). e.caller < w.callers) h no_entry (λ y l.
+          subst (λ (n : ℕ). n < w.callers) (sym (entry_of y l).caller) (lost.linearizes.begun y no_call (subst (λ (n : ℕ). y < n) (long w s order are_scripts) l)).0)
+
       leads_there : Leads w limit B v s found h
       leads_there = record {
         serial = serial w s order are_scripts;
         ends = ends;
         order = in_order w limit order xs s are_scripts started lost.linearizes.legal lost.linearizes.rising;
         calls = each_of explained v.kept (lost.explained m.seat v m.view awake);
+        only = each_of owned v.kept (lost.reached.callers m.seat v m.view awake);
+        callers = below;
       }
 
   pub holds_history : HoldsHistory w limit

@@ -1,11 +1,13 @@
 -- What a memory knows of its callers, and the history that its close leaves.
 use Rattle.std.proofs.Common.{◌≡◌, ◌≢◌, ℕ, ◌≤◌, ◌<◌, inl, inr, List, [], ◌∷◌, length, get_or, set, Option, Some, None, Result, Ok, Err, IfOk, refl, sym, ap, subst, ◌∙◌, arith}
+use Rattle.std.specs.List.{All}
 use Rattle.std.proofs.lemmas.Bool.{cases_lt}
 use Rattle.std.proofs.lemmas.List.{get_or-set_same, get_or-set_other, get_or_past, length-set}
 use Rattle.of_store.specs.State.{State}
 use Rattle.of_eval.specs.declared.scripts.Scripts.{Scripts}
 use Rattle.of_eval.specs.Scripts.{cells_in}
 use Rattle.of_core.specs.Table.{Setup}
+use Rattle.of_core.specs.Machine.{Data, IsOpen}
 use Rattle.of_core.specs.World.{Start}
 use Rattle.of_core.specs.Starts.{start_of}
 use Rattle.of_row.specs.declared.row.Row.{Row}
@@ -13,13 +15,14 @@ use Rattle.of_row.specs.Rows.{key_of}
 use Rattle.of_row.specs.Rule.{done_before}
 use Rattle.of_row.specs.Views.{Ended, Kept, Sight, Each}
 use Rattle.of_caller.specs.declared.caller.Caller.{Caller}
+use Rattle.of_caller.specs.Callers.{call_of}
 use Rattle.of_memory.specs.declared.memory.Memory.{Memory}
 use Rattle.of_memory.specs.declared.saved.Saved.{Saved}
-use Rattle.of_memory.specs.History.{Entry, Made, store_after, ExplainsAll}
+use Rattle.of_memory.specs.History.{Entry, Made, store_after, ExplainsAll, IsOneOf, HasOnly}
 use Rattle.of_memory.specs.Calls.{AreMade, RunsScripts}
-use Rattle.of_memory.specs.Laws.{setup_with, StandsAt, KeepsSo, ExplainsKept, Leads}
+use Rattle.of_memory.specs.Laws.{setup_with, StandsAt, KeepsSo, ExplainsKept, HasOpenScript, HasOnlyKept, Leads}
 use Rattle.of_memory.specs.Serving.{Serves, AllHere, IsKeptOf, KeepsThose, ended_of, start_of_row}
-use Rattle.of_memory.specs.Memories.{IsMemory, HasMadeOf, KnowsOthers, HasHistory, LeadsTo, row_of, StartsWith, tickets_before}
+use Rattle.of_memory.specs.Memories.{IsMemory, HasMadeOf, HasOpenOf, KnowsOthers, HasHistory, LeadsTo, row_of, StartsWith, tickets_before}
 use Rattle.of_memory.proofs.Seats.{serve_none, serve_some, number_below, keeps_as}
 
 -- ---- a caller is taken out of its place, or put into it
@@ -59,15 +62,35 @@ from_kept S B h n c (x ∷ xs) (inl k) all ms made =
     subst (λ (i : ℕ). ExplainsAll h i (done_before S B i) ms) k.0 (all.0 ms (subst (λ (es : List Ended). AreMade es ms) (sym k.1.ended) made))
 from_kept S B h n c (x ∷ xs) (inr k) all ms made = from_kept S B h n c xs k all.1 ms made
 
+-- the history has none but these calls of the caller
+only_kept : (m : Memory) (S : Setup) (B : Start) (h : List Entry) (n : ℕ) (c : Caller Scripts) → get_or m.callers.items n None ≡ Some c → (xs : List Kept) → KeepsSo n (IsKeptOf c) xs → Each (HasOnlyKept S B h) xs
+    → (ms : List Made) → AreMade (ended_of c) ms → HasOnly h n (done_before S B n) ms (HasOpenOf m n)
+only_kept m S B h n c here [] k all ms made = absurd k
+only_kept m S B h n c here (x ∷ xs) (inl k) all ms made = λ y d lt mine.
+    as_open (get_or h y d) (subst (λ (i : ℕ). IsOneOf (done_before S B i) ms (HasOpenScript x) (get_or h y d)) k.0
+    (all.0 ms (subst (λ (es : List Ended). AreMade es ms) (sym k.1.ended) made) y d lt (mine ∙ sym k.0)))
+  where
+    as_open : (e : Entry) → IsOneOf (done_before S B n) ms (HasOpenScript x) e → IsOneOf (done_before S B n) ms (HasOpenOf m n) e
+    as_open e (inl one) = inl one
+    as_open e (inr last) =
+        let same : x.machine ≡ call_of c = k.1.open_call last.1.0 in
+        inr (last.0, record {
+          caller = c;
+          here = here;
+          open_call = subst (λ (d : Data). IsOpen d.place) same last.1.0;
+          words = ap (λ (d : Data). d.op) (sym same) ∙ last.1.1;
+        })
+only_kept m S B h n c here (x ∷ xs) (inr k) all ms made = only_kept m S B h n c here xs k all.1 ms made
+
 pub keep_scripts : (cs : List (Option (Caller Scripts))) (xs : List Kept) (count : ℕ) → length cs ≡ count → AllHere cs (length cs) → KeepsThose cs (length cs) xs → (n : ℕ) → n < count → KeepsSo n RunsScripts xs
 keep_scripts cs xs count long here keeps n lt =
     let low : n < length cs = omega (arith, lt, long) in
     let one = here n low in
     keeps_as n (IsKeptOf one.0) RunsScripts (λ x k. k.runs) xs (keeps n one.0 low one.1)
 
-pub history : (m : Memory) (d : Saved) (r : Row Scripts) (v : Sight) → r ≡ row_of m → d.scripts ≡ (key_of r).work → KeepsThose m.callers.items (length m.callers.items) v.kept
+pub history : (m : Memory) (d : Saved) (r : Row Scripts) (v : Sight) → r ≡ row_of m → (key_of r).callers ≡ (key_of r).work.callers → d.scripts ≡ (key_of r).work → KeepsThose m.callers.items (length m.callers.items) v.kept
     → ((s : State) → StandsAt (key_of r).work (start_of_row r) s → (h : List Entry) × Leads (key_of r).work (key_of r).limit (start_of_row r) v s d.row.items h) → HasHistory m d
-history m d r v same scripts keeps leads s starts =
+history m d r v same sizes scripts keeps leads s starts =
     let found = leads s (subst (λ (x : Row Scripts). StandsAt (key_of x).work (start_of_row x) s) (sym same) starts) in
     let h = found.0 in
     (h, record {
@@ -77,4 +100,8 @@ history m d r v same scripts keeps leads s starts =
       made = λ n ms made.
           let explained = from_kept (setup_with (key_of r).work (key_of r).limit) (start_of_row r) h n made.caller v.kept (keeps n made.caller (is_within m.callers.items n made.caller made.here) made.here) found.1.calls ms made.made in
           subst (λ (x : Row Scripts). ExplainsAll h n (done_before (setup_with (key_of r).work (key_of r).limit) (start_of_row x) n) ms) same explained;
+      only = λ n ms made.
+          let owned = only_kept m (setup_with (key_of r).work (key_of r).limit) (start_of_row r) h n made.caller made.here v.kept (keeps n made.caller (is_within m.callers.items n made.caller made.here) made.here) found.1.only ms made.made in
+          subst (λ (x : Row Scripts). HasOnly h n (done_before (setup_with (key_of r).work (key_of r).limit) (start_of_row x) n) ms (HasOpenOf m n)) same owned;
+      callers = subst (λ (k : ℕ). All (λ (e : Entry). e.caller < k) h) (sym sizes ∙ ap (λ (x : Row Scripts). (key_of x).callers) same) found.1.callers;
     })

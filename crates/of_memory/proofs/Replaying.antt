@@ -117,7 +117,7 @@ module _ (w : Scripts) where
     abbrev hs : List Entry
     hs = entries s cs k
 
-    at : (y : ℕ) → y < length hs → IsEntryOf (get_or cs y no_call) (get_or hs y no_entry)
+    pub at : (y : ℕ) → y < length hs → IsEntryOf (get_or cs y no_call) (get_or hs y no_entry)
     at y l = entry_at cs y xs s k h r (subst (λ (n : ℕ). y < n) (long s cs k) l)
 
     pub in_order : ((p q : ℕ) → p < q → q < length cs → IsNewer (get_or cs p no_call) (get_or cs q no_call)) → StandsInOrder hs

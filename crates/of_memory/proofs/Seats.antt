@@ -14,8 +14,9 @@ use Rattle.of_row.specs.Passes.{HasEnrolled, IsFirst}
 use Rattle.of_row.specs.Rows.{key_of, setup_at, start_at, IsOf}
 use Rattle.of_row.specs.Rule.{IsAsked}
 use Rattle.of_row.specs.Views.{Kept, Sight, Each, last_kept, reach}
-use Rattle.of_row.specs.Turned.{joined, newcomer}
-use Rattle.of_core.specs.Machine.{IsOpen, is_idle}
+use Rattle.of_row.specs.Turned.{joined, newcomer, StandsFor}
+use Rattle.of_core.specs.Table.{Setup}
+use Rattle.of_core.specs.Machine.{Data, IsOpen, is_idle}
 use Rattle.of_core.specs.Turn.{IsIdle}
 use Rattle.of_core.specs.Seen.{setup}
 use Rattle.of_caller.specs.declared.caller.Caller.{Caller}
@@ -154,13 +155,20 @@ keeps_as n P Q f [] k = absurd k
 keeps_as n P Q f (x ∷ xs) (inl h) = inl (h.0, f x h.1)
 keeps_as n P Q f (x ∷ xs) (inr h) = inr (keeps_as n P Q f xs h)
 
+-- the open machine that a member keeps is its caller's
+open_same : (S : Setup) (x : Kept) (d : Data) → StandsFor S x d → IsOpen x.machine.place → x.machine ≡ d
+open_same S x d (inl (inl e)) is_open = sym e
+open_same S x d (inl (inr e)) is_open = absurd (true≢false (sym (ap is_idle e.0) ∙ is_open))
+open_same S x d (inr o) is_open = absurd (true≢false (sym (ap is_idle o.at_rest) ∙ is_open))
+
 pub keeps_own : (r : Row Scripts) (n : ℕ) (c : Caller Scripts) → Serves r n c → KeepsSo n (IsKeptOf c) (sight_of c).kept
 keeps_own r n c s =
     let is = s.caller in
-    let at : is.member.0.machine.caller ≡ n = sym (stands_caller (setup scripts_meaning c.machine) is.member.0 (call_of c) is.member.2) ∙ s.number in
+    let S : Setup = setup scripts_meaning c.machine in
+    let at : is.member.0.machine.caller ≡ n = sym (stands_caller S is.member.0 (call_of c) is.member.2) ∙ s.number in
     let last : last_kept (sight_of c).kept ≡ is.member.0 = ap last_kept is.member.1 in
     subst (KeepsSo n (IsKeptOf c)) (sym is.member.1)
-    (inl (at, record { runs = subst RunsScripts last s.runs; ended = ap (λ (x : Kept). x.ended) (sym last) }))
+    (inl (at, record { runs = subst RunsScripts last s.runs; ended = ap (λ (x : Kept). x.ended) (sym last); open_call = open_same S is.member.0 (call_of c) is.member.2 }))
 
 -- one place more
 pub kept_more : (fs : List (Option (Caller Scripts))) (i : ℕ) (xs ys : List Kept) → KeepsThose fs i xs → ((n : ℕ) (c : Caller Scripts) → KeepsSo n (IsKeptOf c) xs → KeepsSo n (IsKeptOf c) ys)

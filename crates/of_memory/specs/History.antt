@@ -1,5 +1,5 @@
 -- A serial history of scripts on the plain store.
-use Rattle.std.specs.Prelude.{◌≡◌, ℕ, ◌+◌, ◌<◌, List, [], ◌∷◌, length}
+use Rattle.std.specs.Prelude.{◌≡◌, ℕ, ◌+◌, ◌<◌, ◌⊎◌, List, [], ◌∷◌, length}
 use Rattle.std.specs.List.{All}
 use Rattle.std.proofs.Common.{get_or}
 use Rattle.of_script.specs.declared.instr.Instr.{Instr}
@@ -61,3 +61,14 @@ abbrev pub ExplainsAll : List Entry → (caller n : ℕ) → List Made → Type 
 ExplainsAll h c n ms =
     (y : ℕ) → y < length ms
     → Explains h c (n + y + 1) (get_or ms y no_made).script (get_or ms y no_made).ended
+
+-- the entry is one of these calls, the first of which has the number behind n, or the one behind them,
+-- which is open
+abbrev pub IsOneOf : (n : ℕ) → List Made → (IsOpenCall : List Instr → Type 0) → Entry → Type 0
+IsOneOf n ms IsOpenCall e =
+    ((y : ℕ) × (y < length ms) × (e.ticket ≡ n + y + 1) × (e.script ≡ (get_or ms y no_made).script))
+    ⊎ ((e.ticket ≡ n + length ms + 1) × IsOpenCall e.script)
+
+-- so is each entry of the caller
+abbrev pub HasOnly : List Entry → (caller n : ℕ) → List Made → (IsOpenCall : List Instr → Type 0) → Type 0
+HasOnly h c n ms IsOpenCall = All (λ (e : Entry). e.caller ≡ c → IsOneOf n ms IsOpenCall e) h

@@ -5,16 +5,19 @@ use Rattle.std.specs.List.{All}
 use Rattle.of_cell.specs.Words.{pay}
 use Rattle.of_recover.specs.Recovered.{recovered}
 use Rattle.of_mem.specs.ProgramWork.{memory}
+use Rattle.of_script.specs.declared.instr.Instr.{Instr}
+use Rattle.of_script.specs.Language.{instr_word}
 use Rattle.of_store.specs.State.{State}
 use Rattle.of_eval.specs.declared.scripts.Scripts.{Scripts}
 use Rattle.of_eval.specs.Scripts.{store_at, cells_in, LawfulCells, scripts_meaning}
 use Rattle.of_eval.specs.Stored.{IsStored}
 use Rattle.of_core.specs.Table.{Setup, setup_of}
+use Rattle.of_core.specs.Machine.{IsOpen}
 use Rattle.of_core.specs.World.{Start}
 use Rattle.of_core.specs.Starts.{IsDurable, IsStartRow, start_of}
 use Rattle.of_row.specs.Views.{Kept, Sight, Each}
 use Rattle.of_row.specs.Rule.{Meets, done_before}
-use Rattle.of_memory.specs.History.{Entry, Made, IsSerial, store_after, StandsInOrder, ExplainsAll}
+use Rattle.of_memory.specs.History.{Entry, Made, IsSerial, store_after, StandsInOrder, ExplainsAll, HasOnly}
 use Rattle.of_memory.specs.Calls.{RunsScripts, AreMade}
 
 -- what the machines on a table for these scripts have in common
@@ -40,6 +43,16 @@ ExplainsKept S B h x =
     (ms : List Made) → AreMade x.ended ms
     → ExplainsAll h x.machine.caller (done_before S B x.machine.caller) ms
 
+-- the kept caller's call of this script is open
+abbrev pub HasOpenScript : Kept → List Instr → Type 0
+HasOpenScript x script = IsOpen x.machine.place × (x.machine.op ≡ map instr_word script)
+
+-- and of its calls the history has no others
+abbrev pub HasOnlyKept : Setup → Start → List Entry → Kept → Type 0
+HasOnlyKept S B h x =
+    (ms : List Made) → AreMade x.ended ms
+    → HasOnly h x.machine.caller (done_before S B x.machine.caller) ms (HasOpenScript x)
+
 -- a serial history leads from the store to the one that the row stands for
 pub record Leads (w : Scripts) (limit : ℕ) (B : Start) (v : Sight) (s : State) (row : List ℕ)
     (h : List Entry) : Type 0 where
@@ -47,6 +60,8 @@ pub record Leads (w : Scripts) (limit : ℕ) (B : Start) (v : Sight) (s : State)
   pub ends : StandsAt w (start_of w.callers (cells_in w) row) (store_after s h)
   pub order : StandsInOrder h
   pub calls : Each (ExplainsKept (setup_with w limit) B h) v.kept
+  pub only : Each (HasOnlyKept (setup_with w limit) B h) v.kept
+  pub callers : All (λ (e : Entry). e.caller < w.callers) h
 
 -- Where words and a view meet the rule of a row of these scripts, and the view keeps each caller,
 -- recovery of the durable words finds a row from which a table may start, and a serial history leads

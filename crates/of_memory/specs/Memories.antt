@@ -1,16 +1,21 @@
 -- A memory that a program has opened, and what its close leaves.
-use Rattle.std.specs.Prelude.{◌≡◌, ◌≢◌, ℕ, ◌<◌, List, Option, Some, None, length}
+use Rattle.std.specs.Prelude.{◌≡◌, ◌≢◌, ℕ, ◌<◌, List, Option, Some, None, length, map}
 use Rattle.std.proofs.Common.{get_or}
 use Rattle.std.specs.Arc.{arc_value}
+use Rattle.std.specs.List.{All}
+use Rattle.of_script.specs.declared.instr.Instr.{Instr}
+use Rattle.of_script.specs.Language.{instr_word}
 use Rattle.of_store.specs.State.{State}
 use Rattle.of_eval.specs.declared.scripts.Scripts.{Scripts}
 use Rattle.of_row.specs.declared.row.Row.{Row}
 use Rattle.of_row.specs.Rows.{key_of, IsOf}
+use Rattle.of_core.specs.Machine.{IsOpen}
 use Rattle.of_caller.specs.declared.caller.Caller.{Caller}
+use Rattle.of_caller.specs.Callers.{call_of}
 use Rattle.of_memory.specs.declared.memory.Memory.{Memory}
 use Rattle.of_memory.specs.declared.handle.Handle.{Handle}
 use Rattle.of_memory.specs.declared.saved.Saved.{Saved}
-use Rattle.of_memory.specs.History.{Entry, Made, IsSerial, store_after, StandsInOrder, ExplainsAll}
+use Rattle.of_memory.specs.History.{Entry, Made, IsSerial, store_after, StandsInOrder, ExplainsAll, HasOnly}
 use Rattle.of_memory.specs.Calls.{AreMade}
 use Rattle.of_memory.specs.Laws.{StandsAt}
 use Rattle.of_memory.specs.Serving.{IsScriptsRow, ServeAll, ended_of, start_of_row, made_before}
@@ -46,6 +51,13 @@ pub record HasMadeOf (m : Memory) (n : ℕ) (ms : List Made) : Type 0 where
   pub here : get_or m.callers.items n None ≡ Some caller
   pub made : AreMade (ended_of caller) ms
 
+-- and its call of this script is open
+pub record HasOpenOf (m : Memory) (n : ℕ) (script : List Instr) : Type 0 where
+  pub caller : Caller Scripts
+  pub here : get_or m.callers.items n None ≡ Some caller
+  pub open_call : IsOpen (call_of caller).place
+  pub words : (call_of caller).op ≡ map instr_word script
+
 -- the handle is the memory's
 abbrev pub IsFrom : Memory → Handle → Type 0
 IsFrom m h = home_of h ≡ row_of m
@@ -58,14 +70,17 @@ IsStill m k = row_of k ≡ row_of m
 abbrev pub KnowsOthers : ℕ → (before now : Memory) → Type 0
 KnowsOthers n m k = (i : ℕ) (ms : List Made) → i ≢ n → HasMadeOf m i ms → HasMadeOf k i ms
 
--- The history leads from the store with which the memory was opened to the saved one. It is serial;
--- the calls of each caller stand in it in the order in which they were made, and each once at most;
--- and it has each call that was answered, with its reply.
+-- The history leads from the store with which the memory was opened to the saved one. It is serial, and
+-- the calls of each caller stand in it in the order in which they were made, each once at most. It has
+-- each call that was answered, with its reply, and no call that was spent; beside these it has open
+-- calls alone.
 pub record LeadsTo (m : Memory) (s : State) (d : Saved) (h : List Entry) : Type 0 where
   pub serial : IsSerial s h
   pub ends : Holds d (store_after s h)
   pub order : StandsInOrder h
   pub made : (n : ℕ) (ms : List Made) → HasMadeOf m n ms → ExplainsAll h n (tickets_before m n) ms
+  pub only : (n : ℕ) (ms : List Made) → HasMadeOf m n ms → HasOnly h n (tickets_before m n) ms (HasOpenOf m n)
+  pub callers : All (λ (e : Entry). e.caller < callers_of m) h
 
 -- so it is of the store with which it was opened
 abbrev pub HasHistory : Memory → Saved → Type 0

@@ -73,6 +73,7 @@ ServeAll r cs = (n : ℕ) (c : Caller Scripts) → get_or cs n None ≡ Some c �
 pub record IsKeptOf (c : Caller Scripts) (x : Kept) : Type 0 where
   pub runs : RunsScripts x
   pub ended : x.ended ≡ ended_of c
+  pub open_call : IsOpen x.machine.place → x.machine ≡ call_of c
 
 -- each caller that stands at a place below the count is kept
 abbrev pub KeepsThose : List (Option (Caller Scripts)) → (count : ℕ) → List Kept → Type 0

@@ -16,4 +16,5 @@ close-requires-clause-keeps c =
 
 pub returns-in-Ok-clause-history : goal.returns-in-Ok-clause-history
 returns-in-Ok-clause-history c =
-    history c.args.self c.close.result c.in-Ok.row c.gather-pass.result.seat.me.0 c.in-Ok.ensures.ok c.close.ensures.scripts c.gather-pass.ensures.keeps c.close.ensures.leads
+    history c.args.self c.close.result c.in-Ok.row c.gather-pass.result.seat.me.0 c.in-Ok.ensures.ok
+    (ap (λ (r : Row Scripts). (key_of r).callers) c.in-Ok.ensures.ok ∙ c.requires.memory.row.callers ∙ ap (λ (r : Row Scripts). (key_of r).work.callers) (sym c.in-Ok.ensures.ok)) c.close.ensures.scripts c.gather-pass.ensures.keeps c.close.ensures.leads
