@@ -10,29 +10,42 @@ use Rattle.of_cell.specs.Words.{pay}
 use Rattle.of_recover.specs.Recovered.{recovered}
 use Rattle.of_mem.specs.ProgramWork.{memory}
 use Rattle.of_mem.proofs.Standing.{stands_from}
+use Rattle.std.specs.Prelude.{IsTrue, if◌then◌else◌}
+use Rattle.std.proofs.lemmas.List.FromFn.{get_or-map-range_with_len}
+use Rattle.std.proofs.lemmas.Bool.{lt-ltb}
+use Rattle.of_mem.specs.declared.work.RawReply.{RawReply}
+use Rattle.of_mem.specs.Meaning.{marked}
+use Rattle.of_mem.specs.Places.{ticket_at, shape_at, reply_at}
+use Rattle.of_script.specs.declared.instr.Instr.{Instr}
+use Rattle.of_script.specs.declared.instr.TheConstants.{MOST_INSTRS}
+use Rattle.of_script.specs.Language.{IsScript, instr_word, reads_only}
 use Rattle.of_script.proofs.WordLaws.{words_injective}
+use Rattle.of_eval.specs.Lawful.{reply_in, reply_number}
+use Rattle.of_eval.proofs.ReadsOnly.{reads_of}
+use Rattle.of_caller.proofs.StoresHeld.{has_reply}
+use Rattle.of_core.specs.Linear.{recovered_number, FindsCall}
 use Rattle.of_store.specs.State.{State}
 use Rattle.of_eval.specs.declared.scripts.Scripts.{Scripts}
-use Rattle.of_eval.specs.Scripts.{store_at, cells_in, LawfulCells, scripts_meaning}
+use Rattle.of_eval.specs.Scripts.{store_at, cells_in, LawfulCells, scripts_meaning, script_reads}
 use Rattle.of_eval.specs.Stored.{plain, IsStored}
-use Rattle.of_core.specs.Table.{Setup, risen}
+use Rattle.of_core.specs.Table.{Setup, risen, ticket_cell, shape_cell, reply_cell}
 use Rattle.of_core.specs.Machine.{Call, Data, no_call, is_idle, IsOpen}
 use Rattle.of_core.specs.World.{World, Start}
-use Rattle.of_core.specs.History.{state, after_calls}
+use Rattle.of_core.specs.History.{state, after_calls, SameReply}
 use Rattle.of_core.specs.Events.{Event, start_ticket}
 use Rattle.of_core.specs.Calls.{operations}
 use Rattle.of_core.specs.Starts.{IsDurable, IsStartRow, start_of, recovered_start}
 use Rattle.of_core.specs.Laws.{GoodIsSound, Restarts}
 use Rattle.of_row.specs.Views.{Ended, Kept, Sight, no_ended, Each}
-use Rattle.of_row.specs.Rule.{Meets, world, ticket_at, done_before}
+use Rattle.of_row.specs.Rule.{Meets, world, ticket_at as own_ticket, done_before}
 use Rattle.of_row.specs.Told.{open_op, begun_of}
 use Rattle.of_row.specs.Runs.{IsRunBy}
-use Rattle.of_row.specs.Moments.{ExplainsAll, StopsLoseNothing, LosesNothing}
+use Rattle.of_row.specs.Moments.{ExplainsAll, StopsLoseNothing, LosesNothing, words_alone}
 use Rattle.of_caller.proofs.StoresReplay.{number_at}
-use Rattle.of_memory.specs.History.{Entry, no_entry, Made, no_made, store_after, IsOneOf}
+use Rattle.of_memory.specs.History.{Entry, no_entry, Made, no_made, store_after, IsOneOf, OnlyReads, IsUpTo}
 use Rattle.of_memory.specs.Calls.{IsOperation, IsMade, AreMade, RunsScripts}
-use Rattle.of_memory.specs.Laws.{setup_with, StandsAt, KeepsSo, KeepScripts, ExplainsKept, HasOpenScript, HasOnlyKept, Leads, HoldsHistory}
-use Rattle.of_memory.proofs.Replaying.{Cells, AreScripts, IsEntryOf, entries, serial, long, leads, at, in_order, explains}
+use Rattle.of_memory.specs.Laws.{setup_with, StandsAt, KeepsSo, KeepScripts, ExplainsKept, HasOpenScript, HasOnlyKept, TellsLast, Leads, HoldsHistory}
+use Rattle.of_memory.proofs.Replaying.{sizes, Cells, AreScripts, IsEntryOf, entries, serial, long, leads, at, in_order, explains}
 
 -- ---- the operations that a kept caller has begun are scripts'
 
@@ -67,6 +80,17 @@ made_at (e ∷ es) (m ∷ ms) (suc y) h l = let r = made_at es ms y h.1 (omega a
 each_of : {P Q : Kept → Type 0} → ((x : Kept) → P x → Q x) → (xs : List Kept) → Each P xs → Each Q xs
 each_of f [] h = tt
 each_of f (x ∷ xs) h = (f x h.0, each_of f xs h.1)
+
+-- a script that may write is no operation that only reads
+may_write : (op : List ℕ) (script : List Instr) → op ≡ map instr_word script → IsScript script → (OnlyReads script → ⊥) → script_reads op ≡ false
+may_write op script words is writes = go (script_reads op) refl
+  where
+    go : (b : Bool) → script_reads op ≡ b → script_reads op ≡ false
+    go false e = e
+    go true e =
+        let q = reads_of op e in
+        let same : q.0.script ≡ script = words_injective q.0.script script q.0.range is.in_range (q.0.words ∙ words) in
+        absurd (writes (subst OnlyReads same (All-from_recursion (λ (i : Instr). IsTrue (reads_only i)) q.0.script q.0.reads)))
 
 made_long : (es : List Ended) (ms : List Made) → AreMade es ms → length ms ≡ length es
 made_long [] [] h = refl
@@ -178,7 +202,7 @@ module _ (w : Scripts) (limit : ℕ) (sound : GoodIsSound (setup_with w limit) (
       explained x all ms made y l =
           let at = made_at x.ended ms y made l in
           explains w limit order xs s are_scripts started lost.linearizes.legal (get_or x.ended y no_ended).outcome (get_or ms y no_made).ended
-          x.machine.caller (ticket_at S B x y) (get_or x.ended y no_ended).op (get_or ms y no_made).script at.1.script at.1.words at.1.ended (all y at.0)
+          x.machine.caller (own_ticket S B x y) (get_or x.ended y no_ended).op (get_or ms y no_made).script at.1.script at.1.words at.1.ended (all y at.0)
 
       entry_of : (y : ℕ) → y < length h → IsEntryOf w (get_or order y no_call) (get_or h y no_entry)
       entry_of y l = at w limit order xs s are_scripts started lost.linearizes.legal y l
@@ -210,6 +234,49 @@ module _ (w : Scripts) (limit : ℕ) (sound : GoodIsSound (setup_with w limit) (
       below = All-from_get_or (λ (e : Entry). e.caller < w.callers) h no_entry (λ y l.
           subst (λ (n : ℕ). n < w.callers) (sym (entry_of y l).caller) (lost.linearizes.begun y no_call (subst (λ (n : ℕ). y < n) (long w s order are_scripts) l)).0)
 
+      -- what recovery finds in a data cell
+      recovered_at : (a : ℕ) → a < cells_in w → recovered_number S (words_alone m.state.words) a ≡ pay (get_or C.cells a 0)
+      recovered_at a lt = ap pay ((sound B u m.rule.good).recovers a lt) ∙ ap (λ (B : Start). pay (get_or B.cells a 0)) (sym re.1)
+
+      number_found : (a : ℕ) → a < cells_in w → memory (map pay C.cells) a ≡ recovered_number S (words_alone m.state.words) a
+      number_found a lt = number_at C.cells a ∙ sym (recovered_at a lt)
+
+      module _ (n : ℕ) (low : n < w.callers) where
+        ticket_low : ticket_at MOST_INSTRS n < cells_in w
+        ticket_low = omega (arith, low)
+
+        found_last : (y : ℕ) → y < length order → (get_or order y no_call).caller ≡ n → FindsCall S (words_alone m.state.words) (get_or order y no_call) → TellsLast S B C h n
+        found_last y among mine finds =
+            let c : Call = get_or order y no_call in
+            let l : y < length h = subst (λ (k : ℕ). y < k) (sym (long w s order are_scripts)) among in
+            let is = entry_of y l in
+            let raw : RawReply = reply_in MOST_INSTRS (memory (map pay C.cells)) n in
+            let shape : raw.shape ≡ c.raw.shape = number_found (shape_at MOST_INSTRS n) (omega (arith, low)) ∙ ap (λ (i : ℕ). recovered_number S (words_alone m.state.words) (shape_cell S i)) (sym mine) ∙ finds.shape in
+            let same : SameReply S raw c.raw = (shape, λ j k mark.
+                get_or-map-range_with_len (reply_number MOST_INSTRS (memory (map pay C.cells)) n) 0 MOST_INSTRS j j 0 k (omega arith)
+                ∙ ap (λ (b : Bool). if b then memory (map pay C.cells) (reply_at MOST_INSTRS n j) else 0) (lt-ltb j MOST_INSTRS k)
+                ∙ number_found (reply_at MOST_INSTRS n j) (omega (arith, low, k))
+                ∙ ap (λ (i : ℕ). recovered_number S (words_alone m.state.words) (reply_cell S i j)) (sym mine)
+                ∙ finds.replies j k (ap (λ (x : ℕ). marked x j) (sym shape) ∙ mark)) in
+            inr (get_or h y no_entry, (y, l, refl), is.caller ∙ mine,
+            is.ticket ∙ sym finds.ticket ∙ ap (λ (i : ℕ). recovered_number S (words_alone m.state.words) (ticket_cell S i)) mine ∙ recovered_at (ticket_at MOST_INSTRS n) ticket_low,
+            has_reply (sizes w limit) raw (length c.op) (get_or h y no_entry).reply is.some is.few is.fits (subst (SameReply S raw) is.raw same))
+
+        tells_last : TellsLast S B C h n
+        tells_last = elim (lost.recovered_so.own n low).last [
+          | inl none ↦ inl (sym (recovered_at (ticket_at MOST_INSTRS n) ticket_low) ∙ none)
+          | inr q ↦ found_last q.0 q.1 q.2 q.3
+        ]
+
+        up_to : IsUpTo h n (done_before S C n)
+        up_to = All-from_get_or (λ (e : Entry). e.caller ≡ n → (OnlyReads e.script → ⊥) → e.ticket ≤ done_before S C n) h no_entry (λ y l mine writes.
+            let c : Call = get_or order y no_call in
+            let is = entry_of y l in
+            let among : y < length order = subst (λ (k : ℕ). y < k) (long w s order are_scripts) l in
+            let few = (lost.recovered_so.own n low).upto y no_call among (sym is.caller ∙ mine) (may_write c.op (get_or h y no_entry).script is.words is.script writes) in
+            let at_end = recovered_at (ticket_at MOST_INSTRS n) ticket_low in
+            omega (arith, few, is.ticket, at_end))
+
       leads_there : Leads w limit B v s found h
       leads_there = record {
         serial = serial w s order are_scripts;
@@ -218,6 +285,8 @@ module _ (w : Scripts) (limit : ℕ) (sound : GoodIsSound (setup_with w limit) (
         calls = each_of explained v.kept (lost.explained m.seat v m.view awake);
         only = each_of owned v.kept (lost.reached.callers m.seat v m.view awake);
         callers = below;
+        last = tells_last;
+        upto = up_to;
       }
 
   pub holds_history : HoldsHistory w limit

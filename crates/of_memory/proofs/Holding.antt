@@ -18,11 +18,11 @@ use Rattle.of_caller.specs.declared.caller.Caller.{Caller}
 use Rattle.of_caller.specs.Callers.{call_of}
 use Rattle.of_memory.specs.declared.memory.Memory.{Memory}
 use Rattle.of_memory.specs.declared.saved.Saved.{Saved}
-use Rattle.of_memory.specs.History.{Entry, Made, store_after, ExplainsAll, IsOneOf, HasOnly}
+use Rattle.of_memory.specs.History.{Entry, Made, store_after, ExplainsAll, IsOneOf, HasOnly, IsUpTo}
 use Rattle.of_memory.specs.Calls.{AreMade, RunsScripts}
-use Rattle.of_memory.specs.Laws.{setup_with, StandsAt, KeepsSo, ExplainsKept, HasOpenScript, HasOnlyKept, Leads}
+use Rattle.of_memory.specs.Laws.{setup_with, StandsAt, KeepsSo, ExplainsKept, HasOpenScript, HasOnlyKept, TellsLast, Leads}
 use Rattle.of_memory.specs.Serving.{Serves, AllHere, IsKeptOf, KeepsThose, ended_of, start_of_row}
-use Rattle.of_memory.specs.Memories.{IsMemory, HasMadeOf, HasOpenOf, KnowsOthers, HasHistory, LeadsTo, row_of, StartsWith, tickets_before}
+use Rattle.of_memory.specs.Memories.{IsMemory, HasMadeOf, HasOpenOf, KnowsOthers, HasHistory, LeadsTo, row_of, StartsWith, tickets_before, callers_of}
 use Rattle.of_memory.proofs.Seats.{serve_none, serve_some, number_below, keeps_as}
 
 -- ---- a caller is taken out of its place, or put into it
@@ -103,5 +103,15 @@ history m d r v same sizes scripts keeps leads s starts =
       only = λ n ms made.
           let owned = only_kept m (setup_with (key_of r).work (key_of r).limit) (start_of_row r) h n made.caller made.here v.kept (keeps n made.caller (is_within m.callers.items n made.caller made.here) made.here) found.1.only ms made.made in
           subst (λ (x : Row Scripts). HasOnly h n (done_before (setup_with (key_of r).work (key_of r).limit) (start_of_row x) n) ms (HasOpenOf m n)) same owned;
+      last = λ n lt.
+          let S : Setup = setup_with (key_of r).work (key_of r).limit in
+          let Tells : Scripts → Row Scripts → Type 0 = λ w x. TellsLast S (start_of_row x) (start_of w.callers (cells_in w) d.row.items) h n in
+          subst (λ (x : Row Scripts). Tells d.scripts x) same (subst (λ (w : Scripts). Tells w r) (sym scripts) (found.1.last n (low n lt)));
+      upto = λ n lt.
+          let S : Setup = setup_with (key_of r).work (key_of r).limit in
+          subst (λ (w : Scripts). IsUpTo h n (done_before S (start_of w.callers (cells_in w) d.row.items) n)) (sym scripts) (found.1.upto n (low n lt));
       callers = subst (λ (k : ℕ). All (λ (e : Entry). e.caller < k) h) (sym sizes ∙ ap (λ (x : Row Scripts). (key_of x).callers) same) found.1.callers;
     })
+  where
+    low : (n : ℕ) → n < callers_of m → n < (key_of r).work.callers
+    low n lt = subst (λ (k : ℕ). n < k) (ap (λ (x : Row Scripts). (key_of x).callers) (sym same) ∙ sizes) lt

@@ -1,8 +1,9 @@
 -- A serial history of scripts on the plain store.
-use Rattle.std.specs.Prelude.{◌≡◌, ℕ, ◌+◌, ◌<◌, ◌⊎◌, List, [], ◌∷◌, length}
+use Rattle.std.specs.Prelude.{◌≡◌, ℕ, ◌+◌, ◌<◌, ◌≤◌, ◌⊎◌, IsTrue, List, [], ◌∷◌, length}
 use Rattle.std.specs.List.{All}
 use Rattle.std.proofs.Common.{get_or}
 use Rattle.of_script.specs.declared.instr.Instr.{Instr}
+use Rattle.of_script.specs.Language.{reads_only}
 use Rattle.of_store.specs.State.{State, Response, Answered as Replied, run}
 
 -- a call in the history: a script of a caller, the number that the call has among its caller's calls,
@@ -72,3 +73,11 @@ IsOneOf n ms IsOpenCall e =
 -- so is each entry of the caller
 abbrev pub HasOnly : List Entry → (caller n : ℕ) → List Made → (IsOpenCall : List Instr → Type 0) → Type 0
 HasOnly h c n ms IsOpenCall = All (λ (e : Entry). e.caller ≡ c → IsOneOf n ms IsOpenCall e) h
+
+-- the script leaves every store as it is
+abbrev pub OnlyReads : List Instr → Type 0
+OnlyReads script = All (λ (i : Instr). IsTrue (reads_only i)) script
+
+-- no call of the caller that may write is later than this one
+abbrev pub IsUpTo : List Entry → (caller ticket : ℕ) → Type 0
+IsUpTo h c t = All (λ (e : Entry). e.caller ≡ c → (OnlyReads e.script → ⊥) → e.ticket ≤ t) h

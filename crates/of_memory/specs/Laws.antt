@@ -7,18 +7,20 @@ use Rattle.of_recover.specs.Recovered.{recovered}
 use Rattle.of_mem.specs.ProgramWork.{memory}
 use Rattle.of_script.specs.declared.instr.Instr.{Instr}
 use Rattle.of_script.specs.Language.{instr_word}
-use Rattle.of_store.specs.State.{State}
+use Rattle.of_script.specs.declared.instr.TheConstants.{MOST_INSTRS}
+use Rattle.of_store.specs.State.{State, Response}
 use Rattle.of_eval.specs.declared.scripts.Scripts.{Scripts}
 use Rattle.of_eval.specs.Scripts.{store_at, cells_in, LawfulCells, scripts_meaning}
 use Rattle.of_eval.specs.Stored.{IsStored}
+use Rattle.of_eval.specs.Lawful.{reply_in}
 use Rattle.of_core.specs.Table.{Setup, setup_of}
 use Rattle.of_core.specs.Machine.{IsOpen}
 use Rattle.of_core.specs.World.{Start}
 use Rattle.of_core.specs.Starts.{IsDurable, IsStartRow, start_of}
 use Rattle.of_row.specs.Views.{Kept, Sight, Each}
 use Rattle.of_row.specs.Rule.{Meets, done_before}
-use Rattle.of_memory.specs.History.{Entry, Made, IsSerial, store_after, StandsInOrder, ExplainsAll, HasOnly}
-use Rattle.of_memory.specs.Calls.{RunsScripts, AreMade}
+use Rattle.of_memory.specs.History.{Entry, Made, IsSerial, store_after, StandsInOrder, ExplainsAll, HasOnly, Has, IsUpTo}
+use Rattle.of_memory.specs.Calls.{RunsScripts, AreMade, HoldsResponse}
 
 -- what the machines on a table for these scripts have in common
 abbrev pub setup_with : Scripts → (limit : ℕ) → Setup
@@ -53,6 +55,17 @@ HasOnlyKept S B h x =
     (ms : List Made) → AreMade x.ended ms
     → HasOnly h x.machine.caller (done_before S B x.machine.caller) ms (HasOpenScript x)
 
+-- the cells of a start hold this reply to the last call of caller n
+abbrev pub HoldsReplyAt : Start → (n : ℕ) → Response → Type 0
+HoldsReplyAt C n response = HoldsResponse (reply_in MOST_INSTRS (memory (map pay C.cells)) n) response
+
+-- The last call of caller n that the cells at C hold: none since the start B, or one of the history, with
+-- its reply.
+abbrev pub TellsLast : Setup → (B C : Start) → List Entry → (n : ℕ) → Type 0
+TellsLast S B C h n =
+    (done_before S C n ≡ done_before S B n)
+    ⊎ ((e : Entry) × Has h e × (e.caller ≡ n) × (e.ticket ≡ done_before S C n) × HoldsReplyAt C n e.reply)
+
 -- a serial history leads from the store to the one that the row stands for
 pub record Leads (w : Scripts) (limit : ℕ) (B : Start) (v : Sight) (s : State) (row : List ℕ)
     (h : List Entry) : Type 0 where
@@ -62,6 +75,10 @@ pub record Leads (w : Scripts) (limit : ℕ) (B : Start) (v : Sight) (s : State)
   pub calls : Each (ExplainsKept (setup_with w limit) B h) v.kept
   pub only : Each (HasOnlyKept (setup_with w limit) B h) v.kept
   pub callers : All (λ (e : Entry). e.caller < w.callers) h
+  pub last : (n : ℕ) → n < w.callers
+      → TellsLast (setup_with w limit) B (start_of w.callers (cells_in w) row) h n
+  pub upto : (n : ℕ) → n < w.callers
+      → IsUpTo h n (done_before (setup_with w limit) (start_of w.callers (cells_in w) row) n)
 
 -- Where words and a view meet the rule of a row of these scripts, and the view keeps each caller,
 -- recovery of the durable words finds a row from which a table may start, and a serial history leads

@@ -1,5 +1,5 @@
 -- A memory that a program has opened, and what its close leaves.
-use Rattle.std.specs.Prelude.{◌≡◌, ◌≢◌, ℕ, ◌<◌, List, Option, Some, None, length, map}
+use Rattle.std.specs.Prelude.{◌≡◌, ◌≢◌, ℕ, ◌<◌, ◌⊎◌, List, Option, Some, None, length, map}
 use Rattle.std.proofs.Common.{get_or}
 use Rattle.std.specs.Arc.{arc_value}
 use Rattle.std.specs.List.{All}
@@ -15,11 +15,11 @@ use Rattle.of_caller.specs.Callers.{call_of}
 use Rattle.of_memory.specs.declared.memory.Memory.{Memory}
 use Rattle.of_memory.specs.declared.handle.Handle.{Handle}
 use Rattle.of_memory.specs.declared.saved.Saved.{Saved}
-use Rattle.of_memory.specs.History.{Entry, Made, IsSerial, store_after, StandsInOrder, ExplainsAll, HasOnly}
+use Rattle.of_memory.specs.History.{Entry, Made, IsSerial, store_after, StandsInOrder, ExplainsAll, HasOnly, Has, IsUpTo}
 use Rattle.of_memory.specs.Calls.{AreMade}
 use Rattle.of_memory.specs.Laws.{StandsAt}
 use Rattle.of_memory.specs.Serving.{IsScriptsRow, ServeAll, ended_of, start_of_row, made_before}
-use Rattle.of_memory.specs.Saving.{Holds}
+use Rattle.of_memory.specs.Saving.{Holds, HoldsReply, ticket_in}
 use Rattle.of_memory.specs.Handles.{home_of}
 
 abbrev pub row_of : Memory → Row Scripts
@@ -70,10 +70,17 @@ IsStill m k = row_of k ≡ row_of m
 abbrev pub KnowsOthers : ℕ → (before now : Memory) → Type 0
 KnowsOthers n m k = (i : ℕ) (ms : List Made) → i ≢ n → HasMadeOf m i ms → HasMadeOf k i ms
 
+-- What is saved of the last call of caller n: there was none since the memory was opened, or it is one of
+-- the history, with its reply.
+abbrev pub TellsLastOf : Memory → Saved → List Entry → ℕ → Type 0
+TellsLastOf m d h n =
+    (ticket_in d n ≡ tickets_before m n)
+    ⊎ ((e : Entry) × Has h e × (e.caller ≡ n) × (e.ticket ≡ ticket_in d n) × HoldsReply d n e.reply)
+
 -- The history leads from the store with which the memory was opened to the saved one. It is serial, and
 -- the calls of each caller stand in it in the order in which they were made, each once at most. It has
 -- each call that was answered, with its reply, and no call that was spent; beside these it has open
--- calls alone.
+-- calls alone. What is saved tells the last call of each caller, and no call that may write is later.
 pub record LeadsTo (m : Memory) (s : State) (d : Saved) (h : List Entry) : Type 0 where
   pub serial : IsSerial s h
   pub ends : Holds d (store_after s h)
@@ -81,6 +88,8 @@ pub record LeadsTo (m : Memory) (s : State) (d : Saved) (h : List Entry) : Type 
   pub made : (n : ℕ) (ms : List Made) → HasMadeOf m n ms → ExplainsAll h n (tickets_before m n) ms
   pub only : (n : ℕ) (ms : List Made) → HasMadeOf m n ms → HasOnly h n (tickets_before m n) ms (HasOpenOf m n)
   pub callers : All (λ (e : Entry). e.caller < callers_of m) h
+  pub last : (n : ℕ) → n < callers_of m → TellsLastOf m d h n
+  pub upto : (n : ℕ) → n < callers_of m → IsUpTo h n (ticket_in d n)
 
 -- so it is of the store with which it was opened
 abbrev pub HasHistory : Memory → Saved → Type 0

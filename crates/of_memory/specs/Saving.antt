@@ -1,13 +1,13 @@
 -- What a closed memory leaves.
 use Rattle.std.specs.Prelude.{◌≡◌, ℕ, ◌≤◌}
 use Rattle.of_plan.specs.declared.plan.TheConstants.{GREATEST_LIMIT}
-use Rattle.of_store.specs.State.{State}
+use Rattle.of_store.specs.State.{State, Response}
 use Rattle.of_eval.specs.Scripts.{cells_in, LawfulCells}
 use Rattle.of_core.specs.World.{Start}
 use Rattle.of_core.specs.Starts.{IsStartRow, start_of}
 use Rattle.of_row.specs.Rule.{done_before}
 use Rattle.of_memory.specs.declared.saved.Saved.{Saved}
-use Rattle.of_memory.specs.Laws.{setup_with, StandsAt}
+use Rattle.of_memory.specs.Laws.{setup_with, StandsAt, HoldsReplyAt}
 
 -- where a memory starts that goes on from it
 abbrev pub start_in : Saved → Start
@@ -26,3 +26,7 @@ Holds d s = StandsAt d.scripts (start_in d) s
 -- how many calls of a caller it holds
 abbrev pub ticket_in : Saved → ℕ → ℕ
 ticket_in d n = done_before (setup_with d.scripts d.limit) (start_in d) n
+
+-- it holds this reply to the last of them
+abbrev pub HoldsReply : Saved → ℕ → Response → Type 0
+HoldsReply d n response = HoldsReplyAt (start_in d) n response
