@@ -38,7 +38,9 @@ use Rattle.of_caller.proofs.RawReplies.{IsFine, answer_holds}
 use Rattle.of_memory.specs.History.{End, Reply, Spent, Made}
 use Rattle.of_memory.specs.Calls.{IsOperation, EndsAs, IsMade, AreMade, RunsScripts}
 use Rattle.of_memory.specs.Serving.{IsScriptsRow, Serves, start_of_row, ended_of}
-use Rattle.of_memory.specs.Called.{IsOpenAt}
+use Rattle.of_memory.specs.declared.error.RunErr.{RunErr}
+use Rattle.of_memory.specs.declared.error.RunErr.TheVariants.{OutOfMemory, Stopped as Halted, Spent as RanOut, Open, NoTicket}
+use Rattle.of_memory.specs.Called.{IsOpenAt, WasTried, IsRefusedBy}
 use Rattle.of_memory.proofs.Plans.{plan_of, is_plan}
 
 -- ---- calls that are kept, as calls of scripts
@@ -212,3 +214,11 @@ module _ (r : Row Scripts) (row : IsScriptsRow r) where
     runs = runs_on (setup_at scripts_meaning r) L (start_of_row r) m (sight_of c) a (call_of k) (sight_of k) b z told op s.runs;
     begun = λ is_open. subst IsOperation (sym told.op) op;
   }
+
+pub tried_is : (c : Caller Scripts) (r : Result Answer RunErr) → WasTried r → IsRefusedBy c r
+tried_is c (Ok a) h = tt
+tried_is c (Err OutOfMemory) h = tt
+tried_is c (Err (Halted asked)) h = tt
+tried_is c (Err (RanOut seq)) h = tt
+tried_is c (Err Open) h = absurd h
+tried_is c (Err NoTicket) h = absurd h

@@ -1,5 +1,5 @@
 -- What a call of a script comes to.
-use Rattle.std.specs.Prelude.{◌≡◌, List, [], ◌∷◌, ◌++◌, map, Result, Ok, Err}
+use Rattle.std.specs.Prelude.{◌≡◌, ◌+◌, ◌<◌, List, [], ◌∷◌, ◌++◌, map, Result, Ok, Err}
 use Rattle.of_script.specs.declared.instr.Instr.{Instr}
 use Rattle.of_script.specs.Language.{IsScript, instr_word}
 use Rattle.of_store.specs.Replies.{response_of}
@@ -35,3 +35,21 @@ LeavesOpen script (Err (Stopped asked)) c = IsOpenAt script c
 LeavesOpen script (Err (NoneLeft seq)) c = Unit {0}
 LeavesOpen script (Err Open) c = Unit {0}
 LeavesOpen script (Err NoTicket) c = Unit {0}
+
+-- the call was begun, unless there was no memory
+abbrev pub WasTried : Result Answer RunErr → Type 0
+WasTried (Ok a) = Unit {0}
+WasTried (Err OutOfMemory) = Unit {0}
+WasTried (Err (Stopped asked)) = Unit {0}
+WasTried (Err (NoneLeft seq)) = Unit {0}
+WasTried (Err Open) = ⊥
+WasTried (Err NoTicket) = ⊥
+
+-- a caller is refused only if its call is open, or it has made all calls that it may make
+abbrev pub IsRefusedBy : Caller Scripts → Result Answer RunErr → Type 0
+IsRefusedBy c (Ok a) = Unit {0}
+IsRefusedBy c (Err OutOfMemory) = Unit {0}
+IsRefusedBy c (Err (Stopped asked)) = Unit {0}
+IsRefusedBy c (Err (NoneLeft seq)) = Unit {0}
+IsRefusedBy c (Err Open) = IsOpen (call_of c).place
+IsRefusedBy c (Err NoTicket) = (call_of c).made + 1 < 4294967296 → ⊥

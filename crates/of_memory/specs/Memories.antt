@@ -1,5 +1,5 @@
 -- A memory that a program has opened, and what its close leaves.
-use Rattle.std.specs.Prelude.{◌≡◌, ◌≢◌, ℕ, ◌<◌, ◌⊎◌, List, Option, Some, None, length, map}
+use Rattle.std.specs.Prelude.{◌≡◌, ◌≢◌, ℕ, ◌<◌, ◌≤◌, ◌⊎◌, List, Option, Some, None, length, map}
 use Rattle.std.proofs.Common.{get_or}
 use Rattle.std.specs.Arc.{arc_value}
 use Rattle.std.specs.List.{All}
@@ -12,6 +12,13 @@ use Rattle.of_row.specs.Rows.{key_of, IsOf}
 use Rattle.of_core.specs.Machine.{IsOpen}
 use Rattle.of_caller.specs.declared.caller.Caller.{Caller}
 use Rattle.of_caller.specs.Callers.{call_of}
+use Rattle.of_mem.specs.declared.work.TheConstants.{MOST_CALLERS}
+use Rattle.of_mem.specs.declared.plot.TheConstants.{MOST_BLOCKS}
+use Rattle.of_plan.specs.declared.plan.TheConstants.{GREATEST_LIMIT}
+use Rattle.of_memory.specs.declared.error.EnrolErr.{EnrolErr}
+use Rattle.of_memory.specs.declared.error.EnrolErr.TheVariants.{OutOfMemory, NoCaller, Enrolled}
+use Rattle.of_memory.specs.declared.error.OpenErr.{OpenErr}
+use Rattle.of_memory.specs.declared.error.OpenErr.TheVariants.{OutOfMemory as NoRoom, Callers, Blocks, Limit}
 use Rattle.of_memory.specs.declared.memory.Memory.{Memory}
 use Rattle.of_memory.specs.declared.handle.Handle.{Handle}
 use Rattle.of_memory.specs.declared.saved.Saved.{Saved}
@@ -94,3 +101,16 @@ pub record LeadsTo (m : Memory) (s : State) (d : Saved) (h : List Entry) : Type 
 -- so it is of the store with which it was opened
 abbrev pub HasHistory : Memory → Saved → Type 0
 HasHistory m d = (s : State) → StartsWith m s → (h : List Entry) × LeadsTo m s d h
+
+-- why there is no handle
+abbrev pub IsEnrolCause : Memory → ℕ → EnrolErr → Type 0
+IsEnrolCause m n (OutOfMemory e) = Unit {0}
+IsEnrolCause m n (NoCaller k) = (k ≡ n) × (callers_of m ≤ n)
+IsEnrolCause m n (Enrolled k) = (k ≡ n) × (get_or m.callers.items n None ≡ None)
+
+-- and why no memory is opened
+abbrev pub IsOpenCause : (callers blocks limit : ℕ) → OpenErr → Type 0
+IsOpenCause callers blocks limit (NoRoom e) = Unit {0}
+IsOpenCause callers blocks limit (Callers k) = (callers ≡ 0) ⊎ (MOST_CALLERS < callers)
+IsOpenCause callers blocks limit (Blocks k) = MOST_BLOCKS < blocks
+IsOpenCause callers blocks limit (Limit k) = (limit ≡ 0) ⊎ (GREATEST_LIMIT < limit)

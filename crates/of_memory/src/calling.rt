@@ -12,7 +12,7 @@ ghost use Rattle.of_caller.specs.Lanes.{IsHeld};
 ghost use Rattle.of_memory.specs.History.{Made};
 ghost use Rattle.of_memory.specs.Calls.{AreMade};
 ghost use Rattle.of_memory.specs.Serving.{IsScriptsRow, Serves, ended_of};
-ghost use Rattle.of_memory.specs.Called.{made_with, LeavesOpen};
+ghost use Rattle.of_memory.specs.Called.{made_with, LeavesOpen, WasTried};
 
 use crate::error::RunErr;
 use of_brake::{Brake, Fuel, Steps};
@@ -70,6 +70,7 @@ fn call_counted<L: Ledger>(
     ensures made { (ms : List Made) → AreMade (ended_of caller.old) ms
         → AreMade (ended_of caller.new) (made_with script.now result ms) }
     ensures open_call { LeavesOpen script.now result caller.new }
+    ensures tried { WasTried result }
 {
     let mut steps: Steps<L> = Steps::new(blank);
     let len = script.len() as usize;
@@ -134,6 +135,7 @@ pub(crate) fn call_script(
     ensures made { (ms : List Made) → AreMade (ended_of caller.old) ms
         → AreMade (ended_of caller.new) (made_with script.now result ms) }
     ensures open_call { LeavesOpen script.now result caller.new }
+    ensures tried { WasTried result }
 {
     let Ok(fuel) = Box::new(alloc, fuel_of(stop)) else {
         return Err(RunErr::OutOfMemory);

@@ -25,7 +25,7 @@ impl Handle {
     ghost use Rattle.std.specs.Prelude.{◌≡◌, ◌≢◌, ◌↔◌, IsTrue, List, ℕ};
     ghost use Rattle.of_script.specs.declared.instr.Instr.{Instr as TheInstr};
     ghost use Rattle.of_memory.specs.History.{Made};
-    ghost use Rattle.of_memory.specs.Called.{made_with, LeavesOpen};
+    ghost use Rattle.of_memory.specs.Called.{made_with, LeavesOpen, IsRefusedBy};
     ghost use Rattle.of_memory.specs.Handles.{IsHandle, HasMade, HasOpen, IsSame};
     ghost use Rattle.of_memory.specs.Memories.{IsMemory, IsFrom, IsStill, HasMadeOf, KnowsOthers};
 
@@ -44,6 +44,7 @@ impl Handle {
         ensures made { (ms : List Made) → HasMade self.old ms
             → HasMade self.new (made_with script.now result ms) }
         ensures open_call { LeavesOpen script.now result self.new.caller }
+        ensures cause { IsRefusedBy self.old.caller result }
     {
         self.begin(script, None)
     }
@@ -56,6 +57,7 @@ impl Handle {
         ensures made { (ms : List Made) → HasMade self.old ms
             → HasMade self.new (made_with script.now result ms) }
         ensures open_call { LeavesOpen script.now result self.new.caller }
+        ensures cause { IsRefusedBy self.old.caller result }
     {
         self.begin(script, Some(steps))
     }
@@ -67,6 +69,7 @@ impl Handle {
         ensures made { (ms : List Made) → HasMade self.old ms
             → HasMade self.new (made_with script.now result ms) }
         ensures open_call { LeavesOpen script.now result self.new.caller }
+        ensures cause { IsRefusedBy self.old.caller result }
     {
         if !self.caller.is_idle() {
             return Err(RunErr::Open);

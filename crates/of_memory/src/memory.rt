@@ -24,7 +24,7 @@ pub struct Memory {
 }
 
 impl Memory {
-    ghost use Rattle.std.specs.Prelude.{◌≡◌, ◌<◌, ℕ, List, [], IfOk, IfErr, length};
+    ghost use Rattle.std.specs.Prelude.{◌≡◌, ◌<◌, ◌≤◌, ℕ, List, [], IfOk, IfErr, length};
     ghost use Rattle.of_store.specs.State.{State, empty_store};
     ghost use Rattle.of_row.specs.Rows.{key_of};
     ghost use Rattle.of_row.specs.Passes.{IsFirst};
@@ -35,6 +35,7 @@ impl Memory {
     ghost use Rattle.of_memory.specs.Handles.{IsHandle, HasMade};
     ghost use Rattle.of_memory.specs.Memories.{IsMemory, row_of, callers_of, StartsWith, tickets_before};
     ghost use Rattle.of_memory.specs.Memories.{HasMadeOf, IsFrom, IsStill, KnowsOthers, HasHistory};
+    ghost use Rattle.of_memory.specs.Memories.{IsOpenCause, IsEnrolCause};
 
     /// An empty memory: 1 to 16 callers, and room for at most 512 keys and queued items. `limit` is the
     /// last sequence that may be committed.
@@ -50,6 +51,7 @@ impl Memory {
         ensures tickets { IfOk result (λ m.
             (n : ℕ) → n < callers → tickets_before m n ≡ 0) }
         ensures none { IfOk result (λ m. (n : ℕ) → n < callers → HasMadeOf m n []) }
+        ensures cause { IfErr result (IsOpenCause callers blocks limit) }
     {
         if callers == 0 || callers > MOST_CALLERS {
             return Err(OpenErr::Callers { callers });
@@ -60,9 +62,26 @@ impl Memory {
         if limit == 0 || limit > GREATEST_LIMIT {
             return Err(OpenErr::Limit { limit });
         }
-        let scripts = Scripts { callers, blocks };
+        match Memory::empty(alloc, Scripts { callers, blocks }, limit) {
+            Ok(memory) => Ok(memory),
+            Err(error) => Err(OpenErr::OutOfMemory(error)),
+        }
+    }
+
+    // An empty memory for these scripts.
+    fn empty(alloc: Global, scripts: Scripts, limit: u32) -> Result<Memory, AllocError>
+        requires some { 1 ≤ limit }
+        requires few { limit ≤ GREATEST_LIMIT }
+        ensures memory { IfOk result IsMemory }
+        ensures callers { IfOk result (λ m. callers_of m ≡ scripts.callers) }
+        ensures empty { IfOk result (λ m. StartsWith m (empty_store scripts.blocks)) }
+        ensures tickets { IfOk result (λ m.
+            (n : ℕ) → n < scripts.callers → tickets_before m n ≡ 0) }
+        ensures none { IfOk result (λ m. (n : ℕ) → n < scripts.callers → HasMadeOf m n []) }
+    {
         let (row, pass) = Row::new(alloc, shape_of(scripts), limit, scripts)?;
-        Ok(Memory::over(alloc, row, pass)?)
+        let memory = Memory::over(alloc, row, pass)?;
+        Ok(memory)
     }
 
     /// A memory that goes on from what was saved. No call that it holds is run again.
@@ -117,11 +136,14 @@ impl Memory {
         ensures made { IfOk result (λ h. (ms : List Made) → HasMadeOf self.old number ms
             → HasMade h ms) }
         ensures others { KnowsOthers number self.old self.new }
+        ensures cause { IfErr result (IsEnrolCause self.old number) }
     {
         if number >= self.callers() {
             return Err(EnrolErr::NoCaller { number });
         }
-        let row = Arc::try_clone(&self.row)?;
+        let Ok(row) = Arc::try_clone(&self.row) else {
+            return Err(EnrolErr::OutOfMemory(AllocError));
+        };
         match take_at(&mut self.callers, number as usize) {
             Some(caller) => Ok(Handle {
                 alloc: self.alloc,

@@ -1,6 +1,7 @@
 //! What a closed memory leaves.
 
-ghost use Rattle.std.specs.Prelude.{◌≡◌, ◌<◌, ◌≤◌, ◌+◌, ℕ, List, IfOk, length, map, slice_range};
+ghost use Rattle.std.specs.Prelude.{◌≡◌, ◌<◌, ◌≤◌, ◌+◌, ℕ, List, IfOk, IfSome, IsSome, length, map};
+ghost use Rattle.std.specs.Prelude.{slice_index_or, slice_range};
 ghost use Rattle.of_cell.specs.Words.{pay};
 ghost use Rattle.of_cell.specs.Cells.{data_cell, durable_cells};
 ghost use Rattle.of_mem.specs.declared.work.TheConstants.{MOST_INSTRS};
@@ -9,10 +10,12 @@ ghost use Rattle.of_recover.specs.Recovered.{recovered};
 ghost use Rattle.of_eval.specs.Scripts.{cells_in};
 
 use of_cell::{Shape, payload_of};
-use of_eval::{Scripts, lawful};
+use of_eval::{Scripts, lawful, reply_of};
+use of_mem::{MOST_INSTRS, RawReply};
 use of_recover::laws::recovered_cells;
 use of_recover::recover;
 use of_row::{Pass, Row};
+use of_script::Reply;
 use of_store::Store;
 use std::alloc::{AllocError, Global};
 
@@ -80,12 +83,15 @@ pub struct Saved {
 
 impl Saved {
     ghost use Rattle.of_row.specs.Rows.{IsOf, key_of, setup_at};
-    ghost use Rattle.of_store.specs.State.{State};
+    ghost use Rattle.of_mem.specs.ProgramWork.{memory};
+    ghost use Rattle.of_eval.specs.Lawful.{reply_in};
+    ghost use Rattle.of_store.specs.State.{State, Response};
+    ghost use Rattle.of_store.specs.Replies.{response_of};
     ghost use Rattle.of_memory.specs.History.{Entry};
     ghost use Rattle.of_memory.specs.Laws.{Leads, KeepScripts, StandsAt};
     ghost use Rattle.of_eval.specs.Scripts.{scripts_meaning};
     ghost use Rattle.of_memory.specs.Serving.{IsScriptsRow, start_of_row};
-    ghost use Rattle.of_memory.specs.Saving.{IsSaved, Holds, ticket_in};
+    ghost use Rattle.of_memory.specs.Saving.{IsSaved, Holds, HoldsReply, start_in, ticket_in};
 
     // Closes a row, takes its durable words alone, as a crash does, and recovers them.
     pub(crate) fn close(row: Row<Scripts>, pass: Pass) -> Saved
@@ -146,5 +152,51 @@ impl Saved {
         let ticket = self.scripts.plot().ticket(number);
         let cell = shape_of(self.scripts).data_cell(ticket);
         payload_of(self.row[cell as usize])
+    }
+    // The number of a data cell.
+    fn number(&self, cell: u32) -> u32
+        requires saved { IsSaved self.now }
+        requires cell { cell < cells_in self.now.scripts }
+        ensures { result ≡ pay (slice_index_or (start_in self.now).cells cell 0) }
+    {
+        let place = shape_of(self.scripts).data_cell(cell);
+        payload_of(self.row[place as usize])
+    }
+
+    // The reply in a caller's own cells.
+    fn reply(&self, number: u32) -> RawReply
+        requires saved { IsSaved self.now }
+        requires number { number < self.now.scripts.callers }
+        ensures { result ≡ reply_in MOST_INSTRS (memory (map pay (start_in self.now).cells)) number }
+    {
+        let plot = self.scripts.plot();
+        let mut values = [0; MOST_INSTRS];
+        for place in 0..MOST_INSTRS {
+            values[place] = self.number(plot.reply(number, place as u32));
+        }
+        RawReply {
+            shape: self.number(plot.shape(number)),
+            values,
+        }
+    }
+
+    /// The number of a caller's last call that it holds, and the reply to it, also if the caller was
+    /// stopped before it was answered. None if it holds none.
+    pub fn last_reply(&self, number: u32) -> Option<(u32, Reply)>
+        requires saved { IsSaved self.now }
+        requires number { number < self.now.scripts.callers }
+        ensures ticket { IfSome result (λ r. r.0 ≡ ticket_in self.now number) }
+        ensures reply { IfSome result (λ r. HoldsReply self.now number (response_of r.1)) }
+        ensures some { (r : Response) → HoldsReply self.now number r
+            → 0 < ticket_in self.now number → IsSome result }
+    {
+        let ticket = self.ticket(number);
+        if ticket == 0 {
+            return None;
+        }
+        match reply_of(&self.reply(number)) {
+            Some(reply) => Some((ticket, reply)),
+            None => None,
+        }
     }
 }

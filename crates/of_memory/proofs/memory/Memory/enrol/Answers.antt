@@ -24,7 +24,7 @@ returns-in-Some-clause-memory c =
 pub returns-in-Some-clause-handle : goal.returns-in-Some-clause-handle
 returns-in-Some-clause-handle c =
     let h = c.requires in
-    let same = c.in_ok-row.ensures in
+    let same = c.in-Ok.ensures in
     record {
       row = subst IsScriptsRow (sym same) h.row;
       serves = subst (λ (r : Row Scripts). Serves r c.args.number c.in-Some.caller) (sym same) (h.serve c.args.number c.in-Some.caller (sym c.in-Some.ensures.caller));
