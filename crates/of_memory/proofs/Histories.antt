@@ -225,8 +225,12 @@ module _ (w : Scripts) (limit : ℕ) (sound : GoodIsSound (setup_with w limit) (
           elim (begun_at x (is_idle x.machine.place) refl (c.ticket - st - 1) high) [
             | inl before ↦
                 let one = made_at x.ended ms (c.ticket - st - 1) made (omega (arith, before.0, many)) in
-                inl (c.ticket - st - 1, omega (arith, before.0, many), omega (arith, is.ticket, low),
-                words_injective e.script (get_or ms (c.ticket - st - 1) no_made).script is.script.in_range one.1.script.in_range (sym is.words ∙ op ∙ before.1 ∙ one.1.words))
+                inl (
+                  c.ticket - st - 1,
+                  omega (arith, before.0, many),
+                  omega (arith, is.ticket, low),
+                  words_injective e.script (get_or ms (c.ticket - st - 1) no_made).script is.script.in_range one.1.script.in_range (sym is.words ∙ op ∙ before.1 ∙ one.1.words),
+                )
             | inr last ↦ inr (omega (arith, is.ticket, low, last.0, many), (last.1, sym last.2 ∙ sym op ∙ is.words))
           ])
 
@@ -252,15 +256,22 @@ module _ (w : Scripts) (limit : ℕ) (sound : GoodIsSound (setup_with w limit) (
             let is = entry_of y l in
             let raw : RawReply = reply_in MOST_INSTRS (memory (map pay C.cells)) n in
             let shape : raw.shape ≡ c.raw.shape = number_found (shape_at MOST_INSTRS n) (omega (arith, low)) ∙ ap (λ (i : ℕ). recovered_number S (words_alone m.state.words) (shape_cell S i)) (sym mine) ∙ finds.shape in
-            let same : SameReply S raw c.raw = (shape, λ j k mark.
-                get_or-map-range_with_len (reply_number MOST_INSTRS (memory (map pay C.cells)) n) 0 MOST_INSTRS j j 0 k (omega arith)
-                ∙ ap (λ (b : Bool). if b then memory (map pay C.cells) (reply_at MOST_INSTRS n j) else 0) (lt-ltb j MOST_INSTRS k)
-                ∙ number_found (reply_at MOST_INSTRS n j) (omega (arith, low, k))
-                ∙ ap (λ (i : ℕ). recovered_number S (words_alone m.state.words) (reply_cell S i j)) (sym mine)
-                ∙ finds.replies j k (ap (λ (x : ℕ). marked x j) (sym shape) ∙ mark)) in
-            inr (get_or h y no_entry, (y, l, refl), is.caller ∙ mine,
-            is.ticket ∙ sym finds.ticket ∙ ap (λ (i : ℕ). recovered_number S (words_alone m.state.words) (ticket_cell S i)) mine ∙ recovered_at (ticket_at MOST_INSTRS n) ticket_low,
-            has_reply (sizes w limit) raw (length c.op) (get_or h y no_entry).reply is.some is.few is.fits (subst (SameReply S raw) is.raw same))
+            let same : SameReply S raw c.raw = (
+              shape,
+              λ j k mark.
+                  get_or-map-range_with_len (reply_number MOST_INSTRS (memory (map pay C.cells)) n) 0 MOST_INSTRS j j 0 k (omega arith)
+                  ∙ ap (λ (b : Bool). if b then memory (map pay C.cells) (reply_at MOST_INSTRS n j) else 0) (lt-ltb j MOST_INSTRS k)
+                  ∙ number_found (reply_at MOST_INSTRS n j) (omega (arith, low, k))
+                  ∙ ap (λ (i : ℕ). recovered_number S (words_alone m.state.words) (reply_cell S i j)) (sym mine)
+                  ∙ finds.replies j k (ap (λ (x : ℕ). marked x j) (sym shape) ∙ mark),
+            ) in
+            inr (
+              get_or h y no_entry,
+              (y, l, refl),
+              is.caller ∙ mine,
+              is.ticket ∙ sym finds.ticket ∙ ap (λ (i : ℕ). recovered_number S (words_alone m.state.words) (ticket_cell S i)) mine ∙ recovered_at (ticket_at MOST_INSTRS n) ticket_low,
+              has_reply (sizes w limit) raw (length c.op) (get_or h y no_entry).reply is.some is.few is.fits (subst (SameReply S raw) is.raw same),
+            )
 
         tells_last : TellsLast S B C h n
         tells_last = elim (lost.recovered_so.own n low).last [
@@ -291,6 +302,6 @@ module _ (w : Scripts) (limit : ℕ) (sound : GoodIsSound (setup_with w limit) (
 
   pub holds_history : HoldsHistory w limit
   holds_history B ws v m awake keeps row durable = (
-      (starts_again B ws v m awake keeps row durable).0,
-      (λ s stands. (h B ws v m awake keeps row durable s stands, leads_there B ws v m awake keeps row durable s stands)),
+    (starts_again B ws v m awake keeps row durable).0,
+    (λ s stands. (h B ws v m awake keeps row durable s stands, leads_there B ws v m awake keeps row durable s stands)),
   )

@@ -74,12 +74,15 @@ only_kept m S B h n c here (x ∷ xs) (inl k) all ms made = λ y d lt mine.
     as_open e (inl one) = inl one
     as_open e (inr last) =
         let same : x.machine ≡ call_of c = k.1.open_call last.1.0 in
-        inr (last.0, record {
-          caller = c;
-          here = here;
-          open_call = subst (λ (d : Data). IsOpen d.place) same last.1.0;
-          words = ap (λ (d : Data). d.op) (sym same) ∙ last.1.1;
-        })
+        inr (
+          last.0,
+          record {
+            caller = c;
+            here = here;
+            open_call = subst (λ (d : Data). IsOpen d.place) same last.1.0;
+            words = ap (λ (d : Data). d.op) (sym same) ∙ last.1.1;
+          },
+        )
 only_kept m S B h n c here (x ∷ xs) (inr k) all ms made = only_kept m S B h n c here xs k all.1 ms made
 
 pub keep_scripts : (cs : List (Option (Caller Scripts))) (xs : List Kept) (count : ℕ) → length cs ≡ count → AllHere cs (length cs) → KeepsThose cs (length cs) xs → (n : ℕ) → n < count → KeepsSo n RunsScripts xs
@@ -92,26 +95,28 @@ pub history : (m : Memory) (d : Saved) (r : Row Scripts) (v : Sight) → r ≡ r
     → ((s : State) → StandsAt (key_of r).work (start_of_row r) s → (h : List Entry) × Leads (key_of r).work (key_of r).limit (start_of_row r) v s d.row.items h) → HasHistory m d
 history m d r v same sizes scripts keeps leads s starts =
     let found = leads s (subst (λ (x : Row Scripts). StandsAt (key_of x).work (start_of_row x) s) (sym same) starts) in
-    let h = found.0 in
-    (h, record {
-      serial = found.1.serial;
-      ends = subst (λ (w : Scripts). StandsAt w (start_of w.callers (cells_in w) d.row.items) (store_after s h)) (sym scripts) found.1.ends;
-      order = found.1.order;
-      made = λ n ms made.
-          let explained = from_kept (setup_with (key_of r).work (key_of r).limit) (start_of_row r) h n made.caller v.kept (keeps n made.caller (is_within m.callers.items n made.caller made.here) made.here) found.1.calls ms made.made in
-          subst (λ (x : Row Scripts). ExplainsAll h n (done_before (setup_with (key_of r).work (key_of r).limit) (start_of_row x) n) ms) same explained;
-      only = λ n ms made.
-          let owned = only_kept m (setup_with (key_of r).work (key_of r).limit) (start_of_row r) h n made.caller made.here v.kept (keeps n made.caller (is_within m.callers.items n made.caller made.here) made.here) found.1.only ms made.made in
-          subst (λ (x : Row Scripts). HasOnly h n (done_before (setup_with (key_of r).work (key_of r).limit) (start_of_row x) n) ms (HasOpenOf m n)) same owned;
-      last = λ n lt.
-          let S : Setup = setup_with (key_of r).work (key_of r).limit in
-          let Tells : Scripts → Row Scripts → Type 0 = λ w x. TellsLast S (start_of_row x) (start_of w.callers (cells_in w) d.row.items) h n in
-          subst (λ (x : Row Scripts). Tells d.scripts x) same (subst (λ (w : Scripts). Tells w r) (sym scripts) (found.1.last n (low n lt)));
-      upto = λ n lt.
-          let S : Setup = setup_with (key_of r).work (key_of r).limit in
-          subst (λ (w : Scripts). IsUpTo h n (done_before S (start_of w.callers (cells_in w) d.row.items) n)) (sym scripts) (found.1.upto n (low n lt));
-      callers = subst (λ (k : ℕ). All (λ (e : Entry). e.caller < k) h) (sym sizes ∙ ap (λ (x : Row Scripts). (key_of x).callers) same) found.1.callers;
-    })
+    let h = found.0 in (
+      h,
+      record {
+        serial = found.1.serial;
+        ends = subst (λ (w : Scripts). StandsAt w (start_of w.callers (cells_in w) d.row.items) (store_after s h)) (sym scripts) found.1.ends;
+        order = found.1.order;
+        made = λ n ms made.
+            let explained = from_kept (setup_with (key_of r).work (key_of r).limit) (start_of_row r) h n made.caller v.kept (keeps n made.caller (is_within m.callers.items n made.caller made.here) made.here) found.1.calls ms made.made in
+            subst (λ (x : Row Scripts). ExplainsAll h n (done_before (setup_with (key_of r).work (key_of r).limit) (start_of_row x) n) ms) same explained;
+        only = λ n ms made.
+            let owned = only_kept m (setup_with (key_of r).work (key_of r).limit) (start_of_row r) h n made.caller made.here v.kept (keeps n made.caller (is_within m.callers.items n made.caller made.here) made.here) found.1.only ms made.made in
+            subst (λ (x : Row Scripts). HasOnly h n (done_before (setup_with (key_of r).work (key_of r).limit) (start_of_row x) n) ms (HasOpenOf m n)) same owned;
+        last = λ n lt.
+            let S : Setup = setup_with (key_of r).work (key_of r).limit in
+            let Tells : Scripts → Row Scripts → Type 0 = λ w x. TellsLast S (start_of_row x) (start_of w.callers (cells_in w) d.row.items) h n in
+            subst (λ (x : Row Scripts). Tells d.scripts x) same (subst (λ (w : Scripts). Tells w r) (sym scripts) (found.1.last n (low n lt)));
+        upto = λ n lt.
+            let S : Setup = setup_with (key_of r).work (key_of r).limit in
+            subst (λ (w : Scripts). IsUpTo h n (done_before S (start_of w.callers (cells_in w) d.row.items) n)) (sym scripts) (found.1.upto n (low n lt));
+        callers = subst (λ (k : ℕ). All (λ (e : Entry). e.caller < k) h) (sym sizes ∙ ap (λ (x : Row Scripts). (key_of x).callers) same) found.1.callers;
+      },
+    )
   where
     low : (n : ℕ) → n < callers_of m → n < (key_of r).work.callers
     low n lt = subst (λ (k : ℕ). n < k) (ap (λ (x : Row Scripts). (key_of x).callers) (sym same) ∙ sizes) lt

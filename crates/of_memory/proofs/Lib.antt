@@ -7,3 +7,4 @@ pub mod Starting
 pub mod Closing
 pub mod Holding
 pub mod Reading
+pub mod Joining

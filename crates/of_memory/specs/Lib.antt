@@ -6,3 +6,4 @@ pub mod Called
 pub mod Saving
 pub mod Handles
 pub mod Memories
+pub mod Joining

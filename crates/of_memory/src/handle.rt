@@ -1,5 +1,8 @@
 //! A handle: one caller of a memory, for one thread at a time.
 
+use crate::calling::{call_script, go_on_with};
+use crate::error::RunErr;
+use crate::memory::Memory;
 use of_caller::Caller;
 use of_eval::Scripts;
 use of_plan::Answer;
@@ -7,10 +10,6 @@ use of_row::Row;
 use of_script::Script;
 use std::alloc::Global;
 use std::sync::Arc;
-
-use crate::calling::{call_script, go_on_with};
-use crate::error::RunErr;
-use crate::memory::Memory;
 
 /// One caller of a memory, for one thread at a time.
 #[derive(Drop)]
@@ -77,7 +76,14 @@ impl Handle {
         if self.caller.made() == u32::MAX {
             return Err(RunErr::NoTicket);
         }
-        call_script(self.alloc, &self.row, self.number, &mut self.caller, script, stop)
+        call_script(
+            self.alloc,
+            &self.row,
+            self.number,
+            &mut self.caller,
+            script,
+            stop,
+        )
     }
 
     /// Goes on with the open call, to its answer.

@@ -1,5 +1,9 @@
 //! The memory itself.
 
+use crate::error::{EnrolErr, InUse, OpenErr};
+use crate::handle::Handle;
+use crate::saved::{Saved, shape_of};
+use crate::seating::{all_here, gather, put_at, seat_all, take_at};
 use of_caller::Caller;
 use of_eval::Scripts;
 use of_mem::{MOST_BLOCKS, MOST_CALLERS};
@@ -7,11 +11,6 @@ use of_plan::GREATEST_LIMIT;
 use of_row::{Pass, Row};
 use std::alloc::{AllocError, Global};
 use std::sync::Arc;
-
-use crate::error::{EnrolErr, InUse, OpenErr};
-use crate::handle::Handle;
-use crate::saved::{Saved, shape_of};
-use crate::seating::{all_here, gather, put_at, seat_all, take_at};
 
 /// A store on which threads run scripts, each by a handle of its own.
 #[derive(Drop)]
@@ -39,12 +38,7 @@ impl Memory {
 
     /// An empty memory: 1 to 16 callers, and room for at most 512 keys and queued items. `limit` is the
     /// last sequence that may be committed.
-    pub fn open(
-        alloc: Global,
-        callers: u32,
-        blocks: u32,
-        limit: u32,
-    ) -> Result<Memory, OpenErr>
+    pub fn open(alloc: Global, callers: u32, blocks: u32, limit: u32) -> Result<Memory, OpenErr>
         ensures memory { IfOk result IsMemory }
         ensures callers { IfOk result (λ m. callers_of m ≡ callers) }
         ensures empty { IfOk result (λ m. StartsWith m (empty_store blocks)) }

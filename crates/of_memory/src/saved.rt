@@ -9,6 +9,8 @@ ghost use Rattle.of_recover.specs.Row.{IsDurableRow};
 ghost use Rattle.of_recover.specs.Recovered.{recovered};
 ghost use Rattle.of_eval.specs.Scripts.{cells_in};
 
+use crate::error::StoreErr;
+use crate::laws::history_is_held;
 use of_cell::{Shape, payload_of};
 use of_eval::{Scripts, lawful, reply_of};
 use of_mem::{MOST_INSTRS, RawReply};
@@ -18,9 +20,6 @@ use of_row::{Pass, Row};
 use of_script::Reply;
 use of_store::Store;
 use std::alloc::{AllocError, Global};
-
-use crate::error::StoreErr;
-use crate::laws::history_is_held;
 
 /// The shape of a table for scripts.
 pub(crate) fn shape_of(scripts: Scripts) -> Shape

@@ -72,11 +72,7 @@ pub(crate) fn take_at(
 }
 
 /// Puts a caller into its place.
-pub(crate) fn put_at(
-    callers: &mut Vec<Option<Caller<Scripts>>>,
-    at: usize,
-    caller: Caller<Scripts>,
-)
+pub(crate) fn put_at(callers: &mut Vec<Option<Caller<Scripts>>>, at: usize, caller: Caller<Scripts>)
     requires { at < length callers.old.items }
     ensures { callers.new.items ≡ slice_set callers.old.items at (Some caller) }
 {
