@@ -1,0 +1,87 @@
+//! Hands add to one sum in threads of their own; one of them is stopped in a call.
+#![tactic(auto)]
+
+ghost use Rattle.std.specs.Prelude.{◌≡◌, IfOk};
+ghost use Rattle.std.specs.Thread.{IsSync};
+ghost use Rattle.of_memory.specs.Handles.{IsHandle, home_of};
+ghost use Rattle.of_memory.specs.Memories.{IsMemory};
+ghost use Rattle.of_memory.specs.Saving.{IsSaved};
+
+use anyhow::Result;
+use of_memory::{GREATEST_LIMIT, Handle, Memory, Saved, Script, parse};
+use std::alloc::Global;
+use std::thread::{Threads, join};
+
+/// Adds for at most so many steps.
+fn add(mut hand: Handle, script: &Script, steps: u64) -> Handle
+    requires { IsHandle hand }
+    ensures hand { IsHandle result }
+    ensures home { home_of result ≡ home_of hand }
+{
+    let _answer = hand.run_within(script, steps);
+    hand
+}
+
+/// Two hands at once. The second is stopped after six steps.
+fn both<R: Threads + Sync>(rt: &R, script: &Script, a: Handle, b: Handle) -> (Handle, Handle)
+    requires a { IsHandle a }
+    requires b { IsHandle b }
+    ensures a { IsHandle result.0 × (home_of result.0 ≡ home_of a) }
+    ensures b { IsHandle result.1 × (home_of result.1 ≡ home_of b) }
+{
+    join(
+        rt,
+        || -> Handle
+            requires { IsHandle a }
+            ensures { IsHandle result × (home_of result ≡ home_of a) }
+        { add(a, script, 1_000_000) },
+        || -> Handle
+            requires { IsHandle b }
+            ensures { IsHandle result × (home_of result ≡ home_of b) }
+        { add(b, script, 6) },
+    )
+}
+
+/// Both add to the memory's sum, the first of them twice, and it is closed.
+fn first_day<R: Threads + Sync>(rt: &R, script: &Script, mut memory: Memory) -> Result<Saved>
+    requires { IsMemory memory }
+    ensures { IfOk result IsSaved }
+{
+    let a = memory.enrol(0)?;
+    let b = memory.enrol(1)?;
+    let (a, b) = both(rt, script, a, b);
+    let a = add(a, script, 1_000_000);
+    a.leave(&mut memory);
+    b.leave(&mut memory);
+    Ok(memory.close()?)
+}
+
+/// The stopped hand adds again.
+fn second_day(script: &Script, mut memory: Memory) -> Result<Saved>
+    requires { IsMemory memory }
+    ensures { IfOk result IsSaved }
+{
+    let mut hand = memory.enrol(1)?;
+    hand.run(script)?;
+    hand.leave(&mut memory);
+    Ok(memory.close()?)
+}
+
+fn show(rt: &impl Print, alloc: Global, saved: &Saved) -> Result<()>
+    requires { IsSaved saved.now }
+{
+    println!(rt; "the sum is {}", saved.store(alloc)?.register(15))?;
+    for number in 0..saved.callers() {
+        println!(rt; "hand {number}: {} calls", saved.ticket(number))?;
+    }
+    Ok(())
+}
+
+fn main(rt: HostRuntime) -> Result<()> {
+    let alloc: Global = rt.alloc();
+    let script = parse(b"add 15 5")?;
+    let saved = first_day(&rt, &script, Memory::open(alloc, 2, 8, GREATEST_LIMIT)?)?;
+    show(&rt, alloc, &saved)?;
+    let saved = second_day(&script, Memory::reopen(alloc, &saved)?)?;
+    show(&rt, alloc, &saved)
+}

@@ -1,0 +1,224 @@
+-- What a call of a script makes of a caller of a row of scripts.
+use Rattle.std.proofs.Common.{◌≡◌, ℕ, zero, suc, ◌+◌, ◌≤◌, ◌<◌, ◌⊎◌, inl, inr, Bool, true, false, List, [], ◌∷◌, ◌++◌, length, map, take, Result, Ok, Err, refl, sym, ap, subst, ◌∙◌, arith, length-append}
+use Rattle.std.specs.List.{All}
+use Rattle.std.proofs.Math.Seq.{take-append_seam}
+use Rattle.std.proofs.lemmas.List.{length-map}
+use Rattle.std.proofs.lemmas.List.Elements.{All-push, All-same}
+use Rattle.of_cell.specs.Words.{pay}
+use Rattle.of_mem.specs.declared.work.RawReply.{RawReply}
+use Rattle.of_script.specs.declared.instr.Instr.{Instr}
+use Rattle.of_script.specs.declared.instr.TheConstants.{MOST_INSTRS}
+use Rattle.of_script.specs.Language.{IsScript, instr_word}
+use Rattle.of_store.specs.Replies.{response_of}
+use Rattle.of_eval.specs.declared.scripts.Scripts.{Scripts}
+use Rattle.of_eval.specs.Scripts.{scripts_meaning}
+use Rattle.of_plan.specs.declared.answer.Answer.{Answer}
+use Rattle.of_plan.specs.Plan.{Plan, IsPlan}
+use Rattle.of_core.specs.declared.place.Outcome.{Outcome}
+use Rattle.of_core.specs.declared.place.Outcome.TheVariants.{Answered, Spent as Over}
+use Rattle.of_core.specs.Table.{Setup}
+use Rattle.of_core.specs.Machine.{Data, IsOpen, TakesPlace}
+use Rattle.of_core.specs.World.{Start}
+use Rattle.of_core.specs.History.{Legal}
+use Rattle.of_core.specs.Calls.{IsAnswered}
+use Rattle.of_row.specs.declared.row.Row.{Row}
+use Rattle.of_row.specs.Rows.{key_of, setup_at}
+use Rattle.of_row.specs.Rule.{HasEnded}
+use Rattle.of_row.specs.Turned.{Meant, StandsFor}
+use Rattle.of_row.specs.Views.{Ended, Kept, Sight, last_kept, reach, shown}
+use Rattle.of_caller.specs.declared.caller.Caller.{Caller}
+use Rattle.of_caller.specs.declared.caller.CallErr.{CallErr}
+use Rattle.of_caller.specs.declared.caller.CallErr.TheVariants.{Stopped, Spent as NoneLeft}
+use Rattle.of_caller.specs.Callers.{IsCaller, call_of, sight_of}
+use Rattle.of_caller.specs.CallsTold.{HasClosed, IsOpenStill, ResultTold, HasTold}
+use Rattle.of_caller.specs.Ends.{Tells}
+use Rattle.of_caller.specs.Lanes.{IsHeld}
+use Rattle.of_caller.specs.Tables.{setup_for}
+use Rattle.of_caller.proofs.RawReplies.{IsFine, answer_holds}
+use Rattle.of_memory.specs.History.{End, Reply, Spent, Made}
+use Rattle.of_memory.specs.Calls.{IsOperation, EndsAs, IsMade, AreMade, RunsScripts}
+use Rattle.of_memory.specs.Serving.{IsScriptsRow, Serves, start_of_row, ended_of}
+use Rattle.of_memory.specs.declared.error.RunErr.{RunErr}
+use Rattle.of_memory.specs.declared.error.RunErr.TheVariants.{OutOfMemory, Stopped as Halted, Spent as RanOut, Open, NoTicket}
+use Rattle.of_memory.specs.Called.{IsOpenAt, WasTried, IsRefusedBy}
+use Rattle.of_memory.proofs.Plans.{plan_of, is_plan}
+
+-- ---- calls that are kept, as calls of scripts
+
+pub made_more : (es : List Ended) (ms : List Made) (e : Ended) (m : Made) → AreMade es ms → IsMade e m → AreMade (es ++ e ∷ []) (ms ++ m ∷ [])
+made_more [] [] e m h k = (k, tt)
+made_more [] (n ∷ ms) e m h k = absurd h
+made_more (f ∷ es) [] e m h k = absurd h
+made_more (f ∷ es) (n ∷ ms) e m h k = (h.0, made_more es ms e m h.1 k)
+
+ends_as : (o : Outcome) (a : Answer) → Tells o a → EndsAs o (Reply (response_of a.reply))
+ends_as (Answered s announced raw steps) a t = (a.reply, t.2, refl)
+ends_as (Over s) a t = absurd t
+
+-- the words of a script are an operation
+pub operation_of_script : (script : List Instr) → IsScript script → IsOperation (map instr_word script)
+operation_of_script script is = (script, is, refl)
+
+pub words_few : (op : List ℕ) → IsOperation op → (1 ≤ length op) × (length op ≤ MOST_INSTRS)
+words_few op k =
+    let many : length op ≡ length k.0 = ap length k.2 ∙ length-map k.0 instr_word in
+    (omega (arith, many, k.1.some), omega (arith, many, k.1.few))
+
+-- the first words are the script's
+pub words_are : (script : List Instr) (count : ℕ) → count ≡ length script → (out rest : List ℕ) → out ≡ map instr_word script ++ rest → take count out ≡ map instr_word script
+words_are script count size out rest words =
+    ap (take count) words
+    ∙ ap (λ (k : ℕ). take k (map instr_word script ++ rest)) (size ∙ sym (length-map script instr_word))
+    ∙ take-append_seam (map instr_word script) rest
+
+-- ---- the number of a caller
+
+takes_caller : (S : Setup) (m d : Data) → TakesPlace S m d → d.caller ≡ m.caller
+takes_caller S m d (inl e) = ap (λ (x : Data). x.caller) e
+takes_caller S m d (inr e) = ap (λ (x : Data). x.caller) e.1
+
+pub stands_caller : (S : Setup) (x : Kept) (d : Data) → StandsFor S x d → d.caller ≡ x.machine.caller
+stands_caller S x d (inl t) = takes_caller S x.machine d t
+stands_caller S x d (inr o) = ap (λ (y : Data). y.caller) o.is ∙ takes_caller S x.machine o.begins o.takes
+
+-- ---- what a call leaves
+
+none_or_some : (n : ℕ) → (n ≡ 0) ⊎ (0 < n)
+none_or_some zero = inl refl
+none_or_some (suc n) = inr (omega arith)
+
+module _ (S : Setup) (L : List ℕ → Type 0) (B : Start) (m : Data) (v : Sight) (a : ℕ) (d : Data) (w : Sight) (b : ℕ) (r : Result Outcome CallErr) (told : HasTold S L B m v a d w b r) where
+  abbrev before : Kept
+  before = last_kept v.kept
+
+  abbrev now : Kept
+  now = last_kept w.kept
+
+  before_is : told.before ≡ before
+  before_is = sym (ap last_kept told.kept_before)
+
+  now_is : told.kept ≡ now
+  now_is = sym (ap last_kept told.kept_now)
+
+  -- one call more has ended
+  one_more : (o : Outcome) → HasClosed S L B m v told.before told.steps d w told.kept o → now.ended ≡ before.ended ++ record { op = m.op; outcome = o } ∷ []
+  one_more o closes =
+      ap (λ (x : Kept). x.ended) (sym now_is) ∙ closes.kept ∙ ap (λ (x : Kept). x.ended ++ record { op = m.op; outcome = o } ∷ []) before_is
+
+  -- or none
+  none_more : IsOpenStill S m told.before told.steps d told.kept → now.ended ≡ before.ended
+  none_more still = ap (λ (x : Kept). x.ended) (sym now_is) ∙ still.kept ∙ ap (λ (x : Kept). x.ended) before_is
+
+  abbrev Scripts_in : List Ended → Type 0
+  Scripts_in es = All (λ (e : Ended). IsOperation e.op) es
+
+  ended_more : (o : Outcome) → IsOperation m.op → Scripts_in before.ended → now.ended ≡ before.ended ++ record { op = m.op; outcome = o } ∷ [] → Scripts_in now.ended
+  ended_more o op all is =
+      All-same (λ (e : Ended). IsOperation e.op) now.ended (before.ended ++ record { op = m.op; outcome = o } ∷ []) is
+      (All-push (λ (e : Ended). IsOperation e.op) before.ended (record { op = m.op; outcome = o }) all op)
+
+  abbrev Told : Result Outcome CallErr → Type 0
+  Told z = ResultTold S L B m v told.before told.steps d w told.kept z
+
+  ended_now : (z : Result Outcome CallErr) → Told z → IsOperation m.op → Scripts_in before.ended → Scripts_in now.ended
+  ended_now (Ok o) h op all = ended_more o op all (one_more o h.1)
+  ended_now (Err (Stopped asked)) h op all = All-same (λ (e : Ended). IsOperation e.op) now.ended before.ended (none_more h.0) all
+  ended_now (Err (NoneLeft seq)) h op all = ended_more (Over seq) op all (one_more (Over seq) h)
+
+  open_now : (told.steps ≡ 0) ⊎ (0 < told.steps) → IsOperation m.op → RunsScripts before → IsOpen now.machine.place → IsOperation now.machine.op
+  open_now (inl none) op runs is_open =
+      let same : now ≡ before = ap (λ (x : Sight). last_kept x.kept) (told.none none) in
+      subst (λ (x : Kept). IsOperation x.machine.op) (sym same) (runs.open_call (subst (λ (x : Kept). IsOpen x.machine.place) same is_open))
+  open_now (inr some) op runs is_open =
+      subst IsOperation (sym (ap (λ (x : Kept). x.machine.op) (sym now_is) ∙ ap (λ (x : Data). x.op) (told.some some).machine ∙ told.op)) op
+
+  pub runs_on : IsOperation m.op → RunsScripts before → RunsScripts now
+  runs_on op runs = record {
+    ended = ended_now r told.result op runs.ended;
+    open_call = open_now (none_or_some told.steps) op runs;
+  }
+
+  module _ (script : List Instr) (is : IsScript script) (words : m.op ≡ map instr_word script) (ms : List Made) (made : AreMade before.ended ms) where
+    more : (o : Outcome) (end : End) → EndsAs o end → HasClosed S L B m v told.before told.steps d w told.kept o → AreMade now.ended (ms ++ record { script = script; ended = end } ∷ [])
+    more o end held closes =
+        subst (λ (es : List Ended). AreMade es (ms ++ record { script = script; ended = end } ∷ [])) (sym (one_more o closes))
+        (made_more before.ended ms (record { op = m.op; outcome = o }) (record { script = script; ended = end }) made (record { script = is; words = words; ended = held }))
+
+    pub made_answered : (o : Outcome) (x : Answer) → Tells o x → Told (Ok o) → AreMade now.ended (ms ++ record { script = script; ended = Reply (response_of x.reply) } ∷ [])
+    made_answered o x tells h = more o (Reply (response_of x.reply)) (ends_as o x tells) h.1
+
+    pub made_spent : (seq : ℕ) → r ≡ Err (NoneLeft seq) → AreMade now.ended (ms ++ record { script = script; ended = Spent } ∷ [])
+    made_spent seq is_so = let h : Told (Err (NoneLeft seq)) = subst Told is_so told.result in more (Over seq) Spent tt h
+
+    pub made_none : (asked : ℕ) → r ≡ Err (Stopped asked) → AreMade now.ended ms
+    made_none asked is_so = let h : Told (Err (Stopped asked)) = subst Told is_so told.result in subst (λ (es : List Ended). AreMade es ms) (sym (none_more h.0)) made
+
+  -- a call that has ended has made a step
+  ended_some : (o : Outcome) → HasClosed S L B m v told.before told.steps d w told.kept o → 0 < told.steps
+  ended_some o closes = elim (none_or_some told.steps) [
+    | inl none ↦
+        let same : now ≡ before = ap (λ (x : Sight). last_kept x.kept) (told.none none) in
+        absurd (omega (arith, ap length (one_more o closes), length-append before.ended (record { op = m.op; outcome = o } ∷ []), ap (λ (x : Kept). length x.ended) same))
+    | inr some ↦ some
+  ]
+
+  pub legal_now : (o : Outcome) → HasClosed S L B m v told.before told.steps d w told.kept o → Legal S.meaning (map pay B.cells) (shown w.seen)
+  legal_now o closes = (told.some (ended_some o closes)).legal
+
+-- ---- a caller of a row of scripts
+
+module _ (r : Row Scripts) (row : IsScriptsRow r) where
+  abbrev W : Scripts
+  W = (key_of r).work
+
+  abbrev p : Plan
+  p = plan_of W (key_of r).limit
+
+  plan : IsPlan p
+  plan = is_plan W (key_of r).limit row.some_limit row.few_limit
+
+  same_setup : setup_at scripts_meaning r ≡ setup_for p
+  same_setup = ap (λ (k : ℕ × ℕ). record (setup_for p) { callers = k.0; cells = k.1 }) (λ i. (row.callers i, row.cells i))
+
+  start_fine : IsFine p plan (map pay (start_of_row r).cells)
+  start_fine = record { size = length-map (start_of_row r).cells pay ∙ row.size; lawful = (row.store, row.stands) }
+
+  module _ (L : List ℕ → Type 0) (m : Data) (v : Sight) (a : ℕ) (d : Data) (w : Sight) (b : ℕ) (z : Result Outcome CallErr) (told : HasTold (setup_at scripts_meaning r) L (start_of_row r) m v a d w b z) (op : IsOperation m.op) where
+    abbrev S : Setup
+    S = setup_at scripts_meaning r
+
+    abbrev B : Start
+    B = start_of_row r
+
+    held : (o : Outcome) → HasClosed S L B m v told.before told.steps d w told.kept o → (k : ℕ) (announced : Bool) (raw : RawReply) (steps : ℕ) → o ≡ Answered k announced raw steps → IsHeld o
+    held o closes k announced raw steps answer =
+        let few = words_few m.op op in
+        let legal = subst (λ (T : Setup). Legal T.meaning (map pay B.cells) (shown w.seen)) same_setup (legal_now S L B m v a d w b z told o closes) in
+        let stands = subst (λ (T : Setup). HasEnded T B (shown w.seen) (reach B w.seen) m.caller m.made m.op (Answered k announced raw steps)) same_setup
+        (subst (λ (u : Outcome). HasEnded S B (shown w.seen) (reach B w.seen) m.caller m.made m.op u) answer closes.stands) in
+        let meant = subst (λ (T : Setup). Meant T B (shown w.seen) m.op (Answered k announced raw steps)) same_setup
+        (subst (λ (u : Outcome). Meant S B (shown w.seen) m.op u) answer closes.meant) in
+        subst IsHeld (sym answer) (answer_holds p plan B start_fine (shown w.seen) legal (reach B w.seen) m.caller m.made m.op few.0 few.1 k announced raw steps stands meant)
+
+    -- the reply of an answer is held
+    pub held_of : (o : Outcome) → IsAnswered o → HasClosed S L B m v told.before told.steps d w told.kept o → IsHeld o
+    held_of (Answered k announced raw steps) is closes = held (Answered k announced raw steps) closes k announced raw steps refl
+    held_of (Over k) is closes = absurd is
+
+  -- the caller serves on
+  pub serves_on : (L : List ℕ → Type 0) (n : ℕ) (c k : Caller Scripts) (m : Data) (a b : ℕ) (z : Result Outcome CallErr) → Serves r n c → m.caller ≡ (call_of c).caller → IsOperation m.op
+      → HasTold (setup_at scripts_meaning r) L (start_of_row r) m (sight_of c) a (call_of k) (sight_of k) b z → IsCaller scripts_meaning r k → Serves r n k
+  serves_on L n c k m a b z s same op told is = record {
+    caller = is;
+    number = told.caller ∙ same ∙ s.number;
+    runs = runs_on (setup_at scripts_meaning r) L (start_of_row r) m (sight_of c) a (call_of k) (sight_of k) b z told op s.runs;
+    begun = λ is_open. subst IsOperation (sym told.op) op;
+  }
+
+pub tried_is : (c : Caller Scripts) (r : Result Answer RunErr) → WasTried r → IsRefusedBy c r
+tried_is c (Ok a) h = tt
+tried_is c (Err OutOfMemory) h = tt
+tried_is c (Err (Halted asked)) h = tt
+tried_is c (Err (RanOut seq)) h = tt
+tried_is c (Err Open) h = absurd h
+tried_is c (Err NoTicket) h = absurd h

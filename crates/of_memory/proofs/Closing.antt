@@ -1,0 +1,90 @@
+-- The durable words of a closed row of scripts, and what recovery makes of them.
+use Rattle.std.proofs.Common.{◌≡◌, ℕ, ◌+◌, ◌-◌, ◌≤◌, ◌<◌, sym, ◌∙◌, ap, subst, arith, List, ◌++◌, length, get_or, take, drop, map, length-take-le}
+use Rattle.std.specs.Prelude.{slice_range}
+use Rattle.std.proofs.lemmas.List.{get_or-take, get_or-drop, length-drop, take_at, ext_get_or}
+use Rattle.of_cell.specs.Cells.{durable_cells}
+use Rattle.of_recover.specs.Recovered.{recovered}
+use Rattle.of_store.specs.State.{State}
+use Rattle.of_eval.specs.declared.scripts.Scripts.{Scripts}
+use Rattle.of_eval.specs.Scripts.{cells_in, LawfulCells, scripts_meaning}
+use Rattle.of_core.specs.Table.{Setup, setup_of, size, table_size}
+use Rattle.of_core.specs.World.{Start}
+use Rattle.of_core.specs.Starts.{IsDurable, IsStartRow}
+use Rattle.of_row.specs.declared.member.Pass.{Pass}
+use Rattle.of_row.specs.declared.row.Row.{Row}
+use Rattle.of_row.specs.Rule.{Meets}
+use Rattle.of_row.specs.Rows.{key_of, setup_at, IsOf}
+use Rattle.of_row.specs.Passes.{ClosesWith}
+use Rattle.of_row.specs.Views.{Sight}
+use Rattle.of_memory.specs.History.{Entry}
+use Rattle.of_memory.specs.Laws.{setup_with, StandsAt, KeepScripts, HoldsHistory, Leads}
+use Rattle.of_memory.specs.Serving.{IsScriptsRow, start_of_row}
+
+-- the words that are left when the durable ones are moved to the front
+pub kept_durable : (n k : ℕ) (old ws : List ℕ) → n + n ≤ length old → length ws ≡ length old → n ≤ k → ((i : ℕ) → i < k → get_or ws i 0 ≡ get_or old (n + i) 0) → take n ws ≡ slice_range old n (n + n)
+kept_durable n k old ws room long all same =
+    let e : n + n - n ≡ n = omega arith in
+    let left : length (take n ws) ≡ n = length-take-le n ws (omega (arith, room, long)) in
+    let right : length (slice_range old n (n + n)) ≡ n = length-take-le (n + n - n) (drop n old) (omega (arith, length-drop n old, room)) ∙ e in
+    ext_get_or 0 (take n ws) (slice_range old n (n + n)) (left ∙ sym right) (λ i lt.
+    let low : i < n = subst (λ (m : ℕ). i < m) left lt in
+    get_or-take n ws i 0 low ∙ same i (omega (arith, low, all)) ∙ sym (get_or-drop n old i 0) ∙ sym (get_or-take (n + n - n) (drop n old) i 0 (omega (arith, low, e))))
+
+-- the durable words stand behind the cells
+durable_row : (S : Setup) (ws row : List ℕ) → length ws ≡ table_size S + 1 → row ≡ slice_range ws (size S) (size S + size S) → IsDurable S ws row
+durable_row S ws row room is = record {
+  long = ap length is ∙ (let e : size S + size S - size S ≡ size S = omega arith in
+      length-take-le (size S + size S - size S) (drop (size S) ws) (omega (arith, length-drop (size S) ws, room)) ∙ e);
+  each = λ c l. ap (λ xs. get_or xs c 0) is
+      ∙ get_or-take (size S + size S - size S) (drop (size S) ws) c 0 (omega (arith, l))
+      ∙ get_or-drop (size S) ws c 0;
+}
+
+-- what stands in a list of words when recovery, which leaves as many, has been through it
+pub is_left : (callers cells : ℕ) (new given items : List ℕ) (len : ℕ) → new ≡ recovered callers cells given → given ≡ items → len ≡ length items
+    → length (recovered callers cells items) ≡ length items → take len (new ++ drop (length new) items) ≡ recovered callers cells items
+is_left callers cells new given items len row same long size =
+    let is : new ≡ recovered callers cells items = row ∙ ap (recovered callers cells) same in
+    take_at new (drop (length new) items) len (ap length is ∙ size ∙ sym long) ∙ is
+
+module _ (r : Row Scripts) (row : IsScriptsRow r) (p : Pass) (ws : List ℕ) (m : ClosesWith scripts_meaning LawfulCells r p ws) where
+  abbrev W : Scripts
+  W = (key_of r).work
+
+  abbrev limit : ℕ
+  limit = (key_of r).limit
+
+  abbrev S : Setup
+  S = setup_with W limit
+
+  meets : Meets S (LawfulCells W) (start_of_row r) ws p.seat.me.0
+  meets = subst (λ (k : ℕ × ℕ). Meets (setup_of k.0 k.1 limit (scripts_meaning W)) (LawfulCells W) (start_of_row r) ws p.seat.me.0) (λ i. (row.callers i, row.cells i)) m
+
+  room : length ws ≡ table_size S + 1
+  room = ap length (sym meets.words) ∙ meets.rule.room
+
+  -- the words have the durable ones behind the cells
+  pub roomy : (callers cells : ℕ) → callers ≡ (key_of r).callers → cells ≡ (key_of r).cells → durable_cells callers cells + durable_cells callers cells ≤ length ws
+  roomy callers cells is are =
+      let e : durable_cells callers cells ≡ size S = (λ i. durable_cells ((is ∙ row.callers) i) ((are ∙ row.cells) i)) in
+      omega (arith, e, room)
+
+  pub long_row : (callers cells : ℕ) (durable : List ℕ) → callers ≡ (key_of r).callers → cells ≡ (key_of r).cells → durable ≡ slice_range ws (durable_cells callers cells) (durable_cells callers cells + durable_cells callers cells) → length durable ≡ durable_cells callers cells
+  long_row callers cells durable is are part =
+      let n : ℕ = durable_cells callers cells in
+      let e : n + n - n ≡ n = omega arith in
+      ap length part ∙ length-take-le (n + n - n) (drop n ws) (omega (arith, length-drop n ws, roomy callers cells is are)) ∙ e
+
+  -- what recovery makes of them
+  pub closed : (callers cells : ℕ) (durable : List ℕ) → callers ≡ (key_of r).callers → cells ≡ (key_of r).cells → durable ≡ slice_range ws (durable_cells callers cells) (durable_cells callers cells + durable_cells callers cells)
+      → HoldsHistory W limit → IsOf r p.seat → KeepScripts (setup_at scripts_meaning r) p.seat.me.0
+      → IsStartRow S (LawfulCells W) (recovered callers cells durable)
+      × ((s : State) → StandsAt W (start_of_row r) s → (h : List Entry) × Leads W limit (start_of_row r) p.seat.me.0 s (recovered callers cells durable) h)
+  closed callers cells durable is are part law of keeps =
+      let e : callers ≡ W.callers = is ∙ row.callers in
+      let f : cells ≡ cells_in W = are ∙ row.cells in
+      let there : durable ≡ slice_range ws (size S) (size S + size S) = part ∙ ap (λ (n : ℕ). slice_range ws n (n + n)) (λ i. durable_cells (e i) (f i)) in
+      let every : KeepScripts S p.seat.me.0 = λ n lt. keeps n (subst (λ (k : ℕ). n < k) (sym row.callers) lt) in
+      let found = law (start_of_row r) ws p.seat.me.0 meets of.2 every durable (durable_row S ws durable room there) in
+      subst (λ (xs : List ℕ). IsStartRow S (LawfulCells W) xs × ((s : State) → StandsAt W (start_of_row r) s → (h : List Entry) × Leads W limit (start_of_row r) p.seat.me.0 s xs h))
+      (λ i. recovered (sym e i) (sym f i) durable) found

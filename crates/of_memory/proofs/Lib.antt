@@ -1,0 +1,10 @@
+pub mod Replaying
+pub mod Histories
+pub mod Plans
+pub mod Called
+pub mod Seats
+pub mod Starting
+pub mod Closing
+pub mod Holding
+pub mod Reading
+pub mod Joining

@@ -1,0 +1,196 @@
+-- The callers of a memory at their places, and what a pass keeps that gathers them.
+use Rattle.std.specs.Prelude.{is_some, not}
+use Rattle.std.proofs.Common.{◌≡◌, ◌≢◌, ℕ, zero, suc, ◌+◌, ◌≤◌, ◌<◌, ◌⊎◌, inl, inr, Bool, true, false, List, [], ◌∷◌, ◌++◌, length, get_or, set, Option, Some, None, refl, sym, ap, subst, ◌∙◌, arith}
+use Rattle.std.proofs.lemmas.Bool.{cases_lt}
+use mathlib.Core.Bool.{true≢false}
+use Rattle.std.proofs.lemmas.List.{get_or-set_same, get_or-set_other, get_or_append_left, get_or_past, length-set}
+use Rattle.std.proofs.Math.Seq.{get_or-append_seam}
+use Rattle.of_eval.specs.declared.scripts.Scripts.{Scripts}
+use Rattle.of_eval.specs.Scripts.{scripts_meaning}
+use Rattle.of_row.specs.declared.member.Member.{Member}
+use Rattle.of_row.specs.declared.member.Pass.{Pass}
+use Rattle.of_row.specs.declared.row.Row.{Row}
+use Rattle.of_row.specs.Passes.{HasEnrolled, IsFirst}
+use Rattle.of_row.specs.Rows.{key_of, setup_at, start_at, IsOf}
+use Rattle.of_row.specs.Rule.{IsAsked}
+use Rattle.of_row.specs.Views.{Kept, Sight, Each, last_kept, reach}
+use Rattle.of_row.specs.Turned.{joined, newcomer, StandsFor}
+use Rattle.of_core.specs.Table.{Setup}
+use Rattle.of_core.specs.Machine.{Data, IsOpen, is_idle}
+use Rattle.of_core.specs.Turn.{IsIdle}
+use Rattle.of_core.specs.Seen.{setup}
+use Rattle.of_caller.specs.declared.caller.Caller.{Caller}
+use Rattle.of_caller.specs.Callers.{IsCaller, call_of, sight_of}
+use Rattle.of_memory.specs.Calls.{RunsScripts}
+use Rattle.of_memory.specs.Laws.{KeepsSo}
+use Rattle.of_memory.specs.Serving.{IsNew, Serves, ServeAll, Enrols, AllStand, AllHere, IsKeptOf, KeepsThose, ended_of}
+use Rattle.of_memory.proofs.Called.{stands_caller}
+
+-- ---- numbers that a pass has asked for
+
+asked_or_last : (n r m : ℕ) (xs : List (ℕ × ℕ)) → IsAsked n (xs ++ (r, m) ∷ []) → IsAsked n xs ⊎ (m ≡ n)
+asked_or_last n r m [] (inl e) = inr e
+asked_or_last n r m [] (inr a) = absurd a
+asked_or_last n r m (x ∷ xs) (inl e) = inl (inl e)
+asked_or_last n r m (x ∷ xs) (inr a) = later (asked_or_last n r m xs a)
+  where
+    later : IsAsked n xs ⊎ (m ≡ n) → IsAsked n (x ∷ xs) ⊎ (m ≡ n)
+    later (inl t) = inl (inr t)
+    later (inr t) = inr t
+
+pub enrols_first : (r : Row Scripts) (p : Pass) → IsFirst r p → Enrols r 0 p
+enrols_first r p h = record {
+  row = h.0;
+  first = ap (λ (v : Sight). v.first) h.1;
+  below = λ n a. absurd (subst (λ (v : Sight). IsAsked n v.asked) h.1 a);
+}
+
+pub enrols_next : (r : Row Scripts) (n : ℕ) (before : Pass) (member : Member) (now : Pass) → Enrols r n before → HasEnrolled scripts_meaning r n before member now → Enrols r (n + 1) now
+enrols_next r n before member now h e = record {
+  row = e.at_row.1;
+  first = ap (λ (v : Sight). v.first) e.pass_is ∙ h.first;
+  below = λ m a. low m (asked_or_last m e.found n before.seat.me.0.asked (subst (λ (v : Sight). IsAsked m v.asked) e.pass_is a));
+}
+  where
+    low : (m : ℕ) → IsAsked m before.seat.me.0.asked ⊎ (n ≡ m) → m < n + 1
+    low m (inl t) = let b = h.below m t in omega (arith, b)
+    low m (inr t) = omega (arith, t)
+
+-- ---- a caller that has just been seated
+
+pub new_caller : (r : Row Scripts) (n : ℕ) (before : Pass) (member : Member) (now : Pass) (c : Caller Scripts) → HasEnrolled scripts_meaning r n before member now
+    → IsCaller scripts_meaning r c → c.member ≡ member → IsIdle (call_of c) → IsNew r n c
+new_caller r n before member now c e is same rest = record {
+  serves = record {
+    caller = is;
+    number = stands_caller (setup scripts_meaning c.machine) is.member.0 (call_of c) is.member.2 ∙ sym is.member.3 ∙ ap (λ (m : Member). m.number) same ∙ e.number;
+    runs = subst RunsScripts (sym kept) (record { ended = λ i d lt. absurd (omega (arith, lt)); open_call = λ is_open. absurd (true≢false is_open) });
+    begun = λ is_open. absurd (true≢false (sym (ap is_idle rest) ∙ is_open));
+  };
+  none = ap (λ (x : Kept). x.ended) kept;
+}
+  where
+    kept : last_kept (sight_of c).kept ≡ newcomer (setup_at scripts_meaning r) (start_at scripts_meaning r) n (reach (start_at scripts_meaning r) before.seat.me.0.seen)
+    kept = ap (λ (m : Member). last_kept m.seat.me.0.kept) same ∙ ap (λ (v : Sight). last_kept v.kept) e.member_is
+
+-- ---- lists of places
+
+module _ (P : ℕ → Caller Scripts → Type 0) where
+  pub stand_more : (n : ℕ) (cs ds : List (Option (Caller Scripts))) (c : Caller Scripts) → length cs ≡ n → ds ≡ cs ++ Some c ∷ [] → AllStand P n cs → P n c → AllStand P (n + 1) ds
+  stand_more n cs ds c long is all p = subst (AllStand P (n + 1)) (sym is) go
+    where
+      go : AllStand P (n + 1) (cs ++ Some c ∷ [])
+      go i lt = elim (cases_lt i n) [
+        | inl low ↦
+            let h = all i low in
+            (h.0, get_or_append_left cs (Some c ∷ []) None i (omega (arith, low, long)) ∙ h.1, h.2)
+        | inr high ↦
+            let at : i ≡ n = omega (arith, lt, high) in
+            (c, ap (λ (k : ℕ). get_or (cs ++ Some c ∷ []) k None) (at ∙ sym long) ∙ get_or-append_seam cs (Some c) [] None, subst (λ (k : ℕ). P k c) (sym at) p)
+      ]
+
+pub serve_new : (r : Row Scripts) (k : ℕ) (cs : List (Option (Caller Scripts))) → length cs ≡ k → AllStand (IsNew r) k cs → ServeAll r cs
+serve_new r k cs long all n c is = elim (cases_lt n k) [
+  | inl low ↦
+      let h = all n low in
+      let same : h.0 ≡ c = cc (h.1, is) in
+      subst (Serves r n) same h.2.serves
+  | inr high ↦
+      let none : get_or cs n None ≡ None = get_or_past cs n None (omega (arith, long, high)) in
+      absurd (cc (none, is))
+]
+
+-- a caller is taken out of its place
+pub serve_none : (r : Row Scripts) (cs : List (Option (Caller Scripts))) (i : ℕ) → i < length cs → ServeAll r cs → ServeAll r (set cs i None)
+serve_none r cs i lt all n c is = elim (cases_lt n i) [
+  | inl low ↦ let ne : n ≢ i = omega arith in all n c (sym (get_or-set_other cs i n None None ne) ∙ is)
+  | inr high ↦ elim (cases_lt i n) [
+    | inl up ↦ let ne : n ≢ i = omega arith in all n c (sym (get_or-set_other cs i n None None ne) ∙ is)
+    | inr down ↦
+        let at : n ≡ i = omega (arith, high, down) in
+        let none : get_or (set cs i None) n None ≡ None = ap (λ (k : ℕ). get_or (set cs i None) k None) at ∙ get_or-set_same cs i None None lt in
+        absurd (cc (none, is))
+  ]
+]
+
+-- and put into it
+pub serve_some : (r : Row Scripts) (cs : List (Option (Caller Scripts))) (i : ℕ) (k : Caller Scripts) → i < length cs → ServeAll r cs → Serves r i k → ServeAll r (set cs i (Some k))
+serve_some r cs i k lt all s n c is = elim (cases_lt n i) [
+  | inl low ↦ let ne : n ≢ i = omega arith in all n c (sym (get_or-set_other cs i n (Some k) None ne) ∙ is)
+  | inr high ↦ elim (cases_lt i n) [
+    | inl up ↦ let ne : n ≢ i = omega arith in all n c (sym (get_or-set_other cs i n (Some k) None ne) ∙ is)
+    | inr down ↦
+        let at : n ≡ i = omega (arith, high, down) in
+        let some : get_or (set cs i (Some k)) n None ≡ Some k = ap (λ (j : ℕ). get_or (set cs i (Some k)) j None) at ∙ get_or-set_same cs i (Some k) None lt in
+        let same : k ≡ c = cc (some, is) in
+        subst (λ (j : ℕ). Serves r j c) (sym at) (subst (Serves r i) same s)
+  ]
+]
+
+-- ---- a caller's number is one of the row's
+
+each_below : (r : Row Scripts) (x : Kept) (xs : List Kept) → xs ≡ x ∷ [] → Each (λ (y : Kept). y.machine.caller < (key_of r).callers) xs → x.machine.caller < (key_of r).callers
+each_below r x xs is all = (subst (Each (λ (y : Kept). y.machine.caller < (key_of r).callers)) is all).0
+
+pub number_below : (r : Row Scripts) (n : ℕ) (c : Caller Scripts) → Serves r n c → n < (key_of r).callers
+number_below r n c s =
+    let is = s.caller in
+    let low = each_below r is.member.0 (sight_of c).kept is.member.1 is.row.3 in
+    let at : is.member.0.machine.caller ≡ n = sym (stands_caller (setup scripts_meaning c.machine) is.member.0 (call_of c) is.member.2) ∙ s.number in
+    omega (arith, low, at)
+
+-- ---- what a pass keeps
+
+pub keeps_left : (n : ℕ) (P : Kept → Type 0) (xs ys : List Kept) → KeepsSo n P xs → KeepsSo n P (xs ++ ys)
+keeps_left n P [] ys k = absurd k
+keeps_left n P (x ∷ xs) ys (inl h) = inl h
+keeps_left n P (x ∷ xs) ys (inr h) = inr (keeps_left n P xs ys h)
+
+pub keeps_right : (n : ℕ) (P : Kept → Type 0) (xs ys : List Kept) → KeepsSo n P ys → KeepsSo n P (xs ++ ys)
+keeps_right n P [] ys k = k
+keeps_right n P (x ∷ xs) ys k = inr (keeps_right n P xs ys k)
+
+pub keeps_as : (n : ℕ) (P Q : Kept → Type 0) → ((x : Kept) → P x → Q x) → (xs : List Kept) → KeepsSo n P xs → KeepsSo n Q xs
+keeps_as n P Q f [] k = absurd k
+keeps_as n P Q f (x ∷ xs) (inl h) = inl (h.0, f x h.1)
+keeps_as n P Q f (x ∷ xs) (inr h) = inr (keeps_as n P Q f xs h)
+
+-- the open machine that a member keeps is its caller's
+open_same : (S : Setup) (x : Kept) (d : Data) → StandsFor S x d → IsOpen x.machine.place → x.machine ≡ d
+open_same S x d (inl (inl e)) is_open = sym e
+open_same S x d (inl (inr e)) is_open = absurd (true≢false (sym (ap is_idle e.0) ∙ is_open))
+open_same S x d (inr o) is_open = absurd (true≢false (sym (ap is_idle o.at_rest) ∙ is_open))
+
+pub keeps_own : (r : Row Scripts) (n : ℕ) (c : Caller Scripts) → Serves r n c → KeepsSo n (IsKeptOf c) (sight_of c).kept
+keeps_own r n c s =
+    let is = s.caller in
+    let S : Setup = setup scripts_meaning c.machine in
+    let at : is.member.0.machine.caller ≡ n = sym (stands_caller S is.member.0 (call_of c) is.member.2) ∙ s.number in
+    let last : last_kept (sight_of c).kept ≡ is.member.0 = ap last_kept is.member.1 in
+    subst (KeepsSo n (IsKeptOf c)) (sym is.member.1)
+    (inl (at, record { runs = subst RunsScripts last s.runs; ended = ap (λ (x : Kept). x.ended) (sym last); open_call = open_same S is.member.0 (call_of c) is.member.2 }))
+
+-- one place more
+pub kept_more : (fs : List (Option (Caller Scripts))) (i : ℕ) (xs ys : List Kept) → KeepsThose fs i xs → ((n : ℕ) (c : Caller Scripts) → KeepsSo n (IsKeptOf c) xs → KeepsSo n (IsKeptOf c) ys)
+    → ((c : Caller Scripts) → get_or fs i None ≡ Some c → KeepsSo i (IsKeptOf c) ys) → KeepsThose fs (i + 1) ys
+kept_more fs i xs ys all others own n c lt here = elim (cases_lt n i) [
+  | inl low ↦ others n c (all n c low here)
+  | inr high ↦
+      let at : n ≡ i = omega (arith, lt, high) in
+      subst (λ (k : ℕ). KeepsSo k (IsKeptOf c) ys) (sym at) (own c (ap (λ (k : ℕ). get_or fs k None) (sym at) ∙ here))
+]
+
+pub same_caller : (a b : Caller Scripts) (x : Option (Caller Scripts)) → x ≡ Some a → x ≡ Some b → a ≡ b
+same_caller a b x p q = cc (p, q)
+
+pub here_more : (cs : List (Option (Caller Scripts))) (i : ℕ) → AllHere cs i → (c : Caller Scripts) × (get_or cs i None ≡ Some c) → AllHere cs (i + 1)
+here_more cs i all one n lt = elim (cases_lt n i) [
+  | inl low ↦ all n low
+  | inr high ↦
+      let at : n ≡ i = omega (arith, lt, high) in
+      (one.0, ap (λ (k : ℕ). get_or cs k None) at ∙ one.1)
+]
+
+pub one_there : (o : Option (Caller Scripts)) (b : Bool) → is_some o ≡ not b → b ≡ false → (c : Caller Scripts) × (o ≡ Some c)
+one_there None b e f = absurd (true≢false (sym (ap not f) ∙ sym e))
+one_there (Some c) b e f = (c, refl)

@@ -1,0 +1,35 @@
+use Rattle.std.proofs.Common.{◌∙◌, ap, refl, Err}
+use Rattle.of_memory.proofs.Called.{words_are, held_of, serves_on, made_answered, made_spent, made_none}
+use Rattle.of_memory.proofs.calling.call_counted.Goals as goal
+
+pub answer_of-requires : goal.answer_of-requires
+answer_of-requires g c =
+    let told = c.in-Ok.ensures.told in
+    let words = words_are c.args.script.now c.len-len.result c.len-len.ensures.len c.to_words.new.out _ c.to_words.ensures.words in
+    held_of c.args.row.now c.requires.row _ _ _ _ _ _ _ _ told (c.args.script.now, c.len-len.ensures.fits, words) c.in-Ok.outcome told.result.0 told.result.1
+
+pub returns-in-Ok-clause-serves : goal.returns-in-Ok-clause-serves
+returns-in-Ok-clause-serves g c =
+    let words = words_are c.args.script.now c.len-len.result c.len-len.ensures.len c.to_words.new.out _ c.to_words.ensures.words in
+    serves_on c.args.row.now c.requires.row _ c.args.number c.args.caller.now c.call.new.self _ _ _ _ c.requires.serves refl (c.args.script.now, c.len-len.ensures.fits, words) c.in-Ok.ensures.told c.in-Ok.ensures.caller
+
+pub returns-in-Ok-clause-made : goal.returns-in-Ok-clause-made
+returns-in-Ok-clause-made g c ms made =
+    let told = c.in-Ok.ensures.told in
+    let words = words_are c.args.script.now c.len-len.result c.len-len.ensures.len c.to_words.new.out _ c.to_words.ensures.words in
+    made_answered _ _ _ _ _ _ _ _ _ _ told c.args.script.now c.len-len.ensures.fits words ms made c.in-Ok.outcome c.answer_of.result c.answer_of.ensures told.result
+
+pub returns-in-Err-Stopped-clause-serves : goal.returns-in-Err-Stopped-clause-serves
+returns-in-Err-Stopped-clause-serves g c =
+    let words = words_are c.args.script.now c.len-len.result c.len-len.ensures.len c.to_words.new.out _ c.to_words.ensures.words in
+    serves_on c.args.row.now c.requires.row _ c.args.number c.args.caller.now c.call.new.self _ _ _ _ c.requires.serves refl (c.args.script.now, c.len-len.ensures.fits, words) c.call.ensures.told c.call.ensures.caller
+
+pub returns-clause-serves : goal.returns-clause-serves
+returns-clause-serves g c =
+    let words = words_are c.args.script.now c.len-len.result c.len-len.ensures.len c.to_words.new.out _ c.to_words.ensures.words in
+    serves_on c.args.row.now c.requires.row _ c.args.number c.args.caller.now c.call.new.self _ _ _ _ c.requires.serves refl (c.args.script.now, c.len-len.ensures.fits, words) c.call.ensures.told c.call.ensures.caller
+
+pub returns-clause-made : goal.returns-clause-made
+returns-clause-made g c ms made =
+    let words = words_are c.args.script.now c.len-len.result c.len-len.ensures.len c.to_words.new.out _ c.to_words.ensures.words in
+    made_spent _ _ _ _ _ _ _ _ _ _ c.call.ensures.told c.args.script.now c.len-len.ensures.fits words ms made c.in-Err-Spent.seq (c.in-Err-Spent.is ∙ ap (λ e. Err e) c.in-Err-Spent.field-0-is)

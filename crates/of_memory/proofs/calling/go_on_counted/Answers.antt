@@ -1,0 +1,29 @@
+use Rattle.std.proofs.Common.{◌∙◌, ap, refl, Err}
+use Rattle.of_memory.proofs.Called.{held_of, serves_on, made_answered, made_spent, made_none}
+use Rattle.of_memory.proofs.calling.go_on_counted.Goals as goal
+
+pub answer_of-requires : goal.answer_of-requires
+answer_of-requires g c =
+    let told = c.in-Ok.ensures.told in
+    held_of c.args.row.now c.requires.row _ _ _ _ _ _ _ _ told (c.requires.serves.begun c.requires.open_call) c.in-Ok.outcome told.result.0 told.result.1
+
+pub returns-in-Ok-clause-serves : goal.returns-in-Ok-clause-serves
+returns-in-Ok-clause-serves g c =
+    serves_on c.args.row.now c.requires.row _ c.args.number c.args.caller.now c.go_on.new.self _ _ _ _ c.requires.serves refl (c.requires.serves.begun c.requires.open_call) c.in-Ok.ensures.told c.in-Ok.ensures.caller
+
+pub returns-in-Ok-clause-made : goal.returns-in-Ok-clause-made
+returns-in-Ok-clause-made g c script ms is words made =
+    let told = c.in-Ok.ensures.told in
+    made_answered _ _ _ _ _ _ _ _ _ _ told script is words ms made c.in-Ok.outcome c.answer_of.result c.answer_of.ensures told.result
+
+pub returns-in-Err-Stopped-clause-serves : goal.returns-in-Err-Stopped-clause-serves
+returns-in-Err-Stopped-clause-serves g c =
+    serves_on c.args.row.now c.requires.row _ c.args.number c.args.caller.now c.go_on.new.self _ _ _ _ c.requires.serves refl (c.requires.serves.begun c.requires.open_call) c.go_on.ensures.told c.go_on.ensures.caller
+
+pub returns-clause-serves : goal.returns-clause-serves
+returns-clause-serves g c =
+    serves_on c.args.row.now c.requires.row _ c.args.number c.args.caller.now c.go_on.new.self _ _ _ _ c.requires.serves refl (c.requires.serves.begun c.requires.open_call) c.go_on.ensures.told c.go_on.ensures.caller
+
+pub returns-clause-made : goal.returns-clause-made
+returns-clause-made g c script ms is words made =
+    made_spent _ _ _ _ _ _ _ _ _ _ c.go_on.ensures.told script is words ms made c.in-Err-Spent.seq (c.in-Err-Spent.is ∙ ap (λ e. Err e) c.in-Err-Spent.field-0-is)

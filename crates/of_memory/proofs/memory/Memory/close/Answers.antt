@@ -1,0 +1,9 @@
+use Rattle.std.proofs.Common.{List, Option, length, subst}
+use Rattle.of_eval.specs.declared.scripts.Scripts.{Scripts}
+use Rattle.of_caller.specs.declared.caller.Caller.{Caller}
+use Rattle.of_memory.specs.Serving.{AllHere}
+use Rattle.of_memory.proofs.memory.Memory.close.Goals as goal
+
+pub close_at_home-requires-clause-here : goal.close_at_home-requires-clause-here
+close_at_home-requires-clause-here c =
+    subst (λ (cs : List (Option (Caller Scripts))). AllHere cs (length cs)) c.deref.ensures.value (c.all_here.ensures c.if-all_here.true)

@@ -1,0 +1,50 @@
+use Rattle.std.proofs.Common.{sym, ap, subst, ◌∙◌, length, None, arith, ◌<◌}
+use Rattle.std.proofs.lemmas.List.{length-set}
+use Rattle.of_eval.specs.declared.scripts.Scripts.{Scripts}
+use Rattle.of_row.specs.declared.row.Row.{Row}
+use Rattle.of_memory.specs.Serving.{IsScriptsRow, Serves, ServeAll}
+use Rattle.of_memory.specs.Memories.{row_of}
+use Rattle.of_memory.proofs.Seats.{serve_none}
+use Rattle.of_memory.proofs.Holding.{others_set}
+use Rattle.of_memory.proofs.memory.Memory.enrol.Goals as goal
+
+pub returns-in-Some-clause-memory : goal.returns-in-Some-clause-memory
+returns-in-Some-clause-memory c =
+    let m = c.args.self.now in
+    let h = c.requires in
+    let cs = m.callers.items in
+    let lt : c.args.number < length cs = omega (arith, c.if-number-callers.false, c.callers.ensures, h.each) in
+    record {
+      row = h.row;
+      pass = h.pass;
+      each = ap length c.take_at.ensures.items ∙ length-set cs c.args.number None ∙ h.each;
+      serve = subst (ServeAll (row_of m)) (sym c.take_at.ensures.items) (serve_none (row_of m) cs c.args.number lt h.serve);
+    }
+
+pub returns-in-Some-clause-handle : goal.returns-in-Some-clause-handle
+returns-in-Some-clause-handle c =
+    let h = c.requires in
+    let same = c.in-Ok.ensures in
+    record {
+      row = subst IsScriptsRow (sym same) h.row;
+      serves = subst (λ (r : Row Scripts). Serves r c.args.number c.in-Some.caller) (sym same) (h.serve c.args.number c.in-Some.caller (sym c.in-Some.ensures.caller));
+    }
+
+pub returns-in-Some-clause-others : goal.returns-in-Some-clause-others
+returns-in-Some-clause-others c = others_set c.args.self.now _ c.args.number None c.take_at.ensures.items
+
+pub returns-in-None-clause-memory : goal.returns-in-None-clause-memory
+returns-in-None-clause-memory c =
+    let m = c.args.self.now in
+    let h = c.requires in
+    let cs = m.callers.items in
+    let lt : c.args.number < length cs = omega (arith, c.if-number-callers.false, c.callers.ensures, h.each) in
+    record {
+      row = h.row;
+      pass = h.pass;
+      each = ap length c.take_at.ensures.items ∙ length-set cs c.args.number None ∙ h.each;
+      serve = subst (ServeAll (row_of m)) (sym c.take_at.ensures.items) (serve_none (row_of m) cs c.args.number lt h.serve);
+    }
+
+pub returns-in-None-clause-others : goal.returns-in-None-clause-others
+returns-in-None-clause-others c = others_set c.args.self.now _ c.args.number None c.take_at.ensures.items

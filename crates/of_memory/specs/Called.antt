@@ -1,0 +1,55 @@
+-- What a call of a script comes to.
+use Rattle.std.specs.Prelude.{◌≡◌, ◌+◌, ◌<◌, List, [], ◌∷◌, ◌++◌, map, Result, Ok, Err}
+use Rattle.of_script.specs.declared.instr.Instr.{Instr}
+use Rattle.of_script.specs.Language.{IsScript, instr_word}
+use Rattle.of_store.specs.Replies.{response_of}
+use Rattle.of_plan.specs.declared.answer.Answer.{Answer}
+use Rattle.of_eval.specs.declared.scripts.Scripts.{Scripts}
+use Rattle.of_core.specs.Machine.{IsOpen}
+use Rattle.of_caller.specs.declared.caller.Caller.{Caller}
+use Rattle.of_caller.specs.Callers.{call_of}
+use Rattle.of_memory.specs.declared.error.RunErr.{RunErr}
+use Rattle.of_memory.specs.declared.error.RunErr.TheVariants.{OutOfMemory, Stopped, Spent as NoneLeft, Open, NoTicket}
+use Rattle.of_memory.specs.History.{Made, Reply, Spent}
+
+-- the calls that have ended after these, where a call of a script has come to this
+abbrev pub made_with : List Instr → Result Answer RunErr → List Made → List Made
+made_with script (Ok a) ms = ms ++ record { script = script; ended = Reply (response_of a.reply) } ∷ []
+made_with script (Err OutOfMemory) ms = ms
+made_with script (Err (Stopped asked)) ms = ms
+made_with script (Err (NoneLeft seq)) ms = ms ++ record { script = script; ended = Spent } ∷ []
+made_with script (Err Open) ms = ms
+made_with script (Err NoTicket) ms = ms
+
+-- the caller's open call is one of this script
+pub record IsOpenAt (script : List Instr) (c : Caller Scripts) : Type 0 where
+  pub open_call : IsOpen (call_of c).place
+  pub is : IsScript script
+  pub words : (call_of c).op ≡ map instr_word script
+
+-- a stopped call stays open
+abbrev pub LeavesOpen : List Instr → Result Answer RunErr → Caller Scripts → Type 0
+LeavesOpen script (Ok a) c = Unit {0}
+LeavesOpen script (Err OutOfMemory) c = Unit {0}
+LeavesOpen script (Err (Stopped asked)) c = IsOpenAt script c
+LeavesOpen script (Err (NoneLeft seq)) c = Unit {0}
+LeavesOpen script (Err Open) c = Unit {0}
+LeavesOpen script (Err NoTicket) c = Unit {0}
+
+-- the call was begun, unless there was no memory
+abbrev pub WasTried : Result Answer RunErr → Type 0
+WasTried (Ok a) = Unit {0}
+WasTried (Err OutOfMemory) = Unit {0}
+WasTried (Err (Stopped asked)) = Unit {0}
+WasTried (Err (NoneLeft seq)) = Unit {0}
+WasTried (Err Open) = ⊥
+WasTried (Err NoTicket) = ⊥
+
+-- a caller is refused only if its call is open, or it has made all calls that it may make
+abbrev pub IsRefusedBy : Caller Scripts → Result Answer RunErr → Type 0
+IsRefusedBy c (Ok a) = Unit {0}
+IsRefusedBy c (Err OutOfMemory) = Unit {0}
+IsRefusedBy c (Err (Stopped asked)) = Unit {0}
+IsRefusedBy c (Err (NoneLeft seq)) = Unit {0}
+IsRefusedBy c (Err Open) = IsOpen (call_of c).place
+IsRefusedBy c (Err NoTicket) = (call_of c).made + 1 < 4294967296 → ⊥

@@ -1,0 +1,170 @@
+//! A call of a script on a row.
+
+ghost use Rattle.std.specs.Prelude.{◌≡◌, ◌+◌, ◌<◌, List};
+ghost use Rattle.of_script.specs.declared.instr.Instr.{Instr as TheInstr};
+ghost use Rattle.of_script.specs.Language.{IsScript, instr_word};
+ghost use Rattle.std.specs.Prelude.{map};
+ghost use Rattle.of_core.specs.Machine.{IsOpen};
+ghost use Rattle.of_core.specs.Turn.{IsIdle};
+ghost use Rattle.of_caller.specs.Callers.{call_of};
+ghost use Rattle.of_caller.specs.Ends.{Tells};
+ghost use Rattle.of_caller.specs.Lanes.{IsHeld};
+ghost use Rattle.of_memory.specs.History.{Made};
+ghost use Rattle.of_memory.specs.Calls.{AreMade};
+ghost use Rattle.of_memory.specs.Serving.{IsScriptsRow, Serves, ended_of};
+ghost use Rattle.of_memory.specs.Called.{made_with, LeavesOpen, WasTried};
+
+use crate::error::RunErr;
+use of_brake::{Brake, Fuel, Steps};
+use of_caller::{CallErr, Caller};
+use of_core::Outcome;
+use of_eval::{Scripts, reply_of};
+use of_plan::Answer;
+use of_row::Row;
+use of_script::{MOST_INSTRS, Script, to_words};
+use std::alloc::Global;
+use std::marker::Brand;
+use std::sync::ledger::{Blank, Ledger};
+
+// The answer of an outcome.
+fn answer_of(outcome: Outcome) -> Answer
+    requires { IsHeld outcome }
+    ensures { Tells outcome result }
+{
+    let Outcome::Answered {
+        seq,
+        announced,
+        raw,
+        steps,
+    } = outcome
+    else {
+        unreachable!()
+    };
+    let Some(reply) = reply_of(&raw) else {
+        unreachable!()
+    };
+    Answer {
+        seq,
+        announced,
+        reply,
+        steps,
+    }
+}
+
+// Makes a call of a script, with a count of its steps that takes no bytes.
+fn call_counted<L: Ledger>(
+    row: &Row<Scripts>,
+    number: u32,
+    caller: &mut Caller<Scripts>,
+    script: &Script,
+    brake: &mut Box<dyn Brake + Send>,
+    blank: Blank,
+) -> Result<Answer, RunErr>
+    requires name { blank.name ≡ L.name }
+    requires parts { (blank.parts ≡ L.parts) × (blank.parts ≡ 1) }
+    requires row { IsScriptsRow row.now }
+    requires serves { Serves row.now number caller.old }
+    requires idle { IsIdle (call_of caller.old) }
+    requires ticket { (call_of caller.old).made + 1 < 4294967296 }
+    ensures serves { Serves row.now number caller.new }
+    ensures made { (ms : List Made) → AreMade (ended_of caller.old) ms
+        → AreMade (ended_of caller.new) (made_with script.now result ms) }
+    ensures open_call { LeavesOpen script.now result caller.new }
+    ensures tried { WasTried result }
+{
+    let mut steps: Steps<L> = Steps::new(blank);
+    let len = script.len() as usize;
+    let mut words = [0; MOST_INSTRS];
+    to_words(script, &mut words);
+    match caller.call(row, &words[..len], brake, &mut steps) {
+        Ok(outcome) => Ok(answer_of(outcome)),
+        Err(CallErr::Stopped { asked }) => Err(RunErr::Stopped { asked }),
+        Err(CallErr::Spent { seq }) => Err(RunErr::Spent { seq }),
+    }
+}
+
+// Goes on with the open call of a script.
+fn go_on_counted<L: Ledger>(
+    row: &Row<Scripts>,
+    number: u32,
+    caller: &mut Caller<Scripts>,
+    brake: &mut Box<dyn Brake + Send>,
+    blank: Blank,
+) -> Result<Answer, RunErr>
+    requires name { blank.name ≡ L.name }
+    requires parts { (blank.parts ≡ L.parts) × (blank.parts ≡ 1) }
+    requires row { IsScriptsRow row.now }
+    requires serves { Serves row.now number caller.old }
+    requires open_call { IsOpen (call_of caller.old).place }
+    ensures serves { Serves row.now number caller.new }
+    ensures made { (script : List TheInstr) (ms : List Made) → IsScript script
+        → (call_of caller.old).op ≡ map instr_word script → AreMade (ended_of caller.old) ms
+        → AreMade (ended_of caller.new) (made_with script result ms) }
+    ensures open_call { (script : List TheInstr) → IsScript script
+        → (call_of caller.old).op ≡ map instr_word script → LeavesOpen script result caller.new }
+{
+    let mut steps: Steps<L> = Steps::new(blank);
+    match caller.go_on(row, brake, &mut steps) {
+        Ok(outcome) => Ok(answer_of(outcome)),
+        Err(CallErr::Stopped { asked }) => Err(RunErr::Stopped { asked }),
+        Err(CallErr::Spent { seq }) => Err(RunErr::Spent { seq }),
+    }
+}
+
+// A brake with so many steps; None is no end.
+fn fuel_of(stop: Option<u64>) -> Fuel {
+    let mut fuel = Fuel::new();
+    fuel.arm(stop);
+    fuel
+}
+
+/// Makes a call of a script, for at most so many steps. Without memory none is begun.
+pub(crate) fn call_script(
+    alloc: Global,
+    row: &Row<Scripts>,
+    number: u32,
+    caller: &mut Caller<Scripts>,
+    script: &Script,
+    stop: Option<u64>,
+) -> Result<Answer, RunErr>
+    requires row { IsScriptsRow row.now }
+    requires serves { Serves row.now number caller.old }
+    requires idle { IsIdle (call_of caller.old) }
+    requires ticket { (call_of caller.old).made + 1 < 4294967296 }
+    ensures serves { Serves row.now number caller.new }
+    ensures made { (ms : List Made) → AreMade (ended_of caller.old) ms
+        → AreMade (ended_of caller.new) (made_with script.now result ms) }
+    ensures open_call { LeavesOpen script.now result caller.new }
+    ensures tried { WasTried result }
+{
+    let Ok(fuel) = Box::new(alloc, fuel_of(stop)) else {
+        return Err(RunErr::OutOfMemory);
+    };
+    let mut brake: Box<dyn Brake + Send> = fuel;
+    call_counted::<Brand>(row, number, caller, script, &mut brake, Blank::new(1))
+}
+
+/// Goes on with the open call, for at most so many steps. Without memory it makes none.
+pub(crate) fn go_on_with(
+    alloc: Global,
+    row: &Row<Scripts>,
+    number: u32,
+    caller: &mut Caller<Scripts>,
+    stop: Option<u64>,
+) -> Result<Answer, RunErr>
+    requires row { IsScriptsRow row.now }
+    requires serves { Serves row.now number caller.old }
+    requires open_call { IsOpen (call_of caller.old).place }
+    ensures serves { Serves row.now number caller.new }
+    ensures made { (script : List TheInstr) (ms : List Made) → IsScript script
+        → (call_of caller.old).op ≡ map instr_word script → AreMade (ended_of caller.old) ms
+        → AreMade (ended_of caller.new) (made_with script result ms) }
+    ensures open_call { (script : List TheInstr) → IsScript script
+        → (call_of caller.old).op ≡ map instr_word script → LeavesOpen script result caller.new }
+{
+    let Ok(fuel) = Box::new(alloc, fuel_of(stop)) else {
+        return Err(RunErr::OutOfMemory);
+    };
+    let mut brake: Box<dyn Brake + Send> = fuel;
+    go_on_counted::<Brand>(row, number, caller, &mut brake, Blank::new(1))
+}

@@ -1,0 +1,149 @@
+//! A handle: one caller of a memory, for one thread at a time.
+
+use crate::calling::{call_script, go_on_with};
+use crate::error::RunErr;
+use crate::memory::Memory;
+use of_caller::Caller;
+use of_eval::Scripts;
+use of_plan::Answer;
+use of_row::Row;
+use of_script::Script;
+use std::alloc::Global;
+use std::sync::Arc;
+
+/// One caller of a memory, for one thread at a time.
+#[derive(Drop)]
+pub struct Handle {
+    pub(crate) alloc: Global,
+    pub(crate) row: Arc<Row<Scripts>, Global>,
+    pub(crate) number: u32,
+    pub(crate) caller: Caller<Scripts>,
+}
+
+impl Handle {
+    ghost use Rattle.std.specs.Prelude.{◌≡◌, ◌≢◌, ◌↔◌, IsTrue, List, ℕ};
+    ghost use Rattle.of_script.specs.declared.instr.Instr.{Instr as TheInstr};
+    ghost use Rattle.of_memory.specs.History.{Made};
+    ghost use Rattle.of_memory.specs.Called.{made_with, LeavesOpen, IsRefusedBy};
+    ghost use Rattle.of_memory.specs.Handles.{IsHandle, HasMade, HasOpen, IsSame};
+    ghost use Rattle.of_memory.specs.Memories.{IsMemory, IsFrom, IsStill, HasMadeOf, KnowsOthers};
+
+    /// Its number.
+    pub fn number(&self) -> u32
+        ensures { result ≡ self.now.number }
+    {
+        self.number
+    }
+
+    /// Runs a script, all of it or nothing, and answers its reply.
+    pub fn run(&mut self, script: &Script) -> Result<Answer, RunErr>
+        requires { IsHandle self.old }
+        ensures handle { IsHandle self.new }
+        ensures same { IsSame self.old self.new }
+        ensures made { (ms : List Made) → HasMade self.old ms
+            → HasMade self.new (made_with script.now result ms) }
+        ensures open_call { LeavesOpen script.now result self.new.caller }
+        ensures cause { IsRefusedBy self.old.caller result }
+    {
+        self.begin(script, None)
+    }
+
+    /// Runs a script for at most so many steps. If they don't do, the call stays open.
+    pub fn run_within(&mut self, script: &Script, steps: u64) -> Result<Answer, RunErr>
+        requires { IsHandle self.old }
+        ensures handle { IsHandle self.new }
+        ensures same { IsSame self.old self.new }
+        ensures made { (ms : List Made) → HasMade self.old ms
+            → HasMade self.new (made_with script.now result ms) }
+        ensures open_call { LeavesOpen script.now result self.new.caller }
+        ensures cause { IsRefusedBy self.old.caller result }
+    {
+        self.begin(script, Some(steps))
+    }
+
+    fn begin(&mut self, script: &Script, stop: Option<u64>) -> Result<Answer, RunErr>
+        requires { IsHandle self.old }
+        ensures handle { IsHandle self.new }
+        ensures same { IsSame self.old self.new }
+        ensures made { (ms : List Made) → HasMade self.old ms
+            → HasMade self.new (made_with script.now result ms) }
+        ensures open_call { LeavesOpen script.now result self.new.caller }
+        ensures cause { IsRefusedBy self.old.caller result }
+    {
+        if !self.caller.is_idle() {
+            return Err(RunErr::Open);
+        }
+        if self.caller.made() == u32::MAX {
+            return Err(RunErr::NoTicket);
+        }
+        call_script(
+            self.alloc,
+            &self.row,
+            self.number,
+            &mut self.caller,
+            script,
+            stop,
+        )
+    }
+
+    /// Goes on with the open call, to its answer.
+    pub fn go_on(&mut self) -> Result<Answer, RunErr>
+        requires { IsHandle self.old }
+        ensures handle { IsHandle self.new }
+        ensures same { IsSame self.old self.new }
+        ensures made { (script : List TheInstr) (ms : List Made) → HasOpen self.old script
+            → HasMade self.old ms → HasMade self.new (made_with script result ms) }
+        ensures open_call { (script : List TheInstr) → HasOpen self.old script
+            → LeavesOpen script result self.new.caller }
+    {
+        self.resume(None)
+    }
+
+    /// Goes on with the open call for at most so many steps.
+    pub fn go_on_within(&mut self, steps: u64) -> Result<Answer, RunErr>
+        requires { IsHandle self.old }
+        ensures handle { IsHandle self.new }
+        ensures same { IsSame self.old self.new }
+        ensures made { (script : List TheInstr) (ms : List Made) → HasOpen self.old script
+            → HasMade self.old ms → HasMade self.new (made_with script result ms) }
+        ensures open_call { (script : List TheInstr) → HasOpen self.old script
+            → LeavesOpen script result self.new.caller }
+    {
+        self.resume(Some(steps))
+    }
+
+    fn resume(&mut self, stop: Option<u64>) -> Result<Answer, RunErr>
+        requires { IsHandle self.old }
+        ensures handle { IsHandle self.new }
+        ensures same { IsSame self.old self.new }
+        ensures made { (script : List TheInstr) (ms : List Made) → HasOpen self.old script
+            → HasMade self.old ms → HasMade self.new (made_with script result ms) }
+        ensures open_call { (script : List TheInstr) → HasOpen self.old script
+            → LeavesOpen script result self.new.caller }
+    {
+        if self.caller.is_idle() {
+            return Err(RunErr::Open);
+        }
+        go_on_with(self.alloc, &self.row, self.number, &mut self.caller, stop)
+    }
+
+    /// Leaves its memory, which keeps what it has made; a call that is open stays open. Then its number
+    /// is free again.
+    pub fn leave(self, memory: &mut Memory)
+        requires handle { IsHandle self }
+        requires memory { IsMemory memory.old }
+        requires from { IsFrom memory.old self }
+        ensures memory { IsMemory memory.new }
+        ensures still { IsStill memory.old memory.new }
+        ensures made { (ms : List Made) → HasMade self ms → HasMadeOf memory.new self.number ms }
+        ensures others { KnowsOthers self.number memory.old memory.new }
+    {
+        let Handle {
+            alloc: _,
+            row: _,
+            number,
+            caller,
+        } = self;
+        memory.take_in(number, caller);
+    }
+}

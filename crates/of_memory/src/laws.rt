@@ -1,0 +1,28 @@
+//! What a closed memory holds: functions that do nothing, whose contracts are the theorems.
+
+ghost use Rattle.of_memory.specs.Joining.{HistoriesJoin, InvariantsHold};
+ghost use Rattle.of_memory.specs.Laws.{HoldsHistory};
+
+use of_core::laws::{starts, step_kept};
+use of_eval::Scripts;
+use of_row::laws::stops_lose_nothing;
+
+/// A closed row on which callers have run scripts alone holds one serial history of scripts on the
+/// plain store. It has each call that was answered, with its reply, and recovery finds its end.
+pub fn history_is_held(work: Scripts, limit: u32)
+    ensures { HoldsHistory work limit }
+{
+    step_kept(limit, work);
+    starts(limit, work);
+    stops_lose_nothing(limit, work);
+}
+
+/// The history of a memory and that of the one that goes on from what it has left are one history.
+pub fn histories_join()
+    ensures { HistoriesJoin }
+{}
+
+/// What each script of a kind keeps of a store holds of the store after a history of such scripts.
+pub fn invariants_hold()
+    ensures { InvariantsHold }
+{}

@@ -1,0 +1,18 @@
+//! A memory that a program opens: threads run scripts on one store, and what is closed can be opened again.
+#![tactic(auto)]
+
+mod calling;
+mod error;
+mod handle;
+pub mod laws;
+mod memory;
+mod saved;
+mod seating;
+
+pub use error::{EnrolErr, InUse, OpenErr, RunErr, StoreErr};
+pub use handle::Handle;
+pub use memory::Memory;
+pub use of_plan::{Answer, GREATEST_LIMIT};
+pub use of_script::{Abort, Cause, Instr, Reply, Script, ScriptErr, parse};
+pub use of_store::Store;
+pub use saved::Saved;

@@ -1,0 +1,201 @@
+//! What a closed memory leaves.
+
+ghost use Rattle.std.specs.Prelude.{◌≡◌, ◌<◌, ◌≤◌, ◌+◌, ℕ, List, IfOk, IfSome, IsSome, length, map};
+ghost use Rattle.std.specs.Prelude.{slice_index_or, slice_range};
+ghost use Rattle.of_cell.specs.Words.{pay};
+ghost use Rattle.of_cell.specs.Cells.{data_cell, durable_cells};
+ghost use Rattle.of_mem.specs.declared.work.TheConstants.{MOST_INSTRS};
+ghost use Rattle.of_recover.specs.Row.{IsDurableRow};
+ghost use Rattle.of_recover.specs.Recovered.{recovered};
+ghost use Rattle.of_eval.specs.Scripts.{cells_in};
+
+use crate::error::StoreErr;
+use crate::laws::history_is_held;
+use of_cell::{Shape, payload_of};
+use of_eval::{Scripts, lawful, reply_of};
+use of_mem::{MOST_INSTRS, RawReply};
+use of_recover::laws::recovered_cells;
+use of_recover::recover;
+use of_row::{Pass, Row};
+use of_script::Reply;
+use of_store::Store;
+use std::alloc::{AllocError, Global};
+
+/// The shape of a table for scripts.
+pub(crate) fn shape_of(scripts: Scripts) -> Shape
+    ensures callers { result.callers ≡ scripts.callers }
+    ensures instrs { result.instrs ≡ MOST_INSTRS }
+    ensures cells { result.cells ≡ cells_in scripts }
+{
+    let plot = scripts.plot();
+    Shape {
+        callers: plot.callers,
+        instrs: plot.instrs,
+        cells: plot.cells(),
+    }
+}
+
+/// The words of the data cells in a durable row.
+fn data_words(alloc: Global, shape: &Shape, row: &[u64]) -> Result<Vec<u64>, AllocError>
+    requires { IsDurableRow shape.now.callers shape.now.cells row.now }
+    ensures { let first = data_cell shape.now.callers 0 in
+        IfOk result (λ words. words.items ≡ slice_range row.now first (first + shape.now.cells)) }
+{
+    let first = shape.data_cell(0) as usize;
+    Vec::from_slice(alloc, &row[first..first + shape.cells as usize])
+}
+
+/// The numbers in these words.
+fn numbers(alloc: Global, words: &[u64]) -> Result<Vec<u32>, AllocError>
+    ensures { IfOk result (λ numbers. numbers.items ≡ map pay words.now) }
+{
+    words.iter().map(|word| payload_of(*word)).collect(alloc)
+}
+
+// Leaves the durable words of a table's words. It takes no memory.
+fn keep_durable(cells: usize, words: &mut Vec<u64>)
+    requires { cells + cells ≤ length words.old.items }
+    ensures { words.new.items ≡ slice_range words.old.items cells (cells + cells) }
+{
+    for cell in 0..cells {
+        words[cell] = words[cells + cell];
+    }
+    words.truncate(cells);
+}
+
+// Recovers durable words, in place.
+fn recover_words(shape: &Shape, words: &mut Vec<u64>)
+    requires { IsDurableRow shape.now.callers shape.now.cells words.old.items }
+    ensures { words.new.items ≡ recovered shape.now.callers shape.now.cells words.old.items }
+{
+    recovered_cells(shape, words);
+    recover(shape, words);
+}
+
+/// What a closed memory leaves: its durable words, recovered.
+#[derive(Drop)]
+pub struct Saved {
+    pub(crate) scripts: Scripts,
+    pub(crate) limit: u32,
+    pub(crate) row: Vec<u64>,
+}
+
+impl Saved {
+    ghost use Rattle.of_row.specs.Rows.{IsOf, key_of, setup_at};
+    ghost use Rattle.of_mem.specs.ProgramWork.{memory};
+    ghost use Rattle.of_eval.specs.Lawful.{reply_in};
+    ghost use Rattle.of_store.specs.State.{State, Response};
+    ghost use Rattle.of_store.specs.Replies.{response_of};
+    ghost use Rattle.of_memory.specs.History.{Entry};
+    ghost use Rattle.of_memory.specs.Laws.{Leads, KeepScripts, StandsAt};
+    ghost use Rattle.of_eval.specs.Scripts.{scripts_meaning};
+    ghost use Rattle.of_memory.specs.Serving.{IsScriptsRow, start_of_row};
+    ghost use Rattle.of_memory.specs.Saving.{IsSaved, Holds, HoldsReply, start_in, ticket_in};
+
+    // Closes a row, takes its durable words alone, as a crash does, and recovers them.
+    pub(crate) fn close(row: Row<Scripts>, pass: Pass) -> Saved
+        requires row { IsScriptsRow row }
+        requires pass { IsOf row pass.seat }
+        requires keeps { KeepScripts (setup_at scripts_meaning row) pass.seat.me.0 }
+        ensures scripts { result.scripts ≡ (key_of row).work }
+        ensures limit { result.limit ≡ (key_of row).limit }
+        ensures saved { IsSaved result }
+        ensures leads { (s : State) → StandsAt (key_of row).work (start_of_row row) s
+            → (h : List Entry) × Leads (key_of row).work (key_of row).limit (start_of_row row)
+            pass.seat.me.0 s result.row.items h }
+    {
+        let scripts = row.work();
+        let limit = row.limit();
+        history_is_held(scripts, limit);
+        let shape = row.shape();
+        let (mut words, _pass) = row.close(pass);
+        keep_durable(shape.durable_cells() as usize, &mut words);
+        recover_words(&shape, &mut words);
+        Saved {
+            scripts,
+            limit,
+            row: words,
+        }
+    }
+    /// How many callers it has.
+    pub fn callers(&self) -> u32
+        ensures { result ≡ self.now.scripts.callers }
+    {
+        self.scripts.callers
+    }
+
+    /// The last sequence that may be committed.
+    pub fn limit(&self) -> u32
+        ensures { result ≡ self.now.limit }
+    {
+        self.limit
+    }
+
+    /// The store that it holds.
+    pub fn store(&self, alloc: Global) -> Result<Store, StoreErr>
+        requires { IsSaved self.now }
+        ensures { IfOk result (Holds self.now) }
+    {
+        let words = data_words(alloc, &shape_of(self.scripts), &self.row)?;
+        let cells = numbers(alloc, &words)?;
+        let store = lawful(alloc, &self.scripts.plot(), &cells)?;
+        Ok(store)
+    }
+
+    /// How many calls of a caller it holds: the number of its last one, whoever finished it.
+    pub fn ticket(&self, number: u32) -> u32
+        requires saved { IsSaved self.now }
+        requires number { number < self.now.scripts.callers }
+        ensures { result ≡ ticket_in self.now number }
+    {
+        let ticket = self.scripts.plot().ticket(number);
+        let cell = shape_of(self.scripts).data_cell(ticket);
+        payload_of(self.row[cell as usize])
+    }
+    // The number of a data cell.
+    fn number(&self, cell: u32) -> u32
+        requires saved { IsSaved self.now }
+        requires cell { cell < cells_in self.now.scripts }
+        ensures { result ≡ pay (slice_index_or (start_in self.now).cells cell 0) }
+    {
+        let place = shape_of(self.scripts).data_cell(cell);
+        payload_of(self.row[place as usize])
+    }
+
+    // The reply in a caller's own cells.
+    fn reply(&self, number: u32) -> RawReply
+        requires saved { IsSaved self.now }
+        requires number { number < self.now.scripts.callers }
+        ensures { result ≡ reply_in MOST_INSTRS (memory (map pay (start_in self.now).cells)) number }
+    {
+        let plot = self.scripts.plot();
+        let mut values = [0; MOST_INSTRS];
+        for place in 0..MOST_INSTRS {
+            values[place] = self.number(plot.reply(number, place as u32));
+        }
+        RawReply {
+            shape: self.number(plot.shape(number)),
+            values,
+        }
+    }
+
+    /// The number of a caller's last call that it holds, and the reply to it, also if the caller was
+    /// stopped before it was answered. None if it holds none.
+    pub fn last_reply(&self, number: u32) -> Option<(u32, Reply)>
+        requires saved { IsSaved self.now }
+        requires number { number < self.now.scripts.callers }
+        ensures ticket { IfSome result (λ r. r.0 ≡ ticket_in self.now number) }
+        ensures reply { IfSome result (λ r. HoldsReply self.now number (response_of r.1)) }
+        ensures some { (r : Response) → HoldsReply self.now number r
+            → 0 < ticket_in self.now number → IsSome result }
+    {
+        let ticket = self.ticket(number);
+        if ticket == 0 {
+            return None;
+        }
+        match reply_of(&self.reply(number)) {
+            Some(reply) => Some((ticket, reply)),
+            None => None,
+        }
+    }
+}

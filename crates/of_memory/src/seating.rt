@@ -1,0 +1,123 @@
+//! The callers of a memory: seated when it is opened, and gathered when it is closed.
+
+ghost use Rattle.std.specs.Prelude.{◌≡◌, ◌+◌, ◌<◌, ℕ, IfOk, IsTrue, Some, None, length, slice_index_or, slice_set};
+ghost use Rattle.of_eval.specs.declared.scripts.Scripts.{Scripts as TheScripts};
+ghost use Rattle.of_row.specs.Rows.{IsOf, key_of};
+ghost use Rattle.of_row.specs.Passes.{IsFirst};
+ghost use Rattle.of_caller.specs.declared.caller.Caller.{Caller as TheCaller};
+ghost use Rattle.of_memory.specs.Laws.{KeepsSo};
+ghost use Rattle.of_memory.specs.Serving.{IsNew, Serves, ServeAll, Enrols, AllStand, AllHere};
+ghost use Rattle.of_memory.specs.Serving.{IsKeptOf, KeepsThose};
+
+use of_caller::Caller;
+use of_eval::Scripts;
+use of_row::laws::members;
+use of_row::{Pass, Row};
+use std::alloc::{AllocError, Global};
+
+// Gives a number to a new caller, none below which was asked for.
+fn seat_one(
+    alloc: Global,
+    row: &Row<Scripts>,
+    pass: Pass,
+    number: u32,
+) -> Result<(Caller<Scripts>, Pass), AllocError>
+    requires pass { Enrols row.now number pass }
+    requires number { number < (key_of row.now).callers }
+    ensures caller { IfOk result (λ r. IsNew row.now number r.0) }
+    ensures pass { IfOk result (λ r. Enrols row.now (number + 1) r.1) }
+{
+    members(row.work());
+    let Ok((member, pass)) = row.enrol(pass, number) else {
+        unreachable!()
+    };
+    match Caller::new(alloc, row, member) {
+        Ok(caller) => Ok((caller, pass)),
+        Err((_member, error)) => Err(error),
+    }
+}
+
+/// Seats a caller of each number. The error is that there is no memory.
+pub(crate) fn seat_all(
+    alloc: Global,
+    row: &Row<Scripts>,
+    mut pass: Pass,
+) -> Result<(Vec<Option<Caller<Scripts>>>, Pass), AllocError>
+    requires { IsFirst row.now pass }
+    ensures pass { IfOk result (λ r. IsOf row.now r.1.seat) }
+    ensures each { IfOk result (λ r. length r.0.items ≡ (key_of row.now).callers) }
+    ensures new { IfOk result (λ r.
+        AllStand (IsNew row.now) (key_of row.now).callers r.0.items) }
+{
+    let count = row.shape().callers;
+    let mut callers = Vec::new(alloc);
+    for number in 0..count {
+        let (caller, next) = seat_one(alloc, row, pass, number)?;
+        callers.push(Some(caller))?;
+        pass = next;
+    }
+    Ok((callers, pass))
+}
+
+/// Takes a caller out of its place.
+pub(crate) fn take_at(
+    callers: &mut Vec<Option<Caller<Scripts>>>,
+    at: usize,
+) -> Option<Caller<Scripts>>
+    requires { at < length callers.old.items }
+    ensures caller { result ≡ slice_index_or callers.old.items at None }
+    ensures items { callers.new.items ≡ slice_set callers.old.items at None }
+{
+    callers[at].take()
+}
+
+/// Puts a caller into its place.
+pub(crate) fn put_at(callers: &mut Vec<Option<Caller<Scripts>>>, at: usize, caller: Caller<Scripts>)
+    requires { at < length callers.old.items }
+    ensures { callers.new.items ≡ slice_set callers.old.items at (Some caller) }
+{
+    callers[at] = Some(caller);
+}
+
+/// Whether each caller stands in its place.
+pub(crate) fn all_here(callers: &[Option<Caller<Scripts>>]) -> bool
+    ensures { IsTrue result → AllHere callers.now (length callers.now) }
+{
+    for i in 0..callers.len() {
+        if callers[i].is_none() {
+            return false;
+        }
+    }
+    true
+}
+
+// Hands all that a caller has made to the pass, which keeps it.
+fn gather_one(row: &Row<Scripts>, pass: Pass, number: usize, caller: Caller<Scripts>) -> Pass
+    requires pass { IsOf row.now pass.seat }
+    requires serves { Serves row.now number caller }
+    ensures pass { IsOf row.now result.seat }
+    ensures own { KeepsSo number (IsKeptOf caller) result.seat.me.0.kept }
+    ensures others { (n : ℕ) (c : TheCaller TheScripts) → KeepsSo n (IsKeptOf c) pass.seat.me.0.kept
+        → KeepsSo n (IsKeptOf c) result.seat.me.0.kept }
+{
+    row.join(pass, caller.leave())
+}
+
+/// Hands all that the callers have made to the pass, which keeps it.
+pub(crate) fn gather(
+    row: &Row<Scripts>,
+    mut pass: Pass,
+    callers: &mut Vec<Option<Caller<Scripts>>>,
+) -> Pass
+    requires pass { IsOf row.now pass.seat }
+    requires serve { ServeAll row.now callers.old.items }
+    ensures pass { IsOf row.now result.seat }
+    ensures keeps { KeepsThose callers.old.items (length callers.old.items) result.seat.me.0.kept }
+{
+    for number in 0..callers.len() {
+        if let Some(caller) = take_at(callers, number) {
+            pass = gather_one(row, pass, number, caller);
+        }
+    }
+    pass
+}
