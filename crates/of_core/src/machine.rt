@@ -346,7 +346,11 @@ impl<W: Work> Machine<W> {
                 self.durable_word(self.own_log_cell(at)),
                 pack(self.seq + 1, self.log_word(at)),
             ),
-            Place::StoreRequest => by.store(hand, self.shape.request(self.caller), pack(self.seq + 1, 0)),
+            Place::StoreRequest => by.store(
+                hand,
+                self.shape.request(self.caller),
+                pack(self.seq + 1, 0),
+            ),
             Place::RaiseRequest => by.raise(
                 hand,
                 self.durable_word(self.shape.request(self.caller)),
@@ -359,11 +363,22 @@ impl<W: Work> Machine<W> {
                 pack(self.seq + 1, self.caller),
             ),
             Place::RaiseCurrent => by.raise(hand, self.durable_word(0), pack(self.seq, self.owner)),
-            Place::LoadTarget(entry) => by.load(hand, self.shape.data_cell(self.log.entry(entry).0)),
-            Place::ReloadTarget(entry) => by.load(hand, self.shape.data_cell(self.log.entry(entry).0)),
+            Place::LoadTarget(entry) => by.load(
+                hand,
+                self.shape.data_cell(self.log.entry(entry).0),
+            ),
+            Place::ReloadTarget(entry) => by.load(
+                hand,
+                self.shape.data_cell(self.log.entry(entry).0),
+            ),
             Place::ExchangeTarget(entry, found) => {
                 let (addr, value) = self.log.entry(entry);
-                by.exchange(hand, self.shape.data_cell(addr), found, pack(self.seq, value))
+                by.exchange(
+                    hand,
+                    self.shape.data_cell(addr),
+                    found,
+                    pack(self.seq, value),
+                )
             }
             Place::RaiseTarget(entry, found) => by.raise(
                 hand,
