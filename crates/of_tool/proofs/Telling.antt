@@ -8,7 +8,7 @@ use Rattle.of_tool.specs.declared.status.TheConstants.{DONE, READ_FAULT, TOO_LON
 use Rattle.of_tool.specs.Commands.{Are}
 use Rattle.of_tool.specs.Seen.{Change, Seen, IsWritten}
 use Rattle.of_tool.specs.Inputs.{Input, input_of, most_of}
-use Rattle.of_tool.specs.Refusals.{Refusal, ReadFault, TooLong, BadPlan, BadImage, UnlawfulImage, DoesNotFit, Illegal, status_of, IsRefused, IsRefusal, IsIllegal, HasMisfit, Judges}
+use Rattle.of_tool.specs.Refusals.{Refusal, ReadFault, TooLong, BadPlan, BadImage, UnlawfulImage, DoesNotFit, Illegal, status_of, IsRefused, IsRefusal, IsIllegal, HasMisfit, FindsWrong}
 use Rattle.of_tool.specs.Makes.{Makes, Did}
 use Rattle.of_tool.specs.Statuses.{IsAnswerTo, Done, Refused, IsAnswer, To, NoCommand}
 use Rattle.of_tool.proofs.CommandLemmas.{same_command}
@@ -67,7 +67,7 @@ misfit_of input source DoesNotFit h e = h
 misfit_of input source Illegal h e = absurd (omega arith)
 
 -- what statuses 8 and 9 say
-judged_to : (c : Command) (source : Change) (status : ℕ) (text : List ℕ) → IsAnswerTo c source status text → Judges (input_of c) source status
+judged_to : (c : Command) (source : Change) (status : ℕ) (text : List ℕ) → IsAnswerTo c source status text → FindsWrong (input_of c) source status
 judged_to c source status text (Done is makes) input reads = ((λ e. absurd (omega (arith, is, e))), (λ e. absurd (omega (arith, is, e))))
 judged_to c source status text (Refused other is refusal) input reads =
     let same : other ≡ input = (let e : ◌≡◌ {A = Option Input} (Some other) (Some input) = sym is ∙ reads in cc) in
@@ -75,5 +75,5 @@ judged_to c source status text (Refused other is refusal) input reads =
     let cause = subst P same refusal.cause in
     ((λ e. illegal_of input source refusal.why cause (sym refusal.status_is ∙ e)), (λ e. misfit_of input source refusal.why cause (sym refusal.status_is ∙ e)))
 
-pub judges : (words : List (List ℕ)) (c : Command) (source : Change) (status : ℕ) (text : List ℕ) → Are words c → IsAnswer words source status text → Judges (input_of c) source status
+pub judges : (words : List (List ℕ)) (c : Command) (source : Change) (status : ℕ) (text : List ℕ) → Are words c → IsAnswer words source status text → FindsWrong (input_of c) source status
 judges words c source status text is answer = judged_to c source status text (answer_to words c source status text is answer)

@@ -110,7 +110,7 @@ pub record IsRefusal (input : Input) (source : Change) (status : ℕ) (text : Li
   pub text_is : text ≡ text_of input why
 
 -- what statuses 8 and 9 say of an input, where a command reads one
-abbrev pub Judges : Option Input → Change → (status : ℕ) → Type 0
-Judges reads source status =
+abbrev pub FindsWrong : Option Input → Change → (status : ℕ) → Type 0
+FindsWrong reads source status =
     (input : Input) → reads ≡ Some input
     → (status ≡ ILLEGAL → IsIllegal input source) × (status ≡ DOES_NOT_FIT → HasMisfit input source)

@@ -8,7 +8,7 @@ ghost use Rattle.of_tool.specs.declared.status.TheConstants.{DONE};
 ghost use Rattle.of_tool.specs.Commands.{texts, words_of, IsTrace, IsLoad, IsInRange, IsPlain, Are, RunTeam};
 ghost use Rattle.of_tool.specs.Seen.{change_of, seen_by, Holds, ReadsAll};
 ghost use Rattle.of_tool.specs.Inputs.{PlanAlone, input_of, AskForInput, ReadsPlan, IsValidInput};
-ghost use Rattle.of_tool.specs.Refusals.{Judges as JudgesInput};
+ghost use Rattle.of_tool.specs.Refusals.{FindsWrong};
 ghost use Rattle.of_tool.specs.Makes.{Did};
 ghost use Rattle.of_tool.specs.Statuses.{IsAnswer, Answers, Ends};
 ghost use Rattle.of_tool.specs.Headline.{RunsPlan, LoadsPlan, ContinuesImage, LeavesTable};
@@ -396,7 +396,7 @@ pub fn tool<R: Threads + Sync, S: Source, K: Sink>(
     // With status 8 the report that `check` reads, or the life that `check-life` reads, is not
     // legal. With status 9 the plan that `continue` or `check-life` reads does not fit the image.
     ensures judged { (command : Command) → Are (texts words.now) command
-        → JudgesInput (input_of command)
+        → FindsWrong (input_of command)
         (change_of S.remaining S.faults source.old source.new) result }
 
     // Only a command that reads a plan, a report or an image reads.
