@@ -12,7 +12,7 @@ use of_memory::{GREATEST_LIMIT, Handle, Memory, Saved, Script, parse};
 use std::alloc::Global;
 use std::thread::{Threads, join};
 
-/// Adds for at most so many steps.
+/// Adds to its own register and to the sum, for at most so many steps.
 fn add(mut hand: Handle, script: &Script, steps: u64) -> Handle
     requires { IsHandle hand }
     ensures hand { IsHandle result }
@@ -23,7 +23,7 @@ fn add(mut hand: Handle, script: &Script, steps: u64) -> Handle
 }
 
 /// Two hands at once. The second is stopped after six steps.
-fn both<R: Threads + Sync>(rt: &R, script: &Script, a: Handle, b: Handle) -> (Handle, Handle)
+fn both<R: Threads + Sync>(rt: &R, scripts: &[Script; 2], a: Handle, b: Handle) -> (Handle, Handle)
     requires a { IsHandle a }
     requires b { IsHandle b }
     ensures a { IsHandle result.0 × (home_of result.0 ≡ home_of a) }
@@ -34,23 +34,23 @@ fn both<R: Threads + Sync>(rt: &R, script: &Script, a: Handle, b: Handle) -> (Ha
         || -> Handle
             requires { IsHandle a }
             ensures { IsHandle result × (home_of result ≡ home_of a) }
-        { add(a, script, 1_000_000) },
+        { add(a, &scripts[0], 1_000_000) },
         || -> Handle
             requires { IsHandle b }
             ensures { IsHandle result × (home_of result ≡ home_of b) }
-        { add(b, script, 6) },
+        { add(b, &scripts[1], 6) },
     )
 }
 
 /// Both add to the memory's sum, the first of them twice, and it is closed.
-fn first_day<R: Threads + Sync>(rt: &R, script: &Script, mut memory: Memory) -> Result<Saved>
+fn first_day<R: Threads + Sync>(rt: &R, scripts: &[Script; 2], mut memory: Memory) -> Result<Saved>
     requires { IsMemory memory }
     ensures { IfOk result IsSaved }
 {
     let a = memory.enrol(0)?;
     let b = memory.enrol(1)?;
-    let (a, b) = both(rt, script, a, b);
-    let a = add(a, script, 1_000_000);
+    let (a, b) = both(rt, scripts, a, b);
+    let a = add(a, &scripts[0], 1_000_000);
     a.leave(&mut memory);
     b.leave(&mut memory);
     Ok(memory.close()?)
@@ -72,16 +72,19 @@ fn show(rt: &impl Print, alloc: Global, saved: &Saved) -> Result<()>
 {
     println!(rt; "the sum is {}", saved.store(alloc)?.register(15))?;
     for number in 0..saved.callers() {
-        println!(rt; "hand {number}: {} calls", saved.ticket(number))?;
+        if let Some((ticket, reply)) = saved.last_reply(number) {
+            let value = reply.values[0];
+            println!(rt; "hand {number}: call {ticket} made it {value:?}")?;
+        }
     }
     Ok(())
 }
 
 fn main(rt: HostRuntime) -> Result<()> {
     let alloc: Global = rt.alloc();
-    let script = parse(b"add 15 5")?;
-    let saved = first_day(&rt, &script, Memory::open(alloc, 2, 8, GREATEST_LIMIT)?)?;
+    let scripts = [parse(b"add 0 5; add 15 5")?, parse(b"add 1 5; add 15 5")?];
+    let saved = first_day(&rt, &scripts, Memory::open(alloc, 2, 8, GREATEST_LIMIT)?)?;
     show(&rt, alloc, &saved)?;
-    let saved = second_day(&script, Memory::reopen(alloc, &saved)?)?;
+    let saved = second_day(&scripts[1], Memory::reopen(alloc, &saved)?)?;
     show(&rt, alloc, &saved)
 }
