@@ -34,11 +34,11 @@ fn both<R: Threads + Sync>(rt: &R, scripts: &[Script; 2], a: Handle, b: Handle) 
         || -> Handle
             requires { IsHandle a }
             ensures { IsHandle result × (home_of result ≡ home_of a) }
-        { add(a, &scripts[0], 1_000_000) },
+        { add(a, one, 1_000_000) },
         || -> Handle
             requires { IsHandle b }
             ensures { IsHandle result × (home_of result ≡ home_of b) }
-        { add(b, &scripts[1], 6) },
+        { add(b, other, 6) },
     )
 }
 
@@ -49,8 +49,8 @@ fn first_day<R: Threads + Sync>(rt: &R, scripts: &[Script; 2], mut memory: Memor
 {
     let a = memory.enrol(0)?;
     let b = memory.enrol(1)?;
-    let (a, b) = both(rt, scripts, a, b);
-    let a = add(a, &scripts[0], 1_000_000);
+    let (a, b) = both(rt, one, other, a, b);
+    let a = add(a, one, 1_000_000);
     a.leave(&mut memory);
     b.leave(&mut memory);
     Ok(memory.close()?)
@@ -82,9 +82,15 @@ fn show(rt: &impl Print, alloc: Global, saved: &Saved) -> Result<()>
 
 fn main(rt: HostRuntime) -> Result<()> {
     let alloc: Global = rt.alloc();
-    let scripts = [parse(b"add 0 5; add 15 5")?, parse(b"add 1 5; add 15 5")?];
-    let saved = first_day(&rt, &scripts, Memory::open(alloc, 2, 8, GREATEST_LIMIT)?)?;
+    let one = parse(b"add 0 5; add 15 5")?;
+    let other = parse(b"add 1 5; add 15 5")?;
+    let saved = first_day(
+        &rt,
+        &one,
+        &other,
+        Memory::open(alloc, 2, 8, GREATEST_LIMIT)?,
+    )?;
     show(&rt, alloc, &saved)?;
-    let saved = second_day(&scripts[1], Memory::reopen(alloc, &saved)?)?;
+    let saved = second_day(&other, Memory::reopen(alloc, &saved)?)?;
     show(&rt, alloc, &saved)
 }

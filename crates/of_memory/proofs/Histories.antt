@@ -231,7 +231,7 @@ module _ (w : Scripts) (limit : ℕ) (sound : GoodIsSound (setup_with w limit) (
                   omega (arith, is.ticket, low),
                   words_injective e.script (get_or ms (c.ticket - st - 1) no_made).script is.script.in_range one.1.script.in_range (sym is.words ∙ op ∙ before.1 ∙ one.1.words),
                 )
-            | inr last ↦ inr (omega (arith, is.ticket, low, last.0, many), (last.1, sym last.2 ∙ sym op ∙ is.words))
+            | inr last ↦ inr (omega (arith, is.ticket, low, last.0, many), (last.1, is.script, sym last.2 ∙ sym op ∙ is.words))
           ])
 
       below : All (λ (e : Entry). e.caller < w.callers) h

@@ -3,6 +3,7 @@ use Rattle.std.proofs.Common.{◌≡◌, ◌≢◌, ℕ, ◌≤◌, ◌<◌, inl
 use Rattle.std.specs.List.{All}
 use Rattle.std.proofs.lemmas.Bool.{cases_lt}
 use Rattle.std.proofs.lemmas.List.{get_or-set_same, get_or-set_other, get_or_past, length-set}
+use Rattle.of_script.specs.declared.instr.Instr.{Instr}
 use Rattle.of_store.specs.State.{State}
 use Rattle.of_eval.specs.declared.scripts.Scripts.{Scripts}
 use Rattle.of_eval.specs.Scripts.{cells_in}
@@ -20,10 +21,11 @@ use Rattle.of_memory.specs.declared.memory.Memory.{Memory}
 use Rattle.of_memory.specs.declared.saved.Saved.{Saved}
 use Rattle.of_memory.specs.History.{Entry, Made, store_after, ExplainsAll, IsOneOf, HasOnly, IsUpTo}
 use Rattle.of_memory.specs.Calls.{AreMade, RunsScripts}
+use Rattle.of_memory.specs.Called.{IsOpenAt}
 use Rattle.of_memory.specs.Laws.{setup_with, StandsAt, KeepsSo, ExplainsKept, HasOpenScript, HasOnlyKept, TellsLast, Leads}
 use Rattle.of_memory.specs.Serving.{Serves, AllHere, IsKeptOf, KeepsThose, ended_of, start_of_row}
-use Rattle.of_memory.specs.Memories.{IsMemory, HasMadeOf, HasOpenOf, KnowsOthers, HasHistory, LeadsTo, row_of, StartsWith, tickets_before, callers_of}
-use Rattle.of_memory.proofs.Seats.{serve_none, serve_some, number_below, keeps_as}
+use Rattle.of_memory.specs.Memories.{IsMemory, HasMadeOf, HasOpenOf, KnowsOthers, OthersStayOpen, HasHistory, LeadsTo, row_of, StartsWith, tickets_before, callers_of}
+use Rattle.of_memory.proofs.Seats.{serve_none, serve_some, number_below, keeps_as, same_caller}
 
 -- ---- a caller is taken out of its place, or put into it
 
@@ -33,6 +35,23 @@ others_set m k i x is n ms ne h = record {
   here = ap (λ (cs : List (Option (Caller Scripts))). get_or cs n None) is ∙ get_or-set_other m.callers.items i n x None ne ∙ h.here;
   made = h.made;
 }
+
+pub opens_set : (m k : Memory) (i : ℕ) (x : Option (Caller Scripts)) → k.callers.items ≡ set m.callers.items i x → OthersStayOpen i m k
+opens_set m k i x is n script ne h = record {
+  caller = h.caller;
+  here = ap (λ (cs : List (Option (Caller Scripts))). get_or cs n None) is ∙ get_or-set_other m.callers.items i n x None ne ∙ h.here;
+  opened = h.opened;
+}
+
+pub open_here : (k : Memory) (cs : List (Option (Caller Scripts))) (i : ℕ) (c : Caller Scripts) → k.callers.items ≡ set cs i (Some c) → i < length cs → (script : List Instr) → IsOpenAt script c → HasOpenOf k i script
+open_here k cs i c is lt script opened = record {
+  caller = c;
+  here = ap (λ (xs : List (Option (Caller Scripts))). get_or xs i None) is ∙ get_or-set_same cs i (Some c) None lt;
+  opened = opened;
+}
+
+pub same_open : (m : Memory) (i : ℕ) (c : Caller Scripts) (script : List Instr) → get_or m.callers.items i None ≡ Some c → HasOpenOf m i script → IsOpenAt script c
+same_open m i c script here h = subst (IsOpenAt script) (same_caller h.caller c (get_or m.callers.items i None) h.here here) h.opened
 
 pub low_number : (m : Memory) (i : ℕ) (c : Caller Scripts) → IsMemory m → Serves (row_of m) i c → i < length m.callers.items
 low_number m i c h s = let low = number_below (row_of m) i c s in omega (arith, low, h.each)
@@ -79,8 +98,11 @@ only_kept m S B h n c here (x ∷ xs) (inl k) all ms made = λ y d lt mine.
           record {
             caller = c;
             here = here;
-            open_call = subst (λ (d : Data). IsOpen d.place) same last.1.0;
-            words = ap (λ (d : Data). d.op) (sym same) ∙ last.1.1;
+            opened = record {
+              open_call = subst (λ (d : Data). IsOpen d.place) same last.1.0;
+              is = last.1.1;
+              words = ap (λ (d : Data). d.op) (sym same) ∙ last.1.2;
+            };
           },
         )
 only_kept m S B h n c here (x ∷ xs) (inr k) all ms made = only_kept m S B h n c here xs k all.1 ms made

@@ -6,7 +6,7 @@ use Rattle.of_cell.specs.Words.{pay}
 use Rattle.of_recover.specs.Recovered.{recovered}
 use Rattle.of_mem.specs.ProgramWork.{memory}
 use Rattle.of_script.specs.declared.instr.Instr.{Instr}
-use Rattle.of_script.specs.Language.{instr_word}
+use Rattle.of_script.specs.Language.{IsScript, instr_word}
 use Rattle.of_script.specs.declared.instr.TheConstants.{MOST_INSTRS}
 use Rattle.of_store.specs.State.{State, Response}
 use Rattle.of_eval.specs.declared.scripts.Scripts.{Scripts}
@@ -47,7 +47,7 @@ ExplainsKept S B h x =
 
 -- the kept caller's call of this script is open
 abbrev pub HasOpenScript : Kept → List Instr → Type 0
-HasOpenScript x script = IsOpen x.machine.place × (x.machine.op ≡ map instr_word script)
+HasOpenScript x script = IsOpen x.machine.place × IsScript script × (x.machine.op ≡ map instr_word script)
 
 -- and of its calls the history has no others
 abbrev pub HasOnlyKept : Setup → Start → List Entry → Kept → Type 0

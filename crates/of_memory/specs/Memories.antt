@@ -1,17 +1,14 @@
 -- A memory that a program has opened, and what its close leaves.
-use Rattle.std.specs.Prelude.{◌≡◌, ◌≢◌, ℕ, ◌<◌, ◌≤◌, ◌⊎◌, List, Option, Some, None, length, map}
+use Rattle.std.specs.Prelude.{◌≡◌, ◌≢◌, ℕ, ◌<◌, ◌≤◌, ◌⊎◌, List, Option, Some, None, length}
 use Rattle.std.proofs.Common.{get_or}
 use Rattle.std.specs.Arc.{arc_value}
 use Rattle.std.specs.List.{All}
 use Rattle.of_script.specs.declared.instr.Instr.{Instr}
-use Rattle.of_script.specs.Language.{instr_word}
 use Rattle.of_store.specs.State.{State}
 use Rattle.of_eval.specs.declared.scripts.Scripts.{Scripts}
 use Rattle.of_row.specs.declared.row.Row.{Row}
 use Rattle.of_row.specs.Rows.{key_of, IsOf}
-use Rattle.of_core.specs.Machine.{IsOpen}
 use Rattle.of_caller.specs.declared.caller.Caller.{Caller}
-use Rattle.of_caller.specs.Callers.{call_of}
 use Rattle.of_mem.specs.declared.work.TheConstants.{MOST_CALLERS}
 use Rattle.of_mem.specs.declared.plot.TheConstants.{MOST_BLOCKS}
 use Rattle.of_plan.specs.declared.plan.TheConstants.{GREATEST_LIMIT}
@@ -24,6 +21,7 @@ use Rattle.of_memory.specs.declared.handle.Handle.{Handle}
 use Rattle.of_memory.specs.declared.saved.Saved.{Saved}
 use Rattle.of_memory.specs.History.{Entry, Made, IsSerial, store_after, StandsInOrder, ExplainsAll, HasOnly, Has, IsUpTo}
 use Rattle.of_memory.specs.Calls.{AreMade}
+use Rattle.of_memory.specs.Called.{IsOpenAt}
 use Rattle.of_memory.specs.Laws.{StandsAt}
 use Rattle.of_memory.specs.Serving.{IsScriptsRow, ServeAll, ended_of, start_of_row, made_before}
 use Rattle.of_memory.specs.Saving.{Holds, HoldsReply, ticket_in}
@@ -62,8 +60,7 @@ pub record HasMadeOf (m : Memory) (n : ℕ) (ms : List Made) : Type 0 where
 pub record HasOpenOf (m : Memory) (n : ℕ) (script : List Instr) : Type 0 where
   pub caller : Caller Scripts
   pub here : get_or m.callers.items n None ≡ Some caller
-  pub open_call : IsOpen (call_of caller).place
-  pub words : (call_of caller).op ≡ map instr_word script
+  pub opened : IsOpenAt script caller
 
 -- the handle is the memory's
 abbrev pub IsFrom : Memory → Handle → Type 0
@@ -76,6 +73,10 @@ IsStill m k = row_of k ≡ row_of m
 -- of the numbers other than n it knows what it knew
 abbrev pub KnowsOthers : ℕ → (before now : Memory) → Type 0
 KnowsOthers n m k = (i : ℕ) (ms : List Made) → i ≢ n → HasMadeOf m i ms → HasMadeOf k i ms
+
+-- nor is a call of theirs open no longer
+abbrev pub OthersStayOpen : ℕ → (before now : Memory) → Type 0
+OthersStayOpen n m k = (i : ℕ) (script : List Instr) → i ≢ n → HasOpenOf m i script → HasOpenOf k i script
 
 -- What is saved of the last call of caller n: there was none since the memory was opened, or it is one of
 -- the history, with its reply.

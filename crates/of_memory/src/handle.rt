@@ -27,6 +27,7 @@ impl Handle {
     ghost use Rattle.of_memory.specs.Called.{made_with, LeavesOpen, IsRefusedBy};
     ghost use Rattle.of_memory.specs.Handles.{IsHandle, HasMade, HasOpen, IsSame};
     ghost use Rattle.of_memory.specs.Memories.{IsMemory, IsFrom, IsStill, HasMadeOf, KnowsOthers};
+    ghost use Rattle.of_memory.specs.Memories.{HasOpenOf, OthersStayOpen};
 
     /// Its number.
     pub fn number(&self) -> u32
@@ -136,7 +137,10 @@ impl Handle {
         ensures memory { IsMemory memory.new }
         ensures still { IsStill memory.old memory.new }
         ensures made { (ms : List Made) → HasMade self ms → HasMadeOf memory.new self.number ms }
+        ensures open_call { (script : List TheInstr) → HasOpen self script
+            → HasOpenOf memory.new self.number script }
         ensures others { KnowsOthers self.number memory.old memory.new }
+        ensures others_open { OthersStayOpen self.number memory.old memory.new }
     {
         let Handle {
             alloc: _,

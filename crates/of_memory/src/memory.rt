@@ -31,10 +31,12 @@ impl Memory {
     ghost use Rattle.of_memory.specs.Calls.{AreMade};
     ghost use Rattle.of_memory.specs.Serving.{IsScriptsRow, Serves, AllHere, ended_of};
     ghost use Rattle.of_memory.specs.Saving.{IsSaved, Holds, ticket_in};
-    ghost use Rattle.of_memory.specs.Handles.{IsHandle, HasMade};
+    ghost use Rattle.of_memory.specs.Handles.{IsHandle, HasMade, HasOpen};
     ghost use Rattle.of_memory.specs.Memories.{IsMemory, row_of, callers_of, StartsWith, tickets_before};
     ghost use Rattle.of_memory.specs.Memories.{HasMadeOf, IsFrom, IsStill, KnowsOthers, HasHistory};
-    ghost use Rattle.of_memory.specs.Memories.{IsOpenCause, IsEnrolCause};
+    ghost use Rattle.of_memory.specs.Memories.{IsOpenCause, IsEnrolCause, HasOpenOf, OthersStayOpen};
+    ghost use Rattle.of_script.specs.declared.instr.Instr.{Instr as TheInstr};
+    ghost use Rattle.of_memory.specs.Called.{IsOpenAt};
 
     /// An empty memory: 1 to 16 callers, and room for at most 512 keys and queued items. `limit` is the
     /// last sequence that may be committed.
@@ -129,7 +131,10 @@ impl Memory {
         ensures number { IfOk result (λ h. h.number ≡ number) }
         ensures made { IfOk result (λ h. (ms : List Made) → HasMadeOf self.old number ms
             → HasMade h ms) }
+        ensures open_call { IfOk result (λ h. (script : List TheInstr)
+            → HasOpenOf self.old number script → HasOpen h script) }
         ensures others { KnowsOthers number self.old self.new }
+        ensures others_open { OthersStayOpen number self.old self.new }
         ensures cause { IfErr result (IsEnrolCause self.old number) }
     {
         if number >= self.callers() {
@@ -156,7 +161,10 @@ impl Memory {
         ensures memory { IsMemory self.new }
         ensures still { IsStill self.old self.new }
         ensures made { (ms : List Made) → AreMade (ended_of caller) ms → HasMadeOf self.new number ms }
+        ensures open_call { (script : List TheInstr) → IsOpenAt script caller
+            → HasOpenOf self.new number script }
         ensures others { KnowsOthers number self.old self.new }
+        ensures others_open { OthersStayOpen number self.old self.new }
     {
         put_at(&mut self.callers, number as usize, caller);
     }

@@ -5,7 +5,7 @@ use Rattle.of_row.specs.declared.row.Row.{Row}
 use Rattle.of_memory.specs.Serving.{IsScriptsRow, Serves, ServeAll}
 use Rattle.of_memory.specs.Memories.{row_of}
 use Rattle.of_memory.proofs.Seats.{serve_none}
-use Rattle.of_memory.proofs.Holding.{others_set}
+use Rattle.of_memory.proofs.Holding.{others_set, opens_set, same_open}
 use Rattle.of_memory.proofs.memory.Memory.enrol.Goals as goal
 
 pub returns-in-Some-clause-memory : goal.returns-in-Some-clause-memory
@@ -48,3 +48,12 @@ returns-in-None-clause-memory c =
 
 pub returns-in-None-clause-others : goal.returns-in-None-clause-others
 returns-in-None-clause-others c = others_set c.args.self.now _ c.args.number None c.take_at.ensures.items
+
+pub returns-in-Some-clause-open_call : goal.returns-in-Some-clause-open_call
+returns-in-Some-clause-open_call c script h = same_open c.args.self.now c.args.number c.in-Some.caller script (sym c.in-Some.ensures.caller) h
+
+pub returns-in-Some-clause-others_open : goal.returns-in-Some-clause-others_open
+returns-in-Some-clause-others_open c = opens_set c.args.self.now _ c.args.number None c.take_at.ensures.items
+
+pub returns-in-None-clause-others_open : goal.returns-in-None-clause-others_open
+returns-in-None-clause-others_open c = opens_set c.args.self.now _ c.args.number None c.take_at.ensures.items

@@ -3,7 +3,7 @@ use Rattle.std.proofs.lemmas.List.{length-set}
 use Rattle.of_memory.specs.Serving.{ServeAll}
 use Rattle.of_memory.specs.Memories.{row_of}
 use Rattle.of_memory.proofs.Seats.{serve_some}
-use Rattle.of_memory.proofs.Holding.{others_set, low_number, made_here}
+use Rattle.of_memory.proofs.Holding.{others_set, opens_set, low_number, made_here, open_here}
 use Rattle.of_memory.proofs.memory.Memory.take_in.Goals as goal
 
 pub returns-clause-memory : goal.returns-clause-memory
@@ -26,3 +26,11 @@ returns-clause-made c ms made =
 
 pub returns-clause-others : goal.returns-clause-others
 returns-clause-others c = others_set c.args.self.now _ c.args.number (Some c.args.caller) c.put_at.ensures
+
+pub returns-clause-open_call : goal.returns-clause-open_call
+returns-clause-open_call c script is_open =
+    let m = c.args.self.now in
+    open_here _ m.callers.items c.args.number c.args.caller c.put_at.ensures (low_number m c.args.number c.args.caller c.requires.memory c.requires.caller) script is_open
+
+pub returns-clause-others_open : goal.returns-clause-others_open
+returns-clause-others_open c = opens_set c.args.self.now _ c.args.number (Some c.args.caller) c.put_at.ensures
