@@ -9,8 +9,8 @@ use Rattle.of_script.specs.declared.instr.Cause.{Cause}
 use Rattle.of_script.specs.declared.instr.Instr.{Instr}
 use Rattle.of_script.specs.declared.instr.Instr.TheVariants.{Load, Store, Add, Sub, Get, Put, Del, Need, Push, Pop, Len, Count, First, Next, DropBelow}
 use Rattle.of_script.specs.declared.instr.TheConstants.{REGISTERS}
-use Rattle.of_script.specs.Language.{InRange, greatest}
-use Rattle.of_store.specs.State.{State, Effect, Outcome, register, effect, with_register, popped, queue, kept, is_there, in_front, then_on, outcome, settled}
+use Rattle.of_script.specs.Language.{IsScript, InRange, greatest}
+use Rattle.of_store.specs.State.{State, Effect, Outcome, register, effect, with_register, popped, queue, kept, is_there, in_front, then_on, outcome, settled, run}
 use Rattle.example_bank.specs.Money.{paid_in, paid_out, sets_none, all_set_none, TransfersKeep}
 
 -- there are sixteen accounts still, and what was paid out and what is there now is what was there and what was paid in
@@ -99,3 +99,11 @@ settles into out s (Err p) e m = refl
 
 pub transfers_keep : TransfersKeep
 transfers_keep s script l f b = settles (sum_by paid_in script) (sum_by paid_out script) s (outcome s script) b.even (outcome_moves s script l f.in_range b.moves)
+
+settles_long : (into out : ℕ) (s : State) (x : Outcome) → length s.registers ≡ REGISTERS → OutcomeMoves into out s x → length (settled s x).0.registers ≡ REGISTERS
+settles_long into out s (Ok o) l m = m.0
+settles_long into out s (Err p) l m = l
+
+-- there are sixteen accounts still
+pub registers_stay : (s : State) (script : List Instr) → length s.registers ≡ REGISTERS → IsScript script → all_set_none script ≡ true → length (run s script).0.registers ≡ REGISTERS
+registers_stay s script l f b = settles_long (sum_by paid_in script) (sum_by paid_out script) s (outcome s script) l (outcome_moves s script l f.in_range b)

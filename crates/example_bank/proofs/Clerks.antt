@@ -1,30 +1,46 @@
--- A call of a transfer leaves a caller that has made transfers alone.
-use Rattle.std.proofs.Common.{◌≡◌, ℕ, ◌+◌, zero, suc, ◌<◌, refl, sym, ◌∙◌, ap, subst, arith, inl, inr, ◌⊎◌, List, [], ◌∷◌, ◌++◌, length, map, take, Ok, Err, Result}
+-- A call leaves a caller that has worked at its scripts, one further, and passes keep it.
+use Rattle.std.proofs.Common.{◌≡◌, ℕ, ◌+◌, zero, suc, ◌<◌, refl, sym, ◌∙◌, ap, subst, arith, inl, inr, ◌⊎◌, Bool, true, false, cond, List, [], ◌∷◌, ◌++◌, length, get_or, map, take, Option, Some, None, Err, Result, length-append}
+use Rattle.std.specs.Prelude.{not}
 use Rattle.std.specs.List.{All}
-use Rattle.std.proofs.lemmas.List.Elements.{All-push, All-same}
 use Rattle.std.proofs.Math.Seq.{take-append_seam}
-use Rattle.std.proofs.lemmas.List.{length-map}
+use Rattle.std.proofs.lemmas.List.{length-map, append-nil, take_more, map_push}
+use Rattle.std.proofs.lemmas.List.Elements.{All-nil, All-more}
+use Rattle.std.proofs.lemmas.List.Sums.{sum_by_push}
 use Rattle.of_script.specs.declared.instr.Instr.{Instr}
-use Rattle.of_script.specs.Language.{instr_word}
+use Rattle.of_script.specs.Language.{IsScript, instr_word}
 use Rattle.of_core.specs.declared.place.Outcome.{Outcome}
+use Rattle.of_core.specs.declared.place.Outcome.TheVariants.{Spent as RanOut}
+use Rattle.of_core.specs.Calls.{NoneSpent, IsAnswered}
 use Rattle.of_core.specs.Table.{Setup}
 use Rattle.of_core.specs.World.{Start}
-use Rattle.of_core.specs.Machine.{Data, TakesPlace}
+use Rattle.of_core.specs.Machine.{Data, TakesPlace, is_idle, IsOpen}
+use Rattle.of_core.specs.Turn.{IsIdle}
 use Rattle.of_row.specs.declared.member.Member.{Member}
 use Rattle.of_row.specs.declared.member.Pass.{Pass}
 use Rattle.of_row.specs.declared.row.Row.{Row}
 use Rattle.of_row.specs.Passes.{HasEnrolled}
 use Rattle.of_row.specs.Rule.{IsAsked}
-use Rattle.of_row.specs.Views.{Ended, Kept, Sight}
+use Rattle.of_row.specs.Told.{begun_of, open_op}
+use Rattle.of_row.specs.Views.{Ended, Kept, Sight, last_kept}
 use Rattle.of_row.specs.Turned.{StandsFor}
+use Rattle.of_caller.specs.declared.caller.Caller.{Caller}
 use Rattle.of_caller.specs.declared.caller.CallErr.{CallErr}
-use Rattle.of_caller.specs.declared.caller.CallErr.TheVariants.{Stopped, Spent}
-use Rattle.of_caller.specs.CallsTold.{HasTold, ResultTold}
+use Rattle.of_caller.specs.declared.caller.CallErr.TheVariants.{Stopped as Denied, Spent as Over}
+use Rattle.of_caller.specs.Brakes.{Gave, Uses, StopsTold, StopsAt}
+use Rattle.of_caller.specs.Callers.{call_of, sight_of}
+use Rattle.of_caller.specs.CallsTold.{HasTold, HasClosed, IsOpenStill, ResultTold}
 use Rattle.of_eval.specs.declared.scripts.Scripts.{Scripts}
 use Rattle.of_eval.specs.Scripts.{scripts_meaning}
-use Rattle.example_bank.specs.Clerks.{Hires}
-use Rattle.example_bank.specs.Money.{IsTransfer}
-use Rattle.example_bank.specs.Closed.{MakesTransfers, KeepsOne}
+use Rattle.example_bank.specs.declared.tally.Tally.{Tally}
+use Rattle.example_bank.specs.declared.tally.End.{End}
+use Rattle.example_bank.specs.declared.tally.End.TheVariants.{Done, Stopped, Spent}
+use Rattle.example_bank.specs.Tallies.{no_tally}
+use Rattle.example_bank.specs.Ledger.{counted}
+use Rattle.example_bank.specs.Worked.{op_of, aborts, EndsAs, HasWorked, KeepsOne}
+use Rattle.example_bank.specs.Clerks.{StepsLeft, StopsWith, Works, IsReady, Counted, Hires}
+use Rattle.example_bank.proofs.Closing.{one_is}
+
+-- ---- numbers
 
 -- the caller that stands in the place of another has its number
 takes_caller : (S : Setup) (m d : Data) → TakesPlace S m d → d.caller ≡ m.caller
@@ -35,67 +51,265 @@ stands_caller : (S : Setup) (x : Kept) (d : Data) → StandsFor S x d → d.call
 stands_caller S x d (inl t) = takes_caller S x.machine d t
 stands_caller S x d (inr o) = ap (λ y. y.caller) o.is ∙ takes_caller S x.machine o.begins o.takes
 
--- one call more, a transfer
-more_ended : (x y : Kept) (op : List ℕ) (o : Outcome) → IsTransfer op → MakesTransfers x → y.ended ≡ x.ended ++ record { op = op; outcome = o } ∷ [] → All (λ (e : Ended). IsTransfer e.op) y.ended
-more_ended x y op o t m e = All-same (λ (e : Ended). IsTransfer e.op) y.ended (x.ended ++ record { op = op; outcome = o } ∷ []) e
-    (All-push (λ (e : Ended). IsTransfer e.op) x.ended (record { op = op; outcome = o }) m.ended t)
+-- ---- steps left
 
-module _ (S : Setup) (Lawful : List ℕ → Type 0) (B : Start) where
-  -- what the result says of the calls that have ended
-  ended_now : (m : Data) (v : Sight) (x : Kept) (n : ℕ) (d : Data) (w : Sight) (y : Kept) (r : Result Outcome CallErr)
-      → IsTransfer m.op → MakesTransfers x → ResultTold S Lawful B m v x n d w y r → All (λ (e : Ended). IsTransfer e.op) y.ended
-  ended_now m v x n d w y (Ok o) t k h = more_ended x y m.op o t k h.1.kept
-  ended_now m v x n d w y (Err (Stopped asked)) t k h = All-same (λ (e : Ended). IsTransfer e.op) y.ended x.ended h.0.kept k.ended
-  ended_now m v x n d w y (Err (Spent seq)) t k h = more_ended x y m.op _ t k h.kept
+steps_on : (stop : Option ℕ) (l m : Option (Option ℕ)) (made now n : ℕ) → StepsLeft stop l made → Gave l m n → now ≡ made + n → StepsLeft stop m now
+steps_on None l m made now n e g s = none m (subst (λ k. Gave k m n) e g)
+  where
+    none : (m : Option (Option ℕ)) → Gave (Some None) m n → m ≡ Some None
+    none None g = absurd g
+    none (Some rest) g = ap Some g
+steps_on (Some most) l m made now n e g s = some m (subst (λ k. Gave k m n) e.1 g)
+  where
+    some : (m : Option (Option ℕ)) → Gave (Some (Some e.0)) m n → (rest : ℕ) × (m ≡ Some (Some rest)) × (now + rest ≡ most)
+    some None g = absurd g
+    some (Some rest) g = (g.0, ap Some g.2, omega (arith, g.1, s, e.2))
 
-  one_kept : (i : ℕ) (x : Kept) → KeepsOne i (x ∷ []) → (x.machine.caller ≡ i) × MakesTransfers x
-  one_kept i x (inl h) = h
-  one_kept i x (inr h) = absurd h
+stopped_at : (stop : Option ℕ) (l : Option (Option ℕ)) (made now n asked : ℕ) → StepsLeft stop l made → StopsTold l asked → asked ≡ n + 1 → now ≡ made + n → stop ≡ Some now
+stopped_at None l made now n asked e t a s = absurd (subst (λ k. StopsTold k asked) e t)
+stopped_at (Some most) l made now n asked e t a s =
+    let left : asked ≡ e.0 + 1 = subst (λ k. StopsTold k asked) e.1 t in
+    ap Some (omega (arith, left, a, s, e.2))
 
-  -- of a call with some steps
-  stepped_keeps : (m : Data) (v : Sight) (a : ℕ) (d : Data) (w : Sight) (b i : ℕ) (r : Result Outcome CallErr) (h : HasTold S Lawful B m v a d w b r)
-      → IsTransfer m.op → m.caller ≡ i → KeepsOne i v.kept → 0 < h.steps → KeepsOne i w.kept
-  stepped_keeps m v a d w b i r h t c k some =
-      let one = one_kept i h.before (subst (KeepsOne i) h.kept_before k) in
-      let told = h.some some in
-      subst (KeepsOne i) (sym h.kept_now) (inl (
-        ap (λ z. z.caller) told.machine ∙ h.caller ∙ c,
+-- ---- one call more
+
+open_none : (m : Data) (b : Bool) → b ≡ true → open_op m b ≡ []
+open_none m true e = refl
+open_none m false e = cc
+
+open_one : (m : Data) (b : Bool) → b ≡ false → open_op m b ≡ m.op ∷ []
+open_one m false e = refl
+open_one m true e = cc
+
+abbrev ops_of : Kept → List (List ℕ)
+ops_of x = map (λ e. e.op) x.ended
+
+begun_idle : (x : Kept) → IsIdle x.machine → begun_of x ≡ ops_of x
+begun_idle x e = ap (λ l. ops_of x ++ l) (open_none x.machine (is_idle x.machine.place) (ap is_idle e)) ∙ append-nil (ops_of x)
+
+begun_open : (x : Kept) → IsOpen x.machine.place → begun_of x ≡ ops_of x ++ x.machine.op ∷ []
+begun_open x e = ap (λ l. ops_of x ++ l) (open_one x.machine (is_idle x.machine.place) e)
+
+none_spent_push : (es : List Ended) (e : Ended) → NoneSpent (map (λ e. e.outcome) es) → IsAnswered e.outcome → NoneSpent (map (λ e. e.outcome) (es ++ e ∷ []))
+none_spent_push [] e h a = (a, tt)
+none_spent_push (x ∷ es) e h a = (h.0, none_spent_push es e h.1 a)
+
+module _ (stop : Option ℕ) (l m : Option (Option ℕ)) (to_do : List (List Instr)) (number : ℕ) (t : Tally) (c d : Caller Scripts) (script : List Instr)
+    (old : Works stop l to_do number t c) (done : t.end ≡ Done) (low : t.answered < length to_do) (is : get_or to_do t.answered [] ≡ script) (fits : IsScript script)
+    (S : Setup) (Lawful : List ℕ → Type 0) (B : Start) (call : Data) (a b : ℕ) (op_is : call.op ≡ op_of script)
+    (T : Setup) (x0 : Kept) (x0_is : (sight_of c).kept ≡ x0 ∷ []) (stands : StandsFor T x0 (call_of c)) (caller_is : call.caller ≡ (call_of c).caller) where
+  abbrev n : ℕ
+  n = t.answered
+
+  ops_more : ops_of old.kept ++ op_of script ∷ [] ≡ map op_of (take (n + 1) to_do)
+  ops_more =
+      let free = old.free done in
+      ap (λ (l : List (List ℕ)). l ++ op_of script ∷ []) (sym (begun_idle old.kept free.1) ∙ old.worked.ops ∙ ap (λ (k : ℕ). map op_of (take k to_do)) free.2)
+      ∙ ap (λ (s : List Instr). map op_of (take n to_do) ++ op_of s ∷ []) (sym is)
+      ∙ sym (map_push op_of (take n to_do) (get_or to_do n []))
+      ∙ ap (map op_of) (sym (take_more to_do n [] low))
+
+  fits_more : All IsScript (take (n + 1) to_do)
+  fits_more =
+      let free = old.free done in
+      All-more IsScript to_do n [] low (subst (λ (k : ℕ). All IsScript (take k to_do)) free.2 old.worked.fits) (subst IsScript (sym is) fits)
+
+  number_is : call.caller ≡ number
+  number_is = caller_is ∙ stands_caller T x0 (call_of c) stands ∙ ap (λ (z : List Kept). (last_kept z).machine.caller) (sym x0_is ∙ old.kept_is) ∙ old.number_is
+
+  module _ (r : Result Outcome CallErr) (h : HasTold S Lawful B call (sight_of c) a (call_of d) (sight_of d) b r) (uses : Uses l m a b) where
+    abbrev y : Kept
+    y = h.kept
+
+    same : h.before ≡ old.kept
+    same = ap last_kept (sym h.kept_before ∙ old.kept_is)
+
+    turned : y.turns ≡ old.kept.turns + uses.0
+    turned = omega (arith, h.turns, ap (λ (k : Kept). k.turns) same, h.rise, uses.1)
+
+    steps_now : StepsLeft stop m y.turns
+    steps_now = steps_on stop l m old.kept.turns y.turns uses.0 old.steps uses.2 turned
+
+    -- with no step made it keeps what it kept
+    none_kept : h.steps ≡ 0 → y ≡ old.kept
+    none_kept e = ap last_kept (sym h.kept_now ∙ ap (λ (v : Sight). v.kept) (h.none e) ∙ old.kept_is)
+
+    some_number : 0 < h.steps → y.machine.caller ≡ number
+    some_number some = ap (λ k. k.caller) (h.some some).machine ∙ h.caller ∙ number_is
+
+    -- a call that has ended has made a step
+    ended_some : (o : Outcome) → HasClosed S Lawful B call (sight_of c) h.before h.steps (call_of d) (sight_of d) y o → 0 < h.steps
+    ended_some o e = go h.steps refl
+      where
+        go : (k : ℕ) → h.steps ≡ k → 0 < h.steps
+        go zero z =
+            let longer : length y.ended ≡ length h.before.ended + 1 = ap length e.kept ∙ length-append h.before.ended (record { op = call.op; outcome = o } ∷ []) in
+            absurd (omega (arith, longer, ap (λ (k : Kept). length k.ended) (none_kept z ∙ sym same)))
+        go (suc k) z = omega (arith, z)
+
+    module _ (o : Outcome) (e : HasClosed S Lawful B call (sight_of c) h.before h.steps (call_of d) (sight_of d) y o) where
+      abbrev last : Ended
+      last = record { op = call.op; outcome = o }
+
+      some_steps : 0 < h.steps
+      some_steps = ended_some o e
+
+      idle_now : IsIdle y.machine
+      idle_now = ap (λ k. k.place) (h.some some_steps).machine ∙ e.idle
+
+      ended_now : y.ended ≡ old.worked.calls ++ last ∷ []
+      ended_now =
+          e.kept ∙ ap (λ (k : Kept). k.ended ++ last ∷ []) same
+          ∙ ap (λ (l : List Ended). l ++ last ∷ []) (old.worked.ended ∙ ap (λ (l : List Ended). old.worked.calls ++ l) ((old.free done).3) ∙ append-nil old.worked.calls)
+
+      ops_now : begun_of y ≡ map op_of (take (n + 1) to_do)
+      ops_now =
+          begun_idle y idle_now
+          ∙ ap (map (λ (z : Ended). z.op)) (e.kept ∙ ap (λ (k : Kept). k.ended ++ last ∷ []) same)
+          ∙ map_push (λ (z : Ended). z.op) old.kept.ended last
+          ∙ ap (λ (op : List ℕ). ops_of old.kept ++ op ∷ []) op_is
+          ∙ ops_more
+
+    pub answered_works : (o : Outcome) → IsAnswered o → HasClosed S Lawful B call (sight_of c) h.before h.steps (call_of d) (sight_of d) y o
+        → (u : Tally) → Counted o t u → Works stop m to_do number u d
+    answered_works o answered e u counted_so = subst (λ (z : Tally). Works stop m to_do number z d) (sym counted_so) (record {
+      kept = y;
+      kept_is = h.kept_now;
+      number_is = some_number (some_steps o e);
+      worked = record {
+        calls = old.worked.calls ++ last o e ∷ [];
+        beyond = [];
+        ended = ended_now o e ∙ sym (append-nil (old.worked.calls ++ last o e ∷ []));
+        count = length-append old.worked.calls (last o e ∷ []) ∙ ap (λ (k : ℕ). k + 1) old.worked.count;
+        none_spent = none_spent_push old.worked.calls (last o e) old.worked.none_spent answered;
+        made = sum_by_push (λ (z : Ended). cond (not (aborts z.outcome)) 1 0) old.worked.calls (last o e) ∙ (λ i. old.worked.made i + one_is (not (aborts o)) i);
+        aborted = sum_by_push (λ (z : Ended). cond (aborts z.outcome) 1 0) old.worked.calls (last o e) ∙ (λ i. old.worked.aborted i + one_is (aborts o) i);
+        begun = n + 1;
+        few = omega (arith, low);
+        most = omega arith;
+        fits = fits_more;
+        ops = ops_now o e;
+        last = subst (λ (end : End). EndsAs end (n + 1) (n + 1) [] y) (sym done) tt;
+      };
+      steps = steps_now;
+      stops = subst (λ (end : End). StopsWith end stop y.turns) (sym done) tt;
+      none_pending = old.none_pending;
+      free = λ f. (e.idle, idle_now o e, refl, refl);
+    })
+
+    pub spent_works : (seq : ℕ) → HasClosed S Lawful B call (sight_of c) h.before h.steps (call_of d) (sight_of d) y (RanOut seq) → Works stop m to_do number (record t { end = Spent }) d
+    spent_works seq e =
+        let o : Outcome = RanOut seq in
         record {
-          ended = ended_now m v h.before h.steps d w h.kept r t one.1 h.result;
-          open_call = λ o. subst IsTransfer (sym (ap (λ z. z.op) told.machine ∙ h.op)) t;
-        },
-      ))
+          kept = y;
+          kept_is = h.kept_now;
+          number_is = some_number (some_steps o e);
+          worked = record {
+            calls = old.worked.calls;
+            beyond = last o e ∷ [];
+            ended = ended_now o e;
+            count = old.worked.count;
+            none_spent = old.worked.none_spent;
+            made = old.worked.made;
+            aborted = old.worked.aborted;
+            begun = n + 1;
+            few = omega (arith, low);
+            most = omega arith;
+            fits = fits_more;
+            ops = ops_now o e;
+            last = inl (call.op, seq, refl);
+          };
+          steps = steps_now;
+          stops = tt;
+          none_pending = old.none_pending;
+          free = λ f. cc;
+        }
 
-  none_or_some : (n : ℕ) → (n ≡ 0) ⊎ (0 < n)
-  none_or_some zero = inl refl
-  none_or_some (suc n) = inr (omega arith)
+    -- an open call has made a step, or none has been made
+    pub stopped_works : (asked : ℕ) → IsOpenStill S call h.before h.steps (call_of d) y → asked ≡ h.steps + 1 → StopsTold l asked → Works stop m to_do number (record t { end = Stopped }) d
+    stopped_works asked e a t_stop = go h.steps refl
+      where
+        stop_is : stop ≡ Some y.turns
+        stop_is = stopped_at stop l old.kept.turns y.turns h.steps asked old.steps t_stop a (omega (arith, turned, h.rise, uses.1))
 
-  kept_by : (m : Data) (v : Sight) (a : ℕ) (d : Data) (w : Sight) (b i : ℕ) (r : Result Outcome CallErr) (h : HasTold S Lawful B m v a d w b r)
-      → IsTransfer m.op → m.caller ≡ i → KeepsOne i v.kept → (h.steps ≡ 0) ⊎ (0 < h.steps) → KeepsOne i w.kept
-  kept_by m v a d w b i r h t c k (inl e) = subst (λ (z : Sight). KeepsOne i z.kept) (sym (h.none e)) k
-  kept_by m v a d w b i r h t c k (inr l) = stepped_keeps m v a d w b i r h t c k l
+        go : (k : ℕ) → h.steps ≡ k → Works stop m to_do number (record t { end = Stopped }) d
+        go zero z = record {
+          kept = y;
+          kept_is = h.kept_now;
+          number_is = ap (λ (k : Kept). k.machine.caller) (none_kept z) ∙ old.number_is;
+          worked = subst (HasWorked to_do (record t { end = Stopped })) (sym (none_kept z)) (record {
+            calls = old.worked.calls;
+            beyond = old.worked.beyond;
+            ended = old.worked.ended;
+            count = old.worked.count;
+            none_spent = old.worked.none_spent;
+            made = old.worked.made;
+            aborted = old.worked.aborted;
+            begun = old.worked.begun;
+            few = old.worked.few;
+            most = old.worked.most;
+            fits = old.worked.fits;
+            ops = old.worked.ops;
+            last = tt;
+          });
+          steps = steps_now;
+          stops = stop_is;
+          none_pending = old.none_pending;
+          free = λ f. cc;
+        }
+        go (suc k) z =
+            let some : 0 < h.steps = omega (arith, z) in
+            let machine = (h.some some).machine in
+            let opened : IsOpen y.machine.place = ap (λ j. is_idle j.place) machine ∙ e.open_call in
+            record {
+              kept = y;
+              kept_is = h.kept_now;
+              number_is = some_number some;
+              worked = record {
+                calls = old.worked.calls;
+                beyond = [];
+                ended = e.kept ∙ ap (λ (k : Kept). k.ended) same ∙ old.worked.ended ∙ ap (λ (l : List Ended). old.worked.calls ++ l) ((old.free done).3);
+                count = old.worked.count;
+                none_spent = old.worked.none_spent;
+                made = old.worked.made;
+                aborted = old.worked.aborted;
+                begun = n + 1;
+                few = omega (arith, low);
+                most = omega arith;
+                fits = fits_more;
+                ops = begun_open y opened
+                    ∙ ap (λ (es : List Ended). map (λ (z : Ended). z.op) es ++ y.machine.op ∷ []) (e.kept ∙ ap (λ (k : Kept). k.ended) same)
+                    ∙ ap (λ (op : List ℕ). ops_of old.kept ++ op ∷ []) (ap (λ j. j.op) machine ∙ h.op ∙ op_is)
+                    ∙ ops_more;
+                last = tt;
+              };
+              steps = steps_now;
+              stops = stop_is;
+              none_pending = old.none_pending;
+              free = λ f. cc;
+            }
 
-  pub call_keeps : (m : Data) (v : Sight) (a : ℕ) (d : Data) (w : Sight) (b i : ℕ) (r : Result Outcome CallErr) → HasTold S Lawful B m v a d w b r
-      → IsTransfer m.op → m.caller ≡ i → KeepsOne i v.kept → KeepsOne i w.kept
-  call_keeps m v a d w b i r h t c k = kept_by m v a d w b i r h t c k (none_or_some h.steps)
+    -- the same, by the result of the call
+    abbrev Told : Result Outcome CallErr → Type 0
+    Told z = ResultTold S Lawful B call (sight_of c) h.before h.steps (call_of d) (sight_of d) y z
+
+    pub stopped_when : (asked : ℕ) → r ≡ Err (Denied asked) → StopsAt l r → Works stop m to_do number (record t { end = Stopped }) d
+    stopped_when asked is t_stop = let told = subst Told is h.result in stopped_works asked told.0 told.1 (subst (StopsAt l) is t_stop)
+
+    pub spent_when : (seq : ℕ) → r ≡ Err (Over seq) → Works stop m to_do number (record t { end = Spent }) d
+    spent_when seq is = spent_works seq (subst Told is h.result)
+
+-- ---- passes
 
 -- a caller that is kept is kept by both lists together
-pub keeps_left : (i : ℕ) (xs ys : List Kept) → KeepsOne i xs → KeepsOne i (xs ++ ys)
-keeps_left i [] ys k = absurd k
-keeps_left i (x ∷ xs) ys (inl h) = inl h
-keeps_left i (x ∷ xs) ys (inr h) = inr (keeps_left i xs ys h)
+pub keeps_left : (i : ℕ) (P : Kept → Type 0) (xs ys : List Kept) → KeepsOne i P xs → KeepsOne i P (xs ++ ys)
+keeps_left i P [] ys k = absurd k
+keeps_left i P (x ∷ xs) ys (inl h) = inl h
+keeps_left i P (x ∷ xs) ys (inr h) = inr (keeps_left i P xs ys h)
 
-pub keeps_right : (i : ℕ) (xs ys : List Kept) → KeepsOne i ys → KeepsOne i (xs ++ ys)
-keeps_right i [] ys k = k
-keeps_right i (x ∷ xs) ys k = inr (keeps_right i xs ys k)
-
--- a member that keeps a caller of this number stands for a machine of it
-pub number_of : (S : Setup) (i : ℕ) (x : Kept) (xs : List Kept) (d : Data) → xs ≡ x ∷ [] → StandsFor S x d → KeepsOne i xs → d.caller ≡ i
-number_of S i x xs d e s k = stands_caller S x d s ∙ (only (subst (KeepsOne i) e k))
-  where
-    only : KeepsOne i (x ∷ []) → x.machine.caller ≡ i
-    only (inl h) = h.0
-    only (inr h) = absurd h
+pub keeps_right : (i : ℕ) (P : Kept → Type 0) (xs ys : List Kept) → KeepsOne i P ys → KeepsOne i P (xs ++ ys)
+keeps_right i P [] ys k = k
+keeps_right i P (x ∷ xs) ys k = inr (keeps_right i P xs ys k)
 
 -- ---- numbers that a pass has asked for
 
@@ -121,17 +335,49 @@ hires_next r n before member now h e = record {
     low m (inl t) = let b = h.below m t in omega (arith, b)
     low m (inr t) = omega (arith, t)
 
--- what holds of the four first numbers
-pub four : (P : ℕ → Type 0) → P 0 → P 1 → P 2 → P 3 → (n : ℕ) → n ≡ 4 → (i : ℕ) → i < n → P i
-four P a b c d n e zero l = a
-four P a b c d n e (suc zero) l = b
-four P a b c d n e (suc (suc zero)) l = c
-four P a b c d n e (suc (suc (suc zero))) l = d
-four P a b c d n e (suc (suc (suc (suc i)))) l = absurd (omega (arith, e, l))
-
 -- the first words are the script's
 pub words_are : (script : List Instr) (count : ℕ) → count ≡ length script → (out rest : List ℕ) → out ≡ map instr_word script ++ rest → take count out ≡ map instr_word script
 words_are script count size out rest words =
     ap (take count) words
     ∙ ap (λ (k : ℕ). take k (map instr_word script ++ rest)) (size ∙ sym (length-map script instr_word))
     ∙ take-append_seam (map instr_word script) rest
+
+-- what was answered was made or aborted
+pub counts_more : (o : Outcome) (t u : Tally) → Counted o t u → t.made + t.aborted ≡ t.answered → u.made + u.aborted ≡ u.answered
+counts_more o t u e h = subst (λ (z : Tally). z.made + z.aborted ≡ z.answered) (sym e) (omega (arith, h, one (aborts o)))
+  where
+    one : (b : Bool) → counted (not b) + counted b ≡ 1
+    one true = refl
+    one false = refl
+
+-- a new caller has worked at nothing
+pub new_works : (stop : Option ℕ) (left : Option (Option ℕ)) (to_do : List (List Instr)) (number : ℕ) (c : Caller Scripts) → IsReady number c → left ≡ Some stop
+    → (t : Tally) → t ≡ no_tally → Works stop left to_do number t c
+new_works stop left to_do number c r armed t is = subst (λ (z : Tally). Works stop left to_do number z c) (sym is) (record {
+  kept = r.kept;
+  kept_is = r.kept_is;
+  number_is = r.number_is;
+  worked = record {
+    calls = [];
+    beyond = [];
+    ended = r.none;
+    count = refl;
+    none_spent = tt;
+    made = refl;
+    aborted = refl;
+    begun = 0;
+    few = omega arith;
+    most = omega arith;
+    fits = All-nil IsScript;
+    ops = begun_idle r.kept r.at_rest ∙ ap (map (λ (e : Ended). e.op)) r.none;
+    last = tt;
+  };
+  steps = subst (λ (k : Option (Option ℕ)). StepsLeft stop k r.kept.turns) (sym armed) (all stop);
+  stops = tt;
+  none_pending = refl;
+  free = λ e. (r.idle, r.at_rest, refl, refl);
+})
+  where
+    all : (stop : Option ℕ) → StepsLeft stop (Some stop) r.kept.turns
+    all None = refl
+    all (Some most) = (most, refl, omega (arith, r.no_steps))

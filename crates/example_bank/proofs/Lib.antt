@@ -1,5 +1,10 @@
 pub mod Balanced
-pub mod Cells
-pub mod Histories
-pub mod Clerks
+pub mod Own
+pub mod Lists
+pub mod Replays
+pub mod Ledgers
 pub mod Closing
+pub mod Clerks
+pub mod Accounts
+pub mod Days
+pub mod Rows

@@ -1,13 +1,13 @@
--- What the accounts hold together, and the calls that leave it as it is.
-use Rattle.std.specs.Prelude.{◌≡◌, ℕ, List, [], ◌∷◌, length, map, drop, take, sum, sum_by, Bool, true, false, ◌&&◌}
+-- What the accounts hold together, and the scripts that leave it as it is.
+use Rattle.std.specs.Prelude.{◌≡◌, ℕ, List, [], ◌∷◌, length, map, drop, take, sum, sum_by, Bool, true, false, ◌&&◌, ◌||◌, not}
 use Rattle.of_cell.specs.Words.{pay}
 use Rattle.of_script.specs.declared.instr.Instr.{Instr}
 use Rattle.of_script.specs.declared.instr.Instr.TheVariants.{Store, Add, Sub}
 use Rattle.of_script.specs.declared.instr.TheConstants.{REGISTERS}
-use Rattle.of_script.specs.Language.{IsScript, instr_word}
+use Rattle.of_script.specs.Language.{IsScript, reads_only}
 use Rattle.of_store.specs.State.{State, run}
 use Rattle.of_eval.specs.declared.scripts.Scripts.{Scripts}
-use Rattle.of_eval.specs.Scripts.{store_at, cells_in, LawfulCells, scripts_meaning}
+use Rattle.of_eval.specs.Scripts.{store_at, cells_in}
 use Rattle.of_core.specs.Starts.{start_of}
 
 -- The accounts are the registers. What they hold together, where these are the numbers of the data cells.
@@ -38,21 +38,27 @@ abbrev pub all_set_none : List Instr → Bool
 all_set_none [] = true
 all_set_none (i ∷ is) = sets_none i && all_set_none is
 
+-- whether any instruction may change something
+abbrev pub changes : List Instr → Bool
+changes [] = false
+changes (i ∷ is) = not (reads_only i) || changes is
+
 -- the script takes off accounts what it adds to others
 pub record IsBalanced (script : List Instr) : Type 0 where
   pub moves : all_set_none script ≡ true
   pub even : sum_by paid_in script ≡ sum_by paid_out script
 
--- the operation is a balanced script's
-abbrev pub IsTransfer : List ℕ → Type 0
-IsTransfer op = (script : List Instr) × IsScript script × IsBalanced script × (op ≡ map instr_word script)
+-- a script that may change something, which a clerk may be given
+pub record IsAction (script : List Instr) : Type 0 where
+  pub fits : IsScript script
+  pub changes : changes script ≡ true
+
+-- a balanced one
+pub record IsTransfer (script : List Instr) : Type 0 where
+  pub action : IsAction script
+  pub balanced : IsBalanced script
 
 -- on every store with sixteen registers a balanced script leaves them as much as they held together
 abbrev pub TransfersKeep : Type 0
 TransfersKeep = (s : State) (script : List Instr) → length s.registers ≡ REGISTERS → IsScript script → IsBalanced script
     → sum (run s script).0.registers ≡ sum s.registers
-
--- an operation that is a transfer leaves the accounts of cells that stand for a store as much as they held together
-abbrev pub OperationsKeep : Scripts → Type 0
-OperationsKeep w = (xs op : List ℕ) → length xs ≡ cells_in w → LawfulCells w xs → IsTransfer op
-    → money w ((scripts_meaning w).cells xs op) ≡ money w xs

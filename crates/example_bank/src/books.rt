@@ -1,21 +1,26 @@
 //! The books of the bank: what is durable of it while nobody works.
 
-ghost use Rattle.std.specs.Prelude.{◌≡◌, ◌+◌, ◌<◌, IfOk, map, length, sum, slice_range};
+ghost use Rattle.std.specs.Prelude.{◌≡◌, ◌+◌, ◌<◌, ℕ, IfOk, IfErr, List, map, sum, slice_range};
 ghost use Rattle.of_cell.specs.Words.{pay};
-ghost use Rattle.of_cell.specs.Cells.{data_cell, durable_cells, table_words};
+ghost use Rattle.of_cell.specs.Cells.{data_cell, durable_cells};
 ghost use Rattle.of_recover.specs.Row.{IsDurableRow};
 ghost use Rattle.of_mem.specs.declared.work.TheConstants.{MOST_INSTRS};
-ghost use Rattle.of_eval.specs.Scripts.{cells_in, scripts_meaning};
+ghost use Rattle.of_script.specs.declared.instr.Instr.{Instr};
+ghost use Rattle.of_eval.specs.Scripts.{LawfulCells, cells_in, scripts_meaning};
+ghost use Rattle.of_core.specs.Table.{durable_word as the_durable_word};
+ghost use Rattle.of_core.specs.Shared.{MayStart};
+ghost use Rattle.of_core.specs.Starts.{IsDurable};
 ghost use Rattle.of_row.specs.Rows.{IsOf, start_at};
-ghost use Rattle.example_bank.specs.Money.{money};
-ghost use Rattle.example_bank.specs.Closed.{setup_with, KeepsTransfers};
+ghost use Rattle.example_bank.specs.Ledger.{HasLedger, ticket_in, aborted_last};
+ghost use Rattle.example_bank.specs.Closed.{AllChange, KeepsClerks, setup_with};
 ghost use Rattle.example_bank.specs.Clerks.{IsRowOf, Hires};
 ghost use Rattle.example_bank.specs.declared.books.TheConstants.{CLERKS, LIMIT};
+ghost use Rattle.example_bank.specs.declared.tally.Tally.{Tally};
 
-use crate::bank_err::BankErr;
-use crate::laws::no_money_is_lost;
+use crate::laws::rows_keep_ledgers;
 use of_cell::{Shape, payload_of};
-use of_eval::{Scripts, lawful};
+use of_eval::{LawErr, Scripts, lawful};
+use of_mem::LEAST_ABORT;
 use of_recover::laws::recovered_cells;
 use of_recover::recover;
 use of_row::{Pass, Row};
@@ -50,16 +55,27 @@ pub struct Books {
     pub ghost clerks: { scripts.callers ≡ CLERKS },
 }
 
-/// The durable words of a table.
-fn durable_words(alloc: Global, shape: &Shape, words: &[u64]) -> Result<Vec<u64>, AllocError>
-    requires { length words.now ≡ table_words shape.now.callers shape.now.instrs shape.now.cells }
-    ensures words { let cells = durable_cells shape.now.callers shape.now.cells in
-        IfOk result (λ row. row.items ≡ slice_range words.now cells (cells + cells)) }
-    ensures size { IfOk result (λ row.
-        IsDurableRow shape.now.callers shape.now.cells row.items) }
+/// The durable word of a cell.
+fn durable_word(scripts: Scripts, words: &[u64], cell: u32) -> u64
+    requires { cell < durable_cells scripts.callers (cells_in scripts) }
+    ensures { result ≡ the_durable_word (setup_with scripts LIMIT) words.now cell }
 {
-    let cells = shape.durable_cells() as usize;
-    Vec::from_slice(alloc, &words[cells..cells + cells])
+    match words.get(shape_of(scripts).durable_word(cell) as usize) {
+        Some(word) => *word,
+        None => 0,
+    }
+}
+
+/// The durable words of a table.
+fn durable_words(alloc: Global, scripts: Scripts, words: &[u64]) -> Result<Vec<u64>, AllocError>
+    ensures { IfOk result (λ row. IsDurable (setup_with scripts LIMIT) words.now row.items) }
+{
+    let cells = shape_of(scripts).durable_cells();
+    let mut row = vec![in alloc; 0; cells as usize]?;
+    for cell in 0..cells {
+        row[cell as usize] = durable_word(scripts, words, cell);
+    }
+    Ok(row)
 }
 
 /// The words of the data cells in a durable row.
@@ -80,9 +96,12 @@ fn numbers(alloc: Global, words: &[u64]) -> Result<Vec<u32>, AllocError>
 }
 
 impl Books {
-    ghost use Rattle.example_bank.specs.Books.{AreBooks, Hold, money_of, last_ticket_in};
+    ghost use Rattle.of_eval.specs.Faults.{AtCell, IsFirstFault};
+    ghost use Rattle.of_mem.specs.ProgramWork.{memory};
+    ghost use Rattle.example_bank.specs.Books.{AreBooks, Hold, money_of, start_in};
 
-    /// Closes a row, takes its durable words alone, as a crash does, and recovers them.
+    /// Closes a row, takes its durable words alone, as a crash does, and recovers them. Where the pass
+    /// keeps all clerks, the books end a ledger of what these have done.
     pub fn close(
         alloc: Global,
         scripts: Scripts,
@@ -94,14 +113,16 @@ impl Books {
         requires pass { IsOf row pass.seat }
         ensures scripts { IfOk result (λ b. b.scripts ≡ scripts) }
         ensures books { IfOk result AreBooks }
-        ensures money { IfOk result (λ b.
-            KeepsTransfers (setup_with scripts LIMIT) pass.seat.me.0 →
-            money_of b ≡ money scripts (map pay (start_at scripts_meaning row).cells)) }
+        ensures ledger { IfOk result (λ b. (to_do : ℕ → List (List Instr)) (tally : ℕ → Tally) →
+            MayStart (setup_with scripts LIMIT) (LawfulCells scripts)
+            (start_at scripts_meaning row) → AllChange scripts to_do →
+            KeepsClerks scripts to_do tally pass.seat.me.0 → HasLedger scripts LIMIT
+            (start_at scripts_meaning row) (start_in b) to_do tally) }
     {
-        no_money_is_lost(scripts, LIMIT);
+        rows_keep_ledgers(scripts, LIMIT);
         let shape = shape_of(scripts);
         let (words, _pass) = row.close(pass);
-        let mut durable = durable_words(alloc, &shape, &words)?;
+        let mut durable = durable_words(alloc, scripts, &words)?;
         recovered_cells(&shape, &durable);
         recover(&shape, &mut durable);
         Ok(Books {
@@ -114,21 +135,22 @@ impl Books {
     pub fn open(&self, alloc: Global) -> Result<(Row<Scripts>, Pass), AllocError>
         requires { AreBooks self.now }
         ensures row { IfOk result (λ r. IsRowOf r.0 self.now.scripts LIMIT) }
+        ensures start { IfOk result (λ r. start_at scripts_meaning r.0 ≡ start_in self.now) }
         ensures pass { IfOk result (λ r. Hires r.0 0 r.1) }
-        ensures money { IfOk result (λ r.
-            money self.now.scripts (map pay (start_at scripts_meaning r.0).cells)
-            ≡ money_of self.now) }
     {
         let shape = shape_of(self.scripts);
         let (row, pass) = Row::start(alloc, shape, LIMIT, self.scripts, &self.row)?;
         Ok((row, pass))
     }
 
-    /// The store that the books stand for.
-    pub fn store(&self, alloc: Global) -> Result<Store, BankErr>
+    /// The store that the books stand for. A cell is named that is at fault only where one is: the
+    /// callers' own cells may be, in books that nobody closed.
+    pub fn store(&self, alloc: Global) -> Result<Store, LawErr>
         requires { AreBooks self.now }
         ensures store { IfOk result (Hold self.now) }
         ensures money { IfOk result (λ s. sum s.registers ≡ money_of self.now) }
+        ensures unlawful { IfErr result (λ e. AtCell (IsFirstFault self.now.scripts.callers
+            MOST_INSTRS self.now.scripts.blocks (memory (map pay (start_in self.now).cells))) e) }
     {
         let words = data_words(alloc, &shape_of(self.scripts), &self.row)?;
         let cells = numbers(alloc, &words)?;
@@ -136,14 +158,25 @@ impl Books {
         Ok(store)
     }
 
-    /// The ticket of a clerk's last call that stands in the books.
+    /// The ticket of a clerk's last call that took effect.
     pub fn last_ticket(&self, clerk: u32) -> u32
         requires books { AreBooks self.now }
         requires clerk { clerk < self.now.scripts.callers }
-        ensures { result ≡ last_ticket_in self.now clerk }
+        ensures { result ≡ ticket_in (start_in self.now) clerk }
     {
         let ticket = self.scripts.plot().ticket(clerk);
         let cell = shape_of(self.scripts).data_cell(ticket);
         payload_of(self.row[cell as usize])
+    }
+
+    /// Whether that call was aborted.
+    pub fn last_aborted(&self, clerk: u32) -> bool
+        requires books { AreBooks self.now }
+        requires clerk { clerk < self.now.scripts.callers }
+        ensures { result ≡ aborted_last (start_in self.now) clerk }
+    {
+        let shape = self.scripts.plot().shape(clerk);
+        let cell = shape_of(self.scripts).data_cell(shape);
+        payload_of(self.row[cell as usize]) >= LEAST_ABORT
     }
 }

@@ -3,7 +3,8 @@
 ghost use Rattle.std.specs.Prelude.{◌≡◌, ◌*◌, ◌≤◌, IfOk};
 ghost use Rattle.of_script.specs.declared.instr.TheConstants.{GREATEST, REGISTERS};
 ghost use Rattle.of_eval.specs.Scripts.{scripts_meaning};
-ghost use Rattle.of_caller.specs.Callers.{IsCaller};
+ghost use Rattle.of_caller.specs.Callers.{IsCaller, call_of};
+ghost use Rattle.of_core.specs.Turn.{IsIdle};
 ghost use Rattle.example_bank.specs.Books.{AreBooks, money_of};
 ghost use Rattle.example_bank.specs.declared.books.TheConstants.{CLERKS};
 
@@ -11,6 +12,7 @@ use crate::balance::together;
 use crate::bank_err::BankErr;
 use crate::books::{Books, LIMIT, shape_of};
 use crate::clerk::{call, enter};
+use crate::tally::Tally;
 use of_brake::{Brake, Fuel, Steps};
 use of_caller::Caller;
 use of_eval::Scripts;
@@ -48,10 +50,12 @@ fn call_once<L: Ledger>(
     requires name { blank.name ≡ L.name }
     requires parts { (blank.parts ≡ L.parts) × (blank.parts ≡ 1) }
     requires caller { IsCaller scripts_meaning row.now caller.old }
+    requires idle { IsIdle (call_of caller.old) }
     ensures { IsCaller scripts_meaning row.now caller.new }
 {
     let mut steps: Steps<L> = Steps::new(blank);
-    call(row, caller, script, &mut brake, &mut steps);
+    let mut tally = Tally::new();
+    call(row, caller, script, &mut brake, &mut steps, &mut tally);
 }
 
 impl Books {

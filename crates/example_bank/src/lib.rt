@@ -11,11 +11,13 @@ mod crew;
 mod day;
 mod founding;
 pub mod laws;
+mod tally;
 mod transfer;
 
 pub use balance::together;
 pub use bank_err::BankErr;
 pub use books::{Books, CLERKS, LIMIT, shape_of};
-pub use clerk::{Clerk, Job, call, enter};
-pub use day::{Day, Jobs, Tally, working_day};
+pub use clerk::{Clerk, Job, Shift, call, enter};
+pub use day::{Day, Jobs, working_day};
+pub use tally::{End, Tally};
 pub use transfer::Transfer;

@@ -2,7 +2,7 @@
 
 ghost use Rattle.std.specs.Prelude.{◌≡◌, ◌<◌, ◌≤◌, [], ◌∷◌, sum_by, true};
 ghost use Rattle.of_script.specs.declared.instr.TheConstants.{REGISTERS, GREATEST};
-ghost use Rattle.example_bank.specs.Money.{all_set_none, paid_in, paid_out};
+ghost use Rattle.example_bank.specs.Money.{all_set_none, changes, paid_in, paid_out};
 
 use of_script::{Instr, Script};
 
@@ -15,6 +15,7 @@ pub struct Transfer {
     script: Script,
     pub ghost moves: { all_set_none script ≡ true },
     pub ghost even: { sum_by paid_in script ≡ sum_by paid_out script },
+    pub ghost changes: { changes script ≡ true },
 }
 
 impl Transfer {

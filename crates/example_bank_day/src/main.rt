@@ -7,7 +7,7 @@ ghost use Rattle.example_bank.specs.Books.{AreBooks, Hold};
 ghost use Rattle.example_bank_day.specs.declared.TheConstants.{AMOUNT};
 
 use example_bank::{
-    BankErr, Books, CLERKS, Day, Job, Jobs, Tally, Transfer, together, working_day,
+    BankErr, Books, CLERKS, Day, End, Job, Jobs, Tally, Transfer, together, working_day,
 };
 use of_eval::Scripts;
 use of_script::REGISTERS;
@@ -26,10 +26,11 @@ const SCRIPTS: Scripts = Scripts {
 /// What each account begins with.
 const AMOUNT: u32 = 100;
 
-/// A job with no stop.
-fn job(alloc: Global, to_do: &[Transfer]) -> Result<Job, AllocError> {
+/// A job with no stop, of which so many transfers are for the morning.
+fn job(alloc: Global, to_do: &[Transfer], morning: usize) -> Result<Job, AllocError> {
     Ok(Job {
         to_do: Vec::from_slice(alloc, to_do)?,
+        morning,
         stop: None,
     })
 }
@@ -42,36 +43,51 @@ fn jobs(alloc: Global) -> Result<Jobs, AllocError> {
         Transfer::order(2, 20),
         Transfer::new(0, 1, 5),
     ];
-    let fills = [Transfer::fill(1, 30, 4, 5), Transfer::fill(2, 20, 4, 6)];
-    let mut stopped = job(alloc, &[Transfer::new(8, 9, 10)])?;
+    let fills = [
+        Transfer::fill(1, 30, 4, 5),
+        Transfer::fill(2, 20, 4, 6),
+        Transfer::fill(1, 30, 4, 5),
+        Transfer::fill(2, 20, 4, 6),
+    ];
+    let mut stopped = job(alloc, &[Transfer::new(8, 9, 10)], 1)?;
     stopped.stop = Some(3);
     let transfers = [Transfer::new(12, 13, 1), Transfer::new(13, 14, 2)];
     Ok(Jobs {
-        two: (job(alloc, &orders)?, job(alloc, &fills)?),
-        others: (stopped, job(alloc, &transfers)?),
-        evening: job(alloc, &fills)?,
+        two: (job(alloc, &orders, 3)?, job(alloc, &fills, 2)?),
+        others: (stopped, job(alloc, &transfers, 2)?),
     })
 }
 
-/// Founds the bank, and has its clerks work for a day. What recovery finds behind it is the store
+/// A day, with the stores that the books stand for before it and after it.
+#[derive(Drop)]
+struct Shown {
+    before: Store,
+    day: Day,
+    after: Store,
+}
+
+/// Founds the bank, and has its clerks work for a day. What recovery finds after it is the store
 /// `after`, whose accounts hold as much together as those of the store before it.
-fn a_day<R: Threads + Sync>(rt: &R, alloc: Global) -> Result<Day, BankErr>
-    ensures books { IfOk result (λ d. AreBooks d.books) }
-    ensures after { IfOk result (λ d. Hold d.books d.after) }
-    ensures money { IfOk result (λ d. sum d.after.registers ≡ sum d.before.registers) }
-    ensures founded { IfOk result (λ d. sum d.before.registers ≡ AMOUNT * REGISTERS) }
+fn a_day<R: Threads + Sync>(rt: &R, alloc: Global) -> Result<Shown, BankErr>
+    ensures books { IfOk result (λ s. AreBooks s.day.books) }
+    ensures after { IfOk result (λ s. Hold s.day.books s.after) }
+    ensures money { IfOk result (λ s. sum s.after.registers ≡ sum s.before.registers) }
+    ensures founded { IfOk result (λ s. sum s.before.registers ≡ AMOUNT * REGISTERS) }
 {
     let books = Books::found(alloc, SCRIPTS, AMOUNT)?;
+    let before = books.store(alloc)?;
     let day = working_day(rt, alloc, &books, jobs(alloc)?)?;
-    Ok(day)
+    let after = day.books.store(alloc)?;
+    Ok(Shown { before, day, after })
 }
 
 /// What else there is to say of a clerk.
 fn remark(tally: Tally) -> &'static str {
-    if tally.answered < tally.done {
-        ", stopped in its last, which others finished"
-    } else {
-        ""
+    match tally.end {
+        End::Done => "",
+        End::Stopped if tally.pending == 0 => ", stopped in the last, which others finished",
+        End::Stopped => ", stopped in the next, which took no effect",
+        End::Spent => ", no sequence was left for the next",
     }
 }
 
@@ -82,25 +98,25 @@ fn print_accounts(rt: &impl Print, store: &Store) -> io::Result<()> {
     println!(rt; ", together {}", together(store))
 }
 
-fn print_day(rt: &impl Print, day: &Day) -> io::Result<()> {
+fn print_day(rt: &impl Print, shown: &Shown) -> io::Result<()> {
     print!(rt; "before:")?;
-    print_accounts(rt, &day.before)?;
+    print_accounts(rt, &shown.before)?;
     for clerk in 0..CLERKS {
-        let tally = day.tallies[clerk as usize];
+        let tally = shown.day.tallies[clerk as usize];
         println!(rt;
-            "clerk {clerk}: {} answered, {} done{}",
-            tally.answered,
-            tally.done,
+            "clerk {clerk}: {} made, {} aborted{}",
+            tally.made,
+            tally.aborted,
             remark(tally)
         )?;
     }
     print!(rt; "after:")?;
-    print_accounts(rt, &day.after)
+    print_accounts(rt, &shown.after)
 }
 
 fn main(rt: HostRuntime) -> ExitCode {
     match a_day(&rt, rt.alloc()) {
-        Ok(day) => match print_day(&rt, &day) {
+        Ok(shown) => match print_day(&rt, &shown) {
             Ok(()) => ExitCode::from(0),
             Err(_) => ExitCode::from(1),
         },

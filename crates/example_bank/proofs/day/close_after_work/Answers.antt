@@ -1,9 +1,24 @@
-use Rattle.std.proofs.Common.{◌∙◌, ℕ}
-use Rattle.example_bank.specs.Closed.{KeepsOne}
-use Rattle.example_bank.proofs.Clerks.{four}
+use Rattle.std.proofs.Common.{sym, subst}
+use Rattle.of_core.specs.World.{Start}
+use Rattle.of_core.specs.Shared.{MayStart}
+use Rattle.of_eval.specs.Scripts.{LawfulCells}
+use Rattle.example_bank.specs.declared.books.TheConstants.{LIMIT}
+use Rattle.example_bank.specs.Closed.{setup_with}
+use Rattle.example_bank.specs.Ledger.{HasLedger}
+use Rattle.example_bank.specs.Books.{start_in}
+use Rattle.example_bank.specs.Clerks.{to_do_of}
+use Rattle.example_bank.specs.Days.{job_of, tally_of}
+use Rattle.example_bank.proofs.Accounts.{all_change}
+use Rattle.example_bank.proofs.Days.{few_clerks}
 use Rattle.example_bank.proofs.day.close_after_work.Goals as goal
 
-pub returns-clause-money : goal.returns-clause-money
-returns-clause-money g c =
-    let k = c.in_ok-pass.ensures.keeps in
-    c.in_ok-closed.ensures.money (four (λ (i : ℕ). KeepsOne i c.in_ok-pass.pass.seat.me.0.kept) k.first k.second k.third k.fourth _ c.args.books.now.clerks) ∙ c.in_ok-row.ensures.money
+pub returns-clause-ledger : goal.returns-clause-ledger
+returns-clause-ledger g c =
+    let b = c.args.books.now in
+    let jobs = c.args.jobs in
+    let start = c.in_ok-row.ensures.start in
+    subst (λ (z : Start). HasLedger b.scripts LIMIT z (start_in c.in_ok-closed.closed) (λ i. to_do_of (job_of jobs i)) (tally_of c.in_ok-pass.tallies)) start
+    (c.in_ok-closed.ensures.ledger (λ i. to_do_of (job_of jobs i)) (tally_of c.in_ok-pass.tallies)
+    (subst (MayStart (setup_with b.scripts LIMIT) (LawfulCells b.scripts)) (sym start) c.requires.may_start)
+    (λ i l. all_change (job_of jobs i).to_do.items)
+    (few_clerks b.scripts.callers b.clerks _ c.in_ok-pass.ensures.keeps))

@@ -1,8 +1,11 @@
-use Rattle.std.proofs.Common.{List, ℕ, ◌+◌, map, ap, ◌∙◌}
+use Rattle.std.proofs.Common.{◌≡◌, ◌+◌, ◌-◌, ℕ, List, length, map, arith, ◌∙◌, sym, ap, drop}
 use Rattle.std.specs.Prelude.{slice_range}
 use Rattle.of_cell.specs.Words.{pay}
+use Rattle.std.proofs.lemmas.List.{length-take-le, length-drop}
 use Rattle.of_cell.specs.Cells.{data_cell}
-use Rattle.example_bank.proofs.Cells.{store_stands, store_holds}
+use Rattle.of_eval.specs.Scripts.{cells_in}
+use Rattle.example_bank.specs.Books.{start_in}
+use Rattle.example_bank.proofs.Accounts.{held, store_stands}
 use Rattle.example_bank.proofs.books.Books.store.Goals as goal
 
 pub returns-clause-store : goal.returns-clause-store
@@ -18,4 +21,10 @@ returns-clause-store c =
     c.in_ok-store.ensures.ok
 
 pub returns-clause-money : goal.returns-clause-money
-returns-clause-money c = store_holds c.args.self.now.scripts c.args.self.now.row.items c.in_ok-store.store c.requires.long (returns-clause-store c)
+returns-clause-money c =
+    let b = c.args.self.now in
+    let first = data_cell b.scripts.callers 0 in
+    let same : first + cells_in b.scripts - first ≡ cells_in b.scripts = omega arith in
+    let long : length (start_in b).cells ≡ cells_in b.scripts =
+    length-take-le (first + cells_in b.scripts - first) (drop first b.row.items) (omega (arith, length-drop first b.row.items, c.requires.long)) ∙ same in
+    sym (held b.scripts (start_in b) c.in_ok-store.store long (returns-clause-store c))

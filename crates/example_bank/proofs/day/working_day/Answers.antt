@@ -1,0 +1,50 @@
+use Rattle.std.proofs.Common.{ℕ, refl, List, [], ◌∷◌, map, arith, ◌∙◌, ap}
+use Rattle.of_cell.specs.Words.{pay}
+use Rattle.of_eval.specs.Scripts.{cells_in}
+use Rattle.example_bank.specs.declared.books.TheConstants.{LIMIT}
+use Rattle.example_bank.specs.declared.day.Day.{Day}
+use Rattle.example_bank.specs.Books.{start_in}
+use Rattle.example_bank.specs.Money.{money}
+use Rattle.example_bank.specs.Ledger.{Entry, HasOwn, SpentSo}
+use Rattle.example_bank.specs.Clerks.{to_do_of}
+use Rattle.example_bank.specs.Days.{job_of, tally_of, IsTold}
+use Rattle.example_bank.proofs.Days.{four, is_day}
+use Rattle.example_bank.proofs.Accounts.{are_balanced, money_kept}
+use Rattle.example_bank.proofs.Balanced.{transfers_keep}
+use Rattle.example_bank.proofs.day.working_day.Goals as goal
+
+pub returns-clause-day : goal.returns-clause-day
+returns-clause-day g c =
+    let b = c.args.books.now in
+    let jobs = c.args.jobs in
+    let closed = c.in_ok-closed.closed in
+    let ts = c.in_ok-closed.tallies in
+    let ended = c.in_ok-closed.ensures.ended in
+    let d : Day = record { books = closed; tallies = c.told.result ∷ c.told-2.result ∷ c.told-3.result ∷ c.told-4.result ∷ [] } in
+    is_day b jobs d ts c.in_ok-closed.ensures.scripts c.in_ok-closed.ensures.ledger (λ i l.
+    four (λ (i : ℕ). (own : List Entry) → HasOwn (start_in b) (start_in closed) i (to_do_of (job_of jobs i)) (tally_of ts i) own
+    → SpentSo LIMIT (start_in closed) i (tally_of ts i).end → IsTold (start_in closed) i (job_of jobs i) (tally_of d.tallies i) own)
+    (λ own h s. c.told.ensures jobs.two.0 own h (ended 0 (omega arith)) s)
+    (λ own h s. c.told-2.ensures jobs.two.1 own h (ended 1 (omega arith)) s)
+    (λ own h s. c.told-3.ensures jobs.others.0 own h (ended 2 (omega arith)) s)
+    (λ own h s. c.told-4.ensures jobs.others.1 own h (ended 3 (omega arith)) s)
+    4 refl i l)
+
+pub returns-clause-money : goal.returns-clause-money
+returns-clause-money g c =
+    let b = c.args.books.now in
+    let closed = c.in_ok-closed.closed in
+    let scripts = c.in_ok-closed.ensures.scripts in
+    let h = c.in_ok-closed.ensures.ledger in
+    ap (λ w. money w (map pay (start_in closed).cells)) scripts
+    ∙ money_kept b.scripts (start_in b) (start_in closed) c.requires.may_start.start.size (c.in_ok-closed.ensures.books.may_start.start.size ∙ ap cells_in scripts) transfers_keep
+    c.requires.may_start.lawful h.entries h.ledger (λ i. to_do_of (job_of c.args.jobs i)) h.origin (λ i l. are_balanced (job_of c.args.jobs i).to_do.items)
+
+pub told-requires-clause-counts : goal.told-requires-clause-counts
+told-requires-clause-counts g c = c.in_ok-closed.ensures.counts 0 (omega arith)
+
+pub told-requires-3-clause-counts : goal.told-requires-3-clause-counts
+told-requires-3-clause-counts g c = c.in_ok-closed.ensures.counts 2 (omega arith)
+
+pub told-requires-4-clause-counts : goal.told-requires-4-clause-counts
+told-requires-4-clause-counts g c = c.in_ok-closed.ensures.counts 3 (omega arith)
