@@ -77,6 +77,19 @@ module _ (base : ℕ) where
   unmarked false (suc (suc (suc (suc (suc (suc (suc (suc (suc (suc (suc (suc (suc (suc (suc zero))))))))))))))) l e = no_mark e
   unmarked b (suc (suc (suc (suc (suc (suc (suc (suc (suc (suc (suc (suc (suc (suc (suc (suc k)))))))))))))))) l e = absurd (omega arith)
 
+  -- the register is the only cell that is read
+  same_known : (known others : List (Option ℕ)) → drop base known ≡ drop base others → get_or known base None ≡ get_or others base None
+  same_known known others s =
+      let e : base + 0 ≡ base = omega arith in
+      ap (λ (k : ℕ). get_or known k None) (sym e) ∙ sym (get_or-drop base known 0 None) ∙ ap (λ (zs : List (Option ℕ)). get_or zs 0 None) s ∙ get_or-drop base others 0 None ∙ ap (λ (k : ℕ). get_or others k None) e
+
+  walk_alike : (known others : List (Option ℕ)) (op : List ℕ) → drop base known ≡ drop base others → (b : Bool) → walk_by base known op b ≡ walk_by base others op b
+  walk_alike known others op s true = ap (walk_read base) (same_known known others s)
+  walk_alike known others op s false = refl
+
+  zeros_there : (j : ℕ) → j < MOST_INSTRS → get_or (reply_of 1).values j 0 ≡ 0
+  zeros_there j m = get_or-replicate MOST_INSTRS j 0 0 m
+
   pub register_sound : Sound (meaning_of base) (λ xs. Unit {0}) base (base + 1)
   register_sound = record {
     zeros = λ xs h z. tt;
@@ -85,6 +98,7 @@ module _ (base : ℕ) where
     lawful_from = λ xs ys h l s t. tt;
     cells_from = λ xs ys op h l s. cells_alike xs ys op s (reads_only op);
     reply_from = λ xs ys op h l s. reply_alike xs ys s (reads_only op);
+    walk_from = λ known others op h l s. walk_alike known others op s (reads_only op);
     walks = λ known xs op h l a. go known xs op a (reads_only op) refl;
   }
     where
@@ -98,6 +112,7 @@ module _ (base : ℕ) where
         shape = shape_small (v == 0);
         values = values;
         marks = λ j l m. unmarked (v == 0) j l m;
+        rest = λ j l m. zeros_there j l;
         reads = λ u. refl;
       }
 
@@ -115,5 +130,6 @@ module _ (base : ℕ) where
         shape = shape_small false;
         values = values;
         marks = λ j l m. unmarked false j l m;
+        rest = λ j l m. zeros_there j l;
         reads = λ u. no_mark (sym q ∙ u);
       }
