@@ -23,7 +23,13 @@ fn add(mut hand: Handle, script: &Script, steps: u64) -> Handle
 }
 
 /// Two hands at once. The second is stopped after six steps.
-fn both<R: Threads + Sync>(rt: &R, scripts: &[Script; 2], a: Handle, b: Handle) -> (Handle, Handle)
+fn both<R: Threads + Sync>(
+    rt: &R,
+    one: &Script,
+    other: &Script,
+    a: Handle,
+    b: Handle,
+) -> (Handle, Handle)
     requires a { IsHandle a }
     requires b { IsHandle b }
     ensures a { IsHandle result.0 × (home_of result.0 ≡ home_of a) }
@@ -43,7 +49,12 @@ fn both<R: Threads + Sync>(rt: &R, scripts: &[Script; 2], a: Handle, b: Handle) 
 }
 
 /// Both add to the memory's sum, the first of them twice, and it is closed.
-fn first_day<R: Threads + Sync>(rt: &R, scripts: &[Script; 2], mut memory: Memory) -> Result<Saved>
+fn first_day<R: Threads + Sync>(
+    rt: &R,
+    one: &Script,
+    other: &Script,
+    mut memory: Memory,
+) -> Result<Saved>
     requires { IsMemory memory }
     ensures { IfOk result IsSaved }
 {
