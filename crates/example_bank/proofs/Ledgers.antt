@@ -23,9 +23,8 @@ use Rattle.of_core.specs.Events.{Event, start_ticket}
 use Rattle.of_core.specs.Calls.{operations, NoneSpent, IsAnswered, WasBegun}
 use Rattle.of_core.specs.Linear.{Explains, Linearizes, FindsCall, Detects, recovered_number}
 use Rattle.of_row.specs.Views.{Ended, Kept, no_ended, Each}
-use Rattle.of_row.specs.Trail.{first_of}
+use Rattle.of_row.specs.Trail.{first_of, IsRunBy}
 use Rattle.of_row.specs.Rule.{ticket_at as ticket_of_call, op_at, outcome_at}
-use Rattle.of_row.specs.Runs.{IsRunBy}
 use Rattle.of_row.specs.Moments.{ExplainsAll, words_alone}
 use Rattle.example_bank.specs.declared.tally.Tally.{Tally}
 use Rattle.example_bank.specs.Money.{changes}
