@@ -2,7 +2,8 @@
 use Rattle.std.proofs.Common.{◌≡◌, ℕ, ◌+◌, ◌-◌, ◌≤◌, ◌<◌, sym, ◌∙◌, ap, subst, arith, List, ◌++◌, length, get_or, take, drop, map, length-take-le}
 use Rattle.std.specs.Prelude.{slice_range}
 use Rattle.std.proofs.lemmas.List.{get_or-take, get_or-drop, length-drop, take_at, ext_get_or}
-use Rattle.of_cell.specs.Cells.{durable_cells}
+use Rattle.of_cell.specs.Cells.{durable_cells, table_words}
+use Rattle.of_mem.specs.declared.work.TheConstants.{MOST_INSTRS}
 use Rattle.of_recover.specs.Recovered.{recovered}
 use Rattle.of_store.specs.State.{State}
 use Rattle.of_eval.specs.declared.scripts.Scripts.{Scripts}
@@ -47,7 +48,8 @@ is_left callers cells new given items len row same long size =
     let is : new ≡ recovered callers cells items = row ∙ ap (recovered callers cells) same in
     take_at new (drop (length new) items) len (ap length is ∙ size ∙ sym long) ∙ is
 
-module _ (r : Row Scripts) (row : IsScriptsRow r) (p : Pass) (ws : List ℕ) (m : ClosesWith scripts_meaning LawfulCells r p ws) where
+module _ (r : Row Scripts) (row : IsScriptsRow r) (p : Pass) (ws : List ℕ) (m : ClosesWith scripts_meaning LawfulCells r p ws)
+    (long : length ws ≡ table_words (key_of r).callers MOST_INSTRS (key_of r).cells) where
   abbrev W : Scripts
   W = (key_of r).work
 
@@ -61,19 +63,7 @@ module _ (r : Row Scripts) (row : IsScriptsRow r) (p : Pass) (ws : List ℕ) (m 
   meets = subst (λ (k : ℕ × ℕ). Meets (setup_of k.0 k.1 limit (scripts_meaning W)) (LawfulCells W) (start_of_row r) ws p.seat.me.0) (λ i. (row.callers i, row.cells i)) m
 
   room : length ws ≡ table_size S + 1
-  room = ap length (sym meets.words) ∙ meets.rule.room
-
-  -- the words have the durable ones behind the cells
-  pub roomy : (callers cells : ℕ) → callers ≡ (key_of r).callers → cells ≡ (key_of r).cells → durable_cells callers cells + durable_cells callers cells ≤ length ws
-  roomy callers cells is are =
-      let e : durable_cells callers cells ≡ size S = (λ i. durable_cells ((is ∙ row.callers) i) ((are ∙ row.cells) i)) in
-      omega (arith, e, room)
-
-  pub long_row : (callers cells : ℕ) (durable : List ℕ) → callers ≡ (key_of r).callers → cells ≡ (key_of r).cells → durable ≡ slice_range ws (durable_cells callers cells) (durable_cells callers cells + durable_cells callers cells) → length durable ≡ durable_cells callers cells
-  long_row callers cells durable is are part =
-      let n : ℕ = durable_cells callers cells in
-      let e : n + n - n ≡ n = omega arith in
-      ap length part ∙ length-take-le (n + n - n) (drop n ws) (omega (arith, length-drop n ws, roomy callers cells is are)) ∙ e
+  room = long ∙ (λ i. table_words (row.callers i) MOST_INSTRS (row.cells i))
 
   -- what recovery makes of them
   pub closed : (callers cells : ℕ) (durable : List ℕ) → callers ≡ (key_of r).callers → cells ≡ (key_of r).cells → durable ≡ slice_range ws (durable_cells callers cells) (durable_cells callers cells + durable_cells callers cells)

@@ -8,6 +8,7 @@ use Rattle.std.proofs.Math.ListN.{get_or-map}
 use Rattle.std.proofs.lemmas.List.Elements.{All-from_recursion, recursion_from_All, All-from_get_or}
 use Rattle.of_cell.specs.Words.{pay}
 use Rattle.of_recover.specs.Recovered.{recovered}
+use Rattle.of_recover.proofs.Agreeing.{recovered_data-same}
 use Rattle.of_mem.specs.ProgramWork.{memory}
 use Rattle.of_mem.proofs.Standing.{stands_from}
 use Rattle.std.specs.Prelude.{IsTrue, if◌then◌else◌}
@@ -28,18 +29,20 @@ use Rattle.of_store.specs.State.{State}
 use Rattle.of_eval.specs.declared.scripts.Scripts.{Scripts}
 use Rattle.of_eval.specs.Scripts.{store_at, cells_in, LawfulCells, scripts_meaning, script_reads}
 use Rattle.of_eval.specs.Stored.{plain, IsStored}
-use Rattle.of_core.specs.Table.{Setup, risen, ticket_cell, shape_cell, reply_cell}
+use Rattle.of_core.specs.Table.{Setup, size, table_size, durable_at, durable_word, ticket_cell, shape_cell, reply_cell}
 use Rattle.of_core.specs.Machine.{Call, Data, no_call, is_idle, IsOpen}
 use Rattle.of_core.specs.World.{World, Start}
-use Rattle.of_core.specs.History.{state, after_calls, SameReply}
+use Rattle.of_core.specs.History.{after_calls, SameReply}
 use Rattle.of_core.specs.Events.{Event, start_ticket}
 use Rattle.of_core.specs.Calls.{operations}
 use Rattle.of_core.specs.Starts.{IsDurable, IsStartRow, start_of, recovered_start}
-use Rattle.of_core.specs.Laws.{GoodIsSound, Restarts}
+use Rattle.of_core.specs.Invariant.{Good}
+use Rattle.of_core.specs.Grounds.{GoodGrounds}
+use Rattle.of_core.specs.Laws.{StartKept, ScheduleKept, GoodIsSound, Restarts}
 use Rattle.of_row.specs.Views.{Ended, Kept, Sight, no_ended, Each}
-use Rattle.of_row.specs.Rule.{Meets, world, ticket_at as own_ticket, done_before}
+use Rattle.of_row.specs.Rule.{Meets, ticket_at as own_ticket, done_before}
 use Rattle.of_row.specs.Told.{open_op, begun_of}
-use Rattle.of_row.specs.Runs.{IsRunBy}
+use Rattle.of_row.specs.Trail.{first_of, moment, IsRunBy}
 use Rattle.of_row.specs.Moments.{ExplainsAll, StopsLoseNothing, LosesNothing, words_alone}
 use Rattle.of_caller.proofs.StoresReplay.{number_at}
 use Rattle.of_memory.specs.History.{Entry, no_entry, Made, no_made, store_after, IsOneOf, OnlyReads, IsUpTo}
@@ -120,7 +123,8 @@ begun_at x b place k lt = elim (cases_lt k (length x.ended)) [
         let at : k ≡ length (map (λ (e : Ended). e.op) x.ended) = omega (arith, length-append (map (λ (e : Ended). e.op) x.ended) (x.machine.op ∷ []), long, some, high) in
         (at ∙ long, is, ap (λ (n : ℕ). get_or (map (λ (e : Ended). e.op) x.ended ++ x.machine.op ∷ []) n []) at ∙ get_or-append_seam (map (λ (e : Ended). e.op) x.ended) x.machine.op [] [])
 
-module _ (w : Scripts) (limit : ℕ) (sound : GoodIsSound (setup_with w limit) (LawfulCells w)) (restarts : Restarts (setup_with w limit) (LawfulCells w)) (stops : StopsLoseNothing (LawfulCells w) (setup_with w limit)) where
+module _ (w : Scripts) (limit : ℕ) (start : StartKept (setup_with w limit) (LawfulCells w)) (runs : ScheduleKept (setup_with w limit) (LawfulCells w)) (grounds : GoodGrounds (setup_with w limit) (LawfulCells w))
+    (sound : GoodIsSound (setup_with w limit) (LawfulCells w)) (restarts : Restarts (setup_with w limit) (LawfulCells w)) (stops : StopsLoseNothing (LawfulCells w) (setup_with w limit)) where
   abbrev S : Setup
   S = setup_with w limit
 
@@ -128,11 +132,22 @@ module _ (w : Scripts) (limit : ℕ) (sound : GoodIsSound (setup_with w limit) (
   L = LawfulCells w
 
   module _ (B : Start) (ws : List ℕ) (v : Sight) (m : Meets S L B ws v) (awake : v.spent ≡ false) (keeps : KeepScripts S v) where
-    abbrev u : World
-    u = world m.state.words m.rule.machines m.rule.batches m.rule.reads
-
     abbrev lost : LosesNothing S L B m.state
     lost = stops B m.state m.rule
+
+    -- the moment that has led to the words
+    abbrev u : World
+    u = moment S B lost.events
+
+    good : Good S L B u
+    good = runs B (first_of S B) (start B m.rule.from (table_size S + 1) (omega arith)).0 lost.events lost.reached.schedule
+
+    durable_same : (c : ℕ) → c < size S → durable_word S m.state.words c ≡ durable_word S u.words c
+    durable_same c low = lost.reached.words (durable_at S c) (omega (arith, low))
+
+    -- recovery finds in the words what it finds at that moment
+    number_same : (a : ℕ) → a < cells_in w → recovered_number S (words_alone m.state.words) a ≡ recovered_number S u a
+    number_same a low = ap pay (recovered_data-same S.callers S.cells (durable_word S m.state.words) (durable_word S u.words) durable_same a low (omega (arith, low, (grounds B u good).cells)))
 
     abbrev order : List Call
     order = lost.order
@@ -151,7 +166,10 @@ module _ (w : Scripts) (limit : ℕ) (sound : GoodIsSound (setup_with w limit) (
     found_in row = recovered w.callers (cells_in w) row
 
     starts_again : (row : List ℕ) → IsDurable S ws row → IsStartRow S L (found_in row) × (start_of w.callers (cells_in w) (found_in row) ≡ recovered_start S B u)
-    starts_again row durable = restarts B u m.rule.good row (subst (λ (xs : List ℕ). IsDurable S xs row) (sym m.words) durable)
+    starts_again row durable = restarts B u good row record {
+      long = durable.long;
+      each = λ c low. durable.each c low ∙ ap (λ (xs : List ℕ). durable_word S xs c) (sym m.words) ∙ durable_same c low;
+    }
 
     module _ (row : List ℕ) (durable : IsDurable S ws row) (s : State) (stands : StandsAt w B s) where
       abbrev found : List ℕ
@@ -163,6 +181,13 @@ module _ (w : Scripts) (limit : ℕ) (sound : GoodIsSound (setup_with w limit) (
       abbrev C : Start
       C = start_of w.callers (cells_in w) found
 
+      -- what recovery finds in a data cell
+      recovered_at : (a : ℕ) → a < cells_in w → recovered_number S (words_alone m.state.words) a ≡ pay (get_or C.cells a 0)
+      recovered_at a lt = number_same a lt ∙ ap pay ((sound B u good).recovers a lt) ∙ ap (λ (B : Start). pay (get_or B.cells a 0)) (sym re.1)
+
+      number_found : (a : ℕ) → a < cells_in w → memory (map pay C.cells) a ≡ recovered_number S (words_alone m.state.words) a
+      number_found a lt = number_at C.cells a ∙ sym (recovered_at a lt)
+
       abbrev xs : List ℕ
       xs = map pay B.cells
 
@@ -170,7 +195,7 @@ module _ (w : Scripts) (limit : ℕ) (sound : GoodIsSound (setup_with w limit) (
       ys = after_calls (scripts_meaning w) xs order
 
       started : Cells w xs s
-      started = record { size = length-map B.cells pay ∙ m.rule.good.core.shared.start.size; stored = stands }
+      started = record { size = length-map B.cells pay ∙ m.rule.from.start.size; stored = stands }
 
       abbrev h : List Entry
       h = entries w s order are_scripts
@@ -182,10 +207,7 @@ module _ (w : Scripts) (limit : ℕ) (sound : GoodIsSound (setup_with w limit) (
       same_cell : (a : ℕ) → store_at w ≤ a → memory ys a ≡ memory (map pay C.cells) a
       same_cell a low = elim (cases_lt a (cells_in w)) [
         | inl lt ↦
-            sym (lost.recovered_so.numbers a low lt)
-            ∙ ap pay ((sound B u m.rule.good).recovers a lt)
-            ∙ ap (λ (B : Start). pay (get_or B.cells a 0)) (sym re.1)
-            ∙ sym (number_at C.cells a)
+            sym (lost.recovered_so.numbers a low lt) ∙ sym (number_found a lt)
         | inr past ↦
             get_or_past ys a 0 (omega (arith, led.size, past))
             ∙ sym (get_or_past (map pay C.cells) a 0 (omega (arith, length-map C.cells pay, re.0.may_start.start.size, past)))
@@ -237,13 +259,6 @@ module _ (w : Scripts) (limit : ℕ) (sound : GoodIsSound (setup_with w limit) (
       below : All (λ (e : Entry). e.caller < w.callers) h
       below = All-from_get_or (λ (e : Entry). e.caller < w.callers) h no_entry (λ y l.
           subst (λ (n : ℕ). n < w.callers) (sym (entry_of y l).caller) (lost.linearizes.begun y no_call (subst (λ (n : ℕ). y < n) (long w s order are_scripts) l)).0)
-
-      -- what recovery finds in a data cell
-      recovered_at : (a : ℕ) → a < cells_in w → recovered_number S (words_alone m.state.words) a ≡ pay (get_or C.cells a 0)
-      recovered_at a lt = ap pay ((sound B u m.rule.good).recovers a lt) ∙ ap (λ (B : Start). pay (get_or B.cells a 0)) (sym re.1)
-
-      number_found : (a : ℕ) → a < cells_in w → memory (map pay C.cells) a ≡ recovered_number S (words_alone m.state.words) a
-      number_found a lt = number_at C.cells a ∙ sym (recovered_at a lt)
 
       module _ (n : ℕ) (low : n < w.callers) where
         ticket_low : ticket_at MOST_INSTRS n < cells_in w

@@ -3,7 +3,7 @@
 ghost use Rattle.of_memory.specs.Joining.{HistoriesJoin, InvariantsHold};
 ghost use Rattle.of_memory.specs.Laws.{HoldsHistory};
 
-use of_core::laws::{starts, step_kept};
+use of_core::laws::{every_moment, starts, step_kept};
 use of_eval::Scripts;
 use of_row::laws::stops_lose_nothing;
 
@@ -13,6 +13,7 @@ pub fn history_is_held(work: Scripts, limit: u32)
     ensures { HoldsHistory work limit }
 {
     step_kept(limit, work);
+    every_moment(limit, work);
     starts(limit, work);
     stops_lose_nothing(limit, work);
 }
