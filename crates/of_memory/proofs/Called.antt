@@ -163,7 +163,7 @@ module _ (S : Setup) (L : List ℕ → Type 0) (B : Start) (m : Data) (v : Sight
   ]
 
   pub legal_now : (o : Outcome) → HasClosed S L B m v told.before told.steps d w told.kept o → Legal S.meaning (map pay B.cells) (shown w.seen)
-  legal_now o closes = (told.some (ended_some o closes)).legal
+  legal_now o closes = (told.some (ended_some o closes)).legal.replies
 
 -- ---- a caller of a row of scripts
 
