@@ -1,5 +1,5 @@
 -- What a call of a script makes of a caller of a row of scripts.
-use Rattle.std.proofs.Common.{◌≡◌, ℕ, zero, suc, ◌+◌, ◌≤◌, ◌<◌, ◌⊎◌, inl, inr, Bool, true, false, List, [], ◌∷◌, ◌++◌, length, map, take, Result, Ok, Err, refl, sym, ap, subst, ◌∙◌, arith, length-append}
+use Rattle.std.proofs.Common.{◌≡◌, ℕ, zero, suc, ◌≤◌, ◌<◌, ◌⊎◌, inl, inr, Bool, List, [], ◌∷◌, ◌++◌, length, map, take, Result, Ok, Err, refl, sym, ap, subst, ◌∙◌, arith, length-append}
 use Rattle.std.specs.List.{All}
 use Rattle.std.proofs.Math.Seq.{take-append_seam}
 use Rattle.std.proofs.lemmas.List.{length-map}
@@ -37,10 +37,10 @@ use Rattle.of_caller.specs.Tables.{setup_for}
 use Rattle.of_caller.proofs.RawReplies.{IsFine, answer_holds}
 use Rattle.of_memory.specs.History.{End, Reply, Spent, Made}
 use Rattle.of_memory.specs.Calls.{IsOperation, EndsAs, IsMade, AreMade, RunsScripts}
-use Rattle.of_memory.specs.Serving.{IsScriptsRow, Serves, start_of_row, ended_of}
+use Rattle.of_memory.specs.Serving.{IsScriptsRow, Serves, start_of_row}
 use Rattle.of_memory.specs.declared.error.RunErr.{RunErr}
 use Rattle.of_memory.specs.declared.error.RunErr.TheVariants.{OutOfMemory, Stopped as Halted, Spent as RanOut, Open, NoTicket}
-use Rattle.of_memory.specs.Called.{IsOpenAt, WasTried, IsRefusedBy}
+use Rattle.of_memory.specs.Called.{WasTried, IsRefusedBy}
 use Rattle.of_memory.proofs.Plans.{plan_of, is_plan}
 
 -- ---- calls that are kept, as calls of scripts

@@ -1,5 +1,5 @@
 -- The durable words of a closed row of scripts, and what recovery makes of them.
-use Rattle.std.proofs.Common.{◌≡◌, ℕ, ◌+◌, ◌-◌, ◌≤◌, ◌<◌, sym, ◌∙◌, ap, subst, arith, List, ◌++◌, length, get_or, take, drop, map, length-take-le}
+use Rattle.std.proofs.Common.{◌≡◌, ℕ, ◌+◌, ◌-◌, ◌≤◌, ◌<◌, sym, ◌∙◌, ap, subst, arith, List, ◌++◌, length, get_or, take, drop, length-take-le}
 use Rattle.std.specs.Prelude.{slice_range}
 use Rattle.std.proofs.lemmas.List.{get_or-take, get_or-drop, length-drop, take_at, ext_get_or}
 use Rattle.of_cell.specs.Cells.{durable_cells, table_words}
@@ -9,14 +9,12 @@ use Rattle.of_store.specs.State.{State}
 use Rattle.of_eval.specs.declared.scripts.Scripts.{Scripts}
 use Rattle.of_eval.specs.Scripts.{cells_in, LawfulCells, scripts_meaning}
 use Rattle.of_core.specs.Table.{Setup, setup_of, size, table_size}
-use Rattle.of_core.specs.World.{Start}
 use Rattle.of_core.specs.Starts.{IsDurable, IsStartRow}
 use Rattle.of_row.specs.declared.member.Pass.{Pass}
 use Rattle.of_row.specs.declared.row.Row.{Row}
 use Rattle.of_row.specs.Rule.{Meets}
 use Rattle.of_row.specs.Rows.{key_of, setup_at, IsOf}
 use Rattle.of_row.specs.Passes.{ClosesWith}
-use Rattle.of_row.specs.Views.{Sight}
 use Rattle.of_memory.specs.History.{Entry}
 use Rattle.of_memory.specs.Laws.{setup_with, StandsAt, KeepScripts, HoldsHistory, Leads}
 use Rattle.of_memory.specs.Serving.{IsScriptsRow, start_of_row}

@@ -28,7 +28,7 @@ use Rattle.of_core.specs.Linear.{recovered_number, FindsCall}
 use Rattle.of_store.specs.State.{State}
 use Rattle.of_eval.specs.declared.scripts.Scripts.{Scripts}
 use Rattle.of_eval.specs.Scripts.{store_at, cells_in, LawfulCells, scripts_meaning, script_reads}
-use Rattle.of_eval.specs.Stored.{plain, IsStored}
+use Rattle.of_eval.specs.Stored.{plain}
 use Rattle.of_core.specs.Table.{Setup, size, table_size, durable_at, durable_word, ticket_cell, shape_cell, reply_cell}
 use Rattle.of_core.specs.Machine.{Call, Data, no_call, is_idle, IsOpen}
 use Rattle.of_core.specs.World.{World, Start}

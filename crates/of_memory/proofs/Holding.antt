@@ -1,8 +1,8 @@
 -- What a memory knows of its callers, and the history that its close leaves.
-use Rattle.std.proofs.Common.{◌≡◌, ◌≢◌, ℕ, ◌≤◌, ◌<◌, inl, inr, List, [], ◌∷◌, length, get_or, set, Option, Some, None, Result, Ok, Err, IfOk, refl, sym, ap, subst, ◌∙◌, arith}
+use Rattle.std.proofs.Common.{◌≡◌, ℕ, ◌<◌, inl, inr, List, [], ◌∷◌, length, get_or, set, Option, Some, None, Result, Ok, Err, IfOk, sym, ap, subst, ◌∙◌, arith}
 use Rattle.std.specs.List.{All}
 use Rattle.std.proofs.lemmas.Bool.{cases_lt}
-use Rattle.std.proofs.lemmas.List.{get_or-set_same, get_or-set_other, get_or_past, length-set}
+use Rattle.std.proofs.lemmas.List.{get_or-set_same, get_or-set_other, get_or_past}
 use Rattle.of_script.specs.declared.instr.Instr.{Instr}
 use Rattle.of_store.specs.State.{State}
 use Rattle.of_eval.specs.declared.scripts.Scripts.{Scripts}
@@ -24,8 +24,8 @@ use Rattle.of_memory.specs.Calls.{AreMade, RunsScripts}
 use Rattle.of_memory.specs.Called.{IsOpenAt}
 use Rattle.of_memory.specs.Laws.{setup_with, StandsAt, KeepsSo, ExplainsKept, HasOpenScript, HasOnlyKept, TellsLast, Leads}
 use Rattle.of_memory.specs.Serving.{Serves, AllHere, IsKeptOf, KeepsThose, ended_of, start_of_row}
-use Rattle.of_memory.specs.Memories.{IsMemory, HasMadeOf, HasOpenOf, KnowsOthers, OthersStayOpen, HasHistory, LeadsTo, row_of, StartsWith, tickets_before, callers_of}
-use Rattle.of_memory.proofs.Seats.{serve_none, serve_some, number_below, keeps_as, same_caller}
+use Rattle.of_memory.specs.Memories.{IsMemory, HasMadeOf, HasOpenOf, KnowsOthers, OthersStayOpen, HasHistory, row_of, callers_of}
+use Rattle.of_memory.proofs.Seats.{number_below, keeps_as, same_caller}
 
 -- ---- a caller is taken out of its place, or put into it
 

@@ -1,10 +1,8 @@
 -- Serial histories one after the other, and what they keep.
-use Rattle.std.proofs.Common.{◌≡◌, Bool, true, List, [], ◌∷◌, ◌++◌, refl}
-use Rattle.std.specs.List.{All}
+use Rattle.std.proofs.Common.{◌≡◌, true, [], ◌∷◌, refl}
 use Rattle.std.proofs.lemmas.List.Elements.{All-head, All-tail}
-use Rattle.of_script.specs.declared.instr.Instr.{Instr}
-use Rattle.of_store.specs.State.{State, run}
-use Rattle.of_memory.specs.History.{Entry, IsSerial, store_after}
+use Rattle.of_store.specs.State.{run}
+use Rattle.of_memory.specs.History.{Entry}
 use Rattle.of_memory.specs.Joining.{HistoriesJoin, InvariantsHold}
 
 pub histories_join : HistoriesJoin

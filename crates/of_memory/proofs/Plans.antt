@@ -1,5 +1,5 @@
 -- A plan without scripts whose table is that of a row of scripts: what is known of plans' tables is known of it.
-use Rattle.std.proofs.Common.{◌≡◌, ℕ, zero, suc, ◌+◌, ◌≤◌, List, [], ◌∷◌, length, replicate, Option, None, refl, sym, ap, arith}
+use Rattle.std.proofs.Common.{◌≡◌, ℕ, zero, suc, ◌≤◌, List, [], length, replicate, Option, None, refl, arith}
 use Rattle.std.specs.Prelude.{sum_by, IfSome}
 use Rattle.std.specs.List.{AllByRecursion}
 use Rattle.std.proofs.lemmas.List.{length-replicate}

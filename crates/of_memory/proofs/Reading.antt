@@ -1,5 +1,5 @@
 -- What is read off a saved row.
-use Rattle.std.proofs.Common.{◌≡◌, ℕ, ◌+◌, ◌-◌, ◌<◌, ◌≤◌, sym, ◌∙◌, ap, subst, arith, List, length, get_or, take, drop, map}
+use Rattle.std.proofs.Common.{◌≡◌, ℕ, ◌+◌, ◌-◌, ◌<◌, sym, ◌∙◌, ap, subst, arith, List, get_or, drop, map}
 use Rattle.std.specs.Prelude.{slice_range}
 use Rattle.std.proofs.lemmas.List.{get_or-take, get_or-drop}
 use Rattle.of_cell.specs.Words.{pay}
@@ -9,8 +9,6 @@ use Rattle.of_mem.specs.Places.{base_of}
 use Rattle.of_mem.specs.ProgramWork.{memory}
 use Rattle.of_script.specs.declared.instr.TheConstants.{MOST_INSTRS}
 use Rattle.of_store.specs.State.{State}
-use Rattle.of_eval.specs.declared.scripts.Scripts.{Scripts}
-use Rattle.of_eval.specs.Scripts.{store_at, cells_in}
 use Rattle.of_eval.specs.Stored.{IsStored}
 use Rattle.of_eval.specs.Walking.{CellsStandFor}
 use Rattle.of_memory.specs.declared.saved.Saved.{Saved}

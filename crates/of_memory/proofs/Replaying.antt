@@ -1,7 +1,7 @@
 -- A serial order of operations that are scripts' is a serial history of these scripts on the store that the cells stand for.
-use Rattle.std.proofs.Common.{◌≡◌, ℕ, zero, suc, ◌+◌, ◌≤◌, ◌<◌, true, List, [], ◌∷◌, length, get_or, map, refl, sym, ap, subst, ◌∙◌, arith}
-use Rattle.std.specs.List.{All, AllByRecursion as Each}
-use Rattle.std.proofs.lemmas.List.{length-map, get_or_past}
+use Rattle.std.proofs.Common.{◌≡◌, ℕ, zero, suc, ◌≤◌, ◌<◌, true, List, [], ◌∷◌, length, get_or, map, refl, sym, ap, subst, ◌∙◌, arith}
+use Rattle.std.specs.List.{AllByRecursion as Each}
+use Rattle.std.proofs.lemmas.List.{length-map}
 use Rattle.std.proofs.lemmas.List.Elements.{All-from_get_or}
 use Rattle.of_mem.specs.declared.work.RawReply.{RawReply}
 use Rattle.of_mem.specs.Meaning.{Meaning}
@@ -26,7 +26,7 @@ use Rattle.of_core.specs.Claim.{IsNewer}
 use Rattle.of_core.specs.Linear as core
 use Rattle.of_caller.specs.Moments.{raw_of}
 use Rattle.of_caller.proofs.StoresHeld.{FitsIn, script_fits, held_response}
-use Rattle.of_memory.specs.History.{Entry, no_entry, End, Reply, Spent, IsSerial, store_after, IsLater, StandsInOrder, Has, Explains}
+use Rattle.of_memory.specs.History.{Entry, no_entry, End, Reply, Spent, IsSerial, store_after, StandsInOrder, Has, Explains}
 use Rattle.of_memory.specs.Calls.{IsOperation, EndsAs}
 use Rattle.of_memory.specs.Laws.{setup_with}
 

@@ -1,9 +1,9 @@
 -- The callers of a memory at their places, and what a pass keeps that gathers them.
 use Rattle.std.specs.Prelude.{is_some, not}
-use Rattle.std.proofs.Common.{◌≡◌, ◌≢◌, ℕ, zero, suc, ◌+◌, ◌≤◌, ◌<◌, ◌⊎◌, inl, inr, Bool, true, false, List, [], ◌∷◌, ◌++◌, length, get_or, set, Option, Some, None, refl, sym, ap, subst, ◌∙◌, arith}
+use Rattle.std.proofs.Common.{◌≡◌, ◌≢◌, ℕ, ◌+◌, ◌<◌, ◌⊎◌, inl, inr, Bool, false, List, [], ◌∷◌, ◌++◌, length, get_or, set, Option, Some, None, refl, sym, ap, subst, ◌∙◌, arith}
 use Rattle.std.proofs.lemmas.Bool.{cases_lt}
 use mathlib.Core.Bool.{true≢false}
-use Rattle.std.proofs.lemmas.List.{get_or-set_same, get_or-set_other, get_or_append_left, get_or_past, length-set}
+use Rattle.std.proofs.lemmas.List.{get_or-set_same, get_or-set_other, get_or_append_left, get_or_past}
 use Rattle.std.proofs.Math.Seq.{get_or-append_seam}
 use Rattle.of_eval.specs.declared.scripts.Scripts.{Scripts}
 use Rattle.of_eval.specs.Scripts.{scripts_meaning}
@@ -11,10 +11,10 @@ use Rattle.of_row.specs.declared.member.Member.{Member}
 use Rattle.of_row.specs.declared.member.Pass.{Pass}
 use Rattle.of_row.specs.declared.row.Row.{Row}
 use Rattle.of_row.specs.Passes.{HasEnrolled, IsFirst}
-use Rattle.of_row.specs.Rows.{key_of, setup_at, start_at, IsOf}
+use Rattle.of_row.specs.Rows.{key_of, setup_at, start_at}
 use Rattle.of_row.specs.Rule.{IsAsked}
 use Rattle.of_row.specs.Views.{Kept, Sight, Each, last_kept, reach}
-use Rattle.of_row.specs.Turned.{joined, newcomer, StandsFor}
+use Rattle.of_row.specs.Turned.{newcomer, StandsFor}
 use Rattle.of_core.specs.Table.{Setup}
 use Rattle.of_core.specs.Machine.{Data, IsOpen, is_idle}
 use Rattle.of_core.specs.Turn.{IsIdle}
@@ -23,7 +23,7 @@ use Rattle.of_caller.specs.declared.caller.Caller.{Caller}
 use Rattle.of_caller.specs.Callers.{IsCaller, call_of, sight_of}
 use Rattle.of_memory.specs.Calls.{RunsScripts}
 use Rattle.of_memory.specs.Laws.{KeepsSo}
-use Rattle.of_memory.specs.Serving.{IsNew, Serves, ServeAll, Enrols, AllStand, AllHere, IsKeptOf, KeepsThose, ended_of}
+use Rattle.of_memory.specs.Serving.{IsNew, Serves, ServeAll, Enrols, AllStand, AllHere, IsKeptOf, KeepsThose}
 use Rattle.of_memory.proofs.Called.{stands_caller}
 
 -- ---- numbers that a pass has asked for

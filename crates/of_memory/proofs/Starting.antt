@@ -1,6 +1,5 @@
 -- Where rows of scripts start: empty, or where a closed one has ended.
-use Rattle.std.proofs.Common.{◌≡◌, ℕ, zero, suc, ◌≤◌, ◌<◌, List, [], get_or, replicate, map, refl, sym, ap, subst, ◌∙◌, arith, length}
-use Rattle.std.specs.Arc.{arc_value}
+use Rattle.std.proofs.Common.{◌≡◌, ℕ, zero, suc, ◌≤◌, ◌<◌, List, [], get_or, replicate, map, refl, sym, ap, subst, ◌∙◌, length}
 use Rattle.std.proofs.lemmas.List.{length-replicate}
 use Rattle.of_cell.specs.Words.{pay}
 use Rattle.of_cell.proofs.Order.{pay_zero}
@@ -10,23 +9,20 @@ use Rattle.of_store.specs.State.{State, empty_store}
 use Rattle.of_plan.specs.declared.plan.TheConstants.{GREATEST_LIMIT}
 use Rattle.of_eval.specs.declared.scripts.Scripts.{Scripts}
 use Rattle.of_eval.specs.Scripts.{store_at, cells_in, LawfulCells, scripts_meaning}
-use Rattle.of_eval.specs.Stored.{IsStored}
 use Rattle.of_eval.specs.SoundScripts.{empty_is_stored}
 use Rattle.of_core.specs.Table.{Setup, setup_of}
 use Rattle.of_core.specs.World.{Start}
 use Rattle.of_core.specs.Events.{zeros}
 use Rattle.of_core.specs.Starts.{start_of, IsStartRow}
 use Rattle.of_row.specs.declared.row.Row.{Row}
-use Rattle.of_row.specs.Rows.{key_of, setup_at, start_at, start_for, HasSizes, MayStartFrom, IsOf}
+use Rattle.of_row.specs.Rows.{key_of, setup_at, start_for, HasSizes, MayStartFrom, IsOf}
 use Rattle.of_row.specs.Rule.{done_before}
 use Rattle.of_caller.proofs.StoresReplay.{number_at}
 use Rattle.of_memory.specs.declared.memory.Memory.{Memory}
-use Rattle.of_memory.specs.declared.saved.Saved.{Saved}
 use Rattle.of_memory.specs.Calls.{AreMade}
 use Rattle.of_memory.specs.Laws.{setup_with, StandsAt}
-use Rattle.of_memory.specs.Serving.{IsScriptsRow, IsNew, Serves, ServeAll, AllStand, ended_of, start_of_row, made_before}
-use Rattle.of_memory.specs.Saving.{IsSaved, Holds, start_in, ticket_in}
-use Rattle.of_memory.specs.Memories.{IsMemory, HasMadeOf, row_of, StartsWith}
+use Rattle.of_memory.specs.Serving.{IsScriptsRow, IsNew, Serves, ServeAll, AllStand, start_of_row, made_before}
+use Rattle.of_memory.specs.Memories.{IsMemory, HasMadeOf, row_of}
 
 zero_at : (n a : ℕ) → ◌≡◌ {A = ℕ} (get_or (replicate n 0) a 0) 0
 zero_at zero a = refl

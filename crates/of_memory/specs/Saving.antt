@@ -1,5 +1,5 @@
 -- What a closed memory leaves.
-use Rattle.std.specs.Prelude.{◌≡◌, ℕ, ◌≤◌}
+use Rattle.std.specs.Prelude.{ℕ, ◌≤◌}
 use Rattle.of_plan.specs.declared.plan.TheConstants.{GREATEST_LIMIT}
 use Rattle.of_store.specs.State.{State, Response}
 use Rattle.of_eval.specs.Scripts.{cells_in, LawfulCells}

@@ -1,5 +1,5 @@
 -- A row of scripts, and its callers.
-use Rattle.std.specs.Prelude.{◌≡◌, ℕ, ◌≤◌, ◌<◌, ◌+◌, List, [], ◌∷◌, length, Option, Some, None, true, ◌⊎◌}
+use Rattle.std.specs.Prelude.{◌≡◌, ℕ, ◌≤◌, ◌<◌, List, [], length, Option, Some, None, true}
 use Rattle.std.proofs.Common.{get_or}
 use Rattle.of_store.specs.State.{State}
 use Rattle.of_plan.specs.declared.plan.TheConstants.{GREATEST_LIMIT}

@@ -1,4 +1,4 @@
-use Rattle.std.proofs.Common.{◌∙◌, arith}
+use Rattle.std.proofs.Common.{◌∙◌}
 use Rattle.of_memory.proofs.Closing.{kept_durable}
 use Rattle.of_memory.proofs.saved.keep_durable.Goals as goal
 

@@ -1,4 +1,4 @@
-use Rattle.std.proofs.Common.{◌≡◌, ◌≢◌, ◌≤◌, ◌+◌, ℕ, sym, ap, subst, ◌∙◌, arith, length, get_or, None}
+use Rattle.std.proofs.Common.{◌≢◌, ◌≤◌, ◌+◌, sym, ap, subst, ◌∙◌, arith, length, get_or, None}
 use Rattle.std.proofs.lemmas.List.{get_or-set_other, length-set}
 use Rattle.of_eval.specs.declared.scripts.Scripts.{Scripts}
 use Rattle.of_row.specs.declared.member.Pass.{Pass}

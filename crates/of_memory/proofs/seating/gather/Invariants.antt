@@ -1,6 +1,6 @@
-use Rattle.std.proofs.Common.{◌≡◌, ◌≤◌, ◌<◌, ℕ, length, get_or, Option, None}
+use Rattle.std.proofs.Common.{◌≡◌, ◌≤◌, ℕ, length, get_or, None}
 use Rattle.of_row.specs.Rows.{IsOf}
-use Rattle.of_memory.specs.Serving.{ServeAll, KeepsThose}
+use Rattle.of_memory.specs.Serving.{KeepsThose}
 use Rattle.of_memory.proofs.seating.gather.Given as goal
 
 abbrev pub invariant-loop-number : goal.invariant-loop-number

@@ -1,4 +1,4 @@
-use Rattle.std.proofs.Common.{arith, ap, length, ◌++◌, ◌∷◌, [], Some, length-append}
+use Rattle.std.proofs.Common.{arith, ap, length, ◌∷◌, [], Some, length-append}
 use Rattle.of_memory.specs.Serving.{IsNew}
 use Rattle.of_memory.proofs.Seats.{stand_more}
 use Rattle.of_memory.proofs.seating.seat_all.Goals as goal

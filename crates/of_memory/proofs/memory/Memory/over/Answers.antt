@@ -1,4 +1,3 @@
-use Rattle.std.proofs.Common.{arith}
 use Rattle.of_row.specs.Rows.{key_of}
 use Rattle.of_memory.proofs.Seats.{serve_new}
 use Rattle.of_memory.proofs.Starting.{is_memory, none_made}

@@ -1,4 +1,4 @@
-use Rattle.std.proofs.Common.{◌≤◌, ◌<◌, ℕ, sym, ap, subst, ◌∙◌, [], arith}
+use Rattle.std.proofs.Common.{◌<◌, ℕ, sym, ap, subst, ◌∙◌, []}
 use Rattle.of_row.specs.Rows.{key_of, start_for}
 use Rattle.of_memory.specs.Memories.{HasMadeOf}
 use Rattle.of_memory.proofs.Starting.{goes_on}
