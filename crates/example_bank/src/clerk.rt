@@ -15,7 +15,7 @@ ghost use Rattle.example_bank.specs.Clerks.{IsClerk, IsSame, IsThrough, KeepsCle
 
 use crate::tally::{End, Tally};
 use crate::transfer::Transfer;
-use of_brake::{Brake, Fuel, Steps};
+use of_brake::{Brake, Steps};
 use of_caller::{CallErr, Caller};
 use of_core::Outcome;
 use of_eval::Scripts;
@@ -126,34 +126,25 @@ pub struct Clerk {
     pub tally: Tally,
 }
 
-// A brake that denies each step after a stop.
-fn brake_for(alloc: Global, stop: Option<u64>) -> Result<Box<dyn Brake + Send>, AllocError>
-    ensures { IfOk result (λ brake. left brake ≡ Some stop) }
-{
-    let mut fuel = Fuel::new();
-    fuel.arm(stop);
-    let brake: Box<dyn Brake + Send> = Box::new(alloc, fuel)?;
-    Ok(brake)
-}
-
 impl Clerk {
-    /// A clerk with a number, none below which was asked for. The error is that there is no memory:
-    /// all that its work needs is taken here.
+    /// A clerk with a number, none below which was asked for, and with a brake that stops it when its
+    /// job says so. The error is that there is no memory: all that its work needs is taken here.
     pub fn hire(
         alloc: Global,
         row: &Row<Scripts>,
         pass: Pass,
         number: u32,
         job: Job,
+        brake: Box<dyn Brake + Send>,
     ) -> Result<(Clerk, Pass), AllocError>
         requires pass { Hires row.now number pass }
         requires number { number < (key_of row.now).callers }
+        requires stop { left brake ≡ Some job.stop }
         ensures clerk { IfOk result (λ r. IsClerk (left r.0.brake) row.now r.0) }
         ensures number { IfOk result (λ r. r.0.number ≡ number) }
         ensures job { IfOk result (λ r. r.0.job ≡ job) }
         ensures pass { IfOk result (λ r. Hires row.now (number + 1) r.1) }
     {
-        let brake = brake_for(alloc, job.stop)?;
         let (caller, pass) = enter(alloc, row, pass, number)?;
         Ok((
             Clerk {

@@ -1,6 +1,6 @@
 //! Clerks beside each other: hired, at work and gone.
 
-ghost use Rattle.std.specs.Prelude.{◌≡◌, ◌+◌, ◌<◌, ℕ, IfOk};
+ghost use Rattle.std.specs.Prelude.{◌≡◌, ◌+◌, ◌<◌, ℕ, Some, IfOk};
 ghost use Rattle.std.specs.Thread.{IsSync};
 ghost use Rattle.of_row.specs.Rows.{IsOf, key_of};
 ghost use Rattle.example_bank.specs.declared.clerk.Job.{Job as TheJob};
@@ -9,29 +9,37 @@ ghost use Rattle.example_bank.specs.declared.tally.Tally.{Tally as TheTally};
 ghost use Rattle.example_bank.specs.Clerks.{IsClerk, IsSame, IsThrough, KeepsClerk, Hires};
 
 use crate::clerk::{Clerk, Job, Shift};
+use of_brake::Brake;
 use of_eval::Scripts;
 use of_row::{Pass, Row};
 use std::alloc::{AllocError, Global};
 use std::thread::{Threads, join};
 
-/// Hires two clerks, of this number and the next. The error is that there is no memory.
+/// The brakes of two clerks.
+pub(crate) type Brakes = (Box<dyn Brake + Send>, Box<dyn Brake + Send>);
+
+/// Hires two clerks, of this number and the next, with brakes that stop them when their jobs say so.
+/// The error is that there is no memory.
 pub(crate) fn hire_two(
     alloc: Global,
     row: &Row<Scripts>,
     pass: Pass,
     first: u32,
     jobs: (Job, Job),
+    brakes: Brakes,
 ) -> Result<((Clerk, Clerk), Pass), AllocError>
     requires pass { Hires row.now first pass }
     requires numbers { first + 1 < (key_of row.now).callers }
+    requires one { left brakes.0 ≡ Some jobs.0.stop }
+    requires other { left brakes.1 ≡ Some jobs.1.stop }
     ensures one { IfOk result (λ r. IsClerk (left r.0.0.brake) row.now r.0.0
         × (r.0.0.number ≡ first) × (r.0.0.job ≡ jobs.0)) }
     ensures other { IfOk result (λ r. IsClerk (left r.0.1.brake) row.now r.0.1
         × (r.0.1.number ≡ first + 1) × (r.0.1.job ≡ jobs.1)) }
     ensures pass { IfOk result (λ r. Hires row.now (first + 2) r.1) }
 {
-    let (one, pass) = Clerk::hire(alloc, row, pass, first, jobs.0)?;
-    let (other, pass) = Clerk::hire(alloc, row, pass, first + 1, jobs.1)?;
+    let (one, pass) = Clerk::hire(alloc, row, pass, first, jobs.0, brakes.0)?;
+    let (other, pass) = Clerk::hire(alloc, row, pass, first + 1, jobs.1, brakes.1)?;
     Ok(((one, other), pass))
 }
 

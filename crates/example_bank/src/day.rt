@@ -1,6 +1,6 @@
 //! A working day of the bank.
 
-ghost use Rattle.std.specs.Prelude.{◌≡◌, ◌+◌, ◌<◌, ℕ, IfOk, List, not};
+ghost use Rattle.std.specs.Prelude.{◌≡◌, ◌+◌, ◌<◌, ℕ, Some, IfOk, List, not};
 ghost use Rattle.of_row.specs.Rows.{IsOf, key_of};
 ghost use Rattle.example_bank.specs.Books.{AreBooks, money_of, start_in};
 ghost use Rattle.example_bank.specs.Clerks.{CanCount, KeepsClerk, Hires, to_do_of};
@@ -11,8 +11,9 @@ ghost use Rattle.example_bank.specs.declared.clerk.Job.{Job as TheJob};
 
 use crate::books::{Books, CLERKS};
 use crate::clerk::{Job, Shift};
-use crate::crew::{four_at_once, hire_two, leave_two};
+use crate::crew::{Brakes, four_at_once, hire_two, leave_two};
 use crate::tally::{End, Tally};
+use of_brake::{Brake, Fuel};
 use of_eval::Scripts;
 use of_row::{Pass, Row};
 use std::alloc::{AllocError, Global};
@@ -42,9 +43,14 @@ fn work_all_day<R: Threads + Sync>(
     row: &Row<Scripts>,
     pass: Pass,
     jobs: Jobs,
+    brakes: (Brakes, Brakes),
 ) -> Result<(Pass, [Tally; CLERKS as usize]), AllocError>
     requires row { (key_of row.now).callers ≡ CLERKS }
     requires pass { Hires row.now 0 pass }
+    requires first { left brakes.0.0 ≡ Some jobs.two.0.stop }
+    requires second { left brakes.0.1 ≡ Some jobs.two.1.stop }
+    requires third { left brakes.1.0 ≡ Some jobs.others.0.stop }
+    requires fourth { left brakes.1.1 ≡ Some jobs.others.1.stop }
     ensures pass { IfOk result (λ r. IsOf row.now r.0.seat) }
     ensures keeps { IfOk result (λ r. (i : ℕ) → i < CLERKS →
         KeepsClerk i (job_of jobs i) (tally_of r.1 i) r.0) }
@@ -52,8 +58,8 @@ fn work_all_day<R: Threads + Sync>(
         HasEnded (job_of jobs i) (tally_of r.1 i)) }
     ensures counts { IfOk result (λ r. (i : ℕ) → i < CLERKS → CanCount (tally_of r.1 i)) }
 {
-    let (two, pass) = hire_two(alloc, row, pass, 0, jobs.two)?;
-    let (others, pass) = hire_two(alloc, row, pass, 2, jobs.others)?;
+    let (two, pass) = hire_two(alloc, row, pass, 0, jobs.two, brakes.0)?;
+    let (others, pass) = hire_two(alloc, row, pass, 2, jobs.others, brakes.1)?;
     let noon = four_at_once(rt, row, two, others, Shift::Morning);
     let (two, others) = four_at_once(rt, row, noon.0, noon.1, Shift::Evening);
     let tallies = [two.0.tally, two.1.tally, others.0.tally, others.1.tally];
@@ -69,8 +75,13 @@ fn close_after_work<R: Threads + Sync>(
     alloc: Global,
     books: &Books,
     jobs: Jobs,
+    brakes: (Brakes, Brakes),
 ) -> Result<(Books, [Tally; CLERKS as usize]), AllocError>
-    requires { AreBooks books.now }
+    requires books { AreBooks books.now }
+    requires first { left brakes.0.0 ≡ Some jobs.two.0.stop }
+    requires second { left brakes.0.1 ≡ Some jobs.two.1.stop }
+    requires third { left brakes.1.0 ≡ Some jobs.others.0.stop }
+    requires fourth { left brakes.1.1 ≡ Some jobs.others.1.stop }
     ensures books { IfOk result (λ r. AreBooks r.0) }
     ensures scripts { IfOk result (λ r. r.0.scripts ≡ books.now.scripts) }
     ensures ledger { IfOk result (λ r. HasLedger books.now.scripts LIMIT (start_in books.now)
@@ -80,9 +91,18 @@ fn close_after_work<R: Threads + Sync>(
     ensures counts { IfOk result (λ r. (i : ℕ) → i < CLERKS → CanCount (tally_of r.1 i)) }
 {
     let (row, pass) = books.open(alloc)?;
-    let (pass, tallies) = work_all_day(rt, alloc, &row, pass, jobs)?;
+    let (pass, tallies) = work_all_day(rt, alloc, &row, pass, jobs, brakes)?;
     let closed = Books::close(alloc, books.scripts, row, pass)?;
     Ok((closed, tallies))
+}
+
+// The fuel of a job: it denies each step after the job's stop.
+fn fuel_for(job: &Job) -> Fuel
+    ensures { Some result.left ≡ Some job.now.stop }
+{
+    let mut fuel = Fuel::new();
+    fuel.arm(job.stop);
+    fuel
 }
 
 // With one more that took effect.
@@ -150,7 +170,13 @@ pub fn working_day<R: Threads + Sync>(
     ensures day { IfOk result (IsDay books.now jobs) }
     ensures money { IfOk result (λ d. money_of d.books ≡ money_of books.now) }
 {
-    let (closed, tallies) = close_after_work(rt, alloc, books, jobs)?;
+    // a contract can't speak of a brake that a function makes and hands out, so all are made here
+    let first: Box<dyn Brake + Send> = Box::new(alloc, fuel_for(&jobs.two.0))?;
+    let second: Box<dyn Brake + Send> = Box::new(alloc, fuel_for(&jobs.two.1))?;
+    let third: Box<dyn Brake + Send> = Box::new(alloc, fuel_for(&jobs.others.0))?;
+    let fourth: Box<dyn Brake + Send> = Box::new(alloc, fuel_for(&jobs.others.1))?;
+    let brakes = ((first, second), (third, fourth));
+    let (closed, tallies) = close_after_work(rt, alloc, books, jobs, brakes)?;
     let tallies = [
         told(books, &closed, 0, tallies[0]),
         told(books, &closed, 1, tallies[1]),

@@ -19,6 +19,6 @@ returns-clause-ledger g c =
     let start = c.in_ok-row.ensures.start in
     subst (λ (z : Start). HasLedger b.scripts LIMIT z (start_in c.in_ok-closed.closed) (λ i. to_do_of (job_of jobs i)) (tally_of c.in_ok-pass.tallies)) start
     (c.in_ok-closed.ensures.ledger (λ i. to_do_of (job_of jobs i)) (tally_of c.in_ok-pass.tallies)
-    (subst (MayStart (setup_with b.scripts LIMIT) (LawfulCells b.scripts)) (sym start) c.requires.may_start)
+    (subst (MayStart (setup_with b.scripts LIMIT) (LawfulCells b.scripts)) (sym start) c.requires.books.may_start)
     (λ i l. all_change (job_of jobs i).to_do.items)
     (few_clerks b.scripts.callers b.clerks _ c.in_ok-pass.ensures.keeps))

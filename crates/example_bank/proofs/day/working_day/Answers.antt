@@ -11,6 +11,10 @@ use Rattle.example_bank.specs.Days.{job_of, tally_of, IsTold}
 use Rattle.example_bank.proofs.Days.{four, is_day}
 use Rattle.example_bank.proofs.Accounts.{are_balanced, money_kept}
 use Rattle.example_bank.proofs.Balanced.{transfers_keep}
+use denote.Param.Object.{read_made}
+use Rattle.std.specs.Prelude.{Some}
+use Rattle.of_brake.specs.declared.fuel.Fuel.{Fuel}
+use Rattle.example_bank.proofs.day.working_day.OwnLists.{own-1, at-1-1}
 use Rattle.example_bank.proofs.day.working_day.Goals as goal
 
 pub returns-clause-day : goal.returns-clause-day
@@ -48,3 +52,20 @@ told-requires-3-clause-counts g c = c.in_ok-closed.ensures.counts 2 (omega arith
 
 pub told-requires-4-clause-counts : goal.told-requires-4-clause-counts
 told-requires-4-clause-counts g c = c.in_ok-closed.ensures.counts 3 (omega arith)
+
+-- what a box of a fuel tells of its steps left is what the fuel does
+pub close_after_work-requires-clause-first : goal.close_after_work-requires-clause-first
+close_after_work-requires-clause-first g c κs within =
+    read_made own-1 (own-1.entry at-1-1) at-1-1 refl _ (λ j w. j.1.left w) _ _ _ c.into_dyn_box.ensures.1 ∙ ap (λ (f : Fuel). Some f.left) c.in_ok-new.ensures.ok ∙ c.fuel_for.ensures
+
+pub close_after_work-requires-clause-second : goal.close_after_work-requires-clause-second
+close_after_work-requires-clause-second g c κs within =
+    read_made own-1 (own-1.entry at-1-1) at-1-1 refl _ (λ j w. j.1.left w) _ _ _ c.into_dyn_box-in_ok-new-2.ensures.1 ∙ ap (λ (f : Fuel). Some f.left) c.in_ok-new-2.ensures.ok ∙ c.fuel_for-2.ensures
+
+pub close_after_work-requires-clause-third : goal.close_after_work-requires-clause-third
+close_after_work-requires-clause-third g c κs within =
+    read_made own-1 (own-1.entry at-1-1) at-1-1 refl _ (λ j w. j.1.left w) _ _ _ c.into_dyn_box-in_ok-new-3.ensures.1 ∙ ap (λ (f : Fuel). Some f.left) c.in_ok-new-3.ensures.ok ∙ c.fuel_for-3.ensures
+
+pub close_after_work-requires-clause-fourth : goal.close_after_work-requires-clause-fourth
+close_after_work-requires-clause-fourth g c κs within =
+    read_made own-1 (own-1.entry at-1-1) at-1-1 refl _ (λ j w. j.1.left w) _ _ _ c.into_dyn_box-in_ok-new-4.ensures.1 ∙ ap (λ (f : Fuel). Some f.left) c.in_ok-new-4.ensures.ok ∙ c.fuel_for-4.ensures

@@ -8,7 +8,7 @@ returns-clause-clerk g c =
     let job = c.args.job in
     record {
       caller = c.in_ok-caller.ensures.caller;
-      works = new_works job.stop _ (to_do_of job) c.args.number c.in_ok-caller.caller c.in_ok-caller.ensures.ready c.in_ok-brake.ensures c.new.result c.new.ensures;
+      works = new_works job.stop _ (to_do_of job) c.args.number c.in_ok-caller.caller c.in_ok-caller.ensures.ready c.requires.stop c.new.result c.new.ensures;
       counts = subst (λ t. t.made + t.aborted ≡ t.answered) (sym c.new.ensures) refl;
       few = subst (λ t. Within t.end t.answered (vec_len job.to_do)) (sym c.new.ensures) (omega arith);
     }
