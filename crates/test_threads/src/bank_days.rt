@@ -1,5 +1,7 @@
 //! Two days at the bank that follow one another.
 
+ghost use Rattle.example_bank.specs.Books.{AreBooks};
+
 use example_bank::{BankErr, Books, CLERKS, Day, End, Job, Jobs, Tally, Transfer, working_day};
 use of_eval::Scripts;
 use std::alloc::{AllocError, Global};
@@ -52,7 +54,9 @@ fn second_jobs(alloc: Global) -> Result<Jobs, AllocError> {
 type Seen = ([u32; 4], [Tally; 3]);
 
 /// What is seen in the evening.
-fn seen(alloc: Global, day: &Day) -> Result<Seen, BankErr> {
+fn seen(alloc: Global, day: &Day) -> Result<Seen, BankErr>
+    requires { AreBooks day.now.books }
+{
     let after = day.books.store(alloc)?;
     let numbers = [
         after.register(0),
