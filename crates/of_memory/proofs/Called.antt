@@ -35,7 +35,7 @@ use Rattle.of_caller.specs.Ends.{Tells}
 use Rattle.of_caller.specs.Lanes.{IsHeld}
 use Rattle.of_caller.specs.Tables.{setup_for}
 use Rattle.of_caller.proofs.RawReplies.{IsFine, answer_holds}
-use Rattle.of_memory.specs.History.{End, Reply, Spent, Made}
+use Rattle.of_memory.specs.History.{End, Replied, Spent, Made}
 use Rattle.of_memory.specs.Calls.{IsOperation, EndsAs, IsMade, AreMade, RunsScripts}
 use Rattle.of_memory.specs.Serving.{IsScriptsRow, Serves, start_of_row}
 use Rattle.of_memory.specs.declared.error.RunErr.{RunErr}
@@ -51,7 +51,7 @@ made_more [] (n ∷ ms) e m h k = absurd h
 made_more (f ∷ es) [] e m h k = absurd h
 made_more (f ∷ es) (n ∷ ms) e m h k = (h.0, made_more es ms e m h.1 k)
 
-ends_as : (o : Outcome) (a : Answer) → Tells o a → EndsAs o (Reply (response_of a.reply))
+ends_as : (o : Outcome) (a : Answer) → Tells o a → EndsAs o (Replied (response_of a.reply))
 ends_as (Answered s announced raw steps) a t = (a.reply, t.2, refl)
 ends_as (Over s) a t = absurd t
 
@@ -144,8 +144,8 @@ module _ (S : Setup) (L : List ℕ → Type 0) (B : Start) (m : Data) (v : Sight
         subst (λ (es : List Ended). AreMade es (ms ++ record { script = script; ended = end } ∷ [])) (sym (one_more o closes))
         (made_more before.ended ms (record { op = m.op; outcome = o }) (record { script = script; ended = end }) made (record { script = is; words = words; ended = held }))
 
-    pub made_answered : (o : Outcome) (x : Answer) → Tells o x → Told (Ok o) → AreMade now.ended (ms ++ record { script = script; ended = Reply (response_of x.reply) } ∷ [])
-    made_answered o x tells h = more o (Reply (response_of x.reply)) (ends_as o x tells) h.1
+    pub made_answered : (o : Outcome) (x : Answer) → Tells o x → Told (Ok o) → AreMade now.ended (ms ++ record { script = script; ended = Replied (response_of x.reply) } ∷ [])
+    made_answered o x tells h = more o (Replied (response_of x.reply)) (ends_as o x tells) h.1
 
     pub made_spent : (seq : ℕ) → r ≡ Err (NoneLeft seq) → AreMade now.ended (ms ++ record { script = script; ended = Spent } ∷ [])
     made_spent seq is_so = let h : Told (Err (NoneLeft seq)) = subst Told is_so told.result in more (Over seq) Spent tt h

@@ -26,7 +26,7 @@ use Rattle.of_core.specs.Claim.{IsNewer}
 use Rattle.of_core.specs.Linear as core
 use Rattle.of_caller.specs.Moments.{raw_of}
 use Rattle.of_caller.proofs.StoresHeld.{FitsIn, script_fits, held_response}
-use Rattle.of_memory.specs.History.{Entry, no_entry, End, Reply, Spent, IsSerial, store_after, StandsInOrder, Has, Explains}
+use Rattle.of_memory.specs.History.{Entry, no_entry, End, Replied, Spent, IsSerial, store_after, StandsInOrder, Has, Explains}
 use Rattle.of_memory.specs.Calls.{IsOperation, EndsAs}
 use Rattle.of_memory.specs.Laws.{setup_with}
 
@@ -128,7 +128,7 @@ module _ (w : Scripts) where
         let newer = rising p q lt l (sym b.caller ∙ same ∙ a.caller) in
         omega (arith, newer, a.ticket, b.ticket)
 
-    has : (i t : ℕ) (op : List ℕ) (raw : RawReply) (script : List Instr) (response : Response) → IsScript script → op ≡ map instr_word script → EndsAs (Answered 0 true raw 0) (Reply response)
+    has : (i t : ℕ) (op : List ℕ) (raw : RawReply) (script : List Instr) (response : Response) → IsScript script → op ≡ map instr_word script → EndsAs (Answered 0 true raw 0) (Replied response)
         → (place : ℕ) → place < length cs → (get_or cs place no_call).caller ≡ i → (get_or cs place no_call).ticket ≡ t → (get_or cs place no_call).op ≡ op → SameReply S raw (get_or cs place no_call).raw
         → Has hs (record { caller = i; ticket = t; script = script; reply = response })
     has i t op raw script response is words held place among caller ticket same reply =
@@ -141,10 +141,10 @@ module _ (w : Scripts) where
 
     -- how the order explains the end of a call, the history does
     pub explains : (o : Outcome) (end : End) (i t : ℕ) (op : List ℕ) (script : List Instr) → IsScript script → op ≡ map instr_word script → EndsAs o end → core.Explains S cs i t op o → Explains hs i t script end
-    explains (Answered n announced raw steps) (Reply response) i t op script is words held call =
+    explains (Answered n announced raw steps) (Replied response) i t op script is words held call =
         has i t op raw script response is words held call.place call.among call.caller call.ticket call.same call.reply
     explains (Answered n announced raw steps) Spent i t op script is words held call = absurd held
-    explains (Over n) (Reply response) i t op script is words held call = absurd held
+    explains (Over n) (Replied response) i t op script is words held call = absurd held
     explains (Over n) Spent i t op script is words held none =
         All-from_get_or (λ (e : Entry). e.caller ≡ i → e.ticket ≡ t → ⊥) hs no_entry
         (λ y l a b. none y no_call (subst (λ (m : ℕ). y < m) (long s cs k) l) (sym (at y l).caller ∙ a) (sym (at y l).ticket ∙ b))

@@ -10,11 +10,11 @@ use Rattle.of_caller.specs.declared.caller.Caller.{Caller}
 use Rattle.of_caller.specs.Callers.{call_of}
 use Rattle.of_memory.specs.declared.error.RunErr.{RunErr}
 use Rattle.of_memory.specs.declared.error.RunErr.TheVariants.{OutOfMemory, Stopped, Spent as NoneLeft, Open, NoTicket}
-use Rattle.of_memory.specs.History.{Made, Reply, Spent}
+use Rattle.of_memory.specs.History.{Made, Replied, Spent}
 
 -- the calls that have ended after these, where a call of a script has come to this
 abbrev pub made_with : List Instr → Result Answer RunErr → List Made → List Made
-made_with script (Ok a) ms = ms ++ record { script = script; ended = Reply (response_of a.reply) } ∷ []
+made_with script (Ok a) ms = ms ++ record { script = script; ended = Replied (response_of a.reply) } ∷ []
 made_with script (Err OutOfMemory) ms = ms
 made_with script (Err (Stopped asked)) ms = ms
 made_with script (Err (NoneLeft seq)) ms = ms ++ record { script = script; ended = Spent } ∷ []

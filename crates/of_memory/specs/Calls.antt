@@ -12,7 +12,7 @@ use Rattle.of_core.specs.declared.place.Outcome.{Outcome}
 use Rattle.of_core.specs.declared.place.Outcome.TheVariants.{Answered, Spent as Over}
 use Rattle.of_core.specs.Machine.{IsOpen}
 use Rattle.of_row.specs.Views.{Ended, Kept}
-use Rattle.of_memory.specs.History.{End, Reply, Spent, Made}
+use Rattle.of_memory.specs.History.{End, Replied, Spent, Made}
 
 -- the words are a script's
 abbrev pub IsOperation : List ℕ → Type 0
@@ -24,9 +24,9 @@ HoldsResponse raw response = (r : TheReply) × IsHeldBy raw r × (response_of r 
 
 -- the outcome is this end
 abbrev pub EndsAs : Outcome → End → Type 0
-EndsAs (Answered s announced raw steps) (Reply r) = HoldsResponse raw r
+EndsAs (Answered s announced raw steps) (Replied r) = HoldsResponse raw r
 EndsAs (Answered s announced raw steps) Spent = ⊥
-EndsAs (Over s) (Reply r) = ⊥
+EndsAs (Over s) (Replied r) = ⊥
 EndsAs (Over s) Spent = Unit {0}
 
 -- what is kept of a call is this one

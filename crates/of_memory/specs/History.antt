@@ -37,7 +37,7 @@ StandsInOrder h = (p q : ℕ) → p < q → q < length h → IsLater (get_or h p
 
 -- how a call has ended: with this reply, or with none, since the limit was reached before it
 pub data End : Type 0 where
-  Reply : Response → End
+  Replied : Response → End
   Spent : End
 
 -- a call that its caller has made, and that has ended
@@ -54,7 +54,7 @@ Has h e = (p : ℕ) × (p < length h) × (get_or h p no_entry ≡ e)
 
 -- The history has the call with its reply; it has no call that was spent.
 abbrev pub Explains : List Entry → (caller ticket : ℕ) → List Instr → End → Type 0
-Explains h c t script (Reply r) = Has h (record { caller = c; ticket = t; script = script; reply = r })
+Explains h c t script (Replied r) = Has h (record { caller = c; ticket = t; script = script; reply = r })
 Explains h c t script Spent = All (λ (e : Entry). e.caller ≡ c → e.ticket ≡ t → ⊥) h
 
 -- so it is of each of these calls of a caller, the first of which has the number behind n
