@@ -4,36 +4,36 @@ use Rattle.std.specs.Prelude.{nat_le, not, slice_index, count_by}
 use Rattle.std.specs.List.{All}
 use Rattle.std.proofs.lemmas.List.{length-map, get_or-map, get_or-take, get_or-drop, length-take-le, length-drop, get_or-append-add, length-append}
 use Rattle.std.proofs.lemmas.List.Elements.{All-map, Contains-get_or}
-use Rattle.of_cell.specs.Words.{seq, pay}
+use Rattle.of_cell.specs.Words.{seq_of, payload_of}
 use Rattle.of_cell.specs.Cells.{data_cell, request_cell}
 use Rattle.of_recover.specs.Row.{current_owner}
 use Rattle.of_recover.proofs.Agreeing.{recovered_data-same}
 use Rattle.of_mem.specs.declared.work.TheConstants.{MOST_INSTRS, LEAST_ABORT}
-use Rattle.of_mem.specs.Places.{ticket_at, shape_at}
-use Rattle.of_mem.specs.ProgramWork.{memory}
+use Rattle.of_mem.specs.Places.{ticket_cell_at, shape_at}
+use Rattle.of_mem.specs.ProgramWork.{memory_of}
 use Rattle.of_script.specs.declared.instr.Instr.{Instr}
-use Rattle.of_store.specs.State.{State, replies, last_store}
+use Rattle.of_store.specs.State.{Store, replies_in_order, last_store}
 use Rattle.of_eval.specs.declared.scripts.Scripts.{Scripts}
-use Rattle.of_eval.specs.Scripts.{store_at, cells_in, LawfulCells, scripts_meaning}
+use Rattle.of_eval.specs.Scripts.{store_at, data_cells_of, LawfulCells, scripts_meaning}
 use Rattle.of_eval.specs.SoundScripts.{scripts_fit}
 use Rattle.of_eval.specs.Means.{MeansWords, WordsMeanScript}
-use Rattle.of_eval.specs.Stored.{plain}
+use Rattle.of_eval.specs.Stored.{cell_store}
 use Rattle.of_eval.proofs.Overlay.{stands_below}
 use Rattle.of_core.specs.declared.place.Outcome.{Outcome}
 use Rattle.of_core.specs.declared.place.Outcome.TheVariants.{Spent as RanOut}
-use Rattle.of_core.specs.Table.{Setup, size, table_size, durable_word, risen}
+use Rattle.of_core.specs.Table.{Setup, cell_count, words_before_members, durable_word, durable_seq}
 use Rattle.of_core.specs.Machine.{Call, no_call}
-use Rattle.of_core.specs.World.{World, Start}
-use Rattle.of_core.specs.History.{after_calls}
-use Rattle.of_core.specs.Events.{Event, machine}
-use Rattle.of_core.specs.Calls.{Calls, operations, outcomes, no_outcome, Stood}
+use Rattle.of_core.specs.World.{Moment, TableStart}
+use Rattle.of_core.specs.History.{numbers_after_calls}
+use Rattle.of_core.specs.Events.{Event, machine_in}
+use Rattle.of_core.specs.Calls.{HasCalls, operations_begun, outcomes, no_outcome, OutcomeStands}
 use Rattle.of_core.specs.Shared.{MayStart}
-use Rattle.of_core.specs.Starts.{IsDurable, start_of}
-use Rattle.of_core.specs.Laws.{EveryCall}
+use Rattle.of_core.specs.Starts.{IsDurable, start_from_durable}
+use Rattle.of_core.specs.Laws.{EveryCallStands}
 use Rattle.of_core.specs.Linear.{IsRecovered, recovered_number}
-use Rattle.of_row.specs.Views.{Ended, Sight, no_ended}
+use Rattle.of_row.specs.Views.{EndedCall, View, no_ended}
 use Rattle.of_row.specs.Trail.{first_of, moment}
-use Rattle.of_row.specs.Rule.{Meets}
+use Rattle.of_row.specs.Rule.{ViewMeetsRule}
 use Rattle.of_row.specs.Moments.{StopsLoseNothing, LosesNothing, words_alone}
 use Rattle.example_bank.specs.declared.tally.Tally.{Tally}
 use Rattle.example_bank.specs.declared.tally.End.{End}
@@ -52,8 +52,8 @@ one_is true = refl
 one_is false = refl
 
 module _ (w : Scripts) (limit : ℕ) (means : MeansWords w) (words : WordsMeanScript) (again : ReadAgain)
-    (stops : StopsLoseNothing (LawfulCells w) (setup_with w limit)) (every : EveryCall (setup_with w limit) (LawfulCells w))
-    (B : Start) (ws : List ℕ) (v : Sight) (starts : MayStart (setup_with w limit) (LawfulCells w) B) (m : Meets (setup_with w limit) (LawfulCells w) B ws v) (live : v.spent ≡ false)
+    (stops : StopsLoseNothing (LawfulCells w) (setup_with w limit)) (every : EveryCallStands (setup_with w limit) (LawfulCells w))
+    (B : TableStart) (ws : List ℕ) (v : View) (starts : MayStart (setup_with w limit) (LawfulCells w) B) (m : ViewMeetsRule (setup_with w limit) (LawfulCells w) B ws v) (live : v.spent ≡ false)
     (row new : List ℕ) (durable : IsDurable (setup_with w limit) ws row) (recovery : IsRecovery w row new)
     (to_do : ℕ → List (List Instr)) (t : ℕ → Tally) (changing : AllChange w to_do) (keeps : KeepsClerks w to_do t v) where
   abbrev S : Setup
@@ -68,11 +68,11 @@ module _ (w : Scripts) (limit : ℕ) (means : MeansWords w) (words : WordsMeanSc
   abbrev order : List Call
   order = h.order
 
-  abbrev W : World
+  abbrev W : Moment
   W = moment S B es
 
-  abbrev C : Start
-  C = start_of w.callers (cells_in w) new
+  abbrev C : TableStart
+  C = start_from_durable w.callers (data_cells_of w) new
 
   abbrev before : ℕ → ℕ
   before i = ticket_in B i
@@ -86,27 +86,27 @@ module _ (w : Scripts) (limit : ℕ) (means : MeansWords w) (words : WordsMeanSc
   recovered_so = subst (λ (z : List ℕ). IsRecovered S B (words_alone z) order) m.words h.recovered_so
 
   -- the number of a data cell
-  number_at : (a : ℕ) → a < cells_in w → pay (get_or C.cells a 0) ≡ recovered_number S (words_alone ws) a
+  number_at : (a : ℕ) → a < data_cells_of w → payload_of (get_or C.cells a 0) ≡ recovered_number S (words_alone ws) a
   number_at a l =
       let first : ℕ = data_cell w.callers 0 in
-      ap pay (
-      get_or-take (first + cells_in w - first) (drop first new) a 0 (omega (arith, l))
+      ap payload_of (
+      get_or-take (first + data_cells_of w - first) (drop first new) a 0 (omega (arith, l))
       ∙ get_or-drop first new a 0
       ∙ ap (λ (k : ℕ). get_or new k 0) (omega arith)
       ∙ recovery.on_data a l
-      ∙ recovered_data-same w.callers (cells_in w) (slice_index row) (durable_word S ws) durable.each a l (let fit = scripts_fit w in omega (arith, l, fit.small)))
+      ∙ recovered_data-same w.callers (data_cells_of w) (slice_index row) (durable_word S ws) durable.each a l (let fit = scripts_fit w in omega (arith, l, fit.small)))
 
-  own_below : (i : ℕ) → i < w.callers → ticket_at MOST_INSTRS i + 1 < cells_in w
+  own_below : (i : ℕ) → i < w.callers → ticket_cell_at MOST_INSTRS i + 1 < data_cells_of w
   own_below i l = omega (arith, l)
 
   abbrev memory_in : ℕ → ℕ
-  memory_in a = memory (map pay C.cells) a
+  memory_in a = memory_of (map payload_of C.cells) a
 
-  size_in : length C.cells ≡ cells_in w
+  size_in : length C.cells ≡ data_cells_of w
   size_in =
       let first : ℕ = data_cell w.callers 0 in
-      let same : first + cells_in w - first ≡ cells_in w = omega arith in
-      length-take-le (first + cells_in w - first) (drop first new) (omega (arith, length-drop first new, recovery.long)) ∙ same
+      let same : first + data_cells_of w - first ≡ data_cells_of w = omega arith in
+      length-take-le (first + data_cells_of w - first) (drop first new) (omega (arith, length-drop first new, recovery.long)) ∙ same
 
   -- ---- the ledger
 
@@ -119,26 +119,26 @@ module _ (w : Scripts) (limit : ℕ) (means : MeansWords w) (words : WordsMeanSc
   scripts_are : scripts_in entries ≡ map script_of order
   scripts_are = made_twice (entry_of to_do before) (λ e. e.script) order
 
-  size_from : length (map pay B.cells) ≡ cells_in w
-  size_from = length-map B.cells pay ∙ starts.start.size
+  size_from : length (map payload_of B.cells) ≡ data_cells_of w
+  size_from = length-map B.cells payload_of ∙ starts.start.size
 
-  leads_on : (s : State) → Holds w B s → Holds w C (last_store s (scripts_in entries))
+  leads_on : (s : Store) → Holds w B s → Holds w C (last_store s (scripts_in entries))
   leads_on s held =
-      let stored = leads w means words script_of (map pay B.cells) s order size_from held (calls_are w limit B es order to_do t h.linearizes found means words) in
-      let zs : List ℕ = after_calls (scripts_meaning w) (map pay B.cells) order in
-      let last : State = last_store s (map script_of order) in
+      let stored = leads w means words script_of (map payload_of B.cells) s order size_from held (calls_are w limit B es order to_do t h.linearizes found means words) in
+      let zs : List ℕ = numbers_after_calls (scripts_meaning w) (map payload_of B.cells) order in
+      let last : Store = last_store s (map script_of order) in
       subst (λ (scripts : List (List Instr)). Holds w C (last_store s scripts)) (sym scripts_are)
       (record {
         state = stored.state;
-        stands = stands_below (store_at w) w.blocks (memory zs) (memory (map pay C.cells)) (λ a low high.
-            sym (recovered_so.numbers a low high) ∙ sym (number_at a high) ∙ sym (get_or-map pay C.cells a 0 0 (omega (arith, high, size_in)))) (plain last) stored.stands;
+        stands = stands_below (store_at w) w.blocks (memory_of zs) (memory_of (map payload_of C.cells)) (λ a low high.
+            sym (recovered_so.numbers a low high) ∙ sym (number_at a high) ∙ sym (get_or-map payload_of C.cells a 0 0 (omega (arith, high, size_in)))) (cell_store last) stored.stands;
       })
 
-  aborts_so : (s : State) → Holds w B s → map (λ e. e.aborted) entries ≡ map is_abort (replies s (scripts_in entries))
+  aborts_so : (s : Store) → Holds w B s → map (λ e. e.aborted) entries ≡ map is_abort (replies_in_order s (scripts_in entries))
   aborts_so s held =
       made_twice (entry_of to_do before) (λ e. e.aborted) order
-      ∙ replayed_aborts w means words script_of (map pay B.cells) s order size_from held (calls_are w limit B es order to_do t h.linearizes found means words) h.linearizes.legal
-      ∙ ap (λ scripts. map is_abort (replies s scripts)) (sym scripts_are)
+      ∙ replayed_aborts w means words script_of (map payload_of B.cells) s order size_from held (calls_are w limit B es order to_do t h.linearizes found means words) h.linearizes.legal
+      ∙ ap (λ scripts. map is_abort (replies_in_order s scripts)) (sym scripts_are)
 
   -- ---- the entries of one clerk
 
@@ -162,7 +162,7 @@ module _ (w : Scripts) (limit : ℕ) (means : MeansWords w) (words : WordsMeanSc
     r = is_last w limit B es order to_do t h.linearizes found i low (changing i low) again ws (recovered_so.own i low)
 
     tickets : ticket_in C i ≡ ticket_in B i + length one
-    tickets = omega (arith, number_at (ticket_at MOST_INSTRS i) (omega (arith, own_below i low)), r.many, many)
+    tickets = omega (arith, number_at (ticket_cell_at MOST_INSTRS i) (omega (arith, own_below i low)), r.many, many)
 
     -- the last call's reply, where there is one
     last_aborted : 0 < length calls → nat_le LEAST_ABORT (get_or calls (length calls - 1) no_call).raw.shape ≡ aborted_last C i
@@ -181,8 +181,8 @@ module _ (w : Scripts) (limit : ℕ) (means : MeansWords w) (words : WordsMeanSc
     is_counted : length one ≡ (t i).answered → (made_in one ≡ (t i).made) × (aborted_in one ≡ (t i).aborted)
     is_counted e =
         let long : length (map (entry_of to_do before) calls) ≡ length f.holds.calls = omega (arith, ap length (sym one_is_made), e, f.holds.count) in (
-          ap made_in one_is_made ∙ counted_all (λ (x : Entry). not x.aborted) (λ (x : Ended). not (aborts x.outcome)) (map (entry_of to_do before) calls) f.holds.calls (entry_of to_do before no_call) no_ended long (λ j l. ap not (flag j l)) ∙ f.holds.made,
-          ap aborted_in one_is_made ∙ counted_all (λ (x : Entry). x.aborted) (λ (x : Ended). aborts x.outcome) (map (entry_of to_do before) calls) f.holds.calls (entry_of to_do before no_call) no_ended long flag ∙ f.holds.aborted,
+          ap made_in one_is_made ∙ counted_all (λ (x : Entry). not x.aborted) (λ (x : EndedCall). not (aborts x.outcome)) (map (entry_of to_do before) calls) f.holds.calls (entry_of to_do before no_call) no_ended long (λ j l. ap not (flag j l)) ∙ f.holds.made,
+          ap aborted_in one_is_made ∙ counted_all (λ (x : Entry). x.aborted) (λ (x : EndedCall). aborts x.outcome) (map (entry_of to_do before) calls) f.holds.calls (entry_of to_do before no_call) no_ended long flag ∙ f.holds.aborted,
         )
 
     last_flag : length one ≡ (t i).answered + 1 → (get_or (map (entry_of to_do before) calls) (length f.holds.calls) (entry_of to_do before no_call)).aborted ≡ aborted_last C i
@@ -196,11 +196,11 @@ module _ (w : Scripts) (limit : ℕ) (means : MeansWords w) (words : WordsMeanSc
     is_more : length one ≡ (t i).answered + 1 → (made_in one ≡ (t i).made + counted (not (aborted_last C i))) × (aborted_in one ≡ (t i).aborted + counted (aborted_last C i))
     is_more e =
         let long : length (map (entry_of to_do before) calls) ≡ length f.holds.calls + 1 = omega (arith, ap length (sym one_is_made), e, f.holds.count) in (
-          ap made_in one_is_made ∙ counted_more (λ (x : Entry). not x.aborted) (λ (x : Ended). not (aborts x.outcome)) (map (entry_of to_do before) calls) f.holds.calls (entry_of to_do before no_call) no_ended long (λ j l. ap not (flag j l))
-              ∙ ap (λ (b : Bool). count_by (λ (x : Ended). not (aborts x.outcome)) f.holds.calls + cond (not b) 1 0) (last_flag e)
+          ap made_in one_is_made ∙ counted_more (λ (x : Entry). not x.aborted) (λ (x : EndedCall). not (aborts x.outcome)) (map (entry_of to_do before) calls) f.holds.calls (entry_of to_do before no_call) no_ended long (λ j l. ap not (flag j l))
+              ∙ ap (λ (b : Bool). count_by (λ (x : EndedCall). not (aborts x.outcome)) f.holds.calls + cond (not b) 1 0) (last_flag e)
               ∙ ap (λ (k : ℕ). k + cond (not (aborted_last C i)) 1 0) f.holds.made ∙ ap (λ (k : ℕ). (t i).made + k) (one_is (not (aborted_last C i))),
-          ap aborted_in one_is_made ∙ counted_more (λ (x : Entry). x.aborted) (λ (x : Ended). aborts x.outcome) (map (entry_of to_do before) calls) f.holds.calls (entry_of to_do before no_call) no_ended long flag
-              ∙ ap (λ (b : Bool). count_by (λ (x : Ended). aborts x.outcome) f.holds.calls + cond b 1 0) (last_flag e)
+          ap aborted_in one_is_made ∙ counted_more (λ (x : Entry). x.aborted) (λ (x : EndedCall). aborts x.outcome) (map (entry_of to_do before) calls) f.holds.calls (entry_of to_do before no_call) no_ended long flag
+              ∙ ap (λ (b : Bool). count_by (λ (x : EndedCall). aborts x.outcome) f.holds.calls + cond b 1 0) (last_flag e)
               ∙ ap (λ (k : ℕ). k + cond (aborted_last C i) 1 0) f.holds.aborted ∙ ap (λ (k : ℕ). (t i).aborted + k) (one_is (aborted_last C i)),
         )
 
@@ -219,37 +219,37 @@ module _ (w : Scripts) (limit : ℕ) (means : MeansWords w) (words : WordsMeanSc
 
     -- ---- a clerk that was spent
 
-    calls_of : Calls S B (ticket_in B i) W i (operations es i) (outcomes S (first_of S B) es i)
-    calls_of = every B starts (table_size S + 1) (omega arith) es h.reached.schedule i low
+    calls_of : HasCalls S B (ticket_in B i) W i (operations_begun es i) (outcomes S (first_of S B) es i)
+    calls_of = every B starts (words_before_members S + 1) (omega arith) es h.reached.schedule i low
 
     -- the sequence that recovery finds
-    seq_is : C.seq ≡ risen S W.words
+    seq_is : C.seq ≡ durable_seq S W.words
     seq_is =
         let apart : 0 ≡ request_cell (current_owner (slice_index row)) → ⊥ = λ e. omega (arith, e) in
-        ap seq (recovery.others 0 (omega (arith, durable.long)) (inl (omega arith)) apart
+        ap seq_of (recovery.others 0 (omega (arith, durable.long)) (inl (omega arith)) apart
         ∙ durable.each 0 (omega arith)
         ∙ ap (λ (l : List ℕ). durable_word S l 0) (sym m.words)
-        ∙ h.reached.words (size S + 0) (omega arith))
+        ∙ h.reached.words (cell_count S + 0) (omega arith))
 
     limit_came : (op : List ℕ) (s : ℕ) → f.holds.beyond ≡ record { op = op; outcome = RanOut s } ∷ [] → C.seq ≡ limit
     limit_came op s e =
-        let last : Ended = record { op = op; outcome = RanOut s } in
-        let outs : outcomes S (first_of S B) es i ≡ map (λ (x : Ended). x.outcome) f.kept.ended = ap (outcomes S (first_of S B) es) (sym f.number) ∙ sym f.run.told.ended in
+        let last : EndedCall = record { op = op; outcome = RanOut s } in
+        let outs : outcomes S (first_of S B) es i ≡ map (λ (x : EndedCall). x.outcome) f.kept.ended = ap (outcomes S (first_of S B) es) (sym f.number) ∙ sym f.run.told.ended in
         let n : ℕ = length f.holds.calls in
-        let whole : f.kept.ended ≡ f.holds.calls ++ last ∷ [] = f.holds.ended ∙ ap (λ (l : List Ended). f.holds.calls ++ l) e in
+        let whole : f.kept.ended ≡ f.holds.calls ++ last ∷ [] = f.holds.ended ∙ ap (λ (l : List EndedCall). f.holds.calls ++ l) e in
         let long : n < length f.kept.ended = omega (arith, ap length whole, length-append f.holds.calls (last ∷ [])) in
         let at : get_or f.kept.ended n no_ended ≡ last =
-        ap (λ (l : List Ended). get_or l n no_ended) whole ∙ ap (λ (k : ℕ). get_or (f.holds.calls ++ last ∷ []) k no_ended) (omega arith)
+        ap (λ (l : List EndedCall). get_or l n no_ended) whole ∙ ap (λ (k : ℕ). get_or (f.holds.calls ++ last ∷ []) k no_ended) (omega arith)
         ∙ get_or-append-add f.holds.calls (last ∷ []) 0 no_ended in
         let out : get_or (outcomes S (first_of S B) es i) n no_outcome ≡ RanOut s =
-        ap (λ (l : List Outcome). get_or l n no_outcome) outs ∙ get_or-map (λ (x : Ended). x.outcome) f.kept.ended n no_ended no_outcome long ∙ ap (λ (x : Ended). x.outcome) at in
-        let stood = calls_of.each n (omega (arith, long, ap length outs, length-map f.kept.ended (λ (x : Ended). x.outcome))) in
-        let told = subst (λ (o : Outcome). Stood S B W i (ticket_in B i + n + 1) (get_or (operations es i) n []) o) out stood in
+        ap (λ (l : List Outcome). get_or l n no_outcome) outs ∙ get_or-map (λ (x : EndedCall). x.outcome) f.kept.ended n no_ended no_outcome long ∙ ap (λ (x : EndedCall). x.outcome) at in
+        let stood = calls_of.each n (omega (arith, long, ap length outs, length-map f.kept.ended (λ (x : EndedCall). x.outcome))) in
+        let told = subst (λ (o : Outcome). OutcomeStands S B W i (ticket_in B i + n + 1) (get_or (operations_begun es i) n []) o) out stood in
         seq_is ∙ told.1 ∙ told.0
 
     tickets_out : f.holds.begun ≡ (t i).answered → f.kept.machine.made ≡ 4294967295 → ticket_in C i ≡ 4294967295
     tickets_out e made =
-        let kept : (machine W i).made ≡ f.kept.machine.made = ap (λ (k : ℕ). (machine W k).made) (sym f.number) ∙ ap (λ d. d.made) f.run.machine_is in
+        let kept : (machine_in W i).made ≡ f.kept.machine.made = ap (λ (k : ℕ). (machine_in W k).made) (sym f.number) ∙ ap (λ d. d.made) f.run.machine_is in
         omega (arith, tickets, many, runs.low, runs.high, e, made, calls_of.made, kept, begun_many w limit B es order to_do t h.linearizes found i f)
 
     spent_by : (end : End) → EndsAs end (t i).answered f.holds.begun f.holds.beyond f.kept → SpentSo limit C i end
@@ -283,6 +283,6 @@ module _ (w : Scripts) (limit : ℕ) (means : MeansWords w) (words : WordsMeanSc
   }
 
 pub rows_keep_ledgers : (w : Scripts) (limit : ℕ) → MeansWords w → WordsMeanScript → ReadAgain
-    → StopsLoseNothing (LawfulCells w) (setup_with w limit) → EveryCall (setup_with w limit) (LawfulCells w) → RowsKeepLedgers w limit
+    → StopsLoseNothing (LawfulCells w) (setup_with w limit) → EveryCallStands (setup_with w limit) (LawfulCells w) → RowsKeepLedgers w limit
 rows_keep_ledgers w limit means words again stops every B ws v starts m live row new durable recovery to_do t changing keeps =
     has_ledger w limit means words again stops every B ws v starts m live row new durable recovery to_do t changing keeps

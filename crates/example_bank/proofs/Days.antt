@@ -1,7 +1,7 @@
 -- What the tallies of a day tell of its ledger.
 use Rattle.std.proofs.Common.{◌≡◌, ℕ, ◌+◌, zero, suc, ◌<◌, ◌≤◌, refl, sym, ◌∙◌, ap, subst, arith, Bool, true, false, Option, List, length, take, vec_len}
 use Rattle.std.specs.Prelude.{not, IsSome}
-use Rattle.of_core.specs.World.{Start}
+use Rattle.of_core.specs.World.{TableStart}
 use Rattle.of_row.specs.declared.row.Row.{Row}
 use Rattle.of_eval.specs.declared.scripts.Scripts.{Scripts}
 use Rattle.example_bank.specs.declared.clerk.Job.{Job}
@@ -20,13 +20,13 @@ use Rattle.example_bank.specs.declared.day.Day.{Day}
 use Rattle.example_bank.specs.Books.{start_in}
 use Rattle.example_bank.specs.Days.{EndsSo, StoppedIn, IsTold, Ends, HasEnded, IsDay, job_of, tally_of}
 
-ends_so : (C : Start) (i : ℕ) (j : Job) (n : ℕ) (end : End) → Ends j n end → SpentSo LIMIT C i end → EndsSo C i j n end
+ends_so : (C : TableStart) (i : ℕ) (j : Job) (n : ℕ) (end : End) → Ends j n end → SpentSo LIMIT C i end → EndsSo C i j n end
 ends_so C i j n Done e s = e
 ends_so C i j n Stopped e s = e
 ends_so C i j n Spent e s = (e, s)
 
 -- without the last
-module _ (B C : Start) (i : ℕ) (j : Job) (t : Tally) (own : List Entry) (h : HasOwn B C i (to_do_of j) t own) (e : HasEnded j t) (s : SpentSo LIMIT C i t.end) where
+module _ (B C : TableStart) (i : ℕ) (j : Job) (t : Tally) (own : List Entry) (h : HasOwn B C i (to_do_of j) t own) (e : HasEnded j t) (s : SpentSo LIMIT C i t.end) where
   one : (b : Bool) → counted (not b) + counted b ≡ 1
   one true = refl
   one false = refl

@@ -9,22 +9,22 @@ use Rattle.std.proofs.lemmas.List.Elements.{All-from_get_or, All-filter, filter_
 use Rattle.std.proofs.lemmas.List.FromFn.{get_or-range_with_len}
 use Rattle.of_mem.specs.declared.work.TheConstants.{MOST_INSTRS, LEAST_ABORT}
 use Rattle.of_script.specs.declared.instr.Instr.{Instr}
-use Rattle.of_script.specs.Language.{IsScript, InRange, instr_word, reads_only}
+use Rattle.of_script.specs.Language.{IsScript, IsInstrInRange, instr_word, reads_only}
 use Rattle.of_script.specs.Reading.{instr_at}
 use Rattle.of_eval.specs.declared.scripts.Scripts.{Scripts}
-use Rattle.of_eval.specs.Scripts.{cells_in, scripts_meaning, script_reads, words_read, instr_reads}
+use Rattle.of_eval.specs.Scripts.{data_cells_of, scripts_meaning, script_reads, words_read, instr_reads}
 use Rattle.of_eval.specs.Means.{MeansWords, WordsMeanScript}
 use Rattle.of_core.specs.declared.place.Outcome.{Outcome}
 use Rattle.of_core.specs.declared.place.Outcome.TheVariants.{Answered, Spent as RanOut}
 use Rattle.of_core.specs.Table.{Setup, setup_of, ticket_cell, shape_cell}
 use Rattle.of_core.specs.Machine.{Call, no_call}
-use Rattle.of_core.specs.World.{Start}
+use Rattle.of_core.specs.World.{TableStart}
 use Rattle.of_core.specs.Events.{Event, start_ticket}
-use Rattle.of_core.specs.Calls.{operations, NoneSpent, IsAnswered, WasBegun}
+use Rattle.of_core.specs.Calls.{operations_begun, NoneSpent, IsAnswered, WasBegun}
 use Rattle.of_core.specs.Linear.{Explains, Linearizes, FindsCall, Detects, recovered_number}
-use Rattle.of_row.specs.Views.{Ended, Kept, no_ended, Each}
+use Rattle.of_row.specs.Views.{EndedCall, KnownCaller, no_ended, Each}
 use Rattle.of_row.specs.Trail.{first_of, IsRunBy}
-use Rattle.of_row.specs.Rule.{ticket_at as ticket_of_call, op_at, outcome_at}
+use Rattle.of_row.specs.Rule.{ticket_at as ticket_of_call, operation_at, outcome_at}
 use Rattle.of_row.specs.Moments.{ExplainsAll, words_alone}
 use Rattle.example_bank.specs.declared.tally.Tally.{Tally}
 use Rattle.example_bank.specs.Money.{changes}
@@ -56,7 +56,7 @@ abbrev shape_of : Outcome → ℕ
 shape_of (Answered s announced raw steps) = raw.shape
 shape_of (RanOut s) = 0
 
-none_spent_at : (es : List Ended) (y : ℕ) → NoneSpent (map (λ e. e.outcome) es) → y < length es → IsAnswered (get_or es y no_ended).outcome
+none_spent_at : (es : List EndedCall) (y : ℕ) → NoneSpent (map (λ e. e.outcome) es) → y < length es → IsAnswered (get_or es y no_ended).outcome
 none_spent_at [] y h l = absurd (omega (arith, l))
 none_spent_at (e ∷ es) zero h l = h.0
 none_spent_at (e ∷ es) (suc y) h l = none_spent_at es y h.1 (omega (arith, l))
@@ -73,14 +73,14 @@ explained_has S order i t op (RanOut s) a h = absurd a
 
 -- each word of an instruction in range is read as that instruction
 abbrev pub ReadAgain : Type 0
-ReadAgain = (i : Instr) → InRange i → instr_at (instr_word i) ≡ Some i
+ReadAgain = (i : Instr) → IsInstrInRange i → instr_at (instr_word i) ≡ Some i
 
 none_after : (b c : Bool) → (b && (c && false)) ≡ false
 none_after true true = refl
 none_after true false = refl
 none_after false c = refl
 
-words_write : ReadAgain → (is : List Instr) → ByRecursion InRange is → changes is ≡ true → words_read (map instr_word is) ≡ false
+words_write : ReadAgain → (is : List Instr) → ByRecursion IsInstrInRange is → changes is ≡ true → words_read (map instr_word is) ≡ false
 words_write again [] h e = absurd (false≢true e)
 words_write again (i ∷ is) h e = ap (λ o. instr_reads o && words_read (map instr_word is)) (again i h.0) ∙ go (reads_only i) (words_write again is h.1) e
   where
@@ -96,14 +96,14 @@ writes_some again script fits e =
 -- ---- one caller that is kept
 
 -- what a view keeps of a caller, with what the events and the order say of it
-pub record Found (S : Setup) (B : Start) (es : List Event) (order : List Call) (i : ℕ) (P : Kept → Type 0) : Type 0 where
-  pub kept : Kept
+pub record Found (S : Setup) (B : TableStart) (es : List Event) (order : List Call) (i : ℕ) (P : KnownCaller → Type 0) : Type 0 where
+  pub kept : KnownCaller
   pub number : kept.machine.caller ≡ i
   pub holds : P kept
   pub run : IsRunBy S B es kept
   pub explained : ExplainsAll S B order kept
 
-pub find : (S : Setup) (B : Start) (es : List Event) (order : List Call) (i : ℕ) (P : Kept → Type 0) (xs : List Kept) → KeepsOne i P xs → Each (IsRunBy S B es) xs → Each (ExplainsAll S B order) xs → Found S B es order i P
+pub find : (S : Setup) (B : TableStart) (es : List Event) (order : List Call) (i : ℕ) (P : KnownCaller → Type 0) (xs : List KnownCaller) → KeepsOne i P xs → Each (IsRunBy S B es) xs → Each (ExplainsAll S B order) xs → Found S B es order i P
 find S B es order i P [] k r e = absurd k
 find S B es order i P (x ∷ xs) (inl h) r e = record { kept = x; number = h.0; holds = h.1; run = r.0; explained = e.0 }
 find S B es order i P (x ∷ xs) (inr h) r e = find S B es order i P xs h r.1 e.1
@@ -123,9 +123,9 @@ op_at_front td n j few l =
 
 -- ---- the order of a row's calls
 
-module _ (w : Scripts) (limit : ℕ) (B : Start) (es : List Event) (order : List Call) (to_do : ℕ → List (List Instr)) (t : ℕ → Tally) where
+module _ (w : Scripts) (limit : ℕ) (B : TableStart) (es : List Event) (order : List Call) (to_do : ℕ → List (List Instr)) (t : ℕ → Tally) where
   abbrev S : Setup
-  S = setup_of w.callers (cells_in w) limit (scripts_meaning w)
+  S = setup_of w.callers (data_cells_of w) limit (scripts_meaning w)
 
   abbrev before : ℕ → ℕ
   before i = start_ticket S B i
@@ -134,14 +134,14 @@ module _ (w : Scripts) (limit : ℕ) (B : Start) (es : List Event) (order : List
   OneFound i = Found S B es order i (HasWorked (to_do i) (t i))
 
   module _ (lin : Linearizes S B (first_of S B) es order) (found : (i : ℕ) → i < w.callers → OneFound i) where
-    begun_is : (i : ℕ) (f : OneFound i) → operations es i ≡ map op_of (take f.holds.begun (to_do i))
-    begun_is i f = sym (f.run.told.begun ∙ ap (operations es) f.number) ∙ f.holds.ops
+    begun_is : (i : ℕ) (f : OneFound i) → operations_begun es i ≡ map op_of (take f.holds.begun (to_do i))
+    begun_is i f = sym (f.run.told.begun ∙ ap (operations_begun es) f.number) ∙ f.holds.ops
 
-    pub begun_many : (i : ℕ) (f : OneFound i) → length (operations es i) ≡ f.holds.begun
+    pub begun_many : (i : ℕ) (f : OneFound i) → length (operations_begun es i) ≡ f.holds.begun
     begun_many i f = ap length (begun_is i f) ∙ length-map (take f.holds.begun (to_do i)) op_of ∙ length-take-le f.holds.begun (to_do i) f.holds.few
 
     -- a call is one of its script
-    pub call_is : (c : Call) → c.caller < w.callers → WasBegun (before c.caller) c.caller (operations es c.caller) c
+    pub call_is : (c : Call) → c.caller < w.callers → WasBegun (before c.caller) c.caller (operations_begun es c.caller) c
         → IsScript (script_among to_do before c) × (c.op ≡ map instr_word (script_among to_do before c))
     call_is c l begun =
         let f = found c.caller l in
@@ -180,17 +180,17 @@ module _ (w : Scripts) (limit : ℕ) (B : Start) (es : List Event) (order : List
       within p d l his =
           let b = (lin.begun p d l).1 refl in
           let at : before (get_or order p d).caller ≡ before i = ap before his in
-          let many : length (operations es (get_or order p d).caller) ≡ f.holds.begun = ap (λ k. length (operations es k)) his ∙ begun_many i f in
+          let many : length (operations_begun es (get_or order p d).caller) ≡ f.holds.begun = ap (λ k. length (operations_begun es k)) his ∙ begun_many i f in
           (omega (arith, b.0, at), omega (arith, b.1, at, many))
 
       ended_at : (y : ℕ) → y < n → outcome_at f.kept.ended y ≡ (get_or f.holds.calls y no_ended).outcome
-      ended_at y l = ap (λ (xs : List Ended). (get_or xs y no_ended).outcome) f.holds.ended ∙ ap (λ (e : Ended). e.outcome) (get_or_append_left f.holds.calls f.holds.beyond no_ended y (omega (arith, l, f.holds.count)))
+      ended_at y l = ap (λ (xs : List EndedCall). (get_or xs y no_ended).outcome) f.holds.ended ∙ ap (λ (e : EndedCall). e.outcome) (get_or_append_left f.holds.calls f.holds.beyond no_ended y (omega (arith, l, f.holds.count)))
 
       has_first : HasFirst who tick shape i (before i) n told_shape order
       has_first y l =
           let inside : y < length f.kept.ended = omega (arith, l, f.holds.count, ap length f.holds.ended, length-append f.holds.calls f.holds.beyond) in
           let answered : IsAnswered (outcome_at f.kept.ended y) = subst IsAnswered (sym (ended_at y l)) (none_spent_at f.holds.calls y f.holds.none_spent (omega (arith, l, f.holds.count))) in
-          let e = explained_has S order f.kept.machine.caller (ticket_of_call S B f.kept y) (op_at f.kept.ended y) (outcome_at f.kept.ended y) answered (f.explained y inside) in
+          let e = explained_has S order f.kept.machine.caller (ticket_of_call S B f.kept y) (operation_at f.kept.ended y) (outcome_at f.kept.ended y) answered (f.explained y inside) in
           let same : ticket_of_call S B f.kept y ≡ before i + y + 1 = ap (λ k. before k + y + 1) f.number in
           subst (λ (k : ℕ). Has who tick shape i (before i + y + 1) k order) (ap shape_of (ended_at y l))
           (subst (λ (k : ℕ). Has who tick shape i k (shape_of (outcome_at f.kept.ended y)) order) same
@@ -233,8 +233,8 @@ module _ (w : Scripts) (limit : ℕ) (B : Start) (es : List Event) (order : List
             let c : Call = get_or mine j no_call in
             let upto : All (λ (c : Call). c.caller ≡ i → script_reads c.op ≡ false → c.ticket ≤ found_ticket) mine =
             All-filter (λ (c : Call). c.caller == i) (λ (c : Call). c.caller ≡ i → script_reads c.op ≡ false → c.ticket ≤ found_ticket) order d.upto in
-            let begun : All (λ (c : Call). (c.caller < w.callers) × WasBegun (before c.caller) c.caller (operations es c.caller) c) mine =
-            All-filter (λ (c : Call). c.caller == i) (λ (c : Call). (c.caller < w.callers) × WasBegun (before c.caller) c.caller (operations es c.caller) c) order lin.begun in
+            let begun : All (λ (c : Call). (c.caller < w.callers) × WasBegun (before c.caller) c.caller (operations_begun es c.caller) c) mine =
+            All-filter (λ (c : Call). c.caller == i) (λ (c : Call). (c.caller < w.callers) × WasBegun (before c.caller) c.caller (operations_begun es c.caller) c) order lin.begun in
             let b = begun j no_call l in
             let of_script = call_is c b.0 b.1 in
             let at : script_among to_do before c ≡ get_or (to_do i) j [] =

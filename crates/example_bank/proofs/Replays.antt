@@ -7,43 +7,43 @@ use Rattle.std.proofs.lemmas.List.{length-map, length-replicate}
 use Rattle.std.proofs.lemmas.List.Elements.{All-head, All-tail}
 use Rattle.of_mem.specs.declared.work.RawReply.{RawReply}
 use Rattle.of_mem.specs.declared.work.TheConstants.{LEAST_ABORT}
-use Rattle.of_mem.specs.ProgramWork.{memory}
+use Rattle.of_mem.specs.ProgramWork.{memory_of}
 use Rattle.of_script.specs.declared.instr.Instr.{Instr}
 use Rattle.of_script.specs.declared.instr.TheConstants.{MOST_INSTRS}
 use Rattle.of_script.specs.Language.{IsScript, instr_word}
-use Rattle.of_store.specs.State.{State, Effect, Outcome, in_front, then_on, effect, outcome, settled, run, replies, last_store}
+use Rattle.of_store.specs.State.{Store, InstrEffect, ScriptOutcome, with_answer_first, then_outcome, instr_effect, outcome_of_script, run_result, run, replies_in_order, last_store}
 use Rattle.of_eval.specs.declared.scripts.Scripts.{Scripts}
-use Rattle.of_eval.specs.Means.{Does, MeansWords, WordsMeanScript}
+use Rattle.of_eval.specs.Means.{DoesOperation, MeansWords, WordsMeanScript}
 use Rattle.of_eval.specs.ShapeLaws.{mask_width, code_some}
 use Rattle.of_eval.specs.Shapes.{shape_of, mask_of}
 use Rattle.of_eval.specs.Stored.{IsStored}
 use Rattle.of_eval.specs.SoundScripts.{scripts_sound}
-use Rattle.of_eval.specs.Scripts.{store_at, cells_in, scripts_meaning}
+use Rattle.of_eval.specs.Scripts.{store_at, data_cells_of, scripts_meaning}
 use Rattle.of_eval.specs.Words.{run_words, reply_to}
 use Rattle.of_core.specs.Machine.{Call}
-use Rattle.of_core.specs.History.{after_calls, Replies}
+use Rattle.of_core.specs.History.{numbers_after_calls, HaveReplies}
 use Rattle.example_bank.specs.Ledger.{is_abort}
 
 -- ---- a shape tells whether the script aborted
 
 -- a script that ran to its end has a value, or none, for each instruction
-abbrev Long : ℕ → Outcome → Type 0
+abbrev Long : ℕ → ScriptOutcome → Type 0
 Long n (Ok o) = length o.1 ≡ n
 Long n (Err p) = Unit {0}
 
-front_long : (n : ℕ) (v : Option ℕ) (x : Outcome) → Long n x → Long (suc n) (in_front v x)
+front_long : (n : ℕ) (v : Option ℕ) (x : ScriptOutcome) → Long n x → Long (suc n) (with_answer_first v x)
 front_long n v (Ok o) h = omega (arith, h)
 front_long n v (Err p) h = tt
 
-then_long : (n : ℕ) (e : Effect) (others : State → Outcome) → ((t : State) → Long n (others t)) → Long (suc n) (then_on e others)
+then_long : (n : ℕ) (e : InstrEffect) (others : Store → ScriptOutcome) → ((t : Store) → Long n (others t)) → Long (suc n) (then_outcome e others)
 then_long n (Ok e) others h = front_long n e.1 (others e.0) (h e.0)
 then_long n (Err cause) others h = tt
 
-outcome_long : (s : State) (is : List Instr) → Long (length is) (outcome s is)
+outcome_long : (s : Store) (is : List Instr) → Long (length is) (outcome_of_script s is)
 outcome_long s [] = refl
-outcome_long s (i ∷ is) = then_long (length is) (effect s i) (λ t. outcome t is) (λ t. outcome_long t is)
+outcome_long s (i ∷ is) = then_long (length is) (instr_effect s i) (λ t. outcome_of_script t is) (λ t. outcome_long t is)
 
-settled_shape : (n : ℕ) (s : State) (x : Outcome) → n ≤ MOST_INSTRS → Long n x → nat_le LEAST_ABORT (shape_of (reply_to n (settled s x).1)) ≡ is_abort (settled s x).1
+settled_shape : (n : ℕ) (s : Store) (x : ScriptOutcome) → n ≤ MOST_INSTRS → Long n x → nat_le LEAST_ABORT (shape_of (reply_to n (run_result s x).1)) ≡ is_abort (run_result s x).1
 settled_shape n s (Ok o) few long =
     let none : Option ℕ = None in
     let vs : List (Option ℕ) = o.1 ++ replicate (MOST_INSTRS - length o.1) None in
@@ -59,36 +59,36 @@ module _ (w : Scripts) (means : MeansWords w) (words : WordsMeanScript) (script_
   abbrev pub IsOf : Call → Type 0
   IsOf c = IsScript (script_of c) × (c.op ≡ map instr_word (script_of c))
 
-  abbrev Stored : List ℕ → State → Type 0
-  Stored xs s = IsStored (store_at w) w.blocks (memory xs) s
+  abbrev Stored : List ℕ → Store → Type 0
+  Stored xs s = IsStored (store_at w) w.blocks (memory_of xs) s
 
   abbrev pub aborts_by : Call → Bool
   aborts_by c = nat_le LEAST_ABORT c.raw.shape
 
-  one : (xs : List ℕ) (s : State) (c : Call) → length xs ≡ cells_in w → Stored xs s → IsOf c
+  one : (xs : List ℕ) (s : Store) (c : Call) → length xs ≡ data_cells_of w → Stored xs s → IsOf c
       → Stored ((scripts_meaning w).cells xs c.op) (run s (script_of c)).0
       × ((scripts_meaning w).reply xs c.op ≡ c.raw → aborts_by c ≡ is_abort (run s (script_of c)).1)
   one xs s c size h o =
       let few : length c.op ≤ MOST_INSTRS = omega (arith, ap length o.1, length-map (script_of c) instr_word, o.0.few) in
-      let d : Does w xs c.op s = means xs c.op s size few h in
+      let d : DoesOperation w xs c.op s = means xs c.op s size few h in
       let same = ap (run_words s) o.1 ∙ words s (script_of c) o.0 in (
         subst (λ r. Stored ((scripts_meaning w).cells xs c.op) r.0) same d.cells,
         λ replied.
             ap (λ (r : RawReply). nat_le LEAST_ABORT r.shape) (sym replied ∙ d.reply)
             ∙ ap (λ r. nat_le LEAST_ABORT (shape_of (reply_to (length c.op) r.1))) same
             ∙ ap (λ n. nat_le LEAST_ABORT (shape_of (reply_to n (run s (script_of c)).1))) (ap length o.1 ∙ length-map (script_of c) instr_word)
-            ∙ settled_shape (length (script_of c)) s (outcome s (script_of c)) o.0.few (outcome_long s (script_of c)),
+            ∙ settled_shape (length (script_of c)) s (outcome_of_script s (script_of c)) o.0.few (outcome_long s (script_of c)),
       )
 
-  pub leads : (xs : List ℕ) (s : State) (cs : List Call) → length xs ≡ cells_in w → Stored xs s → All IsOf cs
-      → Stored (after_calls (scripts_meaning w) xs cs) (last_store s (map script_of cs))
+  pub leads : (xs : List ℕ) (s : Store) (cs : List Call) → length xs ≡ data_cells_of w → Stored xs s → All IsOf cs
+      → Stored (numbers_after_calls (scripts_meaning w) xs cs) (last_store s (map script_of cs))
   leads xs s [] size h o = h
   leads xs s (c ∷ cs) size h o =
       leads ((scripts_meaning w).cells xs c.op) (run s (script_of c)).0 cs ((scripts_sound w).keeps_length xs c.op size)
       (one xs s c size h (All-head IsOf c cs o)).0 (All-tail IsOf c cs o)
 
-  pub aborts : (xs : List ℕ) (s : State) (cs : List Call) → length xs ≡ cells_in w → Stored xs s → All IsOf cs → Replies (scripts_meaning w) xs cs
-      → map aborts_by cs ≡ map is_abort (replies s (map script_of cs))
+  pub aborts : (xs : List ℕ) (s : Store) (cs : List Call) → length xs ≡ data_cells_of w → Stored xs s → All IsOf cs → HaveReplies (scripts_meaning w) xs cs
+      → map aborts_by cs ≡ map is_abort (replies_in_order s (map script_of cs))
   aborts xs s [] size h o r = refl
   aborts xs s (c ∷ cs) size h o r =
       let this = one xs s c size h (All-head IsOf c cs o) in

@@ -1,9 +1,9 @@
 -- The books of the bank.
 use Rattle.std.specs.Prelude.{ℕ}
-use Rattle.of_eval.specs.Scripts.{LawfulCells, cells_in}
-use Rattle.of_store.specs.State.{State}
-use Rattle.of_core.specs.World.{Start}
-use Rattle.of_core.specs.Starts.{IsStartRow, start_of}
+use Rattle.of_eval.specs.Scripts.{LawfulCells, data_cells_of}
+use Rattle.of_store.specs.State.{Store}
+use Rattle.of_core.specs.World.{TableStart}
+use Rattle.of_core.specs.Starts.{IsStartRow, start_from_durable}
 use Rattle.example_bank.specs.declared.books.Books.{Books}
 use Rattle.example_bank.specs.declared.books.TheConstants.{LIMIT}
 use Rattle.example_bank.specs.Money.{money_in}
@@ -15,12 +15,12 @@ abbrev pub AreBooks : Books → Type 0
 AreBooks b = IsStartRow (setup_with b.scripts LIMIT) (LawfulCells b.scripts) b.row.items
 
 -- where a table starts that starts from them
-abbrev pub start_in : Books → Start
-start_in b = start_of b.scripts.callers (cells_in b.scripts) b.row.items
+abbrev pub start_in : Books → TableStart
+start_in b = start_from_durable b.scripts.callers (data_cells_of b.scripts) b.row.items
 
 -- their cells stand for this store
-abbrev pub Hold : Books → State → Type 0
-Hold b s = Holds b.scripts (start_in b) s
+abbrev pub StandForStore : Books → Store → Type 0
+StandForStore b s = Holds b.scripts (start_in b) s
 
 -- what the accounts hold in them together
 abbrev pub money_of : Books → ℕ

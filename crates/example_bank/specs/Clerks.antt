@@ -2,16 +2,16 @@
 use Rattle.std.specs.Prelude.{◌≡◌, ℕ, ◌+◌, ◌<◌, ◌≤◌, ◌^◌, List, [], ◌∷◌, length, map, not, true, Option, Some, None, slice_index_or, vec_len}
 use Rattle.of_script.specs.declared.instr.Instr.{Instr}
 use Rattle.of_eval.specs.declared.scripts.Scripts.{Scripts}
-use Rattle.of_eval.specs.Scripts.{scripts_meaning, cells_in}
+use Rattle.of_eval.specs.Scripts.{scripts_meaning, data_cells_of}
 use Rattle.of_core.specs.declared.place.Outcome.{Outcome}
 use Rattle.of_core.specs.Turn.{IsIdle}
 use Rattle.of_row.specs.declared.member.Pass.{Pass}
 use Rattle.of_row.specs.declared.row.Row.{Row}
-use Rattle.of_row.specs.Rows.{key_of, IsOf}
+use Rattle.of_row.specs.Rows.{key_of, IsSeatOf}
 use Rattle.of_row.specs.Rule.{IsAsked}
-use Rattle.of_row.specs.Views.{Kept}
+use Rattle.of_row.specs.Views.{KnownCaller}
 use Rattle.of_caller.specs.declared.caller.Caller.{Caller}
-use Rattle.of_caller.specs.Callers.{IsCaller, call_of, sight_of}
+use Rattle.of_caller.specs.Callers.{IsCaller, caller_call, sight_of}
 use Rattle.example_bank.specs.declared.transfer.Transfer.{Transfer}
 use Rattle.example_bank.specs.declared.tally.Tally.{Tally}
 use Rattle.example_bank.specs.declared.tally.End.{End}
@@ -41,7 +41,7 @@ StopsWith Spent stop made = Unit {0}
 
 -- a caller of this number has worked at these scripts, under a stop of which so much is left
 pub record Works (stop : Option ℕ) (left : Option (Option ℕ)) (to_do : List (List Instr)) (number : ℕ) (t : Tally) (c : Caller Scripts) : Type 0 where
-  pub kept : Kept
+  pub kept : KnownCaller
   pub kept_is : (sight_of c).kept ≡ kept ∷ []
   pub number_is : kept.machine.caller ≡ number
   pub worked : HasWorked to_do t kept
@@ -49,12 +49,12 @@ pub record Works (stop : Option ℕ) (left : Option (Option ℕ)) (to_do : List 
   pub stops : StopsWith t.end stop kept.turns
   pub none_pending : t.pending ≡ 0
   -- while its day has not ended it has no open call, and was answered to all that it has begun
-  pub free : t.end ≡ Done → IsIdle (call_of c) × IsIdle kept.machine × (worked.begun ≡ t.answered) × (worked.beyond ≡ [])
+  pub free : t.end ≡ Done → IsIdle (caller_call c) × IsIdle kept.machine × (worked.begun ≡ t.answered) × (worked.beyond ≡ [])
 
 -- a new caller, of this number, that has made no call
 pub record IsReady (number : ℕ) (c : Caller Scripts) : Type 0 where
-  pub idle : IsIdle (call_of c)
-  pub kept : Kept
+  pub idle : IsIdle (caller_call c)
+  pub kept : KnownCaller
   pub kept_is : (sight_of c).kept ≡ kept ∷ []
   pub number_is : kept.machine.caller ≡ number
   pub at_rest : IsIdle kept.machine
@@ -108,12 +108,12 @@ module _ {X : Type 0} {Y : X → Type 0} where
 pub record IsRowOf (r : Row Scripts) (w : Scripts) (limit : ℕ) : Type 0 where
   pub work : (key_of r).work ≡ w
   pub callers : (key_of r).callers ≡ w.callers
-  pub cells : (key_of r).cells ≡ cells_in w
+  pub cells : (key_of r).cells ≡ data_cells_of w
   pub limit_is : (key_of r).limit ≡ limit
 
 -- the row's first pass, which has asked for numbers below the next one alone and keeps nobody yet
-pub record Hires (r : Row Scripts) (next : ℕ) (p : Pass) : Type 0 where
-  pub row : IsOf r p.seat
+pub record MayHire (r : Row Scripts) (next : ℕ) (p : Pass) : Type 0 where
+  pub row : IsSeatOf r p.seat
   pub first : p.seat.me.0.first ≡ true
   pub nobody : p.seat.me.0.kept ≡ []
   pub below : (number : ℕ) → IsAsked number p.seat.me.0.asked → number < next

@@ -2,7 +2,7 @@
 use Rattle.std.specs.Prelude.{◌≡◌, ℕ, ◌+◌, ◌<◌, ◌≤◌, List, length, take, IsSome, slice_index_or}
 use Rattle.std.proofs.Common.{zero, suc}
 use Rattle.std.specs.List.{All}
-use Rattle.of_core.specs.World.{Start}
+use Rattle.of_core.specs.World.{TableStart}
 use Rattle.example_bank.specs.declared.books.Books.{Books}
 use Rattle.example_bank.specs.declared.books.TheConstants.{CLERKS, LIMIT}
 use Rattle.example_bank.specs.declared.clerk.Job.{Job}
@@ -29,7 +29,7 @@ tally_of ts i = slice_index_or ts i no_tally
 
 -- why a clerk made no more of its transfers: there are no more; it was stopped, as its job says; or no
 -- sequence, or no ticket of it, is left in the books
-abbrev pub EndsSo : (after : Start) → (clerk : ℕ) → Job → (answered : ℕ) → End → Type 0
+abbrev pub EndsSo : (after : TableStart) → (clerk : ℕ) → Job → (answered : ℕ) → End → Type 0
 EndsSo C i j n Done = n ≡ length (to_do_of j)
 EndsSo C i j n Stopped = (n < length (to_do_of j)) × IsSome j.stop
 EndsSo C i j n Spent = (n < length (to_do_of j)) × NoneLeft LIMIT C i
@@ -41,7 +41,7 @@ StoppedIn Stopped = 1
 StoppedIn Spent = 0
 
 -- the tally tells what the ledger has of the clerk: the front of its job, and what became of each
-pub record IsTold (C : Start) (i : ℕ) (j : Job) (t : Tally) (own : List Entry) : Type 0 where
+pub record IsTold (C : TableStart) (i : ℕ) (j : Job) (t : Tally) (own : List Entry) : Type 0 where
   pub front : scripts_in own ≡ take (t.made + t.aborted) (to_do_of j)
   pub few : t.made + t.aborted ≤ length (to_do_of j)
   pub made : made_in own ≡ t.made

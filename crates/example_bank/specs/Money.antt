@@ -1,22 +1,22 @@
 -- What the accounts hold together, and the scripts that leave it as it is.
 use Rattle.std.specs.Prelude.{◌≡◌, ℕ, List, [], ◌∷◌, length, map, drop, take, sum, sum_by, Bool, true, false, ◌&&◌, ◌||◌, not}
-use Rattle.of_cell.specs.Words.{pay}
+use Rattle.of_cell.specs.Words.{payload_of}
 use Rattle.of_script.specs.declared.instr.Instr.{Instr}
-use Rattle.of_script.specs.declared.instr.Instr.TheVariants.{Store, Add, Sub}
+use Rattle.of_script.specs.declared.instr.Instr.TheVariants.{Store as RustStore, Add, Sub}
 use Rattle.of_script.specs.declared.instr.TheConstants.{REGISTERS}
 use Rattle.of_script.specs.Language.{IsScript, reads_only}
-use Rattle.of_store.specs.State.{State, run}
+use Rattle.of_store.specs.State.{Store, run}
 use Rattle.of_eval.specs.declared.scripts.Scripts.{Scripts}
-use Rattle.of_eval.specs.Scripts.{store_at, cells_in}
-use Rattle.of_core.specs.Starts.{start_of}
+use Rattle.of_eval.specs.Scripts.{store_at, data_cells_of}
+use Rattle.of_core.specs.Starts.{start_from_durable}
 
 -- The accounts are the registers. What they hold together, where these are the numbers of the data cells.
-abbrev pub money : Scripts → List ℕ → ℕ
-money w xs = sum (take REGISTERS (drop (store_at w) xs))
+abbrev pub money_of_numbers : Scripts → List ℕ → ℕ
+money_of_numbers w xs = sum (take REGISTERS (drop (store_at w) xs))
 
 -- what they hold in a durable row
 abbrev pub money_in : Scripts → List ℕ → ℕ
-money_in w row = money w (map pay (start_of w.callers (cells_in w) row).cells)
+money_in w row = money_of_numbers w (map payload_of (start_from_durable w.callers (data_cells_of w) row).cells)
 
 -- what an instruction adds to an account
 abbrev pub paid_in : Instr → ℕ
@@ -30,7 +30,7 @@ paid_out i = 0
 
 -- whether it sets no account to a number, whatever that held
 abbrev pub sets_none : Instr → Bool
-sets_none (Store r v) = false
+sets_none (RustStore r v) = false
 sets_none i = true
 
 -- the same of each instruction
@@ -60,5 +60,5 @@ pub record IsTransfer (script : List Instr) : Type 0 where
 
 -- on every store with sixteen registers a balanced script leaves them as much as they held together
 abbrev pub TransfersKeep : Type 0
-TransfersKeep = (s : State) (script : List Instr) → length s.registers ≡ REGISTERS → IsScript script → IsBalanced script
+TransfersKeep = (s : Store) (script : List Instr) → length s.registers ≡ REGISTERS → IsScript script → IsBalanced script
     → sum (run s script).0.registers ≡ sum s.registers

@@ -7,8 +7,8 @@ use Rattle.of_script.specs.Language.{IsScript, instr_word}
 use Rattle.of_core.specs.declared.place.Outcome.{Outcome}
 use Rattle.of_core.specs.declared.place.Outcome.TheVariants.{Answered, Spent as RanOut}
 use Rattle.of_core.specs.Calls.{NoneSpent}
-use Rattle.of_row.specs.Views.{Ended, Kept}
-use Rattle.of_row.specs.Told.{begun_of}
+use Rattle.of_row.specs.Views.{EndedCall, KnownCaller}
+use Rattle.of_row.specs.Told.{operations_known}
 use Rattle.example_bank.specs.declared.tally.Tally.{Tally}
 use Rattle.example_bank.specs.declared.tally.End.{End}
 use Rattle.example_bank.specs.declared.tally.End.TheVariants.{Done, Stopped, Spent}
@@ -24,23 +24,23 @@ aborts (RanOut s) = false
 
 -- why a clerk that is spent was not answered to its next script: no sequence was left for its call,
 -- or it had no ticket left to begin it
-abbrev pub IsSpent : (answered begun : ℕ) → (beyond : List Ended) → Kept → Type 0
+abbrev pub IsSpent : (answered begun : ℕ) → (beyond : List EndedCall) → KnownCaller → Type 0
 IsSpent n b beyond x =
     ((op : List ℕ) × (s : ℕ) × (beyond ≡ record { op = op; outcome = RanOut s } ∷ []))
     ⊎ ((b ≡ n) × (x.machine.made ≡ 4294967295))
 
 -- so it is where its day ends as spent
-abbrev pub EndsAs : End → (answered begun : ℕ) → (beyond : List Ended) → Kept → Type 0
+abbrev pub EndsAs : End → (answered begun : ℕ) → (beyond : List EndedCall) → KnownCaller → Type 0
 EndsAs Done n b beyond x = Unit {0}
 EndsAs Stopped n b beyond x = Unit {0}
 EndsAs Spent n b beyond x = IsSpent n b beyond x
 
 -- It has begun the scripts at the front of what it is to do, and was answered to all of them but the
 -- last, or to all. What became of these is counted.
-pub record HasWorked (to_do : List (List Instr)) (t : Tally) (x : Kept) : Type 0 where
+pub record HasWorked (to_do : List (List Instr)) (t : Tally) (x : KnownCaller) : Type 0 where
   -- its calls that were answered, and then at most the spent one
-  pub calls : List Ended
-  pub beyond : List Ended
+  pub calls : List EndedCall
+  pub beyond : List EndedCall
   pub ended : x.ended ≡ calls ++ beyond
   pub count : length calls ≡ t.answered
   pub none_spent : NoneSpent (map (λ e. e.outcome) calls)
@@ -51,10 +51,10 @@ pub record HasWorked (to_do : List (List Instr)) (t : Tally) (x : Kept) : Type 0
   pub few : begun ≤ length to_do
   pub most : begun ≤ t.answered + 1
   pub fits : All IsScript (take begun to_do)
-  pub ops : begun_of x ≡ map op_of (take begun to_do)
+  pub ops : operations_known x ≡ map op_of (take begun to_do)
   pub last : EndsAs t.end t.answered begun beyond x
 
 -- a caller of this number is kept, of which this holds
-abbrev pub KeepsOne : ℕ → (Kept → Type 0) → List Kept → Type 0
+abbrev pub KeepsOne : ℕ → (KnownCaller → Type 0) → List KnownCaller → Type 0
 KeepsOne i P [] = ⊥
 KeepsOne i P (x ∷ xs) = ((x.machine.caller ≡ i) × P x) ⊎ KeepsOne i P xs

@@ -1,19 +1,19 @@
 //! The books of the bank: what is durable of it while nobody works.
 
 ghost use Rattle.std.specs.Prelude.{◌≡◌, ◌+◌, ◌<◌, ℕ, IfOk, IfErr, List, map, sum, slice_range};
-ghost use Rattle.of_cell.specs.Words.{pay};
+ghost use Rattle.of_cell.specs.Words.{payload_of};
 ghost use Rattle.of_cell.specs.Cells.{data_cell, durable_cells};
 ghost use Rattle.of_recover.specs.Row.{IsDurableRow};
 ghost use Rattle.of_mem.specs.declared.work.TheConstants.{MOST_INSTRS};
 ghost use Rattle.of_script.specs.declared.instr.Instr.{Instr};
-ghost use Rattle.of_eval.specs.Scripts.{LawfulCells, cells_in, scripts_meaning};
+ghost use Rattle.of_eval.specs.Scripts.{LawfulCells, data_cells_of, scripts_meaning};
 ghost use Rattle.of_core.specs.Table.{durable_word as the_durable_word};
 ghost use Rattle.of_core.specs.Shared.{MayStart};
 ghost use Rattle.of_core.specs.Starts.{IsDurable};
-ghost use Rattle.of_row.specs.Rows.{IsOf, start_at};
+ghost use Rattle.of_row.specs.Rows.{IsSeatOf, start_at};
 ghost use Rattle.example_bank.specs.Ledger.{HasLedger, ticket_in, aborted_last};
 ghost use Rattle.example_bank.specs.Closed.{AllChange, KeepsClerks, setup_with};
-ghost use Rattle.example_bank.specs.Clerks.{IsRowOf, Hires};
+ghost use Rattle.example_bank.specs.Clerks.{IsRowOf, MayHire};
 ghost use Rattle.example_bank.specs.declared.books.TheConstants.{CLERKS, LIMIT};
 ghost use Rattle.example_bank.specs.declared.tally.Tally.{Tally};
 
@@ -37,7 +37,7 @@ pub const LIMIT: u32 = 1_000_000;
 pub fn shape_of(scripts: Scripts) -> Shape
     ensures callers { result.callers ≡ scripts.callers }
     ensures instrs { result.instrs ≡ MOST_INSTRS }
-    ensures cells { result.cells ≡ cells_in scripts }
+    ensures cells { result.cells ≡ data_cells_of scripts }
 {
     let plot = scripts.plot();
     Shape {
@@ -57,7 +57,7 @@ pub struct Books {
 
 /// The durable word of a cell.
 fn durable_word(scripts: Scripts, words: &[u64], cell: u32) -> u64
-    requires { cell < durable_cells scripts.callers (cells_in scripts) }
+    requires { cell < durable_cells scripts.callers (data_cells_of scripts) }
     ensures { result ≡ the_durable_word (setup_with scripts LIMIT) words.now cell }
 {
     match words.get(shape_of(scripts).durable_word(cell) as usize) {
@@ -90,15 +90,15 @@ fn data_words(alloc: Global, shape: &Shape, row: &[u64]) -> Result<Vec<u64>, All
 
 /// The numbers in these words.
 fn numbers(alloc: Global, words: &[u64]) -> Result<Vec<u32>, AllocError>
-    ensures { IfOk result (λ numbers. numbers.items ≡ map pay words.now) }
+    ensures { IfOk result (λ numbers. numbers.items ≡ map payload_of words.now) }
 {
     words.iter().map(|word| payload_of(*word)).collect(alloc)
 }
 
 impl Books {
-    ghost use Rattle.of_eval.specs.Faults.{AtCell, IsFirstFault};
-    ghost use Rattle.of_mem.specs.ProgramWork.{memory};
-    ghost use Rattle.example_bank.specs.Books.{AreBooks, Hold, money_of, start_in};
+    ghost use Rattle.of_eval.specs.Faults.{NamesCellWith, IsFirstFault};
+    ghost use Rattle.of_mem.specs.ProgramWork.{memory_of};
+    ghost use Rattle.example_bank.specs.Books.{AreBooks, StandForStore, money_of, start_in};
 
     /// Closes a row, takes its durable words alone, as a crash does, and recovers them. Where the pass
     /// keeps all clerks, the books end a ledger of what these have done.
@@ -110,7 +110,7 @@ impl Books {
     ) -> Result<Books, AllocError>
         requires clerks { scripts.callers ≡ CLERKS }
         requires row { IsRowOf row scripts LIMIT }
-        requires pass { IsOf row pass.seat }
+        requires pass { IsSeatOf row pass.seat }
         ensures scripts { IfOk result (λ b. b.scripts ≡ scripts) }
         ensures books { IfOk result AreBooks }
         ensures ledger { IfOk result (λ b. (to_do : ℕ → List (List Instr)) (tally : ℕ → Tally) →
@@ -136,7 +136,7 @@ impl Books {
         requires { AreBooks self.now }
         ensures row { IfOk result (λ r. IsRowOf r.0 self.now.scripts LIMIT) }
         ensures start { IfOk result (λ r. start_at scripts_meaning r.0 ≡ start_in self.now) }
-        ensures pass { IfOk result (λ r. Hires r.0 0 r.1) }
+        ensures pass { IfOk result (λ r. MayHire r.0 0 r.1) }
     {
         let shape = shape_of(self.scripts);
         let (row, pass) = Row::start(alloc, shape, LIMIT, self.scripts, &self.row)?;
@@ -147,10 +147,10 @@ impl Books {
     /// callers' own cells may be, in books that nobody closed.
     pub fn store(&self, alloc: Global) -> Result<Store, LawErr>
         requires { AreBooks self.now }
-        ensures store { IfOk result (Hold self.now) }
+        ensures store { IfOk result (StandForStore self.now) }
         ensures money { IfOk result (λ s. sum s.registers ≡ money_of self.now) }
-        ensures unlawful { IfErr result (λ e. AtCell (IsFirstFault self.now.scripts.callers
-            MOST_INSTRS self.now.scripts.blocks (memory (map pay (start_in self.now).cells))) e) }
+        ensures unlawful { IfErr result (λ e. NamesCellWith (IsFirstFault self.now.scripts.callers
+            MOST_INSTRS self.now.scripts.blocks (memory_of (map payload_of (start_in self.now).cells))) e) }
     {
         let words = data_words(alloc, &shape_of(self.scripts), &self.row)?;
         let cells = numbers(alloc, &words)?;

@@ -4,13 +4,13 @@ ghost use Rattle.std.specs.Prelude.{◌≡◌, ◌+◌, ◌<◌, ◌≤◌, ℕ,
 ghost use Rattle.of_eval.specs.Scripts.{scripts_meaning};
 ghost use Rattle.of_core.specs.Calls.{IsAnswered};
 ghost use Rattle.of_core.specs.Turn.{IsIdle};
-ghost use Rattle.of_row.specs.Rows.{IsOf, key_of};
-ghost use Rattle.of_caller.specs.Callers.{IsCaller, call_of};
+ghost use Rattle.of_row.specs.Rows.{IsSeatOf, key_of};
+ghost use Rattle.of_caller.specs.Callers.{IsCaller, caller_call};
 ghost use Rattle.example_bank.specs.declared.clerk.Job.{Job as TheJob};
 ghost use Rattle.example_bank.specs.declared.clerk.Shift.TheVariants.{Evening};
 ghost use Rattle.example_bank.specs.declared.tally.Tally.{Tally as TheTally};
 ghost use Rattle.example_bank.specs.declared.tally.End.TheVariants.{Done as NotEnded};
-ghost use Rattle.example_bank.specs.Clerks.{IsReady, CanCount, Counted, MakesNext, Advances, Hires};
+ghost use Rattle.example_bank.specs.Clerks.{IsReady, CanCount, Counted, MakesNext, Advances, MayHire};
 ghost use Rattle.example_bank.specs.Clerks.{IsClerk, IsSame, IsThrough, KeepsClerk};
 
 use crate::tally::{End, Tally};
@@ -35,11 +35,11 @@ pub fn enter(
     pass: Pass,
     number: u32,
 ) -> Result<(Caller<Scripts>, Pass), AllocError>
-    requires pass { Hires row.now number pass }
+    requires pass { MayHire row.now number pass }
     requires number { number < (key_of row.now).callers }
     ensures caller { IfOk result (λ r. IsCaller scripts_meaning row.now r.0) }
     ensures ready { IfOk result (λ r. IsReady number r.0) }
-    ensures pass { IfOk result (λ r. Hires row.now (number + 1) r.1) }
+    ensures pass { IfOk result (λ r. MayHire row.now (number + 1) r.1) }
 {
     members(row.work());
     let Ok((member, pass)) = row.enrol(pass, number) else {
@@ -74,7 +74,7 @@ pub fn call<L: Ledger>(
     tally: &mut Tally,
 )
     requires caller { IsCaller scripts_meaning row.now caller.old }
-    requires idle { IsIdle (call_of caller.old) }
+    requires idle { IsIdle (caller_call caller.old) }
     requires counts { CanCount tally.old }
     requires end { tally.old.end ≡ NotEnded }
     ensures caller { IsCaller scripts_meaning row.now caller.new }
@@ -137,13 +137,13 @@ impl Clerk {
         job: Job,
         brake: Box<dyn Brake + Send>,
     ) -> Result<(Clerk, Pass), AllocError>
-        requires pass { Hires row.now number pass }
+        requires pass { MayHire row.now number pass }
         requires number { number < (key_of row.now).callers }
         requires stop { left brake ≡ Some job.stop }
         ensures clerk { IfOk result (λ r. IsClerk (left r.0.brake) row.now r.0) }
         ensures number { IfOk result (λ r. r.0.number ≡ number) }
         ensures job { IfOk result (λ r. r.0.job ≡ job) }
-        ensures pass { IfOk result (λ r. Hires row.now (number + 1) r.1) }
+        ensures pass { IfOk result (λ r. MayHire row.now (number + 1) r.1) }
     {
         let (caller, pass) = enter(alloc, row, pass, number)?;
         Ok((
@@ -213,8 +213,8 @@ impl Clerk {
     /// Hands all that it has done to the pass, which keeps it.
     pub fn leave(self, row: &Row<Scripts>, pass: Pass) -> Pass
         requires clerk { IsClerk (left self.brake) row.now self }
-        requires pass { IsOf row.now pass.seat }
-        ensures pass { IsOf row.now result.seat }
+        requires pass { IsSeatOf row.now pass.seat }
+        ensures pass { IsSeatOf row.now result.seat }
         ensures own { KeepsClerk self.number self.job self.tally result }
         ensures others { (number : ℕ) (job : TheJob) (tally : TheTally) →
             KeepsClerk number job tally pass → KeepsClerk number job tally result }

@@ -2,11 +2,11 @@
 
 ghost use Rattle.std.specs.Prelude.{◌≡◌, ◌+◌, ◌<◌, ℕ, Some, IfOk};
 ghost use Rattle.std.specs.Thread.{IsSync};
-ghost use Rattle.of_row.specs.Rows.{IsOf, key_of};
+ghost use Rattle.of_row.specs.Rows.{IsSeatOf, key_of};
 ghost use Rattle.example_bank.specs.declared.clerk.Job.{Job as TheJob};
 ghost use Rattle.example_bank.specs.declared.clerk.Shift.TheVariants.{Evening};
 ghost use Rattle.example_bank.specs.declared.tally.Tally.{Tally as TheTally};
-ghost use Rattle.example_bank.specs.Clerks.{IsClerk, IsSame, IsThrough, KeepsClerk, Hires};
+ghost use Rattle.example_bank.specs.Clerks.{IsClerk, IsSame, IsThrough, KeepsClerk, MayHire};
 
 use crate::clerk::{Clerk, Job, Shift};
 use of_brake::Brake;
@@ -28,7 +28,7 @@ pub(crate) fn hire_two(
     jobs: (Job, Job),
     brakes: Brakes,
 ) -> Result<((Clerk, Clerk), Pass), AllocError>
-    requires pass { Hires row.now first pass }
+    requires pass { MayHire row.now first pass }
     requires numbers { first + 1 < (key_of row.now).callers }
     requires one { left brakes.0 ≡ Some jobs.0.stop }
     requires other { left brakes.1 ≡ Some jobs.1.stop }
@@ -36,7 +36,7 @@ pub(crate) fn hire_two(
         × (r.0.0.number ≡ first) × (r.0.0.job ≡ jobs.0)) }
     ensures other { IfOk result (λ r. IsClerk (left r.0.1.brake) row.now r.0.1
         × (r.0.1.number ≡ first + 1) × (r.0.1.job ≡ jobs.1)) }
-    ensures pass { IfOk result (λ r. Hires row.now (first + 2) r.1) }
+    ensures pass { IfOk result (λ r. MayHire row.now (first + 2) r.1) }
 {
     let (one, pass) = Clerk::hire(alloc, row, pass, first, jobs.0, brakes.0)?;
     let (other, pass) = Clerk::hire(alloc, row, pass, first + 1, jobs.1, brakes.1)?;
@@ -120,8 +120,8 @@ pub(crate) fn four_at_once<R: Threads + Sync>(
 pub(crate) fn leave_two(row: &Row<Scripts>, two: (Clerk, Clerk), pass: Pass) -> Pass
     requires one { IsClerk (left two.0.brake) row.now two.0 }
     requires other { IsClerk (left two.1.brake) row.now two.1 }
-    requires pass { IsOf row.now pass.seat }
-    ensures pass { IsOf row.now result.seat }
+    requires pass { IsSeatOf row.now pass.seat }
+    ensures pass { IsSeatOf row.now result.seat }
     ensures one { KeepsClerk two.0.number two.0.job two.0.tally result }
     ensures other { KeepsClerk two.1.number two.1.job two.1.tally result }
     ensures others { (number : ℕ) (job : TheJob) (tally : TheTally) →

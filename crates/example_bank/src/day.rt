@@ -1,9 +1,9 @@
 //! A working day of the bank.
 
 ghost use Rattle.std.specs.Prelude.{◌≡◌, ◌+◌, ◌<◌, ℕ, Some, IfOk, List, not};
-ghost use Rattle.of_row.specs.Rows.{IsOf, key_of};
+ghost use Rattle.of_row.specs.Rows.{IsSeatOf, key_of};
 ghost use Rattle.example_bank.specs.Books.{AreBooks, money_of, start_in};
-ghost use Rattle.example_bank.specs.Clerks.{CanCount, KeepsClerk, Hires, to_do_of};
+ghost use Rattle.example_bank.specs.Clerks.{CanCount, KeepsClerk, MayHire, to_do_of};
 ghost use Rattle.example_bank.specs.Days.{HasEnded, IsDay, IsTold, job_of, tally_of};
 ghost use Rattle.example_bank.specs.Ledger.{Entry, HasLedger, HasOwn, SpentSo, counted};
 ghost use Rattle.example_bank.specs.declared.books.TheConstants.{CLERKS, LIMIT};
@@ -46,12 +46,12 @@ fn work_all_day<R: Threads + Sync>(
     brakes: (Brakes, Brakes),
 ) -> Result<(Pass, [Tally; CLERKS as usize]), AllocError>
     requires row { (key_of row.now).callers ≡ CLERKS }
-    requires pass { Hires row.now 0 pass }
+    requires pass { MayHire row.now 0 pass }
     requires first { left brakes.0.0 ≡ Some jobs.two.0.stop }
     requires second { left brakes.0.1 ≡ Some jobs.two.1.stop }
     requires third { left brakes.1.0 ≡ Some jobs.others.0.stop }
     requires fourth { left brakes.1.1 ≡ Some jobs.others.1.stop }
-    ensures pass { IfOk result (λ r. IsOf row.now r.0.seat) }
+    ensures pass { IfOk result (λ r. IsSeatOf row.now r.0.seat) }
     ensures keeps { IfOk result (λ r. (i : ℕ) → i < CLERKS →
         KeepsClerk i (job_of jobs i) (tally_of r.1 i) r.0) }
     ensures ended { IfOk result (λ r. (i : ℕ) → i < CLERKS →

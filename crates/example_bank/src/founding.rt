@@ -3,7 +3,7 @@
 ghost use Rattle.std.specs.Prelude.{◌≡◌, ◌*◌, ◌≤◌, IfOk};
 ghost use Rattle.of_script.specs.declared.instr.TheConstants.{GREATEST, REGISTERS};
 ghost use Rattle.of_eval.specs.Scripts.{scripts_meaning};
-ghost use Rattle.of_caller.specs.Callers.{IsCaller, call_of};
+ghost use Rattle.of_caller.specs.Callers.{IsCaller, caller_call};
 ghost use Rattle.of_core.specs.Turn.{IsIdle};
 ghost use Rattle.example_bank.specs.Books.{AreBooks, money_of};
 ghost use Rattle.example_bank.specs.declared.books.TheConstants.{CLERKS};
@@ -50,7 +50,7 @@ fn call_once<L: Ledger>(
     requires name { blank.name ≡ L.name }
     requires parts { (blank.parts ≡ L.parts) × (blank.parts ≡ 1) }
     requires caller { IsCaller scripts_meaning row.now caller.old }
-    requires idle { IsIdle (call_of caller.old) }
+    requires idle { IsIdle (caller_call caller.old) }
     ensures { IsCaller scripts_meaning row.now caller.new }
 {
     let mut steps: Steps<L> = Steps::new(blank);

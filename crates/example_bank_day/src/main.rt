@@ -3,7 +3,7 @@
 
 ghost use Rattle.std.specs.Prelude.{◌≡◌, ◌*◌, IfOk, sum};
 ghost use Rattle.of_script.specs.declared.instr.TheConstants.{REGISTERS};
-ghost use Rattle.example_bank.specs.Books.{AreBooks, Hold};
+ghost use Rattle.example_bank.specs.Books.{AreBooks, StandForStore};
 ghost use Rattle.example_bank_day.specs.declared.TheConstants.{AMOUNT};
 
 use example_bank::{
@@ -70,7 +70,7 @@ struct Shown {
 /// `after`, whose accounts hold as much together as those of the store before it.
 fn a_day<R: Threads + Sync>(rt: &R, alloc: Global) -> Result<Shown, BankErr>
     ensures books { IfOk result (λ s. AreBooks s.day.books) }
-    ensures after { IfOk result (λ s. Hold s.day.books s.after) }
+    ensures after { IfOk result (λ s. StandForStore s.day.books s.after) }
     ensures money { IfOk result (λ s. sum s.after.registers ≡ sum s.before.registers) }
     ensures founded { IfOk result (λ s. sum s.before.registers ≡ AMOUNT * REGISTERS) }
 {

@@ -6,25 +6,25 @@ use Rattle.std.specs.Prelude.{Result}
 use Rattle.of_mem.specs.declared.part.Need.{Need}
 use Rattle.of_mem.specs.declared.plot.Plot.{Plot}
 use Rattle.of_mem.specs.Plots.{base}
-use Rattle.of_mem.specs.Calls.{RunsOn}
+use Rattle.of_mem.specs.Calls.{RunsProgram}
 use Rattle.of_mem.specs.Places.{fresh_at, free_at, cells_at}
-use Rattle.of_mem.specs.Pad.{Pad}
-use Rattle.of_mem.specs.Programs.{changed, with_writes, Inside, IsPartOf, RunsAs}
+use Rattle.of_mem.specs.Pad.{Part}
+use Rattle.of_mem.specs.Programs.{with_value, with_writes, StaysBetween, IsPartOf, RunsAs}
 use Rattle.of_mem.specs.Stores.{link_at}
 use Rattle.of_mem.proofs.Changes.{changed_same, changed_other}
 use Rattle.of_mem.proofs.Heaps.{chain_copy}
 use Rattle.of_mem.proofs.Runs.{run_ended, after_ended}
 use Rattle.of_mem.proofs.Calls.{so_ok}
-use Rattle.of_alloc.specs.Blocks.{IsFreeList, IsOut, IsGiven, GivesOn, GivesTo}
+use Rattle.of_alloc.specs.Blocks.{IsFreeList, IsOut, IsGiven, GivesToList, GivesToMemory}
 use Rattle.of_alloc.specs.BlockPrograms.{give, give_program}
 use Rattle.of_alloc.proofs.Takings.{free_small}
 
 module _ (o blocks : ℕ) (m : ℕ → ℕ) (free : List ℕ) (b : ℕ) (h : IsFreeList o blocks m free) (out : IsOut o m free b) where
   abbrev linked : ℕ → ℕ
-  linked = changed m (link_at o b) (m (free_at o))
+  linked = with_value m (link_at o b) (m (free_at o))
 
   abbrev given : ℕ → ℕ
-  given = changed linked (free_at o) (b + 1)
+  given = with_value linked (free_at o) (b + 1)
 
   other : (a : ℕ) → a ≢ link_at o b → a ≢ free_at o → given a ≡ m a
   other a n k = changed_other linked (free_at o) (b + 1) a k ∙ changed_other m (link_at o b) (m (free_at o)) a n
@@ -50,16 +50,16 @@ module _ (o blocks : ℕ) (m : ℕ → ℕ) (free : List ℕ) (b : ℕ) (h : IsF
     cells = other;
   }
 
-  inside : blocks ≤ MOST_BLOCKS → Inside o (cells_at o blocks) (give_program o b) m
+  inside : blocks ≤ MOST_BLOCKS → StaysBetween o (cells_at o blocks) (give_program o b) m
   inside few = (omega arith, omega arith, (omega arith, omega (arith, out.0, h.few), free_small o blocks m free h few, (omega arith, omega arith, omega (arith, out.0, h.few), tt)))
 
-  given_on : blocks ≤ MOST_BLOCKS → (p q : Pad) (r : Unit {0}) → IsPartOf p m → RunsAs (give_program o b) p r q → IsPartOf q (with_writes m q.script) × IsGiven o blocks m free b (with_writes m q.script)
+  given_on : blocks ≤ MOST_BLOCKS → (p q : Part) (r : Unit {0}) → IsPartOf p m → RunsAs (give_program o b) p r q → IsPartOf q (with_writes m q.script) × IsGiven o blocks m free b (with_writes m q.script)
   given_on few p q r is e =
       let d = run_ended o (cells_at o blocks) (give_program o b) p q m r is (inside few) e in
       let same = after_ended (give_program o b) p q m r is d in
       (subst (IsPartOf q) same d.part, subst (IsGiven o blocks m free b) same is_given)
 
 -- what a giving that ran does to each free list
-pub gives_to : (plot : Plot) (b : ℕ) (p q : Pad) (result : Result (Unit {0}) Need) → RunsOn (give plot b) p q result → GivesTo plot p q b result
-gives_to plot b p q result h = so_ok (give plot b) p q (λ r. (m : ℕ → ℕ) (free : List ℕ) → IsPartOf p m → IsFreeList (base plot) plot.blocks m free → IsOut (base plot) m free b → GivesOn plot m free b q) result h (λ r e m free is list out.
+pub gives_to : (plot : Plot) (b : ℕ) (p q : Part) (result : Result (Unit {0}) Need) → RunsProgram (give plot b) p q result → GivesToMemory plot p q b result
+gives_to plot b p q result h = so_ok (give plot b) p q (λ r. (m : ℕ → ℕ) (free : List ℕ) → IsPartOf p m → IsFreeList (base plot) plot.blocks m free → IsOut (base plot) m free b → GivesToList plot m free b q) result h (λ r e m free is list out.
     let k = given_on (base plot) plot.blocks m free b list out plot.few_blocks p q r is e in record { part = k.0; given = k.1 })

@@ -7,17 +7,17 @@ use Rattle.of_mem.specs.declared.plot.TheConstants.{MOST_BLOCKS}
 use Rattle.std.specs.Prelude.{Result}
 use Rattle.of_mem.specs.declared.part.Need.{Need}
 use Rattle.of_mem.specs.declared.plot.Plot.{Plot}
-use Rattle.of_mem.specs.Plots.{base, size}
-use Rattle.of_mem.specs.Calls.{RunsOn}
+use Rattle.of_mem.specs.Plots.{base, data_cell_count}
+use Rattle.of_mem.specs.Calls.{RunsProgram}
 use Rattle.of_mem.specs.Places.{fresh_at, free_at, cells_at}
-use Rattle.of_mem.specs.Pad.{Pad, newest}
-use Rattle.of_mem.specs.Programs.{Program, answer, after, writes, changed, with_writes, Inside, IsPartOf, RunsAs}
+use Rattle.of_mem.specs.Pad.{Part, newest_at}
+use Rattle.of_mem.specs.Programs.{Program, program_answer, memory_after, program_writes, with_value, with_writes, StaysBetween, IsPartOf, RunsAs}
 use Rattle.of_mem.specs.Stores.{link_at}
 use Rattle.of_mem.proofs.Changes.{changed_same, changed_other}
 use Rattle.of_mem.proofs.Heaps.{chain_copy, chain_once}
 use Rattle.of_mem.proofs.Runs.{run_ended, after_ended, unchanged}
 use Rattle.of_mem.proofs.Calls.{so_ok}
-use Rattle.of_alloc.specs.Blocks.{IsFreeList, IsTaken, Takes, HasFreeList, TakesOn, TakesFrom}
+use Rattle.of_alloc.specs.Blocks.{IsFreeList, IsTaken, TakesBlock, HasFreeList, TakesFromList, TakesFromMemory}
 use Rattle.of_alloc.specs.BlockPrograms.{take, take_program, with_free, take_fresh}
 
 -- the front of the free list is a block
@@ -36,7 +36,7 @@ free_small o blocks m (x ∷ l) h few = omega (arith, h.linked.0, h.below.0, h.f
 
 module _ (o blocks : ℕ) (m : ℕ → ℕ) where
   abbrev from_front : ℕ → ℕ → ℕ
-  from_front b = changed m (free_at o) (m (link_at o b))
+  from_front b = with_value m (free_at o) (m (link_at o b))
 
   front_taken : (b : ℕ) (l : List ℕ) → IsFreeList o blocks m (b ∷ l) → IsTaken o blocks m (b ∷ l) b (from_front b)
   front_taken b l h = record {
@@ -52,15 +52,15 @@ module _ (o blocks : ℕ) (m : ℕ → ℕ) where
     cells = λ a n k. changed_other m (free_at o) (m (link_at o b)) a n;
   }
     where
-      fresh : changed m (free_at o) (m (link_at o b)) (fresh_at o) ≡ m (fresh_at o)
+      fresh : with_value m (free_at o) (m (link_at o b)) (fresh_at o) ≡ m (fresh_at o)
       fresh = changed_other m (free_at o) (m (link_at o b)) (fresh_at o) (λ e. omega arith)
 
-      links : (l : List ℕ) → Each (λ x. changed m (free_at o) (m (link_at o b)) (link_at o x) ≡ m (link_at o x)) l
+      links : (l : List ℕ) → Each (λ x. with_value m (free_at o) (m (link_at o b)) (link_at o x) ≡ m (link_at o x)) l
       links [] = tt
       links (x ∷ l) = (changed_other m (free_at o) (m (link_at o b)) (link_at o x) (λ e. omega arith), links l)
 
   abbrev from_fresh : ℕ → ℕ
-  from_fresh = changed m (fresh_at o) (m (fresh_at o) + 1)
+  from_fresh = with_value m (fresh_at o) (m (fresh_at o) + 1)
 
   fresh_taken : IsFreeList o blocks m [] → m (fresh_at o) < blocks → IsTaken o blocks m [] (m (fresh_at o)) from_fresh
   fresh_taken h less = record {
@@ -76,15 +76,15 @@ module _ (o blocks : ℕ) (m : ℕ → ℕ) where
     cells = λ a n k. changed_other m (fresh_at o) (m (fresh_at o) + 1) a k;
   }
     where
-      fresh : changed m (fresh_at o) (m (fresh_at o) + 1) (fresh_at o) ≡ m (fresh_at o) + 1
+      fresh : with_value m (fresh_at o) (m (fresh_at o) + 1) (fresh_at o) ≡ m (fresh_at o) + 1
       fresh = changed_same m (fresh_at o) (m (fresh_at o) + 1)
 
   module _ (few : blocks ≤ MOST_BLOCKS) where
     -- what a taking reads, writes and does, by the pointer that free holds
     pub record Run (free : List ℕ) (f : Program (Option ℕ)) : Type 0 where
-      pub inside : Inside o (cells_at o blocks) f m
-      pub takes : Takes o blocks m free (answer f m) (after f m)
-      pub quiet : answer f m ≡ None → writes f m ≡ []
+      pub inside : StaysBetween o (cells_at o blocks) f m
+      pub takes : TakesBlock o blocks m free (program_answer f m) (memory_after f m)
+      pub quiet : program_answer f m ≡ None → program_writes f m ≡ []
 
     by_fresh : IsFreeList o blocks m [] → (t : Bool) → ltb (m (fresh_at o)) blocks ≡ t → Run [] (take_fresh o (m (fresh_at o)) t)
     by_fresh h true e = let less : m (fresh_at o) < blocks = ltb-true (m (fresh_at o)) blocks e in
@@ -105,23 +105,23 @@ module _ (o blocks : ℕ) (m : ℕ → ℕ) where
     pub taking : (free : List ℕ) → IsFreeList o blocks m free → Run free (take_program o blocks)
     taking free h = let k = by_front free h (m (free_at o)) refl in record { inside = (omega arith, omega arith, k.inside); takes = k.takes; quiet = k.quiet }
 
-    taken_on : (free : List ℕ) (p q : Pad) (r : Option ℕ) → IsPartOf p m → IsFreeList o blocks m free → RunsAs (take_program o blocks) p r q → IsPartOf q (with_writes m q.script) × Takes o blocks m free r (with_writes m q.script)
+    taken_on : (free : List ℕ) (p q : Part) (r : Option ℕ) → IsPartOf p m → IsFreeList o blocks m free → RunsAs (take_program o blocks) p r q → IsPartOf q (with_writes m q.script) × TakesBlock o blocks m free r (with_writes m q.script)
     taken_on free p q r is h e =
         let k = taking free h in
         let d = run_ended o (cells_at o blocks) (take_program o blocks) p q m r is k.inside e in
         let same = after_ended (take_program o blocks) p q m r is d in
-        (subst (IsPartOf q) same d.part, subst (Takes o blocks m free r) same (subst (λ (x : Option ℕ). Takes o blocks m free x (after (take_program o blocks) m)) (sym d.answers) k.takes))
+        (subst (IsPartOf q) same d.part, subst (TakesBlock o blocks m free r) same (subst (λ (x : Option ℕ). TakesBlock o blocks m free x (memory_after (take_program o blocks) m)) (sym d.answers) k.takes))
 
 -- what a taking that ran does to each free list
-pub takes_from : (plot : Plot) (p q : Pad) (result : Result (Option ℕ) Need) → HasFreeList plot p → RunsOn (take plot) p q result → TakesFrom plot p q result
+pub takes_from : (plot : Plot) (p q : Part) (result : Result (Option ℕ) Need) → HasFreeList plot p → RunsProgram (take plot) p q result → TakesFromMemory plot p q result
 takes_from plot p q result has h = record {
-  takes = so_ok (take plot) p q (λ r. (m : ℕ → ℕ) (free : List ℕ) → IsPartOf p m → IsFreeList (base plot) plot.blocks m free → TakesOn plot m free r q) result h (λ r e m free is list.
+  takes = so_ok (take plot) p q (λ r. (m : ℕ → ℕ) (free : List ℕ) → IsPartOf p m → IsFreeList (base plot) plot.blocks m free → TakesFromList plot m free r q) result h (λ r e m free is list.
       let k = taken_on (base plot) plot.blocks m plot.few_blocks free p q r is list e in record { part = k.0; takes = k.1 });
   none = so_ok (take plot) p q (λ r. r ≡ None → q ≡ p) result h (λ r e none.
       let k = taking (base plot) plot.blocks has.memory plot.few_blocks has.free has.list in
-      let d = run_ended (base plot) (size plot) (take plot) p q has.memory r has.part k.inside e in
+      let d = run_ended (base plot) (data_cell_count plot) (take plot) p q has.memory r has.part k.inside e in
       unchanged (take plot) p q has.memory r d (k.quiet (sym d.answers ∙ none)));
 }
 
-pub front_read : (plot : Plot) (p : Pad) (f a : ℕ) → HasFreeList plot p → a ≡ free_at (base plot) → newest p a ≡ Some f → f ≢ 0 → f - 1 < plot.blocks
+pub front_read : (plot : Plot) (p : Part) (f a : ℕ) → HasFreeList plot p → a ≡ free_at (base plot) → newest_at p a ≡ Some f → f ≢ 0 → f - 1 < plot.blocks
 front_read plot p f a h at e n = front_below (base plot) plot.blocks h.memory h.free f h.list (h.part (free_at (base plot)) f (rw at at e)) n

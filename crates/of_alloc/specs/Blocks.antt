@@ -3,9 +3,9 @@ use Rattle.std.specs.Prelude.{◌≡◌, ◌≢◌, ℕ, ◌<◌, ◌≤◌, ◌
 use Rattle.std.specs.List.{AllByRecursion as Each}
 use Rattle.of_mem.specs.declared.part.Need.{Need}
 use Rattle.of_mem.specs.declared.plot.Plot.{Plot}
-use Rattle.of_mem.specs.Plots.{base, size}
+use Rattle.of_mem.specs.Plots.{base, data_cell_count}
 use Rattle.of_mem.specs.Places.{fresh_at, free_at}
-use Rattle.of_mem.specs.Pad.{Pad}
+use Rattle.of_mem.specs.Pad.{Part}
 use Rattle.of_mem.specs.Programs.{IsPartOf, with_writes}
 use Rattle.of_mem.specs.Stores.{IsChain, link_at}
 
@@ -30,9 +30,9 @@ pub record IsTaken (o blocks : ℕ) (m : ℕ → ℕ) (free : List ℕ) (b : ℕ
   pub cells : (a : ℕ) → a ≢ free_at o → a ≢ fresh_at o → n a ≡ m a
 
 -- no block is taken exactly where all of them are out, and then no cell changed
-abbrev pub Takes : ℕ → ℕ → (ℕ → ℕ) → List ℕ → Option ℕ → (ℕ → ℕ) → Type 0
-Takes o blocks m free None n = (free ≡ []) × (m (fresh_at o) ≡ blocks) × (n ≡ m)
-Takes o blocks m free (Some b) n = IsTaken o blocks m free b n
+abbrev pub TakesBlock : ℕ → ℕ → (ℕ → ℕ) → List ℕ → Option ℕ → (ℕ → ℕ) → Type 0
+TakesBlock o blocks m free None n = (free ≡ []) × (m (fresh_at o) ≡ blocks) × (n ≡ m)
+TakesBlock o blocks m free (Some b) n = IsTaken o blocks m free b n
 
 -- block b, which was out, stands in front of the free list
 pub record IsGiven (o blocks : ℕ) (m : ℕ → ℕ) (free : List ℕ) (b : ℕ) (n : ℕ → ℕ) : Type 0 where
@@ -42,16 +42,16 @@ pub record IsGiven (o blocks : ℕ) (m : ℕ → ℕ) (free : List ℕ) (b : ℕ
   pub cells : (a : ℕ) → a ≢ link_at o b → a ≢ free_at o → n a ≡ m a
 
 -- the partial memory has the plot's cells, and is part of a memory with a free list
-pub record HasFreeList (plot : Plot) (p : Pad) : Type 0 where
-  pub fits : length p.known ≡ size plot
+pub record HasFreeList (plot : Plot) (p : Part) : Type 0 where
+  pub fits : length p.known ≡ data_cell_count plot
   pub memory : ℕ → ℕ
   pub free : List ℕ
   pub part : IsPartOf p memory
   pub list : IsFreeList (base plot) plot.blocks memory free
 
 -- and of one in which this block is out
-pub record HasOut (plot : Plot) (p : Pad) (b : ℕ) : Type 0 where
-  pub fits : length p.known ≡ size plot
+pub record HasOut (plot : Plot) (p : Part) (b : ℕ) : Type 0 where
+  pub fits : length p.known ≡ data_cell_count plot
   pub memory : ℕ → ℕ
   pub free : List ℕ
   pub part : IsPartOf p memory
@@ -59,21 +59,21 @@ pub record HasOut (plot : Plot) (p : Pad) (b : ℕ) : Type 0 where
   pub out : IsOut (base plot) memory free b
 
 -- the call took this block, or none, from the free list of this memory, which is changed by what the script wrote
-pub record TakesOn (plot : Plot) (m : ℕ → ℕ) (free : List ℕ) (r : Option ℕ) (after : Pad) : Type 0 where
+pub record TakesFromList (plot : Plot) (m : ℕ → ℕ) (free : List ℕ) (r : Option ℕ) (after : Part) : Type 0 where
   pub part : IsPartOf after (with_writes m after.script)
-  pub takes : Takes (base plot) plot.blocks m free r (with_writes m after.script)
+  pub takes : TakesBlock (base plot) plot.blocks m free r (with_writes m after.script)
 
 -- whatever the free list was, a block was taken from it, or none, and then nothing was written
-pub record TakesFrom (plot : Plot) (before after : Pad) (result : Result (Option ℕ) Need) : Type 0 where
-  pub takes : IfOk result (λ r. (m : ℕ → ℕ) (free : List ℕ) → IsPartOf before m → IsFreeList (base plot) plot.blocks m free → TakesOn plot m free r after)
+pub record TakesFromMemory (plot : Plot) (before after : Part) (result : Result (Option ℕ) Need) : Type 0 where
+  pub takes : IfOk result (λ r. (m : ℕ → ℕ) (free : List ℕ) → IsPartOf before m → IsFreeList (base plot) plot.blocks m free → TakesFromList plot m free r after)
   pub none : IfOk result (λ r. r ≡ None → after ≡ before)
 
 -- the call gave this block back to the free list of this memory, which is changed by what the script wrote
-pub record GivesOn (plot : Plot) (m : ℕ → ℕ) (free : List ℕ) (b : ℕ) (after : Pad) : Type 0 where
+pub record GivesToList (plot : Plot) (m : ℕ → ℕ) (free : List ℕ) (b : ℕ) (after : Part) : Type 0 where
   pub part : IsPartOf after (with_writes m after.script)
   pub given : IsGiven (base plot) plot.blocks m free b (with_writes m after.script)
 
 -- whatever the free list was, the block that was out is in front of it
-abbrev pub GivesTo : Plot → Pad → Pad → ℕ → Result (Unit {0}) Need → Type 0
-GivesTo plot before after b result =
-    IfOk result (λ r. (m : ℕ → ℕ) (free : List ℕ) → IsPartOf before m → IsFreeList (base plot) plot.blocks m free → IsOut (base plot) m free b → GivesOn plot m free b after)
+abbrev pub GivesToMemory : Plot → Part → Part → ℕ → Result (Unit {0}) Need → Type 0
+GivesToMemory plot before after b result =
+    IfOk result (λ r. (m : ℕ → ℕ) (free : List ℕ) → IsPartOf before m → IsFreeList (base plot) plot.blocks m free → IsOut (base plot) m free b → GivesToList plot m free b after)

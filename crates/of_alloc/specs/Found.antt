@@ -3,7 +3,7 @@ use Rattle.std.specs.Prelude.{◌≡◌, ℕ, List, ◌∷◌, ◌++◌, Some}
 use Rattle.of_mem.specs.Stores.{first_at, second_at, cell_after, value_in}
 
 -- the key is in block b, to which this cell points
-pub record Found (o : ℕ) (m : ℕ → ℕ) (key cell : ℕ) (l : List ℕ) (at b : ℕ) : Type 0 where
+pub record HasKeyBlock (o : ℕ) (m : ℕ → ℕ) (key cell : ℕ) (l : List ℕ) (at b : ℕ) : Type 0 where
   pub before : List ℕ
   pub behind : List ℕ
   pub split : l ≡ before ++ b ∷ behind

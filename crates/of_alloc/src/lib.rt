@@ -1,8 +1,8 @@
 //! The allocator of blocks: a free list, and behind it the blocks that were never taken.
 #![tactic(auto)]
 
-ghost use Rattle.of_mem.specs.Calls.{RunsOn};
-ghost use Rattle.of_alloc.specs.Blocks.{HasFreeList, HasOut, TakesFrom, GivesTo};
+ghost use Rattle.of_mem.specs.Calls.{RunsProgram};
+ghost use Rattle.of_alloc.specs.Blocks.{HasFreeList, HasOut, TakesFromMemory, GivesToMemory};
 ghost use Rattle.of_alloc.specs.BlockPrograms.{take, give};
 
 use of_mem::{Need, Part, Plot};
@@ -12,8 +12,8 @@ use of_mem::{Need, Part, Plot};
 /// that is read and isn't known.
 pub fn take(plot: &Plot, part: &mut Part) -> Result<Option<u32>, Need>
     requires { HasFreeList plot.now part.old }
-    ensures runs { RunsOn (take plot.now) part.old part.new result }
-    ensures takes { TakesFrom plot.now part.old part.new result }
+    ensures runs { RunsProgram (take plot.now) part.old part.new result }
+    ensures takes { TakesFromMemory plot.now part.old part.new result }
 {
     let front = part.read(plot.free())?;
     if front != 0 {
@@ -34,8 +34,8 @@ pub fn take(plot: &Plot, part: &mut Part) -> Result<Option<u32>, Need>
 /// isn't known.
 pub fn give(plot: &Plot, part: &mut Part, block: u32) -> Result<(), Need>
     requires { HasOut plot.now part.old block }
-    ensures runs { RunsOn (give plot.now block) part.old part.new result }
-    ensures gives { GivesTo plot.now part.old part.new block result }
+    ensures runs { RunsProgram (give plot.now block) part.old part.new result }
+    ensures gives { GivesToMemory plot.now part.old part.new block result }
 {
     let front = part.read(plot.free())?;
     part.write(plot.block(block, 2), front);

@@ -1,7 +1,7 @@
 //! Two brakes of which the one waits for the other's caller.
 
 ghost use Rattle.std.specs.Prelude.{◌≡◌, ◌≤◌, ◌-◌, false, true, None, IfOk};
-ghost use Rattle.of_brake.specs.Stops.{Rose};
+ghost use Rattle.of_brake.specs.Stops.{HasRisen};
 
 use crate::brake::Brake;
 use std::alloc::{AllocError, Global};
@@ -72,7 +72,7 @@ impl Brake for Holder {
 
     fn ask(&mut self) -> bool
         ensures denials { self.old.denials ≤ self.new.denials }
-        ensures cause { result ≡ false → Rose self.old.denials self.new.denials }
+        ensures cause { result ≡ false → HasRisen self.old.denials self.new.denials }
         ensures held { result ≡ false → self.old.until ≡ 1 }
         ensures until { self.new.until ≡ self.old.until - 1 }
     {

@@ -1,7 +1,7 @@
 //! A brake that denies the asks of a list.
 
 ghost use Rattle.std.specs.Prelude.{◌≡◌, ◌≤◌, false, not, None, Some};
-ghost use Rattle.of_brake.specs.Stops.{Rose, next, is_listed};
+ghost use Rattle.of_brake.specs.Stops.{HasRisen, saturating_next, is_listed};
 
 use crate::brake::Brake;
 
@@ -41,10 +41,10 @@ impl Brake for Pattern {
 
     fn ask(&mut self) -> bool
         ensures denials { self.old.denials ≤ self.new.denials }
-        ensures cause { result ≡ false → Rose self.old.denials self.new.denials }
+        ensures cause { result ≡ false → HasRisen self.old.denials self.new.denials }
         ensures listed { result ≡ not (is_listed self.old.asked self.old.denied.items) }
         ensures denied { self.new.denied ≡ self.old.denied }
-        ensures asked { self.new.asked ≡ next self.old.asked }
+        ensures asked { self.new.asked ≡ saturating_next self.old.asked }
     {
         let granted = !self.denied.contains(&self.asked);
         self.asked = self.asked.saturating_add(1);

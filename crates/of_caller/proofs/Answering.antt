@@ -11,11 +11,11 @@ use Rattle.of_core.specs.declared.place.Outcome.TheVariants.{Answered, Spent}
 use Rattle.of_core.specs.Machine.{IsOpen}
 use Rattle.of_core.specs.Turn.{IsIdle}
 use Rattle.of_core.specs.Calls.{NoneSpent}
-use Rattle.of_row.specs.Views.{Ended, Kept}
+use Rattle.of_row.specs.Views.{EndedCall, KnownCaller}
 use Rattle.of_caller.specs.Tables.{operation_of}
-use Rattle.of_caller.specs.Ends.{AreAnswers, Tells}
+use Rattle.of_caller.specs.Ends.{AreAnswers, TellsAnswer}
 use Rattle.of_caller.specs.Teams.{operation_at, KeepsCaller}
-use Rattle.of_caller.specs.Lanes.{Going}
+use Rattle.of_caller.specs.Lanes.{HasAnsweredScripts}
 
 -- ---- outcomes
 
@@ -23,7 +23,7 @@ none_more : (xs : List Outcome) (s : ℕ) (announced : Bool) (raw : RawReply) (s
 none_more [] s announced raw steps h = (tt, tt)
 none_more (x ∷ xs) s announced raw steps h = (h.0, none_more xs s announced raw steps h.1)
 
-told_more : (xs : List Outcome) (answers : List Answer) (s : ℕ) (announced : Bool) (raw : RawReply) (steps : ℕ) (a : Answer) → NoneSpent xs → AreAnswers xs answers → Tells (Answered s announced raw steps) a → AreAnswers (xs ++ Answered s announced raw steps ∷ []) (answers ++ a ∷ [])
+told_more : (xs : List Outcome) (answers : List Answer) (s : ℕ) (announced : Bool) (raw : RawReply) (steps : ℕ) (a : Answer) → NoneSpent xs → AreAnswers xs answers → TellsAnswer (Answered s announced raw steps) a → AreAnswers (xs ++ Answered s announced raw steps ∷ []) (answers ++ a ∷ [])
 told_more [] [] s announced raw steps a none told tells = (tells, tt)
 told_more [] (b ∷ others) s announced raw steps a none told tells = absurd told
 told_more (Answered t q r k ∷ xs) [] s announced raw steps a none told tells = absurd told
@@ -46,7 +46,7 @@ module _ (p : Plan) (behind c : ℕ) where
       ap (map operation_of) (take_more left i [] (omega (arith, lt, long))) ∙ map-append operation_of (take i left) (get_or left i [] ∷ [])
       ∙ ap (λ (script : List Instr). map operation_of (take i left) ++ operation_of script ∷ []) (get_or-drop behind (scripts_of p c) i [])
 
-  module _ (x : Kept) (answers : List Answer) (i : ℕ) (g : Going p behind c x answers i) where
+  module _ (x : KnownCaller) (answers : List Answer) (i : ℕ) (g : HasAnsweredScripts p behind c x answers i) where
     -- the next script is the one behind those that are answered
     next_is : operation_at p c (behind + i) ≡ operation_at p c (behind + length answers)
     next_is = ap (λ (n : ℕ). operation_at p c (behind + n)) (sym g.count)
@@ -75,23 +75,23 @@ module _ (p : Plan) (behind c : ℕ) where
       );
     }
 
-    module _ (less : i < rest) (y : Kept) where
+    module _ (less : i < rest) (y : KnownCaller) where
       -- one script more is answered
-      pub is_answered : (k : ℕ) (announced : Bool) (raw : RawReply) (steps : ℕ) (a : Answer) → IsIdle y.machine → y.ended ≡ x.ended ++ record { op = operation_at p c (behind + i); outcome = Answered k announced raw steps } ∷ [] → Tells (Answered k announced raw steps) a
-          → Going p behind c y (answers ++ a ∷ []) (i + 1)
+      pub is_answered : (k : ℕ) (announced : Bool) (raw : RawReply) (steps : ℕ) (a : Answer) → IsIdle y.machine → y.ended ≡ x.ended ++ record { op = operation_at p c (behind + i); outcome = Answered k announced raw steps } ∷ [] → TellsAnswer (Answered k announced raw steps) a
+          → HasAnsweredScripts p behind c y (answers ++ a ∷ []) (i + 1)
       is_answered k announced raw steps a idle kept tells =
-          let e : Ended = record { op = operation_at p c (behind + i); outcome = Answered k announced raw steps } in
-          let outs : map (λ (f : Ended). f.outcome) y.ended ≡ map (λ (f : Ended). f.outcome) x.ended ++ Answered k announced raw steps ∷ [] = ap (map (λ (f : Ended). f.outcome)) kept ∙ map-append (λ (f : Ended). f.outcome) x.ended (e ∷ []) in
+          let e : EndedCall = record { op = operation_at p c (behind + i); outcome = Answered k announced raw steps } in
+          let outs : map (λ (f : EndedCall). f.outcome) y.ended ≡ map (λ (f : EndedCall). f.outcome) x.ended ++ Answered k announced raw steps ∷ [] = ap (map (λ (f : EndedCall). f.outcome)) kept ∙ map-append (λ (f : EndedCall). f.outcome) x.ended (e ∷ []) in
           let count : length (answers ++ a ∷ []) ≡ i + 1 = length-append answers (a ∷ []) ∙ ap (λ (m : ℕ). m + 1) g.count in
           record {
             idle = idle;
             answered = record {
               few = omega (arith, count, less);
-              scripts = ap (map (λ (f : Ended). f.op)) kept ∙ map-append (λ (f : Ended). f.op) x.ended (e ∷ [])
+              scripts = ap (map (λ (f : EndedCall). f.op)) kept ∙ map-append (λ (f : EndedCall). f.op) x.ended (e ∷ [])
                   ∙ ap (λ (l : List (List ℕ)). l ++ operation_at p c (behind + i) ∷ []) (g.answered.scripts ∙ ap (λ (n : ℕ). map operation_of (take n left)) g.count)
                   ∙ sym (take_next i less) ∙ ap (λ (n : ℕ). map operation_of (take n left)) (sym count);
-              none_spent = subst NoneSpent (sym outs) (none_more (map (λ (f : Ended). f.outcome) x.ended) k announced raw steps g.answered.none_spent);
-              told = subst (λ (os : List Outcome). AreAnswers os (answers ++ a ∷ [])) (sym outs) (told_more (map (λ (f : Ended). f.outcome) x.ended) answers k announced raw steps a g.answered.none_spent g.answered.told tells);
+              none_spent = subst NoneSpent (sym outs) (none_more (map (λ (f : EndedCall). f.outcome) x.ended) k announced raw steps g.answered.none_spent);
+              told = subst (λ (os : List Outcome). AreAnswers os (answers ++ a ∷ [])) (sym outs) (told_more (map (λ (f : EndedCall). f.outcome) x.ended) answers k announced raw steps a g.answered.none_spent g.answered.told tells);
             };
             count = count;
           }

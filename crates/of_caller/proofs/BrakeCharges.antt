@@ -1,55 +1,55 @@
 -- What asks take off the steps of a brake, one after the other.
 use Rattle.std.proofs.Common.{◌≡◌, ℕ, ◌+◌, ◌≤◌, true, false, Option, Some, None, refl, sym, ap, ◌∙◌, suc, subst, arith}
-use Rattle.of_brake.specs.Stops.{Rose, Counts, CountsFrom, Heard, Asked, next}
-use Rattle.of_caller.specs.Brakes.{Gave, GaveOf, StopsOf, StopsTold, AskedFor, later}
+use Rattle.of_brake.specs.Stops.{HasRisen, ChargesAsk, ChargesAskFrom, HasHeardAnswer, Asked, saturating_next}
+use Rattle.of_caller.specs.Brakes.{TakesSteps, TakesStepsFrom, StopsWhenUsedUp, StopsWhenToldUsedUp, AskedFor, later}
 
-gave_of_more : (a b c : Option ℕ) (n : ℕ) → GaveOf a b n → CountsFrom b c true → GaveOf a c (n + 1)
+gave_of_more : (a b c : Option ℕ) (n : ℕ) → TakesStepsFrom a b n → ChargesAskFrom b c true → TakesStepsFrom a c (n + 1)
 gave_of_more None (Some b) c n u k = cc
 gave_of_more None None c n u k = k.0
 gave_of_more (Some m) None c n u k = cc
 gave_of_more (Some m) (Some b) c n u k = let e : b ≡ u.0 = cc in (k.0, omega (arith, e, k.1, u.1), k.2)
 
 -- an ask that is granted takes one step more
-pub gave_more : (a b c : Option (Option ℕ)) (n : ℕ) → Gave a b n → Counts b c true → Gave a c (n + 1)
+pub gave_more : (a b c : Option (Option ℕ)) (n : ℕ) → TakesSteps a b n → ChargesAsk b c true → TakesSteps a c (n + 1)
 gave_more None None c n u k = k
 gave_more None (Some b) c n u k = cc
 gave_more (Some a) None c n u k = absurd u
 gave_more (Some a) (Some b) None n u k = absurd k
 gave_more (Some a) (Some b) (Some c) n u k = gave_of_more a b c n u k
 
-gave_of_stop : (a b c : Option ℕ) (n : ℕ) → GaveOf a b n → CountsFrom b c false → GaveOf a c n × StopsOf a (n + 1)
+gave_of_stop : (a b c : Option ℕ) (n : ℕ) → TakesStepsFrom a b n → ChargesAskFrom b c false → TakesStepsFrom a c n × StopsWhenUsedUp a (n + 1)
 gave_of_stop None None c n u k = let bad : false ≡ true = k.1 in cc
 gave_of_stop None (Some b) c n u k = cc
 gave_of_stop (Some m) None c n u k = cc
 gave_of_stop (Some m) (Some b) c n u k = let e : b ≡ u.0 = cc in ((0, omega (arith, e, k.0, u.1), k.1), omega (arith, e, k.0, u.1))
 
 -- one that is denied takes none, and comes where none is left
-pub gave_stop : (a b c : Option (Option ℕ)) (n : ℕ) → Gave a b n → Counts b c false → Gave a c n × StopsTold a (n + 1)
+pub gave_stop : (a b c : Option (Option ℕ)) (n : ℕ) → TakesSteps a b n → ChargesAsk b c false → TakesSteps a c n × StopsWhenToldUsedUp a (n + 1)
 gave_stop None None c n u k = (k, tt)
 gave_stop None (Some b) c n u k = cc
 gave_stop (Some a) None c n u k = absurd u
 gave_stop (Some a) (Some b) None n u k = absurd k
 gave_stop (Some a) (Some b) (Some c) n u k = gave_of_stop a b c n u k
 
-gave_of_none : (a : Option ℕ) → GaveOf a a 0
+gave_of_none : (a : Option ℕ) → TakesStepsFrom a a 0
 gave_of_none None = refl
 gave_of_none (Some m) = (m, omega arith, refl)
 
 -- before the first ask none is taken
-pub gave_none : (a : Option (Option ℕ)) → Gave a a 0
+pub gave_none : (a : Option (Option ℕ)) → TakesSteps a a 0
 gave_none None = refl
 gave_none (Some a) = gave_of_none a
 
-pub rises : (a b c : ℕ) → a ≤ b → Rose b c → Rose a c
+pub rises : (a b c : ℕ) → a ≤ b → HasRisen b c → HasRisen a c
 rises a b c h r = omega (arith, h, r)
 
 -- steps left that stay as they are
-pub gave_same : (a b c : Option (Option ℕ)) (n : ℕ) → Gave a b n → c ≡ b → Gave a c n
-gave_same a b c n u same = subst (λ (left : Option (Option ℕ)). Gave a left n) (sym same) u
+pub gave_same : (a b c : Option (Option ℕ)) (n : ℕ) → TakesSteps a b n → c ≡ b → TakesSteps a c n
+gave_same a b c n u same = subst (λ (left : Option (Option ℕ)). TakesSteps a left n) (sym same) u
 
 -- an answer of which a brake is told behind asks, which it doesn't count
-pub heard_from : (a b c : Option ℕ) → b ≡ a → Heard b c → Heard a c
-heard_from a b c same heard = subst (λ (count : Option ℕ). Heard count c) same heard
+pub heard_from : (a b c : Option ℕ) → b ≡ a → HasHeardAnswer b c → HasHeardAnswer a c
+heard_from a b c same heard = subst (λ (count : Option ℕ). HasHeardAnswer count c) same heard
 
 -- one ask more, behind so many
 pub asked_more : (a b c : Option ℕ) (n : ℕ) → AskedFor a b n → Asked b c → AskedFor a c (n + 1)

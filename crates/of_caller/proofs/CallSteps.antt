@@ -3,46 +3,46 @@ use Rattle.std.proofs.Common.{◌≡◌, ◌↔◌, IsTrue, ℕ, zero, suc, ◌+
 use mathlib.Core.List.{append-nil, IsPrefix}
 use Rattle.of_core.specs.declared.place.Outcome.{Outcome}
 use Rattle.of_core.specs.Table.{Setup}
-use Rattle.of_core.specs.Machine.{Data, IsOpen, is_idle, opened}
-use Rattle.of_core.specs.Steps.{took}
-use Rattle.of_core.specs.World.{Start}
+use Rattle.of_core.specs.Machine.{CallState, IsOpen, is_idle, begin}
+use Rattle.of_core.specs.Steps.{take_word}
+use Rattle.of_core.specs.World.{TableStart}
 use Rattle.of_core.specs.Bound.{bound}
 use Rattle.of_core.specs.Turn.{IsIdle}
-use Rattle.of_core.specs.Calls.{operations, Beyond}
-use Rattle.of_core.specs.Laws.{IdleOrOpen}
-use Rattle.of_row.specs.Views.{Ended, Kept, Sight, reach, shown}
-use Rattle.of_row.specs.Told.{begun_of}
-use Rattle.of_row.specs.Rule.{HasEnded}
-use Rattle.of_row.specs.Turned.{Turned, Meant, Tells, since_by, since_after, ended_by, ended_at, of_answer, kept_after}
-use Rattle.of_caller.specs.CallsTold.{HasClosed, IsOpenStill, StepsTold}
+use Rattle.of_core.specs.Calls.{operations_begun, IsNotBefore}
+use Rattle.of_core.specs.Laws.{IsIdleOrOpen}
+use Rattle.of_row.specs.Views.{EndedCall, KnownCaller, View, seen_seq, seen_history}
+use Rattle.of_row.specs.Told.{operations_known}
+use Rattle.of_row.specs.Rule.{CallHasEnded}
+use Rattle.of_row.specs.Turned.{MakesStep, IsMeantReply, TellsSteps, since_by, since_after, ended_call_if, ended_call_of_step, ended_call_of_answer, known_after_step}
+use Rattle.of_caller.specs.CallsTold.{HasEndedWith, IsStillOpen, TellsStepsMade}
 use Rattle.of_caller.proofs.SpentSteps.{spent_exactly}
 
 -- a call on its way: n steps of it have led from the machine m and the view v to d and w
-pub record Progress (S : Setup) (L : List ℕ → Type 0) (B : Start) (m : Data) (v : Sight) (n : ℕ) (d : Data) (w : Sight) : Type 0 where
+pub record Progress (S : Setup) (L : List ℕ → Type 0) (B : TableStart) (m : CallState) (v : View) (n : ℕ) (d : CallState) (w : View) : Type 0 where
   pub seen : IsPrefix v.seen w.seen
   pub past : IsPrefix v.past w.past
   pub caller : d.caller ≡ m.caller
   pub made : d.made ≡ m.made
   pub op : d.op ≡ m.op
-  pub before : Kept
-  pub kept : Kept
+  pub before : KnownCaller
+  pub kept : KnownCaller
   pub kept_before : v.kept ≡ before ∷ []
   pub kept_now : w.kept ≡ kept ∷ []
   pub none : n ≡ 0 → (w ≡ v) × (d ≡ m)
-  pub some : 0 < n → StepsTold S B d w kept
+  pub some : 0 < n → TellsStepsMade S B d w kept
   pub turns : kept.turns ≡ before.turns + n
   pub since : 0 < n → kept.since ≡ since_after B v before
-  pub behind : 0 < n → length (operations v.past m.caller) ≤ length (begun_of before)
-  pub still : IsOpen d.place → IsOpenStill S m before n d kept
-  pub ended : IsIdle d → (o : Outcome) × HasClosed S L B m v before n d w kept o
+  pub behind : 0 < n → length (operations_begun v.past m.caller) ≤ length (operations_known before)
+  pub still : IsOpen d.place → IsStillOpen S m before n d kept
+  pub ended : IsIdle d → (o : Outcome) × HasEndedWith S L B m v before n d w kept o
 
 -- ---- lists
 
-first_kept : List Kept → Kept → Kept
+first_kept : List KnownCaller → KnownCaller → KnownCaller
 first_kept [] x = x
 first_kept (y ∷ ys) x = y
 
-pub same_kept : (x y : Kept) → ◌≡◌ {A = List Kept} (x ∷ []) (y ∷ []) → x ≡ y
+pub same_kept : (x y : KnownCaller) → ◌≡◌ {A = List KnownCaller} (x ∷ []) (y ∷ []) → x ≡ y
 unfolding first_kept
 same_kept x y e = ap (λ l. first_kept l x) e
 
@@ -51,10 +51,10 @@ prefix_trans xs ys zs p q = (p.0 ++ q.0, sym (append_assoc xs p.0 q.0) ∙ (ap (
 
 -- ---- the start of a call
 
-open_not_idle : (d : Data) → IsOpen d.place → IsIdle d → ⊥
+open_not_idle : (d : CallState) → IsOpen d.place → IsIdle d → ⊥
 open_not_idle d o idle = absurd (let z : true ≡ false = sym (ap is_idle idle) ∙ o in cc)
 
-pub starts_at : (S : Setup) (L : List ℕ → Type 0) (B : Start) (d : Data) (v : Sight) → IsOpen d.place → d.steps < bound S → (x : Kept) → v.kept ≡ x ∷ [] → Progress S L B d v 0 d v
+pub starts_at : (S : Setup) (L : List ℕ → Type 0) (B : TableStart) (d : CallState) (v : View) → IsOpen d.place → d.steps < bound S → (x : KnownCaller) → v.kept ≡ x ∷ [] → Progress S L B d v 0 d v
 starts_at S L B d v o within x one = record {
   seen = ([], append-nil v.seen);
   past = ([], append-nil v.past);
@@ -76,15 +76,15 @@ starts_at S L B d v o within x one = record {
 
 -- ---- one step more
 
-pub none_ended : (e : Data) → IsOpen e.place → ended_at e ≡ []
-none_ended e o = ap (λ (b : Bool). ended_by e b) o
+pub none_ended : (e : CallState) → IsOpen e.place → ended_call_of_step e ≡ []
+none_ended e o = ap (λ (b : Bool). ended_call_if e b) o
 
-pub one_ended : (e : Data) (o : Outcome) → IsIdle e → e.answer ≡ Some o → ended_at e ≡ record { op = e.op; outcome = o } ∷ []
-one_ended e o idle answer = ap (λ (b : Bool). ended_by e b) (ap is_idle idle) ∙ ap (λ (a : Option Outcome). of_answer e.op a) answer
+pub one_ended : (e : CallState) (o : Outcome) → IsIdle e → e.answer ≡ Some o → ended_call_of_step e ≡ record { op = e.op; outcome = o } ∷ []
+one_ended e o idle answer = ap (λ (b : Bool). ended_call_if e b) (ap is_idle idle) ∙ ap (λ (a : Option Outcome). ended_call_of_answer e.op a) answer
 
-module _ (S : Setup) (L : List ℕ → Type 0) (B : Start) (d0 : Data) (v0 : Sight) (n : ℕ) (d : Data) (v : Sight) (found : ℕ) (w : Sight) (p : Progress S L B d0 v0 n d v) (o : IsOpen d.place) (t : Turned S L B d v found w) where
-  abbrev e : Data
-  e = took S d found
+module _ (S : Setup) (L : List ℕ → Type 0) (B : TableStart) (d0 : CallState) (v0 : View) (n : ℕ) (d : CallState) (v : View) (found : ℕ) (w : View) (p : Progress S L B d0 v0 n d v) (o : IsOpen d.place) (t : MakesStep S L B d v found w) where
+  abbrev e : CallState
+  e = take_word S d found
 
   -- what was seen when the call began stays known
   since_is : since_after B v p.kept ≡ since_after B v0 p.before
@@ -93,37 +93,37 @@ module _ (S : Setup) (L : List ℕ → Type 0) (B : Start) (d0 : Data) (v0 : Sig
       go : (m : ℕ) → n ≡ m → since_after B v p.kept ≡ since_after B v0 p.before
       go zero z =
           let same = p.none z in
-          let kept : p.kept ≡ p.before = same_kept p.kept p.before (sym p.kept_now ∙ ap (λ (u : Sight). u.kept) same.0 ∙ p.kept_before) in
-          ap (λ (u : Sight). since_after B u p.kept) same.0 ∙ ap (λ (x : Kept). since_after B v0 x) kept
+          let kept : p.kept ≡ p.before = same_kept p.kept p.before (sym p.kept_now ∙ ap (λ (u : View). u.kept) same.0 ∙ p.kept_before) in
+          ap (λ (u : View). since_after B u p.kept) same.0 ∙ ap (λ (x : KnownCaller). since_after B v0 x) kept
       go (suc m) z =
           let shows = p.some (omega (arith, z)) in
-          ap (λ (b : Bool). since_by b (reach B v.seen) p.kept.since) (ap (λ (m : Data). is_idle m.place) shows.machine ∙ o) ∙ p.since (omega (arith, z))
+          ap (λ (b : Bool). since_by b (seen_seq B v.seen) p.kept.since) (ap (λ (m : CallState). is_idle m.place) shows.machine ∙ o) ∙ p.since (omega (arith, z))
 
   -- before the call's first step the past had no others
-  behind_is : length (operations v0.past d0.caller) ≤ length (begun_of p.before)
+  behind_is : length (operations_begun v0.past d0.caller) ≤ length (operations_known p.before)
   behind_is = go n refl
     where
-      go : (m : ℕ) → n ≡ m → length (operations v0.past d0.caller) ≤ length (begun_of p.before)
+      go : (m : ℕ) → n ≡ m → length (operations_begun v0.past d0.caller) ≤ length (operations_known p.before)
       go zero z =
           let same = p.none z in
-          let kept : p.kept ≡ p.before = same_kept p.kept p.before (sym p.kept_now ∙ ap (λ (u : Sight). u.kept) same.0 ∙ p.kept_before) in
-          let few : length (operations v.past d.caller) ≤ length (begun_of p.kept) = t.behind p.kept p.kept_now in
-          let there : length (operations v.past d.caller) ≡ length (operations v0.past d0.caller) = (λ i. length (operations (same.0 i).past (same.1 i).caller)) in
-          omega (arith, few, there, ap (λ (x : Kept). length (begun_of x)) kept)
+          let kept : p.kept ≡ p.before = same_kept p.kept p.before (sym p.kept_now ∙ ap (λ (u : View). u.kept) same.0 ∙ p.kept_before) in
+          let few : length (operations_begun v.past d.caller) ≤ length (operations_known p.kept) = t.behind p.kept p.kept_now in
+          let there : length (operations_begun v.past d.caller) ≡ length (operations_begun v0.past d0.caller) = (λ i. length (operations_begun (same.0 i).past (same.1 i).caller)) in
+          omega (arith, few, there, ap (λ (x : KnownCaller). length (operations_known x)) kept)
       go (suc m) z = p.behind (omega (arith, z))
 
-  abbrev next : Kept
-  next = kept_after B v p.kept e
+  abbrev next : KnownCaller
+  next = known_after_step B v p.kept e
 
-  stays : IsOpen e.place → IsOpenStill S d0 p.before (n + 1) e next
-  stays opened = record {
-    open_call = opened;
-    steps = omega (arith, (t.goes_on opened).0, (p.still o).steps);
-    within = (t.goes_on opened).1;
-    kept = ap (λ (l : List Ended). p.kept.ended ++ l) (none_ended e opened) ∙ append-nil p.kept.ended ∙ (p.still o).kept;
+  stays : IsOpen e.place → IsStillOpen S d0 p.before (n + 1) e next
+  stays begin = record {
+    open_call = begin;
+    steps = omega (arith, (t.goes_on begin).0, (p.still o).steps);
+    within = (t.goes_on begin).1;
+    kept = ap (λ (l : List EndedCall). p.kept.ended ++ l) (none_ended e begin) ∙ append-nil p.kept.ended ∙ (p.still o).kept;
   }
 
-  closes : IsIdle e → (q : Outcome) × HasClosed S L B d0 v0 p.before (n + 1) e w next q
+  closes : IsIdle e → (q : Outcome) × HasEndedWith S L B d0 v0 p.before (n + 1) e w next q
   closes idle =
       let ends = t.ends p.kept p.kept_now idle in
       let q = ends.outcome in
@@ -132,15 +132,15 @@ module _ (S : Setup) (L : List ℕ → Type 0) (B : Start) (d0 : Data) (v0 : Sig
         record {
           idle = idle;
           answer = ends.answer;
-          kept = ap (λ (l : List Ended). p.kept.ended ++ l) (one_ended e q idle ends.answer) ∙ ap (λ (l : List Ended). l ++ record { op = e.op; outcome = q } ∷ []) (p.still o).kept
+          kept = ap (λ (l : List EndedCall). p.kept.ended ++ l) (one_ended e q idle ends.answer) ∙ ap (λ (l : List EndedCall). l ++ record { op = e.op; outcome = q } ∷ []) (p.still o).kept
               ∙ ap (λ (op : List ℕ). p.before.ended ++ record { op = op; outcome = q } ∷ []) (t.op ∙ p.op);
-          stands = subst (λ (i : ℕ). HasEnded S B (shown w.seen) (reach B w.seen) i d0.made d0.op q) p.caller
-              (subst (λ (k : ℕ). HasEnded S B (shown w.seen) (reach B w.seen) d.caller k d0.op q) p.made
-              (subst (λ (op : List ℕ). HasEnded S B (shown w.seen) (reach B w.seen) d.caller d.made op q) p.op ends.stands));
-          meant = subst (λ (op : List ℕ). Meant S B (shown w.seen) op q) p.op ends.meant;
-          steps = subst (λ (k : ℕ). Tells k q) steps ends.steps;
+          stands = subst (λ (i : ℕ). CallHasEnded S B (seen_history w.seen) (seen_seq B w.seen) i d0.made d0.op q) p.caller
+              (subst (λ (k : ℕ). CallHasEnded S B (seen_history w.seen) (seen_seq B w.seen) d.caller k d0.op q) p.made
+              (subst (λ (op : List ℕ). CallHasEnded S B (seen_history w.seen) (seen_seq B w.seen) d.caller d.made op q) p.op ends.stands));
+          meant = subst (λ (op : List ℕ). IsMeantReply S B (seen_history w.seen) op q) p.op ends.meant;
+          steps = subst (λ (k : ℕ). TellsSteps k q) steps ends.steps;
           within = omega (arith, (p.still o).steps, (p.still o).within);
-          beyond = subst (λ (k : ℕ). Beyond k q) since_is ends.beyond;
+          beyond = subst (λ (k : ℕ). IsNotBefore k q) since_is ends.beyond;
           last = record { machine = d; found = found; meets = t.meets; open_call = o; leads = refl; spent = spent_exactly S d found o idle q ends.answer };
         },
       )
@@ -168,28 +168,28 @@ module _ (S : Setup) (L : List ℕ → Type 0) (B : Start) (d0 : Data) (v0 : Sig
 -- ---- the steps left
 
 -- the steps that the open call has left at most
-abbrev pub left_by : Setup → Data → (idle : Bool) → ℕ
+abbrev pub left_by : Setup → CallState → (idle : Bool) → ℕ
 left_by S d true = 0
 left_by S d false = bound S - d.steps
 
-abbrev pub left_of : Setup → Data → ℕ
+abbrev pub left_of : Setup → CallState → ℕ
 left_of S d = left_by S d (is_idle d.place)
 
-left_open : (S : Setup) (d : Data) → IsOpen d.place → left_of S d ≡ bound S - d.steps
+left_open : (S : Setup) (d : CallState) → IsOpen d.place → left_of S d ≡ bound S - d.steps
 left_open S d o = ap (left_by S d) o
 
-left_idle : (S : Setup) (d : Data) → IsIdle d → left_of S d ≡ 0
+left_idle : (S : Setup) (d : CallState) → IsIdle d → left_of S d ≡ 0
 left_idle S d idle = ap (left_by S d) (ap is_idle idle)
 
 -- a step leaves fewer
-pub falls_by : (S : Setup) (L : List ℕ → Type 0) (B : Start) (d : Data) (v : Sight) (found : ℕ) (w : Sight) → IdleOrOpen → IsOpen d.place → d.steps < bound S → Turned S L B d v found w → left_of S (took S d found) < left_of S d
-falls_by S L B d v found w either o few t = elim (either (took S d found).place) [
-  | inl idle ↦ omega (arith, left_idle S (took S d found) idle, left_open S d o, few)
-  | inr opened ↦ omega (arith, left_open S (took S d found) opened, left_open S d o, few, (t.goes_on opened).0, (t.goes_on opened).1)
+pub falls_by : (S : Setup) (L : List ℕ → Type 0) (B : TableStart) (d : CallState) (v : View) (found : ℕ) (w : View) → IsIdleOrOpen → IsOpen d.place → d.steps < bound S → MakesStep S L B d v found w → left_of S (take_word S d found) < left_of S d
+falls_by S L B d v found w either o few t = elim (either (take_word S d found).place) [
+  | inl idle ↦ omega (arith, left_idle S (take_word S d found) idle, left_open S d o, few)
+  | inr begin ↦ omega (arith, left_open S (take_word S d found) begin, left_open S d o, few, (t.goes_on begin).0, (t.goes_on begin).1)
 ]
 
 -- a machine that a test found not idle has an open call
-pub open_where : IdleOrOpen → (d : Data) (b : Bool) → IsTrue b ↔ IsIdle d → b ≡ false → IsOpen d.place
+pub open_where : IsIdleOrOpen → (d : CallState) (b : Bool) → IsTrue b ↔ IsIdle d → b ≡ false → IsOpen d.place
 open_where either d b is no_idle = elim (either d.place) [
   | inl idle ↦ absurd (let z : true ≡ false = sym (is.1 idle) ∙ no_idle in cc)
   | inr open_call ↦ open_call

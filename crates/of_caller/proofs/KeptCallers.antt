@@ -10,25 +10,25 @@ use Rattle.of_core.specs.declared.place.Outcome.{Outcome}
 use Rattle.of_core.specs.declared.place.Outcome.TheVariants.{Answered, Spent}
 use Rattle.of_core.specs.Machine.{IsOpen, is_idle}
 use Rattle.of_core.specs.Turn.{IsIdle}
-use Rattle.of_core.specs.Calls.{NoneSpent, last_from, last_of, steps_told}
-use Rattle.of_row.specs.Views.{Ended, Kept}
-use Rattle.of_row.specs.Told.{open_op, begun_of, outcomes_of}
+use Rattle.of_core.specs.Calls.{NoneSpent, last_outcome_or, last_outcome, total_steps}
+use Rattle.of_row.specs.Views.{EndedCall, KnownCaller}
+use Rattle.of_row.specs.Told.{open_operation, operations_known, outcomes_of}
 use Rattle.of_caller.specs.Tables.{operation_of}
-use Rattle.of_caller.specs.Ends.{AreAnswers, AnswersFirst, is_spent, halted}
-use Rattle.of_caller.specs.Runs.{AreNext, ends_at}
-use Rattle.of_caller.specs.Stops.{told_in, open_in}
-use Rattle.of_caller.specs.Teams.{operation_at, AreAnswered, IsStopped, KeepsLast, KeepsCaller}
+use Rattle.of_caller.specs.Ends.{AreAnswers, AnswersStandBeforeSpent, is_spent, ending_if_left}
+use Rattle.of_caller.specs.Runs.{AreNextScripts, ending_of_calls}
+use Rattle.of_caller.specs.Stops.{answer_steps, open_call_steps}
+use Rattle.of_caller.specs.Teams.{operation_at, AreAnswered, IsStopped, KeepsLastCall, KeepsCaller}
 use Rattle.of_caller.proofs.RecordsOwn.{done_at, halted_at, stopped_at}
 use Rattle.of_caller.proofs.Answering.{take_next}
 
 -- ---- outcomes
 
-first_answers : (xs : List Outcome) → NoneSpent xs → AnswersFirst xs
+first_answers : (xs : List Outcome) → NoneSpent xs → AnswersStandBeforeSpent xs
 first_answers [] none = tt
 first_answers (Answered t q r k ∷ xs) none = first_answers xs none.1
 first_answers (Spent t ∷ xs) none = absurd none.0
 
-first_then_spent : (xs : List Outcome) (s : ℕ) → NoneSpent xs → AnswersFirst (xs ++ Spent s ∷ [])
+first_then_spent : (xs : List Outcome) (s : ℕ) → NoneSpent xs → AnswersStandBeforeSpent (xs ++ Spent s ∷ [])
 first_then_spent [] s none = tt
 first_then_spent (Answered t q r k ∷ xs) s none = first_then_spent xs s none.1
 first_then_spent (Spent t ∷ xs) s none = absurd none.0
@@ -40,17 +40,17 @@ told_then_spent (Answered t q r k ∷ xs) [] s none told = absurd told
 told_then_spent (Answered t q r k ∷ xs) (b ∷ others) s none told = (told.0, told_then_spent xs others s none.1 told.1)
 told_then_spent (Spent t ∷ xs) answers s none told = absurd none.0
 
-unspent : (xs : List Outcome) (before : Option Outcome) → is_spent before ≡ false → NoneSpent xs → is_spent (last_from before xs) ≡ false
+unspent : (xs : List Outcome) (before : Option Outcome) → is_spent before ≡ false → NoneSpent xs → is_spent (last_outcome_or before xs) ≡ false
 unspent [] before is none = is
 unspent (Answered t q r k ∷ xs) before is none = unspent xs (Some (Answered t q r k)) refl none.1
 unspent (Spent t ∷ xs) before is none = absurd none.0
 
-last_push : (xs : List Outcome) (before : Option Outcome) (o : Outcome) → last_from before (xs ++ o ∷ []) ≡ Some o
+last_push : (xs : List Outcome) (before : Option Outcome) (o : Outcome) → last_outcome_or before (xs ++ o ∷ []) ≡ Some o
 last_push [] before o = refl
 last_push (x ∷ xs) before o = last_push xs (Some x) o
 
 -- answers tell the steps that outcomes tell
-pub told_steps : (outs : List Outcome) (answers : List Answer) → AreAnswers outs answers → told_in answers ≡ steps_told outs
+pub told_steps : (outs : List Outcome) (answers : List Answer) → AreAnswers outs answers → answer_steps answers ≡ total_steps outs
 told_steps [] [] told = refl
 told_steps [] (a ∷ others) told = absurd told
 told_steps (Answered s announced raw steps ∷ outs) [] told = absurd told
@@ -59,41 +59,41 @@ told_steps (Spent s ∷ outs) answers told = omega (arith, told_steps outs answe
 
 -- ---- what is kept
 
-ops_of : List Ended → List (List ℕ)
-ops_of es = map (λ (e : Ended). e.op) es
+ops_of : List EndedCall → List (List ℕ)
+ops_of es = map (λ (e : EndedCall). e.op) es
 
-pub begun_idle : (x : Kept) → IsIdle x.machine → begun_of x ≡ map (λ (e : Ended). e.op) x.ended
-begun_idle x idle = ap (λ (b : Bool). map (λ (e : Ended). e.op) x.ended ++ open_op x.machine b) (ap is_idle idle) ∙ append-nil (map (λ (e : Ended). e.op) x.ended)
+pub begun_idle : (x : KnownCaller) → IsIdle x.machine → operations_known x ≡ map (λ (e : EndedCall). e.op) x.ended
+begun_idle x idle = ap (λ (b : Bool). map (λ (e : EndedCall). e.op) x.ended ++ open_operation x.machine b) (ap is_idle idle) ∙ append-nil (map (λ (e : EndedCall). e.op) x.ended)
 
-begun_open : (x : Kept) → IsOpen x.machine.place → begun_of x ≡ map (λ (e : Ended). e.op) x.ended ++ x.machine.op ∷ []
-begun_open x opened = ap (λ (b : Bool). map (λ (e : Ended). e.op) x.ended ++ open_op x.machine b) opened
+begun_open : (x : KnownCaller) → IsOpen x.machine.place → operations_known x ≡ map (λ (e : EndedCall). e.op) x.ended ++ x.machine.op ∷ []
+begun_open x opened = ap (λ (b : Bool). map (λ (e : EndedCall). e.op) x.ended ++ open_operation x.machine b) opened
 
 -- what it tells of the record, where an idle machine counts no steps
-pub record TellsRecord (p : Plan) (behind c : ℕ) (answers : List Answer) (ending : Ending) (x : Kept) : Type 0 where
-  pub scripts : AreNext p behind c (begun_of x)
-  pub answers_first : AnswersFirst (outcomes_of x)
+pub record TellsRecord (p : Plan) (behind c : ℕ) (answers : List Answer) (ending : Ending) (x : KnownCaller) : Type 0 where
+  pub scripts : AreNextScripts p behind c (operations_known x)
+  pub answers_first : AnswersStandBeforeSpent (outcomes_of x)
   pub told : AreAnswers (outcomes_of x) answers
-  pub ended : ending ≡ ends_at (outcomes_of x) x.machine.steps (length (scripts_of p c) - behind) (length answers)
+  pub ended : ending ≡ ending_of_calls (outcomes_of x) x.machine.steps (length (scripts_of p c) - behind) (length answers)
   -- the steps of its open call are those that the ending tells
-  pub steps : x.machine.steps ≡ open_in ending
+  pub steps : x.machine.steps ≡ open_call_steps ending
   pub within : x.machine.steps < bound_of p
 
-module _ (p : Plan) (behind c : ℕ) (answers : List Answer) (x : Kept) (calls : List Ended) (a : AreAnswered p behind c calls answers) (rests : IsIdle x.machine → x.machine.steps ≡ 0) where
+module _ (p : Plan) (behind c : ℕ) (answers : List Answer) (x : KnownCaller) (calls : List EndedCall) (a : AreAnswered p behind c calls answers) (rests : IsIdle x.machine → x.machine.steps ≡ 0) where
   abbrev rest : ℕ
   rest = length (scripts_of p c) - behind
 
   abbrev outs : List Outcome
-  outs = map (λ (e : Ended). e.outcome) calls
+  outs = map (λ (e : EndedCall). e.outcome) calls
 
   positive : 0 < bound_of p
   positive = omega arith
 
   -- nothing is kept beyond the answered calls
   outs_are : x.ended ≡ calls → outcomes_of x ≡ outs
-  outs_are same = ap (map (λ (e : Ended). e.outcome)) same
+  outs_are same = ap (map (λ (e : EndedCall). e.outcome)) same
 
-  next_idle : x.ended ≡ calls → IsIdle x.machine → AreNext p behind c (begun_of x)
-  next_idle same idle = record { count = length answers; few = a.few; are = begun_idle x idle ∙ ap (map (λ (e : Ended). e.op)) same ∙ a.scripts }
+  next_idle : x.ended ≡ calls → IsIdle x.machine → AreNextScripts p behind c (operations_known x)
+  next_idle same idle = record { count = length answers; few = a.few; are = begun_idle x idle ∙ ap (map (λ (e : EndedCall). e.op)) same ∙ a.scripts }
 
   all_done : x.ended ≡ calls → behind + length answers ≡ length (scripts_of p c) → IsIdle x.machine → TellsRecord p behind c answers Done x
   all_done same all idle =
@@ -101,7 +101,7 @@ module _ (p : Plan) (behind c : ℕ) (answers : List Answer) (x : Kept) (calls :
       let none = rests idle in
       record {
         scripts = next_idle same idle;
-        answers_first = subst AnswersFirst (sym are) (first_answers outs a.none_spent);
+        answers_first = subst AnswersStandBeforeSpent (sym are) (first_answers outs a.none_spent);
         told = subst (λ (os : List Outcome). AreAnswers os answers) (sym are) a.told;
         ended = sym (done_at (outcomes_of x) x.machine.steps rest (length answers) (omega (arith, all)));
         steps = none;
@@ -109,16 +109,16 @@ module _ (p : Plan) (behind c : ℕ) (answers : List Answer) (x : Kept) (calls :
       }
 
   -- a stopped caller's calls are all answered but for an open one
-  stopped_then : (asked : ℕ) → x.ended ≡ calls → behind + length answers < length (scripts_of p c) → AreNext p behind c (begun_of x) → x.machine.steps + 1 ≡ asked → asked ≤ bound_of p → TellsRecord p behind c answers (Stopped asked) x
+  stopped_then : (asked : ℕ) → x.ended ≡ calls → behind + length answers < length (scripts_of p c) → AreNextScripts p behind c (operations_known x) → x.machine.steps + 1 ≡ asked → asked ≤ bound_of p → TellsRecord p behind c answers (Stopped asked) x
   stopped_then asked same less next steps within =
       let are = outs_are same in
       record {
         scripts = next;
-        answers_first = subst AnswersFirst (sym are) (first_answers outs a.none_spent);
+        answers_first = subst AnswersStandBeforeSpent (sym are) (first_answers outs a.none_spent);
         told = subst (λ (os : List Outcome). AreAnswers os answers) (sym are) a.told;
         ended = ap Stopped (sym steps)
             ∙ sym (halted_at (outcomes_of x) x.machine.steps rest (length answers) (λ all. absurd (omega (arith, all, less)))
-            ∙ stopped_at (last_of (outcomes_of x)) x.machine.steps (ap (λ (os : List Outcome). is_spent (last_of os)) are ∙ unspent outs None refl a.none_spent));
+            ∙ stopped_at (last_outcome (outcomes_of x)) x.machine.steps (ap (λ (os : List Outcome). is_spent (last_outcome os)) are ∙ unspent outs None refl a.none_spent));
         steps = omega (arith, steps);
         within = omega (arith, steps, within);
       }
@@ -127,9 +127,9 @@ module _ (p : Plan) (behind c : ℕ) (answers : List Answer) (x : Kept) (calls :
   is_stopped asked same less s = elim (cases_lt 1 asked) [
     | inl more ↦
         let at = s.open_call more in
-        let next : begun_of x ≡ map operation_of (take (length answers + 1) (drop behind (scripts_of p c))) =
-        begun_open x at.0 ∙ ap (λ (op : List ℕ). map (λ (e : Ended). e.op) x.ended ++ op ∷ []) at.1
-        ∙ ap (λ (l : List (List ℕ)). l ++ operation_at p c (behind + length answers) ∷ []) (ap (map (λ (e : Ended). e.op)) same ∙ a.scripts)
+        let next : operations_known x ≡ map operation_of (take (length answers + 1) (drop behind (scripts_of p c))) =
+        begun_open x at.0 ∙ ap (λ (op : List ℕ). map (λ (e : EndedCall). e.op) x.ended ++ op ∷ []) at.1
+        ∙ ap (λ (l : List (List ℕ)). l ++ operation_at p c (behind + length answers) ∷ []) (ap (map (λ (e : EndedCall). e.op)) same ∙ a.scripts)
         ∙ sym (take_next p behind c (length answers) (omega (arith, less))) in
         stopped_then asked same less (record { count = length answers + 1; few = omega (arith, less); are = next }) at.2 s.within
     | inr few ↦
@@ -140,28 +140,28 @@ module _ (p : Plan) (behind c : ℕ) (answers : List Answer) (x : Kept) (calls :
 
   is_spent_at : (s : ℕ) → x.ended ≡ calls ++ record { op = operation_at p c (behind + length answers); outcome = Spent s } ∷ [] → behind + length answers < length (scripts_of p c) → IsIdle x.machine → TellsRecord p behind c answers (RanOut s) x
   is_spent_at s same less idle =
-      let e : Ended = record { op = operation_at p c (behind + length answers); outcome = Spent s } in
-      let are : outcomes_of x ≡ outs ++ Spent s ∷ [] = ap (map (λ (f : Ended). f.outcome)) same ∙ map-append (λ (f : Ended). f.outcome) calls (e ∷ []) in
+      let e : EndedCall = record { op = operation_at p c (behind + length answers); outcome = Spent s } in
+      let are : outcomes_of x ≡ outs ++ Spent s ∷ [] = ap (map (λ (f : EndedCall). f.outcome)) same ∙ map-append (λ (f : EndedCall). f.outcome) calls (e ∷ []) in
       let none = rests idle in
       record {
         scripts = record {
           count = length answers + 1;
           few = omega (arith, less);
-          are = begun_idle x idle ∙ ap (map (λ (f : Ended). f.op)) same ∙ map-append (λ (f : Ended). f.op) calls (e ∷ [])
+          are = begun_idle x idle ∙ ap (map (λ (f : EndedCall). f.op)) same ∙ map-append (λ (f : EndedCall). f.op) calls (e ∷ [])
               ∙ ap (λ (l : List (List ℕ)). l ++ operation_at p c (behind + length answers) ∷ []) a.scripts ∙ sym (take_next p behind c (length answers) (omega (arith, less)));
         };
-        answers_first = subst AnswersFirst (sym are) (first_then_spent outs s a.none_spent);
+        answers_first = subst AnswersStandBeforeSpent (sym are) (first_then_spent outs s a.none_spent);
         told = subst (λ (os : List Outcome). AreAnswers os answers) (sym are) (told_then_spent outs answers s a.none_spent a.told);
         ended = sym (halted_at (outcomes_of x) x.machine.steps rest (length answers) (λ all. absurd (omega (arith, all, less)))
-            ∙ ap (λ (o : Option Outcome). halted o x.machine.steps) (ap last_of are ∙ last_push outs None (Spent s)));
+            ∙ ap (λ (o : Option Outcome). ending_if_left o x.machine.steps) (ap last_outcome are ∙ last_push outs None (Spent s)));
         steps = none;
         within = omega (arith, none, positive);
       }
 
-  tells_by : (ending : Ending) (beyond : List Ended) → x.ended ≡ calls ++ beyond → KeepsLast p c (behind + length answers) (length (scripts_of p c)) x.machine beyond ending → TellsRecord p behind c answers ending x
-  tells_by Done beyond same k = all_done (same ∙ ap (λ (l : List Ended). calls ++ l) k.2 ∙ append-nil calls) k.0 k.1
-  tells_by (Stopped asked) beyond same k = is_stopped asked (same ∙ ap (λ (l : List Ended). calls ++ l) k.2 ∙ append-nil calls) k.0 k.1
-  tells_by (RanOut s) beyond same k = is_spent_at s (same ∙ ap (λ (l : List Ended). calls ++ l) k.2) k.0 k.1
+  tells_by : (ending : Ending) (beyond : List EndedCall) → x.ended ≡ calls ++ beyond → KeepsLastCall p c (behind + length answers) (length (scripts_of p c)) x.machine beyond ending → TellsRecord p behind c answers ending x
+  tells_by Done beyond same k = all_done (same ∙ ap (λ (l : List EndedCall). calls ++ l) k.2 ∙ append-nil calls) k.0 k.1
+  tells_by (Stopped asked) beyond same k = is_stopped asked (same ∙ ap (λ (l : List EndedCall). calls ++ l) k.2 ∙ append-nil calls) k.0 k.1
+  tells_by (RanOut s) beyond same k = is_spent_at s (same ∙ ap (λ (l : List EndedCall). calls ++ l) k.2) k.0 k.1
 
-pub tells_record : (p : Plan) (behind c : ℕ) (answers : List Answer) (ending : Ending) (x : Kept) → KeepsCaller p behind c answers ending x → (IsIdle x.machine → x.machine.steps ≡ 0) → TellsRecord p behind c answers ending x
+pub tells_record : (p : Plan) (behind c : ℕ) (answers : List Answer) (ending : Ending) (x : KnownCaller) → KeepsCaller p behind c answers ending x → (IsIdle x.machine → x.machine.steps ≡ 0) → TellsRecord p behind c answers ending x
 tells_record p behind c answers ending x k rests = tells_by p behind c answers x k.calls k.answered rests ending k.beyond k.ended k.last

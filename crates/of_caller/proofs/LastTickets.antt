@@ -5,21 +5,21 @@ use Rattle.std.specs.List.{AllByRecursion as Each}
 use Rattle.std.proofs.lemmas.Bool.{cases_lt}
 use Rattle.std.proofs.lemmas.Bool.Decides.{eqb_tells}
 use Rattle.std.proofs.lemmas.List.Elements.{All-from_recursion}
-use Rattle.of_mem.specs.Places.{ticket_at}
+use Rattle.of_mem.specs.Places.{ticket_cell_at}
 use Rattle.of_script.specs.declared.instr.TheConstants.{MOST_INSTRS}
-use Rattle.of_eval.specs.Record.{recovered_number, answer_entry, answer_entries, open_entry, OpenCall, BeyondAnswers, IsLawful}
+use Rattle.of_eval.specs.Record.{recovered_number, answer_entry, answer_entries, open_entry, OpenCall, BeyondAnswers, IsLawfulRecord}
 use Rattle.of_plan.specs.declared.answer.Answer.{Answer}
 use Rattle.of_plan.specs.declared.answer.Ending.{Ending}
 use Rattle.of_plan.specs.declared.answer.Ending.TheVariants.{Done, Stopped, Spent}
 use Rattle.of_plan.specs.Plan.{Plan}
-use Rattle.of_plan.specs.Report.{CallEntry, Start, Report, entries_of, finished_of}
-use Rattle.of_plan.specs.Ended.{Run, answers_of, ending_of}
+use Rattle.of_plan.specs.Report.{Entry, Start, Report, entries_of, finished_of}
+use Rattle.of_plan.specs.Ended.{Ended, answers_of, ending_of}
 use Rattle.of_plan.specs.Histories.{IsIn}
 use Rattle.of_plan.proofs.HistoriesLists.{each_append, any_in, in_left}
 use Rattle.of_core.specs.Machine.{no_call}
-use Rattle.of_core.specs.World.{World, Start as TableStart}
+use Rattle.of_core.specs.World.{Moment, TableStart}
 use Rattle.of_caller.specs.Runs.{IsRunOf}
-use Rattle.of_caller.specs.Restarts.{IsHeldIn, HoldLast}
+use Rattle.of_caller.specs.Restarts.{IsHeldIn, HoldsLastAnnounced}
 use Rattle.of_caller.proofs.RecordsLists.{in_at, length-answer_entries, answer_at}
 use Rattle.of_caller.proofs.RecordsCalls.{call_at, entry_at, IsPlace, Stands, is_entry, earlier}
 use Rattle.of_caller.proofs.RecordsFacts.{CallerFacts, IsLast}
@@ -28,18 +28,18 @@ use Rattle.of_caller.proofs.RecordsLawful.{MomentFacts, narrow}
 use Rattle.of_caller.proofs.Records.{facts}
 
 -- an announced entry is below the ticket
-abbrev pub Below : ℕ → CallEntry → Type 0
+abbrev pub Below : ℕ → Entry → Type 0
 Below t f = IsTrue f.announced → f.index < t
 
 -- ---- what stands beyond the answers
 
 -- an open call that recovery finds has the recovered ticket
-open_below : (p : Plan) (e : Run) (c x : ℕ) (b : Bool) (extra : List CallEntry) → (b ≡ true → recovered_number p e (ticket_at MOST_INSTRS c) ≡ x + 1) → OpenCall p e c x b extra → Each (Below (recovered_number p e (ticket_at MOST_INSTRS c))) extra
-open_below p e c x true extra is told = subst (Each (Below (recovered_number p e (ticket_at MOST_INSTRS c)))) (sym told.2) ((λ announced. omega (arith, is refl)), tt)
-open_below p e c x false extra is told = subst (Each (Below (recovered_number p e (ticket_at MOST_INSTRS c)))) (sym told) tt
+open_below : (p : Plan) (e : Ended) (c x : ℕ) (b : Bool) (extra : List Entry) → (b ≡ true → recovered_number p e (ticket_cell_at MOST_INSTRS c) ≡ x + 1) → OpenCall p e c x b extra → Each (Below (recovered_number p e (ticket_cell_at MOST_INSTRS c))) extra
+open_below p e c x true extra is told = subst (Each (Below (recovered_number p e (ticket_cell_at MOST_INSTRS c)))) (sym told.2) ((λ announced. omega (arith, is refl)), tt)
+open_below p e c x false extra is told = subst (Each (Below (recovered_number p e (ticket_cell_at MOST_INSTRS c)))) (sym told) tt
 
 -- two lists that stand beyond the same answers are both empty or both have it
-open_has : (p : Plan) (e : Run) (c x : ℕ) (b : Bool) (one other : List CallEntry) → (b ≡ true → recovered_number p e (ticket_at MOST_INSTRS c) ≡ x + 1) → OpenCall p e c x b one → OpenCall p e c x b other → 0 < length one
+open_has : (p : Plan) (e : Ended) (c x : ℕ) (b : Bool) (one other : List Entry) → (b ≡ true → recovered_number p e (ticket_cell_at MOST_INSTRS c) ≡ x + 1) → OpenCall p e c x b one → OpenCall p e c x b other → 0 < length one
     → Any (IsHeldIn (recovered_number p e) c) other
 open_has p e c x true one other is first second some =
     subst (Any (IsHeldIn (recovered_number p e) c)) (sym second.2)
@@ -53,15 +53,15 @@ tells a b is = elim (eqb_tells a b) [
   | inr other ↦ absurd (cc (other.0, is))
 ]
 
-beyond_below : (p : Plan) (e : Run) (c x : ℕ) (q : Ending) (extra : List CallEntry) → BeyondAnswers p e c x q extra → Each (Below (recovered_number p e (ticket_at MOST_INSTRS c))) extra
-beyond_below p e c x Done extra told = subst (Each (Below (recovered_number p e (ticket_at MOST_INSTRS c)))) (sym told) tt
-beyond_below p e c x (Stopped asked) extra told = open_below p e c x (recovered_number p e (ticket_at MOST_INSTRS c) == x + 1) extra (tells (recovered_number p e (ticket_at MOST_INSTRS c)) (x + 1)) told
-beyond_below p e c x (Spent s) extra told = subst (Each (Below (recovered_number p e (ticket_at MOST_INSTRS c)))) (sym told) tt
+beyond_below : (p : Plan) (e : Ended) (c x : ℕ) (q : Ending) (extra : List Entry) → BeyondAnswers p e c x q extra → Each (Below (recovered_number p e (ticket_cell_at MOST_INSTRS c))) extra
+beyond_below p e c x Done extra told = subst (Each (Below (recovered_number p e (ticket_cell_at MOST_INSTRS c)))) (sym told) tt
+beyond_below p e c x (Stopped asked) extra told = open_below p e c x (recovered_number p e (ticket_cell_at MOST_INSTRS c) == x + 1) extra (tells (recovered_number p e (ticket_cell_at MOST_INSTRS c)) (x + 1)) told
+beyond_below p e c x (Spent s) extra told = subst (Each (Below (recovered_number p e (ticket_cell_at MOST_INSTRS c)))) (sym told) tt
 
-beyond_has : (p : Plan) (e : Run) (c x : ℕ) (q : Ending) (one other : List CallEntry) → BeyondAnswers p e c x q one → BeyondAnswers p e c x q other → 0 < length one
+beyond_has : (p : Plan) (e : Ended) (c x : ℕ) (q : Ending) (one other : List Entry) → BeyondAnswers p e c x q one → BeyondAnswers p e c x q other → 0 < length one
     → Any (IsHeldIn (recovered_number p e) c) other
 beyond_has p e c x Done one other first second some = absurd (omega (arith, ap length first, some))
-beyond_has p e c x (Stopped asked) one other first second some = open_has p e c x (recovered_number p e (ticket_at MOST_INSTRS c) == x + 1) one other (tells (recovered_number p e (ticket_at MOST_INSTRS c)) (x + 1)) first second some
+beyond_has p e c x (Stopped asked) one other first second some = open_has p e c x (recovered_number p e (ticket_cell_at MOST_INSTRS c) == x + 1) one other (tells (recovered_number p e (ticket_cell_at MOST_INSTRS c)) (x + 1)) first second some
 beyond_has p e c x (Spent s) one other first second some = absurd (omega (arith, ap length first, some))
 
 -- what is found in a part is found in the whole
@@ -77,7 +77,7 @@ any_append {X = X} P xs ys found = any_in P found.1 (xs ++ ys) (in_left found.1 
     place_in (z ∷ zs) zero x lt is = inl is
     place_in (z ∷ zs) (suc k) x lt is = inr (place_in zs k x (omega (arith, lt)) is)
 
-module _ (p : Plan) (s : Start) (B : TableStart) (w : World) (e : Run) (run : IsRunOf p s B w e) (r : Report) (lawful : IsLawful p s e r) (c : ℕ) (lt : c < p.callers) where
+module _ (p : Plan) (s : Start) (B : TableStart) (w : Moment) (e : Ended) (run : IsRunOf p s B w e) (r : Report) (lawful : IsLawfulRecord p s e r) (c : ℕ) (lt : c < p.callers) where
   abbrev m : MomentFacts p s B w e run.operations run.outcomes
   m = facts p s B w e run
 
@@ -87,20 +87,20 @@ module _ (p : Plan) (s : Start) (B : TableStart) (w : World) (e : Run) (run : Is
   abbrev n : ℕ
   n = finished_of s c
 
-  abbrev answers : List CallEntry
+  abbrev answers : List Entry
   answers = answer_entries c n (answers_of e c)
 
   -- the recovered ticket
   abbrev ticket : ℕ
-  ticket = recovered_number p e (ticket_at MOST_INSTRS c)
+  ticket = recovered_number p e (ticket_cell_at MOST_INSTRS c)
 
-  abbrev Holds : CallEntry → Type 0
+  abbrev Holds : Entry → Type 0
   Holds g = IsHeldIn (recovered_number p e) c g
 
-  abbrev own : (extra : List CallEntry) × IsOwnOf p s B w e c extra
+  abbrev own : (extra : List Entry) × IsOwnOf p s B w e c extra
   own = own_at p s B w m.sound e c (run.operations c) (run.outcomes c) lt (narrow p s B w e run.operations run.outcomes m c lt) f
 
-  abbrev extra : List CallEntry
+  abbrev extra : List Entry
   extra = (lawful.report.entries c lt).extra
 
   stands : (x : ℕ) (none : Answer) → x < length (answers_of e c) → Stands p s B w (answer_entry c (n + x) (get_or (answers_of e c) x none)) (get_or (answers_of e c) x none).announced
@@ -119,7 +119,7 @@ module _ (p : Plan) (s : Start) (B : TableStart) (w : World) (e : Run) (run : Is
   ]
 
   run_below : (x : ℕ) (a : Answer) (b : Bool) → Stands p s B w (answer_entry c x a) b → IsTrue b → x < ticket
-  run_below x a true one is = omega (arith, one.ticket, call_below one.number one.place one.there (ap (λ (g : CallEntry). g.caller) one.is))
+  run_below x a true one is = omega (arith, one.ticket, call_below one.number one.place one.there (ap (λ (g : Entry). g.caller) one.is))
   run_below x a false one is = absurd (cc (is))
 
   answers_below : Each (Below ticket) answers
@@ -132,11 +132,11 @@ module _ (p : Plan) (s : Start) (B : TableStart) (w : World) (e : Run) (run : Is
   among_answers : (x : ℕ) → x < length (answers_of e c) → (last : IsLast p s B w e c) → n + x + 1 ≡ ticket → Any Holds answers
   among_answers x among last is =
       let none : Answer = get_or (answers_of e c) x (no_answer last) in
-      let d : CallEntry = answer_entry c (n + x) none in
+      let d : Entry = answer_entry c (n + x) none in
       let here : get_or answers x d ≡ d = answer_at c n (answers_of e c) x d (no_answer last) among in
       let same : d ≡ entry_at p s B w last.number last.place = is_entry p s B w m.sound d last.number last.place last.there (stands x (no_answer last) among) (sym last.caller) (omega (arith, is, last.ticket_is)) in
-      any_in Holds d answers (subst (λ (g : CallEntry). IsIn g answers) here (in_at answers x d (omega (arith, among, length-answer_entries c n (answers_of e c)))))
-      (record { announced = ap (λ (g : CallEntry). g.announced) same; ticket = sym is; reply = last.reply; held = last.held; response = ap (λ (g : CallEntry). g.reply) same ∙ sym last.response })
+      any_in Holds d answers (subst (λ (g : Entry). IsIn g answers) here (in_at answers x d (omega (arith, among, length-answer_entries c n (answers_of e c)))))
+      (record { announced = ap (λ (g : Entry). g.announced) same; ticket = sym is; reply = last.reply; held = last.held; response = ap (λ (g : Entry). g.reply) same ∙ sym last.response })
     where
       no_answer : IsLast p s B w e c → Answer
       no_answer last = record { seq = 0; announced = true; reply = last.reply; steps = 0 }
@@ -161,5 +161,5 @@ module _ (p : Plan) (s : Start) (B : TableStart) (w : World) (e : Run) (run : Is
     | inr last ↦ omega (arith, (own.1.covers last.number last.place last.there last.caller).0, last.ticket_is)
   ]
 
-  pub hold_last : HoldLast (recovered_number p e) c (finished_of s c) (entries_of r c)
+  pub hold_last : HoldsLastAnnounced (recovered_number p e) c (finished_of s c) (entries_of r c)
   hold_last = record { from = from; last = All-from_recursion (Below ticket) (entries_of r c) below; has = has }

@@ -1,9 +1,9 @@
 -- Lists whose items are paired.
 use Rattle.std.proofs.Common.{◌≡◌, ℕ, suc, ◌+◌, ◌<◌, List, [], ◌∷◌, ◌++◌, length, get_or, set, remove, take, drop, append_assoc, sym, refl, ap, ◌∙◌, subst, arith}
 use Rattle.of_row.specs.Views.{Each}
-use Rattle.of_caller.specs.Trees.{Both, Paired}
+use Rattle.of_caller.specs.Trees.{AllPaired, PrefixPaired}
 
-pub both_append : {A : Type 0} (P : A → A → Type 0) (a b c d : List A) → Both P a b → Both P c d → Both P (a ++ c) (b ++ d)
+pub both_append : {A : Type 0} (P : A → A → Type 0) (a b c d : List A) → AllPaired P a b → AllPaired P c d → AllPaired P (a ++ c) (b ++ d)
 both_append P [] [] c d p q = q
 both_append P [] (y ∷ b) c d p q = absurd p
 both_append P (x ∷ a) [] c d p q = absurd p
@@ -21,16 +21,16 @@ pub each_first : {A : Type 0} (P : A → Type 0) (a : List A) (d : A) → 0 < le
 each_first P [] d h e = absurd (omega arith)
 each_first P (x ∷ a) d h e = e.0
 
-pub both_none : {A : Type 0} (P : A → A → Type 0) (a : List A) → length a ≡ 0 → Both P a a
+pub both_none : {A : Type 0} (P : A → A → Type 0) (a : List A) → length a ≡ 0 → AllPaired P a a
 both_none P [] e = tt
 both_none P (x ∷ a) e = absurd (omega arith)
 
-pub both_one : {A : Type 0} (P : A → A → Type 0) (a : List A) (d y : A) → length a < 2 → 0 < length a → P (get_or a 0 d) y → Both P a (set a 0 y)
+pub both_one : {A : Type 0} (P : A → A → Type 0) (a : List A) (d y : A) → length a < 2 → 0 < length a → P (get_or a 0 d) y → AllPaired P a (set a 0 y)
 both_one P [] d y h o p = absurd (omega arith)
 both_one P (x ∷ []) d y h o p = (p, tt)
 both_one P (x ∷ z ∷ a) d y h o p = absurd (omega arith)
 
-pub both_map : {A : Type 0} (P Q : A → A → Type 0) (xs ys : List A) → ((x y : A) → P x y → Q x y) → Both P xs ys → Both Q xs ys
+pub both_map : {A : Type 0} (P Q : A → A → Type 0) (xs ys : List A) → ((x y : A) → P x y → Q x y) → AllPaired P xs ys → AllPaired Q xs ys
 both_map P Q [] [] f b = tt
 both_map P Q [] (y ∷ ys) f b = absurd b
 both_map P Q (x ∷ xs) [] f b = absurd b
@@ -40,24 +40,24 @@ pub each_weaker : {A : Type 0} (P Q : A → Type 0) (xs : List A) → ((x : A) �
 each_weaker P Q [] f e = tt
 each_weaker P Q (x ∷ xs) f e = (f x e.0, each_weaker P Q xs f e.1)
 
-pub both_length : {A : Type 0} (P : A → A → Type 0) (xs ys : List A) → Both P xs ys → length ys ≡ length xs
+pub both_length : {A : Type 0} (P : A → A → Type 0) (xs ys : List A) → AllPaired P xs ys → length ys ≡ length xs
 both_length P [] [] b = refl
 both_length P [] (y ∷ ys) b = absurd b
 both_length P (x ∷ xs) [] b = absurd b
 both_length P (x ∷ xs) (y ∷ ys) b = ap suc (both_length P xs ys b.1)
 
 -- one pair more at the end
-paired_end : {A B : Type 0} (P : A → B → Type 0) (xs : List A) (ys : List B) (x : A) (y : B) → Paired P xs ys → length xs ≡ length ys → P x y → Paired P (xs ++ x ∷ []) (ys ++ y ∷ [])
+paired_end : {A B : Type 0} (P : A → B → Type 0) (xs : List A) (ys : List B) (x : A) (y : B) → PrefixPaired P xs ys → length xs ≡ length ys → P x y → PrefixPaired P (xs ++ x ∷ []) (ys ++ y ∷ [])
 paired_end P [] [] x y h same one = (one, tt)
 paired_end P [] (b ∷ ys) x y h same one = absurd h
 paired_end P (a ∷ xs) [] x y h same one = absurd (omega (arith, same))
 paired_end P (a ∷ xs) (b ∷ ys) x y h same one = (h.0, paired_end P xs ys x y h.1 (omega (arith, same)) one)
 
-pub paired_adds : {A B : Type 0} (P : A → B → Type 0) (xs : List A) (ys zs : List B) (x : A) (y : B) → Paired P xs ys → length xs ≡ length ys → zs ≡ ys ++ y ∷ [] → P x y → Paired P (xs ++ x ∷ []) zs
-paired_adds P xs ys zs x y h same is one = subst (Paired P (xs ++ x ∷ [])) (sym is) (paired_end P xs ys x y h same one)
+pub paired_adds : {A B : Type 0} (P : A → B → Type 0) (xs : List A) (ys zs : List B) (x : A) (y : B) → PrefixPaired P xs ys → length xs ≡ length ys → zs ≡ ys ++ y ∷ [] → P x y → PrefixPaired P (xs ++ x ∷ []) zs
+paired_adds P xs ys zs x y h same is one = subst (PrefixPaired P (xs ++ x ∷ [])) (sym is) (paired_end P xs ys x y h same one)
 
 -- the first list may be longer
-pub paired_longer : {A B : Type 0} (P : A → B → Type 0) (xs more : List A) (ys : List B) → Paired P xs ys → Paired P (xs ++ more) ys
+pub paired_longer : {A B : Type 0} (P : A → B → Type 0) (xs more : List A) (ys : List B) → PrefixPaired P xs ys → PrefixPaired P (xs ++ more) ys
 paired_longer P xs more [] h = tt
 paired_longer P [] more (y ∷ ys) h = absurd h
 paired_longer P (x ∷ xs) more (y ∷ ys) h = (h.0, paired_longer P xs more ys h.1)
@@ -83,5 +83,5 @@ rewritten [] (y ∷ ys) e = absurd (omega arith)
 rewritten (x ∷ xs) [] e = absurd (omega arith)
 rewritten (x ∷ xs) (y ∷ ys) e = ap (λ z. y ∷ z) (rewritten xs ys (omega arith))
 
-pub written : {A : Type 0} (P : A → A → Type 0) (xs ys : List A) (n : ℕ) → Both P xs ys → n ≡ length xs → take n (ys ++ drop (length ys) xs) ≡ ys
+pub written : {A : Type 0} (P : A → A → Type 0) (xs ys : List A) (n : ℕ) → AllPaired P xs ys → n ≡ length xs → take n (ys ++ drop (length ys) xs) ≡ ys
 written P xs ys n b e = ap (λ z. take z (ys ++ drop (length ys) xs)) e ∙ rewritten xs ys (both_length P xs ys b)

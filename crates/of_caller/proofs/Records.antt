@@ -1,12 +1,12 @@
 -- What a run of a plan leaves is a lawful record.
 use Rattle.std.proofs.Common.{ℕ, ◌+◌, ◌<◌, ◌⊎◌, inl, inr, List, [], get_or, length, ap, ◌∙◌, arith}
-use Rattle.of_eval.specs.Record.{IsLawful}
+use Rattle.of_eval.specs.Record.{IsLawfulRecord}
 use Rattle.of_plan.specs.Plan.{Plan}
 use Rattle.of_plan.specs.Report.{Start, Report, finished_of}
-use Rattle.of_plan.specs.Ended.{Run}
+use Rattle.of_plan.specs.Ended.{Ended}
 use Rattle.of_core.specs.Least.{least_read}
-use Rattle.of_core.specs.World.{World, Read, Start as TableStart}
-use Rattle.of_caller.specs.Tables.{setup_for}
+use Rattle.of_core.specs.World.{Moment, Read, TableStart}
+use Rattle.of_caller.specs.Tables.{plan_setup}
 use Rattle.of_caller.specs.Moments.{script_of_ticket}
 use Rattle.of_caller.specs.Runs.{IsMomentOf, IsRunOf, RunsAreLawful}
 use Rattle.of_caller.proofs.StoresHeld.{held_is}
@@ -17,7 +17,7 @@ use Rattle.of_caller.proofs.StoresLeast.{least_reads}
 use Rattle.of_caller.proofs.RecordsFacts.{CallerFacts, HasNone, IsLast}
 use Rattle.of_caller.proofs.RecordsLawful.{MomentFacts, report_left, lawful_left}
 
-module _ (p : Plan) (s : Start) (B : TableStart) (w : World) (e : Run) (run : IsRunOf p s B w e) where
+module _ (p : Plan) (s : Start) (B : TableStart) (w : Moment) (e : Ended) (run : IsRunOf p s B w e) where
   abbrev ops : ℕ → List (List ℕ)
   ops = run.operations
 
@@ -65,7 +65,7 @@ module _ (p : Plan) (s : Start) (B : TableStart) (w : World) (e : Run) (run : Is
     least_reads = λ x among only.
         let n : ℕ = finished_of s c in
         let op = operation_is p s B w run.operations run.outcomes moment c (n + x + 1) (get_or (ops c) x []) lt (omega arith) (omega (arith, among)) (ap (λ (i : ℕ). get_or (ops c) i []) (omega arith)) in
-        ap (least_read (setup_for p)) op.words ∙ least_reads p (script_of_ticket p c (n + x + 1)) op.script only;
+        ap (least_read (plan_setup p)) op.words ∙ least_reads p (script_of_ticket p c (n + x + 1)) op.script only;
     recovered = recovered_is c lt;
   }
 
@@ -82,7 +82,7 @@ module _ (p : Plan) (s : Start) (B : TableStart) (w : World) (e : Run) (run : Is
     stands_for = stands_for p s B w run.operations run.outcomes moment e run.words;
   }
 
-  run_is_lawful : (r : Report) × IsLawful p s e r
+  run_is_lawful : (r : Report) × IsLawfulRecord p s e r
   run_is_lawful = (report_left p s B w e run.operations run.outcomes facts, lawful_left p s B w e run.operations run.outcomes facts)
 
 pub runs_are_lawful : RunsAreLawful

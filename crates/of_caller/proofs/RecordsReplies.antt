@@ -7,19 +7,19 @@ use Rattle.of_plan.specs.Plan.{Plan}
 use Rattle.of_plan.specs.Report.{Start}
 use Rattle.of_core.specs.declared.place.Outcome.{Outcome}
 use Rattle.of_core.specs.declared.place.Outcome.TheVariants.{Answered, Spent}
-use Rattle.of_core.specs.World.{World, Start as TableStart}
+use Rattle.of_core.specs.World.{Moment, TableStart}
 use Rattle.of_core.specs.Calls.{no_outcome}
-use Rattle.of_caller.specs.Ends.{HoldsReply}
+use Rattle.of_caller.specs.Ends.{OutcomeHoldsReply}
 use Rattle.of_caller.specs.Runs.{RepliesAreHeld}
 use Rattle.of_caller.proofs.Stores.{IsHeldAt, outcome_held}
 
-reply_at : (p : Plan) (s : Start) (B : TableStart) (w : World) (i t k : ℕ) (raw : RawReply) (announced : Bool) → IsHeldAt p s B w i t k raw announced → (r : Reply) × IsHeldBy raw r
+reply_at : (p : Plan) (s : Start) (B : TableStart) (w : Moment) (i t k : ℕ) (raw : RawReply) (announced : Bool) → IsHeldAt p s B w i t k raw announced → (r : Reply) × IsHeldBy raw r
 reply_at p s B w i t k raw true h = (h.reply.0, h.reply.1)
 reply_at p s B w i t k raw false h = (h.reply.0, h.reply.1)
 
 pub replies_are_held : RepliesAreHeld
 replies_are_held p s B w ops outs h c x lt among = go (get_or (outs c) x no_outcome) refl
   where
-    go : (o : Outcome) → get_or (outs c) x no_outcome ≡ o → HoldsReply o
+    go : (o : Outcome) → get_or (outs c) x no_outcome ≡ o → OutcomeHoldsReply o
     go (Spent k) is = tt
     go (Answered k announced raw steps) is = reply_at p s B w c _ k raw announced (outcome_held p s B w ops outs h c x k steps raw lt among announced is)

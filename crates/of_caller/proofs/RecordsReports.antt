@@ -3,35 +3,35 @@ use Rattle.std.proofs.Common.{◌≡◌, ℕ, suc, ◌+◌, ◌<◌, ◌≤◌, 
 use Rattle.std.specs.Prelude.{All, IsTrue, ◌==◌}
 use Rattle.std.proofs.Math.Seq.{drop-append_seam}
 use Rattle.std.proofs.lemmas.List.Elements.{All-nil, All-cons, All-same}
-use Rattle.of_mem.specs.Places.{ticket_at}
+use Rattle.of_mem.specs.Places.{ticket_cell_at}
 use Rattle.of_script.specs.declared.instr.TheConstants.{MOST_INSTRS}
-use Rattle.of_eval.specs.Record.{recovered_number, answer_entry, answer_entries, open_entry, OpenCall, BeyondAnswers, IsLawful}
+use Rattle.of_eval.specs.Record.{recovered_number, answer_entry, answer_entries, open_entry, OpenCall, BeyondAnswers, IsLawfulRecord}
 use Rattle.of_eval.specs.Reported.{MakeLeastSteps, ReportsRun}
 use Rattle.of_plan.specs.declared.answer.Answer.{Answer}
 use Rattle.of_plan.specs.declared.answer.Ending.{Ending}
 use Rattle.of_plan.specs.declared.answer.Ending.TheVariants.{Done, Stopped, Spent}
 use Rattle.of_plan.specs.Plan.{Plan}
-use Rattle.of_plan.specs.Report.{CallEntry, Start, Report, entries_of, finished_of}
-use Rattle.of_plan.specs.Ended.{Run, answers_of, ending_of}
+use Rattle.of_plan.specs.Report.{Entry, Start, Report, entries_of, finished_of}
+use Rattle.of_plan.specs.Ended.{Ended, answers_of, ending_of}
 use Rattle.of_plan.specs.Allowance.{least_steps}
-use Rattle.of_core.specs.World.{World, Start as TableStart}
+use Rattle.of_core.specs.World.{Moment, TableStart}
 use Rattle.of_caller.specs.Runs.{IsRunOf, RunsAreReported}
 use Rattle.of_caller.proofs.RecordsLists.{length-answer_entries}
 use Rattle.of_caller.proofs.RecordsOwn.{answer_is}
 use Rattle.of_caller.proofs.RecordsLawful.{narrow}
 use Rattle.of_caller.proofs.Records.{facts}
 
-abbrev IsAnnounced : CallEntry → Type 0
+abbrev IsAnnounced : Entry → Type 0
 IsAnnounced f = IsTrue f.announced
 
 -- an open call that recovery finds was announced
-open_announced : (p : Plan) (e : Run) (c x : ℕ) (recovered : Bool) (extra : List CallEntry) → OpenCall p e c x recovered extra → All IsAnnounced extra
+open_announced : (p : Plan) (e : Ended) (c x : ℕ) (recovered : Bool) (extra : List Entry) → OpenCall p e c x recovered extra → All IsAnnounced extra
 open_announced p e c x true extra told = All-same IsAnnounced extra (open_entry p e c x told.0 ∷ []) told.2 (All-cons IsAnnounced (open_entry p e c x told.0) [] refl (All-nil IsAnnounced))
 open_announced p e c x false extra told = All-same IsAnnounced extra [] told (All-nil IsAnnounced)
 
-beyond_announced : (p : Plan) (e : Run) (c x : ℕ) (ending : Ending) (extra : List CallEntry) → BeyondAnswers p e c x ending extra → All IsAnnounced extra
+beyond_announced : (p : Plan) (e : Ended) (c x : ℕ) (ending : Ending) (extra : List Entry) → BeyondAnswers p e c x ending extra → All IsAnnounced extra
 beyond_announced p e c x Done extra told = All-same IsAnnounced extra [] told (All-nil IsAnnounced)
-beyond_announced p e c x (Stopped asked) extra told = open_announced p e c x (recovered_number p e (ticket_at MOST_INSTRS c) == x + 1) extra told
+beyond_announced p e c x (Stopped asked) extra told = open_announced p e c x (recovered_number p e (ticket_cell_at MOST_INSTRS c) == x + 1) extra told
 beyond_announced p e c x (Spent s) extra told = All-same IsAnnounced extra [] told (All-nil IsAnnounced)
 
 -- what holds of each answer holds of all
@@ -42,7 +42,7 @@ make_least p c x (a ∷ others) h = (
   make_least p c (x + 1) others (λ y none lt. subst (λ (n : ℕ). least_steps p (answer_entry c n (get_or others y none)) ≤ (get_or others y none).steps) (omega arith) (h (suc y) none (omega (arith, lt)))),
 )
 
-module _ (p : Plan) (s : Start) (B : TableStart) (w : World) (e : Run) (run : IsRunOf p s B w e) (r : Report) (lawful : IsLawful p s e r) where
+module _ (p : Plan) (s : Start) (B : TableStart) (w : Moment) (e : Ended) (run : IsRunOf p s B w e) (r : Report) (lawful : IsLawfulRecord p s e r) where
   beyond_are : (c : ℕ) → c < p.callers → All IsAnnounced (drop (length (answers_of e c)) (entries_of r c))
   beyond_are c lt =
       let own = lawful.report.entries c lt in

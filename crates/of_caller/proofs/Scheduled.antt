@@ -11,33 +11,33 @@ use Rattle.of_plan.specs.declared.plan.Item.{Item}
 use Rattle.of_plan.specs.declared.plan.Item.TheVariants.{Turns as Turns_of, Evict}
 use Rattle.of_plan.specs.Plan.{Plan, IsItem, scripts_of}
 use Rattle.of_plan.specs.Report.{Start, finished_of}
-use Rattle.of_plan.specs.Legal.{to_do}
-use Rattle.of_plan.specs.Ended.{Run, answers_of, ending_of}
+use Rattle.of_plan.specs.Legal.{scripts_left}
+use Rattle.of_plan.specs.Ended.{Ended, answers_of, ending_of}
 use Rattle.of_core.specs.declared.place.Outcome.{Outcome}
 use Rattle.of_core.specs.declared.place.Outcome.TheVariants.{Answered, Spent}
 use Rattle.of_core.specs.declared.place.Place.TheVariants.{Idle}
-use Rattle.of_core.specs.Table.{Setup, table_size}
-use Rattle.of_core.specs.Machine.{Data, IsOpen, is_idle}
-use Rattle.of_core.specs.World.{World, Start as TableStart}
+use Rattle.of_core.specs.Table.{Setup, words_before_members}
+use Rattle.of_core.specs.Machine.{CallState, IsOpen, is_idle}
+use Rattle.of_core.specs.World.{Moment, TableStart}
 use Rattle.of_core.specs.Turn.{IsIdle}
-use Rattle.of_core.specs.Events.{Event, Begins, Turns, Loads, Evicts, Raises, happens, machine, run, IsSchedule, MayHappen, start_ticket}
-use Rattle.of_core.specs.Calls.{Calls, NeverIdle, NoneSpent, only, last_from, last_of, operations, outcomes}
+use Rattle.of_core.specs.Events.{Event, Begins, Turns, Loads, Evicts, Raises, after_event, machine_in, after_events, IsSchedule, MayHappen, start_ticket}
+use Rattle.of_core.specs.Calls.{HasCalls, TurnsFindOpenCalls, NoneSpent, if_so, last_outcome_or, last_outcome, operations_begun, outcomes}
 use Rattle.of_core.proofs.Parts.{run_append, operations_append, outcomes_append, first_part, second_part}
 use Rattle.of_core.proofs.Tests.{same_number}
-use Rattle.of_row.specs.Views.{Ended, Kept, Sight}
-use Rattle.of_row.specs.Told.{begun_of, outcomes_of}
+use Rattle.of_row.specs.Views.{EndedCall, KnownCaller, View}
+use Rattle.of_row.specs.Told.{operations_known, outcomes_of}
 use Rattle.of_row.specs.Runs.{HasRun, RunsAreSchedules}
 use Rattle.of_row.specs.Trail.{IsPrompt, IsToldBy, evictions}
-use Rattle.of_caller.specs.Tables.{setup_for, lawful_for, opening_at, operation_of}
-use Rattle.of_caller.specs.Ends.{AreAnswers, is_spent, halted, ending_at}
+use Rattle.of_caller.specs.Tables.{plan_setup, IsLawfulFor, opening_at, operation_of}
+use Rattle.of_caller.specs.Ends.{AreAnswers, is_spent, ending_if_left, ending_at}
 use Rattle.of_caller.proofs.RecordsOwn.{stopped_at, idle_or_open}
 use Rattle.of_caller.specs.PlanLaws.{KeepsLaws}
-use Rattle.of_caller.specs.Runs.{AreNext}
-use Rattle.of_caller.specs.Teams.{KeepsCaller, KeepsLast, IsTeamOf, TeamsAreScheduled}
+use Rattle.of_caller.specs.Runs.{AreNextScripts}
+use Rattle.of_caller.specs.Teams.{KeepsCaller, KeepsLastCall, IsTeamOf, TeamsAreScheduled}
 use Rattle.of_caller.proofs.Schedules.{ticket_is}
 use Rattle.of_caller.proofs.KeptCallers.{begun_idle}
 use Rattle.of_caller.proofs.Teams.{ran, keeps, tells, told_by, calls_of, machine_is}
-use Rattle.of_caller.specs.Scheduled.{moves_in, begins_call, next_call, with_begin, events_from, scheduled, evicted_by, IsScheduled}
+use Rattle.of_caller.specs.Scheduled.{item_events, begins_call, next_begin, with_begin, events_from, scheduled, evicted_by, IsScheduled}
 
 -- ---- the moves and the items of events
 
@@ -57,7 +57,7 @@ items_of (Loads c ∷ es) = items_of es
 items_of (Evicts k ∷ es) = items_of es
 items_of (Raises c ∷ es) = Evict c ∷ items_of es
 
-items_move : (es : List Event) → flat_map moves_in (items_of es) ≡ moves_of es
+items_move : (es : List Event) → flat_map item_events (items_of es) ≡ moves_of es
 items_move [] = refl
 items_move (Begins i op ∷ es) = items_move es
 items_move (Turns i ∷ es) = ap (λ (fs : List Event). Turns i ∷ fs) (items_move es)
@@ -75,36 +75,36 @@ items_evict (Raises c ∷ es) = ap (λ (cs : List ℕ). c ∷ cs) (items_evict e
 
 module _ (p : Plan) where
   abbrev S : Setup
-  S = setup_for p
+  S = plan_setup p
 
-  items_range : (w : World) (es : List Event) → IsSchedule S w es → Each (IsItem p) (items_of es)
+  items_range : (w : Moment) (es : List Event) → IsSchedule S w es → Each (IsItem p) (items_of es)
   items_range w [] s = tt
-  items_range w (Begins i op ∷ es) s = items_range (happens S w (Begins i op)) es s.1
-  items_range w (Turns i ∷ es) s = ((s.0, omega arith), items_range (happens S w (Turns i)) es s.1)
-  items_range w (Loads c ∷ es) s = items_range (happens S w (Loads c)) es s.1
-  items_range w (Evicts k ∷ es) s = items_range (happens S w (Evicts k)) es s.1
-  items_range w (Raises c ∷ es) s = (s.0, items_range (happens S w (Raises c)) es s.1)
+  items_range w (Begins i op ∷ es) s = items_range (after_event S w (Begins i op)) es s.1
+  items_range w (Turns i ∷ es) s = ((s.0, omega arith), items_range (after_event S w (Turns i)) es s.1)
+  items_range w (Loads c ∷ es) s = items_range (after_event S w (Loads c)) es s.1
+  items_range w (Evicts k ∷ es) s = items_range (after_event S w (Evicts k)) es s.1
+  items_range w (Raises c ∷ es) s = (s.0, items_range (after_event S w (Raises c)) es s.1)
 
   -- each begin is that of its caller's next call
-  abbrev IsNextCall : World → ℕ → List ℕ → Type 0
-  IsNextCall w i op = (begins_call (machine w i) (length (scripts_of p i)) ≡ true) × (operation_of (slice_index_or (scripts_of p i) (machine w i).made []) ≡ op)
+  abbrev IsNextCall : Moment → ℕ → List ℕ → Type 0
+  IsNextCall w i op = (begins_call (machine_in w i) (length (scripts_of p i)) ≡ true) × (operation_of (slice_index_or (scripts_of p i) (machine_in w i).made []) ≡ op)
 
-  abbrev BeginsNext : World → List Event → Type 0
+  abbrev BeginsNext : Moment → List Event → Type 0
   BeginsNext w [] = Unit {0}
-  BeginsNext w (Begins i op ∷ es) = IsNextCall w i op × BeginsNext (happens S w (Begins i op)) es
-  BeginsNext w (Turns i ∷ es) = BeginsNext (happens S w (Turns i)) es
-  BeginsNext w (Loads c ∷ es) = BeginsNext (happens S w (Loads c)) es
-  BeginsNext w (Evicts k ∷ es) = BeginsNext (happens S w (Evicts k)) es
-  BeginsNext w (Raises c ∷ es) = BeginsNext (happens S w (Raises c)) es
+  BeginsNext w (Begins i op ∷ es) = IsNextCall w i op × BeginsNext (after_event S w (Begins i op)) es
+  BeginsNext w (Turns i ∷ es) = BeginsNext (after_event S w (Turns i)) es
+  BeginsNext w (Loads c ∷ es) = BeginsNext (after_event S w (Loads c)) es
+  BeginsNext w (Evicts k ∷ es) = BeginsNext (after_event S w (Evicts k)) es
+  BeginsNext w (Raises c ∷ es) = BeginsNext (after_event S w (Raises c)) es
 
-  next_is : (w : World) (i : ℕ) (op : List ℕ) → IsNextCall w i op → next_call p i (machine w i) ≡ Begins i op ∷ []
-  next_is w i op n = ap (λ (b : Bool). if b then Begins i (operation_of (slice_index_or (scripts_of p i) (machine w i).made [])) ∷ [] else []) n.0 ∙ ap (λ (z : List ℕ). Begins i z ∷ []) n.1
+  next_is : (w : Moment) (i : ℕ) (op : List ℕ) → IsNextCall w i op → next_begin p i (machine_in w i) ≡ Begins i op ∷ []
+  next_is w i op n = ap (λ (b : Bool). if b then Begins i (operation_of (slice_index_or (scripts_of p i) (machine_in w i).made [])) ∷ [] else []) n.0 ∙ ap (λ (z : List ℕ). Begins i z ∷ []) n.1
 
-  none_next : (m : Data) (i : ℕ) → IsOpen m.place → next_call p i m ≡ []
+  none_next : (m : CallState) (i : ℕ) → IsOpen m.place → next_begin p i m ≡ []
   none_next m i o = ap (λ (b : Bool). if b && (not (is_spent m.answer) && nat_lt m.made (length (scripts_of p i))) then Begins i (operation_of (slice_index_or (scripts_of p i) m.made [])) ∷ [] else []) o
 
   -- so the events are those of their moves
-  same_events : (w : World) (es : List Event) → IsSchedule S w es → IsPrompt es → ((i : ℕ) → i < p.callers → NeverIdle S w es i) → BeginsNext w es → es ≡ events_from p w (moves_of es)
+  same_events : (w : Moment) (es : List Event) → IsSchedule S w es → IsPrompt es → ((i : ℕ) → i < p.callers → TurnsFindOpenCalls S w es i) → BeginsNext w es → es ≡ events_from p w (moves_of es)
   same_events w [] s pr busy next = refl
   same_events w (Begins i op ∷ []) s pr busy next = absurd pr.0
   same_events w (Begins i op ∷ Begins j o ∷ es) s pr busy next = absurd pr.0
@@ -113,17 +113,17 @@ module _ (p : Plan) where
   same_events w (Begins i op ∷ Raises c ∷ es) s pr busy next = absurd pr.0
   same_events w (Begins i op ∷ Turns j ∷ es) s pr busy next =
       let e : i ≡ j = sym pr.0 in
-      let one : next_call p j (machine w j) ≡ Begins i op ∷ [] = subst (λ (k : ℕ). next_call p k (machine w k) ≡ Begins i op ∷ []) e (next_is w i op next.0) in
+      let one : next_begin p j (machine_in w j) ≡ Begins i op ∷ [] = subst (λ (k : ℕ). next_begin p k (machine_in w k) ≡ Begins i op ∷ []) e (next_is w i op next.0) in
       let with : with_begin p w (Turns j) ≡ Begins i op ∷ Turns j ∷ [] = ap (λ (fs : List Event). fs ++ Turns j ∷ []) one in
-      let more = same_events (happens S (happens S w (Begins i op)) (Turns j)) es s.1.1 pr.1 (λ k l. (busy k l).1.1) next.1 in
-      ap (λ (fs : List Event). Begins i op ∷ Turns j ∷ fs) more ∙ sym (ap (λ (fs : List Event). fs ++ events_from p (run S w fs) (moves_of es)) with)
+      let more = same_events (after_event S (after_event S w (Begins i op)) (Turns j)) es s.1.1 pr.1 (λ k l. (busy k l).1.1) next.1 in
+      ap (λ (fs : List Event). Begins i op ∷ Turns j ∷ fs) more ∙ sym (ap (λ (fs : List Event). fs ++ events_from p (after_events S w fs) (moves_of es)) with)
   same_events w (Turns i ∷ es) s pr busy next =
-      let with : with_begin p w (Turns i) ≡ Turns i ∷ [] = ap (λ (fs : List Event). fs ++ Turns i ∷ []) (none_next (machine w i) i ((busy i s.0).0 refl)) in
-      let more = same_events (happens S w (Turns i)) es s.1 pr (λ k l. (busy k l).1) next in
-      ap (λ (fs : List Event). Turns i ∷ fs) more ∙ sym (ap (λ (fs : List Event). fs ++ events_from p (run S w fs) (moves_of es)) with)
+      let with : with_begin p w (Turns i) ≡ Turns i ∷ [] = ap (λ (fs : List Event). fs ++ Turns i ∷ []) (none_next (machine_in w i) i ((busy i s.0).0 refl)) in
+      let more = same_events (after_event S w (Turns i)) es s.1 pr (λ k l. (busy k l).1) next in
+      ap (λ (fs : List Event). Turns i ∷ fs) more ∙ sym (ap (λ (fs : List Event). fs ++ events_from p (after_events S w fs) (moves_of es)) with)
   same_events w (Loads c ∷ es) s pr busy next = absurd pr
   same_events w (Evicts k ∷ es) s pr busy next = absurd pr
-  same_events w (Raises c ∷ es) s pr busy next = ap (λ (fs : List Event). Raises c ∷ fs) (same_events (happens S w (Raises c)) es s.1 pr (λ k l. (busy k l).1) next)
+  same_events w (Raises c ∷ es) s pr busy next = ap (λ (fs : List Event). Raises c ∷ fs) (same_events (after_event S w (Raises c)) es s.1 pr (λ k l. (busy k l).1) next)
 
 -- ---- lists of outcomes and operations
 
@@ -136,7 +136,7 @@ none_front (Answered t q r k ∷ xs) ys (a ∷ zs) us e l n = (tt, none_front xs
     tail_is e = cc
 none_front (Spent t ∷ xs) ys (a ∷ zs) us e l n = let same : Spent t ≡ a = cc in absurd (subst (λ (o : Outcome). NoneSpent (o ∷ zs)) (sym same) n).0
 
-unspent : (xs : List Outcome) (before : Option Outcome) → is_spent before ≡ false → NoneSpent xs → is_spent (last_from before xs) ≡ false
+unspent : (xs : List Outcome) (before : Option Outcome) → is_spent before ≡ false → NoneSpent xs → is_spent (last_outcome_or before xs) ≡ false
 unspent [] before is none = is
 unspent (Answered t q r k ∷ xs) before is none = unspent xs (Some (Answered t q r k)) refl none.1
 unspent (Spent t ∷ xs) before is none = absurd none.0
@@ -158,36 +158,36 @@ front_at (x ∷ xs) ys z zs e = subst (λ (l : List (List ℕ)). (length (x ∷ 
 
 -- ---- a caller that is kept as its answers and its ending tell
 
-module _ (p : Plan) (behind c : ℕ) (answers : List Answer) (ending : Ending) (x : Kept) (k : KeepsCaller p behind c answers ending x) where
+module _ (p : Plan) (behind c : ℕ) (answers : List Answer) (ending : Ending) (x : KnownCaller) (k : KeepsCaller p behind c answers ending x) where
   abbrev calls_outs : List Outcome
-  calls_outs = map (λ (e : Ended). e.outcome) k.calls
+  calls_outs = map (λ (e : EndedCall). e.outcome) k.calls
 
   abbrev beyond_outs : List Outcome
-  beyond_outs = map (λ (e : Ended). e.outcome) k.beyond
+  beyond_outs = map (λ (e : EndedCall). e.outcome) k.beyond
 
   -- a call behind so many outcomes was begun: then they are answered
-  few_then : (n : ℕ) → n < length (begun_of x) → n ≤ length (outcomes_of x) → n ≤ length calls_outs
+  few_then : (n : ℕ) → n < length (operations_known x) → n ≤ length (outcomes_of x) → n ≤ length calls_outs
   few_then n l u = by_ending ending k.last
     where
       many : length (outcomes_of x) ≡ length k.calls + length k.beyond
-      many = length-map x.ended (λ (e : Ended). e.outcome) ∙ (ap length k.ended ∙ length-append k.calls k.beyond)
+      many = length-map x.ended (λ (e : EndedCall). e.outcome) ∙ (ap length k.ended ∙ length-append k.calls k.beyond)
 
       these : length calls_outs ≡ length k.calls
-      these = length-map k.calls (λ (e : Ended). e.outcome)
+      these = length-map k.calls (λ (e : EndedCall). e.outcome)
 
       no_beyond : k.beyond ≡ [] → n ≤ length calls_outs
       no_beyond none = omega (arith, many, these, ap length none, u)
 
-      by_ending : (e : Ending) → KeepsLast p c (behind + length answers) (length (scripts_of p c)) x.machine k.beyond e → n ≤ length calls_outs
+      by_ending : (e : Ending) → KeepsLastCall p c (behind + length answers) (length (scripts_of p c)) x.machine k.beyond e → n ≤ length calls_outs
       by_ending Done q = no_beyond q.2
       by_ending (Stopped asked) q = no_beyond q.2
       by_ending (RanOut s) q =
-          let begun : length (begun_of x) ≡ length k.calls + length k.beyond = ap length (begun_idle x q.1) ∙ (length-map x.ended (λ (e : Ended). e.op) ∙ (ap length k.ended ∙ length-append k.calls k.beyond)) in
+          let begun : length (operations_known x) ≡ length k.calls + length k.beyond = ap length (begun_idle x q.1) ∙ (length-map x.ended (λ (e : EndedCall). e.op) ∙ (ap length k.ended ∙ length-append k.calls k.beyond)) in
           omega (arith, begun, these, ap length q.2, l)
 
-  none_spent_before : (xs ys : List Outcome) → xs ++ ys ≡ outcomes_of x → length xs < length (begun_of x) → NoneSpent xs
+  none_spent_before : (xs ys : List Outcome) → xs ++ ys ≡ outcomes_of x → length xs < length (operations_known x) → NoneSpent xs
   none_spent_before xs ys e l =
-      let all : xs ++ ys ≡ calls_outs ++ beyond_outs = e ∙ (ap (map (λ (e : Ended). e.outcome)) k.ended ∙ map-append (λ (e : Ended). e.outcome) k.calls k.beyond) in
+      let all : xs ++ ys ≡ calls_outs ++ beyond_outs = e ∙ (ap (map (λ (e : EndedCall). e.outcome)) k.ended ∙ map-append (λ (e : EndedCall). e.outcome) k.calls k.beyond) in
       none_front xs ys calls_outs beyond_outs all (few_then (length xs) l (omega (arith, ap length e, length-append xs ys))) k.answered.none_spent
 
   -- an open call stands behind no spent one
@@ -197,46 +197,46 @@ module _ (p : Plan) (behind c : ℕ) (answers : List Answer) (ending : Ending) (
       closed : IsIdle x.machine → ⊥
       closed idle = let z : true ≡ false = sym (ap is_idle idle) ∙ o in cc
 
-      by_ending : (e : Ending) → KeepsLast p c (behind + length answers) (length (scripts_of p c)) x.machine k.beyond e → NoneSpent (outcomes_of x)
+      by_ending : (e : Ending) → KeepsLastCall p c (behind + length answers) (length (scripts_of p c)) x.machine k.beyond e → NoneSpent (outcomes_of x)
       by_ending Done q = absurd (closed q.1)
-      by_ending (Stopped asked) q = subst NoneSpent (ap (map (λ (e : Ended). e.outcome)) (sym (k.ended ∙ (ap (λ (l : List Ended). k.calls ++ l) q.2 ∙ append-nil k.calls)))) k.answered.none_spent
+      by_ending (Stopped asked) q = subst NoneSpent (ap (map (λ (e : EndedCall). e.outcome)) (sym (k.ended ∙ (ap (λ (l : List EndedCall). k.calls ++ l) q.2 ∙ append-nil k.calls)))) k.answered.none_spent
       by_ending (RanOut n) q = absurd (closed q.1)
 
 -- ---- a team
 
-module _ (p : Plan) (laws : KeepsLaws p) (runs : RunsAreSchedules (lawful_for p) (setup_for p)) (s : Start) (B : TableStart) (e : Run) (v : Sight) (t : IsTeamOf p s B e v) where
+module _ (p : Plan) (laws : KeepsLaws p) (runs : RunsAreSchedules (IsLawfulFor p) (plan_setup p)) (s : Start) (B : TableStart) (e : Ended) (v : View) (t : IsTeamOf p s B e v) where
   abbrev T : Setup
-  T = setup_for p
+  T = plan_setup p
 
-  abbrev O : World
+  abbrev O : Moment
   O = opening_at p B
 
   abbrev es : List Event
   es = (ran p laws runs s B e v t).0
 
-  h : HasRun T (lawful_for p) B e.words v es
+  h : HasRun T (IsLawfulFor p) B e.words v es
   h = (ran p laws runs s B e v t).1
 
   -- what is kept of a caller
-  abbrev kept : (c : ℕ) → c < p.callers → Kept
+  abbrev kept : (c : ℕ) → c < p.callers → KnownCaller
   kept c lt = (keeps p laws runs s B e v t c lt).0
 
   told : (c : ℕ) (lt : c < p.callers) → IsToldBy T B es c (kept c lt)
   told c lt = told_by p laws runs s B e v t c lt
 
   -- the begin of a call, after the events before it
-  begins_so : (done : List Event) (i : ℕ) (op : List ℕ) (rest : List Event) → es ≡ done ++ Begins i op ∷ rest → MayHappen T (run T O done) (Begins i op) → IsNextCall p (run T O done) i op
+  begins_so : (done : List Event) (i : ℕ) (op : List ℕ) (rest : List Event) → es ≡ done ++ Begins i op ∷ rest → MayHappen T (after_events T O done) (Begins i op) → IsNextCall p (after_events T O done) i op
   begins_so done i op rest is may = (
     ap (λ (b : Bool). b && (not (is_spent m.answer) && nat_lt m.made (length (scripts_of p i)))) (ap is_idle may.1)
         ∙ (ap (λ (b : Bool). not b && nat_lt m.made (length (scripts_of p i))) not_spent ∙ left_over),
     script,
   )
     where
-      w : World
-      w = run T O done
+      w : Moment
+      w = after_events T O done
 
-      m : Data
-      m = machine w i
+      m : CallState
+      m = machine_in w i
 
       behind : ℕ
       behind = finished_of s i
@@ -244,19 +244,19 @@ module _ (p : Plan) (laws : KeepsLaws p) (runs : RunsAreSchedules (lawful_for p)
       first : IsSchedule T O done
       first = first_part T O done (Begins i op ∷ rest) (subst (IsSchedule T O) is h.schedule)
 
-      calls : Calls T B (start_ticket T B i) w i (operations done i) (outcomes T O done i)
-      calls = laws.calls B h.from (table_size T + 1) (omega arith) done first i may.0
+      calls : HasCalls T B (start_ticket T B i) w i (operations_begun done i) (outcomes T O done i)
+      calls = laws.calls B h.from (words_before_members T + 1) (omega arith) done first i may.0
 
-      ops : operations done i ++ op ∷ operations rest i ≡ begun_of (kept i may.0)
-      ops = ap (λ (z : List (List ℕ)). operations done i ++ z) (ap (λ (b : Bool). only b (op ∷ []) ++ operations rest i) (sym (same_number i))) ∙ (sym (operations_append done (Begins i op ∷ rest) i) ∙ (ap (λ (fs : List Event). operations fs i) (sym is) ∙ sym (told i may.0).begun))
+      ops : operations_begun done i ++ op ∷ operations_begun rest i ≡ operations_known (kept i may.0)
+      ops = ap (λ (z : List (List ℕ)). operations_begun done i ++ z) (ap (λ (b : Bool). if_so b (op ∷ []) ++ operations_begun rest i) (sym (same_number i))) ∙ (sym (operations_append done (Begins i op ∷ rest) i) ∙ (ap (λ (fs : List Event). operations_begun fs i) (sym is) ∙ sym (told i may.0).begun))
 
       outs : outcomes T O done i ++ outcomes T w (Begins i op ∷ rest) i ≡ outcomes_of (kept i may.0)
       outs = sym (outcomes_append T O done (Begins i op ∷ rest) i) ∙ (ap (λ (fs : List Event). outcomes T O fs i) (sym is) ∙ sym (told i may.0).ended)
 
-      at : (length (operations done i) < length (begun_of (kept i may.0))) × (get_or (begun_of (kept i may.0)) (length (operations done i)) [] ≡ op)
-      at = front_at (operations done i) (begun_of (kept i may.0)) op (operations rest i) ops
+      at : (length (operations_begun done i) < length (operations_known (kept i may.0))) × (get_or (operations_known (kept i may.0)) (length (operations_begun done i)) [] ≡ op)
+      at = front_at (operations_begun done i) (operations_known (kept i may.0)) op (operations_begun rest i) ops
 
-      all_ended : length (outcomes T O done i) ≡ length (operations done i)
+      all_ended : length (outcomes T O done i) ≡ length (operations_begun done i)
       all_ended = calls.idle may.1
 
       unspent_so : NoneSpent (outcomes T O done i)
@@ -265,45 +265,45 @@ module _ (p : Plan) (laws : KeepsLaws p) (runs : RunsAreSchedules (lawful_for p)
       not_spent : is_spent m.answer ≡ false
       not_spent = ap is_spent (calls.last may.1) ∙ unspent (outcomes T O done i) None refl unspent_so
 
-      next : AreNext p behind i (begun_of (kept i may.0))
+      next : AreNextScripts p behind i (operations_known (kept i may.0))
       next = (tells p laws runs s B e v t i may.0).scripts
 
-      few : length (operations done i) < length (take next.count (drop behind (scripts_of p i)))
+      few : length (operations_begun done i) < length (take next.count (drop behind (scripts_of p i)))
       few = omega (arith, at.0, ap length next.are, length-map (take next.count (drop behind (scripts_of p i))) operation_of)
 
-      made : m.made ≡ behind + length (operations done i)
-      made = calls.made ∙ ap (λ (z : ℕ). z + length (operations done i)) (ticket_is p s B t.starts i may.0)
+      made : m.made ≡ behind + length (operations_begun done i)
+      made = calls.made ∙ ap (λ (z : ℕ). z + length (operations_begun done i)) (ticket_is p s B t.starts i may.0)
 
       left_over : nat_lt m.made (length (scripts_of p i)) ≡ true
       left_over = let l : m.made < length (scripts_of p i) = omega (arith, made, few, length_take next.count (drop behind (scripts_of p i)), next.few) in grind (arith, nat_tests)
 
       script : operation_of (slice_index_or (scripts_of p i) m.made []) ≡ op
       script =
-          let n : ℕ = length (operations done i) in
+          let n : ℕ = length (operations_begun done i) in
           let below : n < next.count = omega (arith, few, length_take next.count (drop behind (scripts_of p i))) in
           let one : get_or (take next.count (drop behind (scripts_of p i))) n [] ≡ get_or (scripts_of p i) (behind + n) [] = get_or-take next.count (drop behind (scripts_of p i)) n [] below ∙ get_or-drop behind (scripts_of p i) n [] in
           ap (λ (k : ℕ). operation_of (get_or (scripts_of p i) k [])) made
           ∙ (ap operation_of (sym one) ∙ (sym (at_map (take next.count (drop behind (scripts_of p i))) n few) ∙ (ap (λ (l : List (List ℕ)). get_or l n []) (sym next.are) ∙ at.1)))
 
-  next_so : (done rest : List Event) → es ≡ done ++ rest → BeginsNext p (run T O done) rest
+  next_so : (done rest : List Event) → es ≡ done ++ rest → BeginsNext p (after_events T O done) rest
   next_so done [] is = tt
   next_so done (f ∷ rest) is = go f refl (next_so (done ++ f ∷ []) rest (is ∙ sym (append_assoc done (f ∷ []) rest)))
     where
-      w : World
-      w = run T O done
+      w : Moment
+      w = after_events T O done
 
       may : MayHappen T w f
       may = (second_part T O done (f ∷ rest) (subst (IsSchedule T O) is h.schedule)).0
 
-      further : BeginsNext p (run T O (done ++ f ∷ [])) rest → BeginsNext p (happens T w f) rest
-      further = subst (λ (z : World). BeginsNext p z rest) (run_append T O done (f ∷ []))
+      further : BeginsNext p (after_events T O (done ++ f ∷ [])) rest → BeginsNext p (after_event T w f) rest
+      further = subst (λ (z : Moment). BeginsNext p z rest) (run_append T O done (f ∷ []))
 
-      go : (g : Event) → f ≡ g → BeginsNext p (run T O (done ++ f ∷ [])) rest → BeginsNext p w (f ∷ rest)
-      go (Begins i op) q m = subst (λ (z : Event). BeginsNext p w (z ∷ rest)) (sym q) (begins_so done i op rest (is ∙ ap (λ (z : Event). done ++ z ∷ rest) q) (subst (MayHappen T w) q may), subst (λ (z : Event). BeginsNext p (happens T w z) rest) q (further m))
-      go (Turns i) q m = subst (λ (z : Event). BeginsNext p w (z ∷ rest)) (sym q) (subst (λ (z : Event). BeginsNext p (happens T w z) rest) q (further m))
-      go (Loads a) q m = subst (λ (z : Event). BeginsNext p w (z ∷ rest)) (sym q) (subst (λ (z : Event). BeginsNext p (happens T w z) rest) q (further m))
-      go (Evicts k) q m = subst (λ (z : Event). BeginsNext p w (z ∷ rest)) (sym q) (subst (λ (z : Event). BeginsNext p (happens T w z) rest) q (further m))
-      go (Raises a) q m = subst (λ (z : Event). BeginsNext p w (z ∷ rest)) (sym q) (subst (λ (z : Event). BeginsNext p (happens T w z) rest) q (further m))
+      go : (g : Event) → f ≡ g → BeginsNext p (after_events T O (done ++ f ∷ [])) rest → BeginsNext p w (f ∷ rest)
+      go (Begins i op) q m = subst (λ (z : Event). BeginsNext p w (z ∷ rest)) (sym q) (begins_so done i op rest (is ∙ ap (λ (z : Event). done ++ z ∷ rest) q) (subst (MayHappen T w) q may), subst (λ (z : Event). BeginsNext p (after_event T w z) rest) q (further m))
+      go (Turns i) q m = subst (λ (z : Event). BeginsNext p w (z ∷ rest)) (sym q) (subst (λ (z : Event). BeginsNext p (after_event T w z) rest) q (further m))
+      go (Loads a) q m = subst (λ (z : Event). BeginsNext p w (z ∷ rest)) (sym q) (subst (λ (z : Event). BeginsNext p (after_event T w z) rest) q (further m))
+      go (Evicts k) q m = subst (λ (z : Event). BeginsNext p w (z ∷ rest)) (sym q) (subst (λ (z : Event). BeginsNext p (after_event T w z) rest) q (further m))
+      go (Raises a) q m = subst (λ (z : Event). BeginsNext p w (z ∷ rest)) (sym q) (subst (λ (z : Event). BeginsNext p (after_event T w z) rest) q (further m))
 
   abbrev items : List Item
   items = items_of es
@@ -319,29 +319,29 @@ module _ (p : Plan) (laws : KeepsLaws p) (runs : RunsAreSchedules (lawful_for p)
     record {
       items_in = items_range p O es h.schedule;
       evicted = items_evict es ∙ (sym h.evicted ∙ t.evicted);
-      words = subst (λ (fs : List Event). set e.words (table_size T) 0 ≡ (run T O fs).words) same h.words;
+      words = subst (λ (fs : List Event). set e.words (words_before_members T) 0 ≡ (after_events T O fs).words) same h.words;
       answers = t.answers;
       endings = t.endings;
       told = λ c l. subst (λ (fs : List Event). AreAnswers (outcomes T O fs c) (answers_of e c)) same (subst (λ (os : List Outcome). AreAnswers os (answers_of e c)) (told c l).ended (tells p laws runs s B e v t c l).told);
-      ended = λ c l. subst (λ (fs : List Event). ending_of e c ≡ ending_at (machine (run T O fs) c) (to_do p s c) (length (answers_of e c))) same
+      ended = λ c l. subst (λ (fs : List Event). ending_of e c ≡ ending_at (machine_in (after_events T O fs) c) (scripts_left p s c) (length (answers_of e c))) same
           ((tells p laws runs s B e v t c l).ended
-          ∙ (ap (λ (o : Ending). if length (answers_of e c) == to_do p s c then Done else o) (halted_so c l (idle_or_open (kept c l).machine.place)) ∙ ap (λ (m : Data). ending_at m (to_do p s c) (length (answers_of e c))) (sym (machine_is p laws runs s B e v t c l))));
+          ∙ (ap (λ (o : Ending). if length (answers_of e c) == scripts_left p s c then Done else o) (halted_so c l (idle_or_open (kept c l).machine.place)) ∙ ap (λ (m : CallState). ending_at m (scripts_left p s c) (length (answers_of e c))) (sym (machine_is p laws runs s B e v t c l))));
     },
     same,
   )
     where
       -- a machine holds the last outcome, or its open call stands behind no spent one
-      halted_so : (c : ℕ) (l : c < p.callers) → ((kept c l).machine.place ≡ Idle) ⊎ IsOpen (kept c l).machine.place → halted (last_of (outcomes_of (kept c l))) (kept c l).machine.steps ≡ halted (kept c l).machine.answer (kept c l).machine.steps
+      halted_so : (c : ℕ) (l : c < p.callers) → ((kept c l).machine.place ≡ Idle) ⊎ IsOpen (kept c l).machine.place → ending_if_left (last_outcome (outcomes_of (kept c l))) (kept c l).machine.steps ≡ ending_if_left (kept c l).machine.answer (kept c l).machine.steps
       halted_so c l (inl idle) =
           let m = machine_is p laws runs s B e v t c l in
           let q = calls_of p laws runs s B e v t c l in
-          ap (λ (o : Option Outcome). halted o (kept c l).machine.steps) (ap last_of (told c l).ended ∙ (sym (q.last (ap (λ (d : Data). d.place) m ∙ idle)) ∙ ap (λ (d : Data). d.answer) m))
+          ap (λ (o : Option Outcome). ending_if_left o (kept c l).machine.steps) (ap last_outcome (told c l).ended ∙ (sym (q.last (ap (λ (d : CallState). d.place) m ∙ idle)) ∙ ap (λ (d : CallState). d.answer) m))
       halted_so c l (inr o) =
           let m = machine_is p laws runs s B e v t c l in
           let q = calls_of p laws runs s B e v t c l in
-          let none : (kept c l).machine.answer ≡ None = ap (λ (d : Data). d.answer) (sym m) ∙ q.unanswered (subst (λ (d : Data). IsOpen d.place) (sym m) o) in
-          stopped_at (last_of (outcomes_of (kept c l))) (kept c l).machine.steps (unspent (outcomes_of (kept c l)) None refl (open_unspent p (finished_of s c) c (answers_of e c) (ending_of e c) (kept c l) (keeps p laws runs s B e v t c l).2 o))
-          ∙ ap (λ (a : Option Outcome). halted a (kept c l).machine.steps) (sym none)
+          let none : (kept c l).machine.answer ≡ None = ap (λ (d : CallState). d.answer) (sym m) ∙ q.unanswered (subst (λ (d : CallState). IsOpen d.place) (sym m) o) in
+          stopped_at (last_outcome (outcomes_of (kept c l))) (kept c l).machine.steps (unspent (outcomes_of (kept c l)) None refl (open_unspent p (finished_of s c) c (answers_of e c) (ending_of e c) (kept c l) (keeps p laws runs s B e v t c l).2 o))
+          ∙ ap (λ (a : Option Outcome). ending_if_left a (kept c l).machine.steps) (sym none)
 
-pub teams_are_scheduled : (p : Plan) → KeepsLaws p → RunsAreSchedules (lawful_for p) (setup_for p) → TeamsAreScheduled p
+pub teams_are_scheduled : (p : Plan) → KeepsLaws p → RunsAreSchedules (IsLawfulFor p) (plan_setup p) → TeamsAreScheduled p
 teams_are_scheduled p laws runs s B e v t = let q = team_scheduled p laws runs s B e v t in (q.0, q.1)

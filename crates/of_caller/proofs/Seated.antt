@@ -2,19 +2,19 @@
 use Rattle.std.proofs.Common.{◌≡◌, ℕ, suc, zero, ◌+◌, ◌<◌, ◌≤◌, ◌⊎◌, inl, inr, ⊎_elim, List, [], ◌∷◌, ◌++◌, length, get_or, map, take, drop, Option, Some, None, sym, refl, ap, ◌∙◌, subst, arith, append_assoc}
 use Rattle.std.proofs.lemmas.List.{append-nil}
 use Rattle.of_eval.specs.declared.scripts.Scripts.{Scripts}
-use Rattle.of_brake.specs.Stops.{Armed}
+use Rattle.of_brake.specs.Stops.{IsArmedWith}
 use Rattle.of_plan.specs.declared.answer.Answer.{Answer}
 use Rattle.of_plan.specs.declared.answer.Ending.{Ending}
 use Rattle.of_plan.specs.declared.answer.Ending.TheVariants.{Done}
 use Rattle.of_plan.specs.Plan.{Plan, scripts_of, stop_of}
-use Rattle.of_plan.specs.Ended.{Run}
-use Rattle.of_row.specs.Views.{Kept, Sight, Each, reach}
+use Rattle.of_plan.specs.Ended.{Ended}
+use Rattle.of_row.specs.Views.{KnownCaller, View, Each, seen_seq}
 use Rattle.of_row.specs.Rule.{IsAsked}
-use Rattle.of_row.specs.Turned.{StandsFor, noted, newcomer, joined}
+use Rattle.of_row.specs.Turned.{StandsForMachine, after_ask, new_known_caller, after_join}
 use Rattle.of_eval.specs.Scripts.{scripts_meaning}
 use Rattle.of_core.specs.Table.{Setup}
-use Rattle.of_core.specs.Machine.{Data, TakesPlace, idle}
-use Rattle.of_core.specs.Seen.{Seen, setup}
+use Rattle.of_core.specs.Machine.{CallState, MayReplace, idle_machine}
+use Rattle.of_core.specs.Seen.{Machine, machine_setup}
 use Rattle.of_core.specs.Turn.{IsIdle}
 use Rattle.of_row.specs.Rows.{setup_at, start_at}
 use Rattle.of_row.specs.Passes.{HasEnrolled}
@@ -24,11 +24,11 @@ use Rattle.of_row.specs.declared.row.Row.{Row}
 use Rattle.of_caller.specs.declared.caller.Caller.{Caller}
 use Rattle.of_caller.specs.Tables.{operation_of}
 use Rattle.of_caller.specs.declared.lane.Lane.{Lane}
-use Rattle.of_caller.specs.Callers.{IsCaller, call_of, made_of, sight_of}
-use Rattle.of_caller.specs.Stops.{KeepStopBy, KeepStops}
-use Rattle.of_caller.specs.Teams.{KeepsCaller, KeepsSo}
-use Rattle.of_caller.specs.Trees.{Both, Paired}
-use Rattle.of_caller.specs.Lanes.{CallerAt, IsReady, HasRun, KeepsLeft}
+use Rattle.of_caller.specs.Callers.{IsCaller, caller_call, calls_begun_by, sight_of}
+use Rattle.of_caller.specs.Stops.{KeepToToldStop, KeepStops}
+use Rattle.of_caller.specs.Teams.{KeepsCaller, KeepsCallerWith}
+use Rattle.of_caller.specs.Trees.{AllPaired, PrefixPaired}
+use Rattle.of_caller.specs.Lanes.{CallerHasAnswered, IsReady, HasRun, KeepsLeft}
 use Rattle.of_caller.proofs.CallSteps.{same_kept}
 use Rattle.of_caller.specs.Seating.{HasSeated, IsSeat, Seated, done_at, IsAt, gathered, answers_in, endings_in}
 
@@ -38,38 +38,38 @@ take_none : {A : Type 0} (xs : List A) → take 0 xs ≡ []
 take_none [] = refl
 take_none (x ∷ xs) = refl
 
-pub new_caller : (p : Plan) (r : Row Scripts) (n : ℕ) (before : Pass) (m : Member) (now : Pass) → HasEnrolled scripts_meaning r n before m now → (c : Caller Scripts) → IsCaller scripts_meaning r c → c.member ≡ m → IsIdle (call_of c) → made_of c ≡ m.made
-    → CallerAt p (done_at r n) n r c [] 0
+pub new_caller : (p : Plan) (r : Row Scripts) (n : ℕ) (before : Pass) (m : Member) (now : Pass) → HasEnrolled scripts_meaning r n before m now → (c : Caller Scripts) → IsCaller scripts_meaning r c → c.member ≡ m → IsIdle (caller_call c) → calls_begun_by c ≡ m.made
+    → CallerHasAnswered p (done_at r n) n r c [] 0
 new_caller p r n before m now h c is same rests made =
-    let x : Kept = newcomer (setup_at scripts_meaning r) (start_at scripts_meaning r) n (reach (start_at scripts_meaning r) before.seat.me.0.seen) in
-    let kept : (sight_of c).kept ≡ x ∷ [] = ap (λ (k : Member). k.seat.me.0.kept) same ∙ ap (λ (v : Sight). v.kept) h.member_is in
-    let y : Kept = is.member.0 in
+    let x : KnownCaller = new_known_caller (setup_at scripts_meaning r) (start_at scripts_meaning r) n (seen_seq (start_at scripts_meaning r) before.seat.me.0.seen) in
+    let kept : (sight_of c).kept ≡ x ∷ [] = ap (λ (k : Member). k.seat.me.0.kept) same ∙ ap (λ (v : View). v.kept) h.member_is in
+    let y : KnownCaller = is.member.0 in
     let one : y ≡ x = same_kept y x (sym is.member.1 ∙ kept) in
-    let fresh : x.machine ≡ idle (setup scripts_meaning c.machine) x.machine.caller x.machine.made = ap (λ (S : Setup). idle S x.machine.caller x.machine.made) (sym (ap (λ (k : Seen Scripts). setup scripts_meaning k) is.machine)) in
-    let shown : x.machine ≡ call_of c = shows y is.member.2 (ap (λ (k : Member). k.made) (sym same) ∙ is.member.4) x fresh one in
+    let fresh : x.machine ≡ idle_machine (machine_setup scripts_meaning c.machine) x.machine.caller x.machine.made = ap (λ (S : Setup). idle_machine S x.machine.caller x.machine.made) (sym (ap (λ (k : Machine Scripts). machine_setup scripts_meaning k) is.machine)) in
+    let shown : x.machine ≡ caller_call c = shows y is.member.2 (ap (λ (k : Member). k.made) (sym same) ∙ is.member.4) x fresh one in
     record {
       is_caller = is;
-      number = ap (λ (d : Data). d.caller) (sym shown);
-      made = omega (arith, ap (λ (d : Data). d.made) shown);
+      number = ap (λ (d : CallState). d.caller) (sym shown);
+      made = omega (arith, ap (λ (d : CallState). d.made) shown);
       kept = x;
       kept_is = kept;
       shown = shown;
       going = record {
-        idle = ap (λ (d : Data). d.place) shown ∙ rests;
+        idle = ap (λ (d : CallState). d.place) shown ∙ rests;
         answered = record { few = omega arith; scripts = ap (map operation_of) (sym (take_none (drop (done_at r n) (scripts_of p n)))); none_spent = tt; told = tt };
         count = refl;
       };
     }
   where
     -- a begun call would have one ticket more than the member
-    shows : (y : Kept) → StandsFor (setup scripts_meaning c.machine) y (call_of c) → m.made ≡ y.machine.made → (x : Kept) → x.machine ≡ idle (setup scripts_meaning c.machine) x.machine.caller x.machine.made → y ≡ x → x.machine ≡ call_of c
-    shows y (inl (inl e)) counts x fresh one = ap (λ (k : Kept). k.machine) (sym one) ∙ sym e
-    shows y (inl (inr e)) counts x fresh one = fresh ∙ ap (λ (k : Kept). idle (setup scripts_meaning c.machine) k.machine.caller k.machine.made) (sym one) ∙ sym e.1
-    shows y (inr opens) counts x fresh one = absurd (omega (arith, made, counts, ap (λ (d : Data). d.made) opens.is, takes_made opens.begins opens.takes))
+    shows : (y : KnownCaller) → StandsForMachine (machine_setup scripts_meaning c.machine) y (caller_call c) → m.made ≡ y.machine.made → (x : KnownCaller) → x.machine ≡ idle_machine (machine_setup scripts_meaning c.machine) x.machine.caller x.machine.made → y ≡ x → x.machine ≡ caller_call c
+    shows y (inl (inl e)) counts x fresh one = ap (λ (k : KnownCaller). k.machine) (sym one) ∙ sym e
+    shows y (inl (inr e)) counts x fresh one = fresh ∙ ap (λ (k : KnownCaller). idle_machine (machine_setup scripts_meaning c.machine) k.machine.caller k.machine.made) (sym one) ∙ sym e.1
+    shows y (inr opens) counts x fresh one = absurd (omega (arith, made, counts, ap (λ (d : CallState). d.made) opens.is, takes_made opens.begins opens.takes))
       where
-        takes_made : (d : Data) → TakesPlace (setup scripts_meaning c.machine) y.machine d → d.made ≡ y.machine.made
-        takes_made d (inl e) = ap (λ (k : Data). k.made) e
-        takes_made d (inr e) = ap (λ (k : Data). k.made) e.1
+        takes_made : (d : CallState) → MayReplace (machine_setup scripts_meaning c.machine) y.machine d → d.made ≡ y.machine.made
+        takes_made d (inl e) = ap (λ (k : CallState). k.made) e
+        takes_made d (inr e) = ap (λ (k : CallState). k.made) e.1
 
 -- ---- numbers that were asked for
 
@@ -79,16 +79,16 @@ asked_or_last n r m [] (inr a) = absurd a
 asked_or_last n r m (x ∷ xs) (inl e) = inl (inl e)
 asked_or_last n r m (x ∷ xs) (inr a) = ⊎_elim (λ t. inl (inr t)) (λ t. inr t) (asked_or_last n r m xs a)
 
-pub seated_more : (n r : ℕ) (v w : Sight) → HasSeated n v → w ≡ noted n r v → HasSeated (n + 1) w
+pub seated_more : (n r : ℕ) (v w : View) → HasSeated n v → w ≡ after_ask n r v → HasSeated (n + 1) w
 seated_more n r v w s e = record {
-  first = ap (λ (z : Sight). z.first) e ∙ s.first;
-  kept = ap (λ (z : Sight). z.kept) e ∙ s.kept;
-  evicted = ap (λ (z : Sight). z.evicted) e ∙ s.evicted;
-  loaded = ap (λ (z : Sight). z.loaded) e ∙ s.loaded;
-  below = λ m a. ⊎_elim (λ t. let b = s.below m t in omega (arith, b)) (λ t. omega (arith, t)) (asked_or_last m r n v.asked (subst (λ (z : Sight). IsAsked m z.asked) e a));
+  first = ap (λ (z : View). z.first) e ∙ s.first;
+  kept = ap (λ (z : View). z.kept) e ∙ s.kept;
+  evicted = ap (λ (z : View). z.evicted) e ∙ s.evicted;
+  loaded = ap (λ (z : View). z.loaded) e ∙ s.loaded;
+  below = λ m a. ⊎_elim (λ t. let b = s.below m t in omega (arith, b)) (λ t. omega (arith, t)) (asked_or_last m r n v.asked (subst (λ (z : View). IsAsked m z.asked) e a));
 }
 
-armed_stop : (before after : Option (Option ℕ)) (stop : Option ℕ) (answers : List Answer) (ending : Ending) → Armed before stop after → KeepsLeft after answers ending → KeepStopBy before stop answers ending
+armed_stop : (before after : Option (Option ℕ)) (stop : Option ℕ) (answers : List Answer) (ending : Ending) → IsArmedWith before stop after → KeepsLeft after answers ending → KeepToToldStop before stop answers ending
 armed_stop None after stop answers ending a k = tt
 armed_stop (Some left) after stop answers ending a k = subst (λ (z : Option (Option ℕ)). KeepsLeft z answers ending) a k
 
@@ -108,23 +108,23 @@ module _ {X : Type 0} {Y : X → Type 0} where
 
   -- ---- when they have run
 
-  pub ran_at : (p : Plan) (r : Row Scripts) (xs ys : List (Lane X Y)) → Both (HasRun p r) xs ys → Each (IsAt r) ys
+  pub ran_at : (p : Plan) (r : Row Scripts) (xs ys : List (Lane X Y)) → AllPaired (HasRun p r) xs ys → Each (IsAt r) ys
   ran_at p r [] [] b = tt
   ran_at p r [] (y ∷ ys) b = absurd b
   ran_at p r (x ∷ xs) [] b = absurd b
   ran_at p r (x ∷ xs) (y ∷ ys) b = (b.0.ends.seat, ran_at p r xs ys b.1)
 
-  abbrev pub kept_in : List (Lane X Y) → List Kept
+  abbrev pub kept_in : List (Lane X Y) → List KnownCaller
   kept_in [] = []
   kept_in (a ∷ others) = (sight_of a.caller).kept ++ kept_in others
 
-  pub gathered_is : (v : Sight) (xs : List (Lane X Y)) → ((gathered v xs).kept ≡ v.kept ++ kept_in xs) × ((gathered v xs).first ≡ v.first) × ((gathered v xs).asked ≡ v.asked) × ((gathered v xs).evicted ≡ v.evicted) × ((gathered v xs).loaded ≡ v.loaded)
+  pub gathered_is : (v : View) (xs : List (Lane X Y)) → ((gathered v xs).kept ≡ v.kept ++ kept_in xs) × ((gathered v xs).first ≡ v.first) × ((gathered v xs).asked ≡ v.asked) × ((gathered v xs).evicted ≡ v.evicted) × ((gathered v xs).loaded ≡ v.loaded)
   gathered_is v [] = (sym (append-nil v.kept), refl, refl, refl, refl)
-  gathered_is v (a ∷ xs) = let h = gathered_is (joined v (sight_of a.caller)) xs in (h.0 ∙ append_assoc v.kept (sight_of a.caller).kept (kept_in xs), h.1, h.2, h.3, h.4)
+  gathered_is v (a ∷ xs) = let h = gathered_is (after_join v (sight_of a.caller)) xs in (h.0 ∙ append_assoc v.kept (sight_of a.caller).kept (kept_in xs), h.1, h.2, h.3, h.4)
 
   -- each caller is kept, with what its lane leaves
-  pub kept_so : (p : Plan) (r : Row Scripts) (n : ℕ) (xs ys : List (Lane X Y)) → Seated p r n xs → Both (HasRun p r) xs ys → (c i : ℕ) → c ≡ n + i → i < length ys
-      → KeepsSo c (KeepsCaller p (done_at r c) c (get_or (answers_in ys) i []) (get_or (endings_in ys) i Done)) (kept_in ys)
+  pub kept_so : (p : Plan) (r : Row Scripts) (n : ℕ) (xs ys : List (Lane X Y)) → Seated p r n xs → AllPaired (HasRun p r) xs ys → (c i : ℕ) → c ≡ n + i → i < length ys
+      → KeepsCallerWith c (KeepsCaller p (done_at r c) c (get_or (answers_in ys) i []) (get_or (endings_in ys) i Done)) (kept_in ys)
   kept_so p r n [] [] s b c i at lt = absurd (omega (arith, lt))
   kept_so p r n [] (y ∷ ys) s b c i at lt = absurd b
   kept_so p r n (x ∷ xs) [] s b c i at lt = absurd b
@@ -132,21 +132,21 @@ module _ {X : Type 0} {Y : X → Type 0} where
       let ran = b.0 in
       let number : y.number ≡ c = ran.number ∙ s.0.number ∙ omega (arith, at) in
       let first : y.first ≡ done_at r c = ran.first ∙ s.0.first ∙ ap (done_at r) (omega (arith, at)) in
-      subst (λ (l : List Kept). KeepsSo c (KeepsCaller p (done_at r c) c y.answers.items y.ending) (l ++ kept_in ys)) (sym ran.ends.kept_is)
+      subst (λ (l : List KnownCaller). KeepsCallerWith c (KeepsCaller p (done_at r c) c y.answers.items y.ending) (l ++ kept_in ys)) (sym ran.ends.kept_is)
       (inl (
         ran.ends.number ∙ number,
         subst (λ (k : ℕ). KeepsCaller p (done_at r c) k y.answers.items y.ending ran.ends.kept) number (subst (λ (k : ℕ). KeepsCaller p k y.number y.answers.items y.ending ran.ends.kept) first ran.ends.keeps),
       ))
   kept_so p r n (x ∷ xs) (y ∷ ys) s b c (suc i) at lt =
       let later = kept_so p r (n + 1) xs ys s.1 b.1 c i (omega (arith, at)) (omega (arith, lt)) in
-      subst (λ (l : List Kept). KeepsSo c (KeepsCaller p (done_at r c) c (get_or (answers_in ys) i []) (get_or (endings_in ys) i Done)) (l ++ kept_in ys)) (sym b.0.ends.kept_is) (inr later)
+      subst (λ (l : List KnownCaller). KeepsCallerWith c (KeepsCaller p (done_at r c) c (get_or (answers_in ys) i []) (get_or (endings_in ys) i Done)) (l ++ kept_in ys)) (sym b.0.ends.kept_is) (inr later)
 
   -- ---- stops
 
   -- each caller keeps to the stop with which the brake at its place was armed; the brakes behind
   -- those of the lanes are of no caller
-  pub keep_stops : {A : Type 0} (L : A → Option (Option ℕ)) (M : Lane X Y → Option (Option ℕ)) (p : Plan) (r : Row Scripts) (e : Run) (n : ℕ) (bs : List A) (xs ys : List (Lane X Y)) → Seated p r n xs
-      → Paired (λ b a. Armed (L b) (stop_of p a.number) (M a)) bs xs → Both (λ a b. KeepsLeft (M a) b.answers.items b.ending) xs ys → p.callers ≡ n + length xs
+  pub keep_stops : {A : Type 0} (L : A → Option (Option ℕ)) (M : Lane X Y → Option (Option ℕ)) (p : Plan) (r : Row Scripts) (e : Ended) (n : ℕ) (bs : List A) (xs ys : List (Lane X Y)) → Seated p r n xs
+      → PrefixPaired (λ b a. IsArmedWith (L b) (stop_of p a.number) (M a)) bs xs → AllPaired (λ a b. KeepsLeft (M a) b.answers.items b.ending) xs ys → p.callers ≡ n + length xs
       → ((i k : ℕ) → k ≡ n + i → i < length ys → (get_or e.answers k [] ≡ get_or (answers_in ys) i []) × (get_or e.endings k Done ≡ get_or (endings_in ys) i Done)) → KeepStops L p e n bs
   keep_stops L M p r e n [] xs ys s a b all at = tt
   keep_stops {A = A} L M p r e n (x ∷ bs) [] ys s a b all at = (λ lt. absurd (omega (arith, lt, all)), keep_none (n + 1) bs (omega (arith, all)))
@@ -159,8 +159,8 @@ module _ {X : Type 0} {Y : X → Type 0} where
     λ lt.
         let here = at 0 n (omega arith) (omega arith) in
         let stop : stop_of p a.number ≡ stop_of p n = ap (stop_of p) s.0.number in
-        subst (λ (answers : List Answer). KeepStopBy (L x) (stop_of p n) answers (get_or e.endings n Done)) (sym here.0)
-        (subst (λ (ending : Ending). KeepStopBy (L x) (stop_of p n) y.answers.items ending) (sym here.1)
-        (subst (λ (o : Option ℕ). KeepStopBy (L x) o y.answers.items y.ending) stop (armed_stop (L x) (M a) (stop_of p a.number) y.answers.items y.ending armed.0 b.0))),
+        subst (λ (answers : List Answer). KeepToToldStop (L x) (stop_of p n) answers (get_or e.endings n Done)) (sym here.0)
+        (subst (λ (ending : Ending). KeepToToldStop (L x) (stop_of p n) y.answers.items ending) (sym here.1)
+        (subst (λ (o : Option ℕ). KeepToToldStop (L x) o y.answers.items y.ending) stop (armed_stop (L x) (M a) (stop_of p a.number) y.answers.items y.ending armed.0 b.0))),
     keep_stops L M p r e (n + 1) bs xs ys s.1 armed.1 b.1 (omega (arith, all)) (λ i k is lt. at (suc i) k (omega (arith, is)) (omega (arith, lt))),
   )

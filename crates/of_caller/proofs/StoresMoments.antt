@@ -11,7 +11,7 @@ use Rattle.of_plan.specs.Plan.{Plan, IsPlan, scripts_of}
 use Rattle.of_plan.specs.Report.{Start, finished_of}
 use Rattle.of_core.specs.declared.place.Outcome.{Outcome}
 use Rattle.of_core.specs.Machine.{Call}
-use Rattle.of_core.specs.World.{World, Start as TableStart}
+use Rattle.of_core.specs.World.{Moment, TableStart}
 use Rattle.of_caller.specs.Tables.{operation_of}
 use Rattle.of_caller.specs.Moments.{script_of_ticket, batch_calls}
 use Rattle.of_caller.specs.Runs.{IsMomentOf}
@@ -32,7 +32,7 @@ pub record IsOperation (p : Plan) (i t : ℕ) (op : List ℕ) : Type 0 where
 abbrev pub IsCallOf : Plan → Call → Type 0
 IsCallOf p c = IsOperation p c.caller c.ticket c.op
 
-module _ (p : Plan) (s : Start) (B : TableStart) (w : World) (ops : ℕ → List (List ℕ)) (outs : ℕ → List Outcome) (h : IsMomentOf p s B w ops outs) where
+module _ (p : Plan) (s : Start) (B : TableStart) (w : Moment) (ops : ℕ → List (List ℕ)) (outs : ℕ → List Outcome) (h : IsMomentOf p s B w ops outs) where
   -- what a caller has begun is its scripts in order
   pub operation_is : (i t : ℕ) (op : List ℕ) → i < p.callers → finished_of s i < t → t ≤ finished_of s i + length (ops i) → op ≡ get_or (ops i) (t - finished_of s i - 1) [] → IsOperation p i t op
   operation_is i t op l some among is =

@@ -1,16 +1,16 @@
 -- A table of zeros starts where a plan's empty start is.
 use Rattle.std.proofs.Common.{◌≡◌, ℕ, zero, suc, get_or, replicate, refl, sym, ap, ◌∙◌}
 use Rattle.std.proofs.lemmas.List.{length-replicate}
-use Rattle.of_cell.specs.Words.{pay}
+use Rattle.of_cell.specs.Words.{payload_of}
 use Rattle.of_cell.proofs.Order.{pay_zero}
-use Rattle.of_mem.specs.Places.{base_of, ticket_at, shape_at}
+use Rattle.of_mem.specs.Places.{base_of, ticket_cell_at, shape_at}
 use Rattle.of_script.specs.declared.instr.TheConstants.{MOST_INSTRS}
 use Rattle.of_eval.specs.SoundScripts.{empty_is_stored}
 use Rattle.of_plan.specs.Plan.{Plan, IsPlan}
 use Rattle.of_plan.specs.Report.{empty_start, finished_of}
-use Rattle.of_core.specs.Events.{zeros}
-use Rattle.of_caller.specs.Tables.{setup_for}
-use Rattle.of_caller.specs.Starts.{number_in, ZerosAreEmpty}
+use Rattle.of_core.specs.Events.{zero_start}
+use Rattle.of_caller.specs.Tables.{plan_setup}
+use Rattle.of_caller.specs.Starts.{start_number, ZerosAreEmpty}
 use Rattle.of_caller.proofs.StoresReplay.{number_at}
 
 -- a list of zeros has 0 everywhere
@@ -20,8 +20,8 @@ zero_at (suc n) zero = refl
 zero_at (suc n) (suc a) = zero_at n a
 
 module _ (p : Plan) where
-  number_zero : (a : ℕ) → number_in (zeros (setup_for p)) a ≡ 0
-  number_zero a = number_at (zeros (setup_for p)).cells a ∙ ap pay (zero_at (setup_for p).cells a) ∙ pay_zero
+  number_zero : (a : ℕ) → start_number (zero_start (plan_setup p)) a ≡ 0
+  number_zero a = number_at (zero_start (plan_setup p)).cells a ∙ ap payload_of (zero_at (plan_setup p).cells a) ∙ pay_zero
 
   none_finished : (c : ℕ) → finished_of (empty_start p) c ≡ 0
   none_finished c = zero_at p.callers c
@@ -29,11 +29,11 @@ module _ (p : Plan) where
 pub zeros_are_empty : (p : Plan) → IsPlan p → ZerosAreEmpty p
 zeros_are_empty p plan = record {
   seq = refl;
-  size = length-replicate (setup_for p).cells 0;
+  size = length-replicate (plan_setup p).cells 0;
   stands = record {
-    own = λ c lt. record { none = λ is. number_zero p (shape_at MOST_INSTRS c); some = λ not. absurd (not (number_zero p (ticket_at MOST_INSTRS c))) };
-    stored = empty_is_stored (base_of p.callers MOST_INSTRS) p.blocks plan.few_blocks (number_in (zeros (setup_for p))) (number_zero p);
+    own = λ c lt. record { none = λ is. number_zero p (shape_at MOST_INSTRS c); some = λ not. absurd (not (number_zero p (ticket_cell_at MOST_INSTRS c))) };
+    stored = empty_is_stored (base_of p.callers MOST_INSTRS) p.blocks plan.few_blocks (start_number (zero_start (plan_setup p))) (number_zero p);
   };
   each_caller = length-replicate p.callers 0;
-  tickets = λ c lt. number_zero p (ticket_at MOST_INSTRS c) ∙ sym (none_finished p c);
+  tickets = λ c lt. number_zero p (ticket_cell_at MOST_INSTRS c) ∙ sym (none_finished p c);
 }

@@ -3,35 +3,35 @@
 use Rattle.std.proofs.Common.{◌≡◌, ℕ, zero, suc, ◌+◌, ◌-◌, ◌<◌, inl, inr, List, [], ◌∷◌, length, get_or, set, map, refl, sym, ap, subst, ◌∙◌, arith, Option, Some, None}
 use Rattle.std.proofs.lemmas.List.{set-set}
 use lib.Seq.{set-get_or}
-use Rattle.of_eval.specs.Record.{IsLawful}
+use Rattle.of_eval.specs.Record.{IsLawfulRecord}
 use Rattle.of_eval.specs.Reported.{ReportsRun}
 use Rattle.of_plan.specs.Plan.{Plan, stop_of}
-use Rattle.of_plan.specs.Report.{CallerLine, Start, Report, finished_of}
-use Rattle.of_plan.specs.Legal.{to_do}
-use Rattle.of_plan.specs.Ended.{Run, answers_of, ending_of}
+use Rattle.of_plan.specs.Report.{Line, Start, Report, finished_of}
+use Rattle.of_plan.specs.Legal.{scripts_left}
+use Rattle.of_plan.specs.Ended.{Ended, answers_of, ending_of}
 use Rattle.of_plan.specs.Allowance.{KeepsAllowance}
 use Rattle.of_core.specs.declared.place.Outcome.{Outcome}
-use Rattle.of_core.specs.Table.{Setup, table_size}
-use Rattle.of_core.specs.Machine.{Data}
-use Rattle.of_core.specs.World.{World, Batch, Start as TableStart}
-use Rattle.of_core.specs.History.{batch, no_batch}
+use Rattle.of_core.specs.Table.{Setup, words_before_members}
+use Rattle.of_core.specs.Machine.{CallState}
+use Rattle.of_core.specs.World.{Moment, Batch, TableStart}
+use Rattle.of_core.specs.History.{batch_at, no_batch}
 use Rattle.of_core.specs.Bound.{bound}
 use Rattle.of_core.specs.Claim.{IsSound}
-use Rattle.of_core.specs.Moment.{table_words}
-use Rattle.of_core.specs.Invariant.{Good}
-use Rattle.of_core.specs.Events.{Event, machine, run, start_ticket}
-use Rattle.of_core.specs.Calls.{Calls, operations, outcomes, steps_told}
-use Rattle.of_row.specs.Views.{Committed, Kept, Sight, bare, shown, Each as EachKept}
+use Rattle.of_core.specs.Moment.{table_word_count}
+use Rattle.of_core.specs.Invariant.{MeetsInvariant}
+use Rattle.of_core.specs.Events.{Event, machine_in, after_events, start_ticket}
+use Rattle.of_core.specs.Calls.{HasCalls, operations_begun, outcomes, total_steps}
+use Rattle.of_row.specs.Views.{SeenBatch, KnownCaller, View, seen_batch, seen_history, Each as EachKept}
 use Rattle.of_row.specs.Told.{outcomes_of}
 use Rattle.of_row.specs.Trail.{IsToldBy, IsRunBy}
 use Rattle.of_row.specs.Runs.{HasRun, RunsAreSchedules}
-use Rattle.of_caller.specs.Tables.{setup_for, lawful_for, opening_at}
-use Rattle.of_caller.specs.Ends.{AnswersFirst, AreAnswers}
+use Rattle.of_caller.specs.Tables.{plan_setup, IsLawfulFor, opening_at}
+use Rattle.of_caller.specs.Ends.{AnswersStandBeforeSpent, AreAnswers}
 use Rattle.of_caller.specs.PlanLaws.{KeepsLaws}
 use Rattle.of_caller.specs.Moments.{batch_calls}
-use Rattle.of_caller.specs.Runs.{AreNext, IsMomentOf, IsRunOf, TellsCalls, steps_made, ends_at}
-use Rattle.of_caller.specs.Stops.{KeepStop, told_in, open_in}
-use Rattle.of_caller.specs.Teams.{KeepsCaller, KeepsSo, IsTeamOf, seen_calls, AnnouncesSeen, TeamsAreLawful, TeamsKeepAllowances}
+use Rattle.of_caller.specs.Runs.{AreNextScripts, IsMomentOf, IsRunOf, TellsCalls, steps_made, ending_of_calls}
+use Rattle.of_caller.specs.Stops.{KeepToStop, answer_steps, open_call_steps}
+use Rattle.of_caller.specs.Teams.{KeepsCaller, KeepsCallerWith, IsTeamOf, seen_calls, AnnouncesSeen, TeamsAreLawful, TeamsKeepAllowances}
 use Rattle.of_caller.proofs.Schedules.{ticket_is}
 use Rattle.of_caller.proofs.KeptCallers.{TellsRecord, tells_record, told_steps}
 use Rattle.of_caller.proofs.SeenEntries.{announces}
@@ -44,78 +44,78 @@ use Rattle.of_caller.proofs.RecordsAllowance.{runs_keep_allowances}
 
 -- the caller that is kept with a number, of which both hold
 -- the caller that is kept with a number, of which both hold
-one_of : (c : ℕ) (P Q : Kept → Type 0) (xs : List Kept) → KeepsSo c P xs → EachKept Q xs → (x : Kept) × (x.machine.caller ≡ c) × P x × Q x
+one_of : (c : ℕ) (P Q : KnownCaller → Type 0) (xs : List KnownCaller) → KeepsCallerWith c P xs → EachKept Q xs → (x : KnownCaller) × (x.machine.caller ≡ c) × P x × Q x
 one_of c P Q [] q a = absurd q
 one_of c P Q (x ∷ xs) (inl q) a = (x, q.0, q.1, a.0)
 one_of c P Q (x ∷ xs) (inr q) a = one_of c P Q xs q a.1
 
-module _ (p : Plan) (laws : KeepsLaws p) (runs : RunsAreSchedules (lawful_for p) (setup_for p)) (s : Start) (B : TableStart) (e : Run) (v : Sight) (t : IsTeamOf p s B e v) where
+module _ (p : Plan) (laws : KeepsLaws p) (runs : RunsAreSchedules (IsLawfulFor p) (plan_setup p)) (s : Start) (B : TableStart) (e : Ended) (v : View) (t : IsTeamOf p s B e v) where
   abbrev pub T : Setup
-  T = setup_for p
+  T = plan_setup p
 
-  abbrev pub O : World
+  abbrev pub O : Moment
   O = opening_at p B
 
   -- the events of some schedule have led to all this
-  pub ran : (es : List Event) × HasRun (setup_for p) (lawful_for p) B e.words v es
+  pub ran : (es : List Event) × HasRun (plan_setup p) (IsLawfulFor p) B e.words v es
   ran = runs B e.words v t.meets t.live t.first t.loaded t.keeps_all
 
   abbrev pub es : List Event
   es = ran.0
 
-  abbrev pub h : HasRun (setup_for p) (lawful_for p) B e.words v es
+  abbrev pub h : HasRun (plan_setup p) (IsLawfulFor p) B e.words v es
   h = ran.1
 
   -- the moment that they leave, and the same with the numbers that are taken
-  abbrev pub W : World
-  W = run T O es
+  abbrev pub W : Moment
+  W = after_events T O es
 
   abbrev members : ℕ
-  members = get_or e.words (table_size T) 0
+  members = get_or e.words (words_before_members T) 0
 
-  abbrev pub w : World
-  w = record W { words = set W.words (table_size T) members }
+  abbrev pub w : Moment
+  w = record W { words = set W.words (words_before_members T) members }
 
   pub words_are : e.words ≡ w.words
-  words_are = sym (ap (λ (z : List ℕ). set z (table_size T) members) (sym h.words) ∙ (set-set e.words (table_size T) 0 members ∙ set-get_or e.words (table_size T) 0))
+  words_are = sym (ap (λ (z : List ℕ). set z (words_before_members T) members) (sym h.words) ∙ (set-set e.words (words_before_members T) 0 members ∙ set-get_or e.words (words_before_members T) 0))
 
-  pub long : length w.words ≡ table_words T
+  pub long : length w.words ≡ table_word_count T
   long = ap length (sym words_are) ∙ h.room
 
-  good_there : Good T (lawful_for p) B W
-  good_there = laws.schedules B O (laws.starts B h.from (table_words T) (omega arith)).0 es h.schedule
+  good_there : MeetsInvariant T (IsLawfulFor p) B W
+  good_there = laws.schedules B O (laws.starts B h.from (table_word_count T) (omega arith)).0 es h.schedule
 
   sound : IsSound T B w
-  sound = laws.sound B w (laws.beside B W good_there (table_size T) members (omega arith)).0
+  sound = laws.sound B w (laws.beside B W good_there (words_before_members T) members (omega arith)).0
 
   -- the pass keeps each caller, with its answers and its ending, as the events tell
-  pub keeps : (c : ℕ) → c < p.callers → (x : Kept) × (x.machine.caller ≡ c) × KeepsCaller p (finished_of s c) c (answers_of e c) (ending_of e c) x × IsRunBy (setup_for p) B es x
+  pub keeps : (c : ℕ) → c < p.callers → (x : KnownCaller) × (x.machine.caller ≡ c) × KeepsCaller p (finished_of s c) c (answers_of e c) (ending_of e c) x × IsRunBy (plan_setup p) B es x
   keeps c lt = one_of c (KeepsCaller p (finished_of s c) c (answers_of e c) (ending_of e c)) (IsRunBy T B es) v.kept (t.each c lt) h.callers
 
   -- and what is kept shows its machine, and tells its calls
-  pub machine_is : (c : ℕ) (lt : c < p.callers) → machine W c ≡ (keeps c lt).0.machine
-  machine_is c lt = let k = keeps c lt in ap (machine W) (sym k.1) ∙ k.3.machine_is
+  pub machine_is : (c : ℕ) (lt : c < p.callers) → machine_in W c ≡ (keeps c lt).0.machine
+  machine_is c lt = let k = keeps c lt in ap (machine_in W) (sym k.1) ∙ k.3.machine_is
 
-  pub told_by : (c : ℕ) (lt : c < p.callers) → IsToldBy (setup_for p) B es c (keeps c lt).0
+  pub told_by : (c : ℕ) (lt : c < p.callers) → IsToldBy (plan_setup p) B es c (keeps c lt).0
   told_by c lt = let k = keeps c lt in subst (λ (i : ℕ). IsToldBy T B es i k.0) k.1 k.3.told
 
-  pub calls_of : (c : ℕ) → c < p.callers → Calls (setup_for p) B (start_ticket (setup_for p) B c) W c (operations es c) (outcomes (setup_for p) O es c)
-  calls_of c lt = laws.calls B h.from (table_words T) (omega arith) es h.schedule c lt
+  pub calls_of : (c : ℕ) → c < p.callers → HasCalls (plan_setup p) B (start_ticket (plan_setup p) B c) W c (operations_begun es c) (outcomes (plan_setup p) O es c)
+  calls_of c lt = laws.calls B h.from (table_word_count T) (omega arith) es h.schedule c lt
 
   pub tells : (c : ℕ) (lt : c < p.callers) → TellsRecord p (finished_of s c) c (answers_of e c) (ending_of e c) (keeps c lt).0
   tells c lt =
       let is = machine_is c lt in
       tells_record p (finished_of s c) c (answers_of e c) (ending_of e c) (keeps c lt).0 (keeps c lt).2
-      (λ idle. ap (λ (m : Data). m.steps) (sym is) ∙ sound.at_rest c lt (ap (λ (m : Data). m.place) is ∙ idle))
+      (λ idle. ap (λ (m : CallState). m.steps) (sym is) ∙ sound.at_rest c lt (ap (λ (m : CallState). m.place) is ∙ idle))
 
-  pub moment : IsMomentOf p s B w (operations es) (outcomes T O es)
+  pub moment : IsMomentOf p s B w (operations_begun es) (outcomes T O es)
   moment = record {
     plan = t.plan;
     starts = t.starts;
     sound = sound;
-    scripts = λ c lt. subst (AreNext p (finished_of s c) c) (told_by c lt).begun (tells c lt).scripts;
-    calls = λ c lt. subst (λ (n : ℕ). Calls T B n w c (operations es c) (outcomes T O es c)) (ticket_is p s B t.starts c lt)
-        (laws.beside_calls B W good_there (table_size T) members (omega arith) c lt (start_ticket T B c) (operations es c) (outcomes T O es c) (calls_of c lt));
+    scripts = λ c lt. subst (AreNextScripts p (finished_of s c) c) (told_by c lt).begun (tells c lt).scripts;
+    calls = λ c lt. subst (λ (n : ℕ). HasCalls T B n w c (operations_begun es c) (outcomes T O es c)) (ticket_is p s B t.starts c lt)
+        (laws.beside_calls B W good_there (words_before_members T) members (omega arith) c lt (start_ticket T B c) (operations_begun es c) (outcomes T O es c) (calls_of c lt));
   }
 
   pub tells_calls : (c : ℕ) → c < p.callers → TellsCalls p s w e c (outcomes T O es c)
@@ -123,15 +123,15 @@ module _ (p : Plan) (laws : KeepsLaws p) (runs : RunsAreSchedules (lawful_for p)
       let own = tells c lt in
       let outs = (told_by c lt).ended in
       record {
-        answers_first = subst AnswersFirst outs own.answers_first;
+        answers_first = subst AnswersStandBeforeSpent outs own.answers_first;
         told = subst (λ (os : List Outcome). AreAnswers os (answers_of e c)) outs own.told;
-        ended = own.ended ∙ λ k. ends_at (outs k) (sym (machine_is c lt) k).steps (to_do p s c) (length (answers_of e c));
+        ended = own.ended ∙ λ k. ending_of_calls (outs k) (sym (machine_is c lt) k).steps (scripts_left p s c) (length (answers_of e c));
       }
 
   -- the world of the closed row is one that a run leads to
   abbrev pub team_is_run : IsRunOf p s B w e
   team_is_run = record {
-    operations = operations es;
+    operations = operations_begun es;
     outcomes = outcomes T O es;
     moment = moment;
     callers = tells_calls;
@@ -141,15 +141,15 @@ module _ (p : Plan) (laws : KeepsLaws p) (runs : RunsAreSchedules (lawful_for p)
     room = long;
   }
 
-  pub team_run : (x : World) × IsRunOf p s B x e
+  pub team_run : (x : Moment) × IsRunOf p s B x e
   team_run = (w, team_is_run)
 
   -- the batches that were seen are those of its history
   seen_are : (k : ℕ) → seen_calls B v.seen k ≡ batch_calls B w k
-  unfolding batch
-  seen_are k = ap (λ (cs : List Committed). (get_or (shown cs) (k - B.seq - 1) no_batch).calls) h.batches ∙ go w.batches (k - B.seq - 1)
+  unfolding batch_at
+  seen_are k = ap (λ (cs : List SeenBatch). (get_or (seen_history cs) (k - B.seq - 1) no_batch).calls) h.batches ∙ go w.batches (k - B.seq - 1)
     where
-      go : (bs : List Batch) (j : ℕ) → (get_or (shown (map bare bs)) j no_batch).calls ≡ (get_or bs j no_batch).calls
+      go : (bs : List Batch) (j : ℕ) → (get_or (seen_history (map seen_batch bs)) j no_batch).calls ≡ (get_or bs j no_batch).calls
       go [] j = refl
       go (b ∷ bs) zero = refl
       go (b ∷ bs) (suc j) = go bs j
@@ -163,28 +163,28 @@ module _ (p : Plan) (laws : KeepsLaws p) (runs : RunsAreSchedules (lawful_for p)
         announces p s B w e team_is_run.operations team_is_run.outcomes f v.seen seen_are,
       )
 
-  module _ (r : Report) (lawful : IsLawful p s e r) (c : ℕ) (lt : c < p.callers) where
-    made_is : steps_made w c (team_is_run.outcomes c) ≡ told_in (answers_of e c) + open_in (ending_of e c)
+  module _ (r : Report) (lawful : IsLawfulRecord p s e r) (c : ℕ) (lt : c < p.callers) where
+    made_is : steps_made w c (team_is_run.outcomes c) ≡ answer_steps (answers_of e c) + open_call_steps (ending_of e c)
     made_is =
         let own = tells c lt in
-        let outs : told_in (answers_of e c) ≡ steps_told (team_is_run.outcomes c) = told_steps (outcomes_of (keeps c lt).0) (answers_of e c) own.told ∙ ap steps_told (told_by c lt).ended in
-        omega (arith, outs, own.steps, ap (λ (m : Data). m.steps) (machine_is c lt))
+        let outs : answer_steps (answers_of e c) ≡ total_steps (team_is_run.outcomes c) = told_steps (outcomes_of (keeps c lt).0) (answers_of e c) own.told ∙ ap total_steps (told_by c lt).ended in
+        omega (arith, outs, own.steps, ap (λ (m : CallState). m.steps) (machine_is c lt))
 
-    few : (machine w c).steps < bound (setup_for p)
-    few = omega (arith, (tells c lt).within, ap (λ (m : Data). m.steps) (machine_is c lt))
+    few : (machine_in w c).steps < bound (plan_setup p)
+    few = omega (arith, (tells c lt).within, ap (λ (m : CallState). m.steps) (machine_is c lt))
 
-    by_stop : (stop : Option ℕ) → KeepStop stop (answers_of e c) (ending_of e c) → KeepsAllowance p r c stop
+    by_stop : (stop : Option ℕ) → KeepToStop stop (answers_of e c) (ending_of e c) → KeepsAllowance p r c stop
     by_stop (Some n) keep =
         runs_keep_allowances p s B w e team_is_run r lawful c n lt few (omega (arith, made_is, keep.0)) (λ state none. made_is ∙ keep.1 state)
     by_stop None keep =
         let all = runs_keep_allowances p s B w e team_is_run r lawful c (steps_made w c (team_is_run.outcomes c)) lt few (omega arith) (λ state none. refl) in
-        record { adds_up = tt; upto = tt; least = all.least; used_up = λ state. absurd (keep (sym (ap (λ (l : CallerLine). l.state) (lawful.report.callers c lt)) ∙ state)) }
+        record { adds_up = tt; upto = tt; least = all.least; used_up = λ state. absurd (keep (sym (ap (λ (l : Line). l.state) (lawful.report.callers c lt)) ∙ state)) }
 
-    pub keeps_stop : KeepStop (stop_of p c) (answers_of e c) (ending_of e c) → KeepsAllowance p r c (stop_of p c)
+    pub keeps_stop : KeepToStop (stop_of p c) (answers_of e c) (ending_of e c) → KeepsAllowance p r c (stop_of p c)
     keeps_stop = by_stop (stop_of p c)
 
-pub teams_are_lawful : (p : Plan) → KeepsLaws p → RunsAreSchedules (lawful_for p) (setup_for p) → TeamsAreLawful p
+pub teams_are_lawful : (p : Plan) → KeepsLaws p → RunsAreSchedules (IsLawfulFor p) (plan_setup p) → TeamsAreLawful p
 teams_are_lawful = team_is_lawful
 
-pub teams_keep_allowances : (p : Plan) → KeepsLaws p → RunsAreSchedules (lawful_for p) (setup_for p) → TeamsKeepAllowances p
+pub teams_keep_allowances : (p : Plan) → KeepsLaws p → RunsAreSchedules (IsLawfulFor p) (plan_setup p) → TeamsKeepAllowances p
 teams_keep_allowances = keeps_stop

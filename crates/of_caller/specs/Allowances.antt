@@ -6,11 +6,11 @@ use Rattle.of_plan.specs.Report.{Report}
 use Rattle.of_plan.specs.Allowance.{KeepsAllowance}
 
 -- a caller keeps the plan's stop as its allowance, where its brake tells its steps left
-abbrev pub AllowedBy : (left : Option (Option ℕ)) → Plan → Report → (caller : ℕ) → Type 0
-AllowedBy None p r c = Unit {0}
-AllowedBy (Some steps) p r c = KeepsAllowance p r c (stop_of p c)
+abbrev pub KeepsStopAsAllowance : (left : Option (Option ℕ)) → Plan → Report → (caller : ℕ) → Type 0
+KeepsStopAsAllowance None p r c = Unit {0}
+KeepsStopAsAllowance (Some steps) p r c = KeepsAllowance p r c (stop_of p c)
 
 -- so does each caller from c on, by the brake at its place
 abbrev pub KeepAllowances : {A : Type 0} → (A → Option (Option ℕ)) → Plan → Report → (c : ℕ) → List A → Type 0
 KeepAllowances left p r c [] = Unit {0}
-KeepAllowances left p r c (b ∷ bs) = (c < p.callers → AllowedBy (left b) p r c) × KeepAllowances left p r (c + 1) bs
+KeepAllowances left p r c (b ∷ bs) = (c < p.callers → KeepsStopAsAllowance (left b) p r c) × KeepAllowances left p r (c + 1) bs

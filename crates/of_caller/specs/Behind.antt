@@ -5,10 +5,10 @@ use Rattle.std.proofs.Common.{zero, suc}
 use mathlib.Core.List.{IsPrefix}
 use Rattle.of_mem.specs.Meaning.{Meaning}
 use Rattle.of_core.specs.declared.place.Outcome.{Outcome}
-use Rattle.of_core.specs.Machine.{Data}
+use Rattle.of_core.specs.Machine.{CallState}
 use Rattle.of_core.specs.Turn.{IsIdle}
 use Rattle.of_core.specs.Events.{Event}
-use Rattle.of_core.specs.Calls.{seq_of, Beyond}
+use Rattle.of_core.specs.Calls.{outcome_seq, IsNotBefore}
 use Rattle.of_core.specs.Linear.{CallEndsBefore}
 use Rattle.of_row.specs.declared.row.Row.{Row}
 use Rattle.of_row.specs.Rows.{setup_at, start_at, HasNoCall}
@@ -16,8 +16,8 @@ use Rattle.of_row.specs.Trail.{first_of}
 use Rattle.of_caller.specs.declared.caller.Caller.{Caller}
 use Rattle.of_caller.specs.declared.caller.CallErr.{CallErr}
 use Rattle.of_caller.specs.declared.caller.CallErr.TheVariants.{Stopped}
-use Rattle.of_caller.specs.Callers.{call_of, sight_of}
-use Rattle.of_caller.specs.CallsTold.{CallTold}
+use Rattle.of_caller.specs.Callers.{caller_call, sight_of}
+use Rattle.of_caller.specs.CallsTold.{TellsCallOf}
 
 -- the second caller has seen all that the first had: it has taken in a pass that knew it
 abbrev pub HasHeard : {W : Type 0} → (told hearer : Caller W) → Type 0
@@ -26,24 +26,24 @@ HasHeard a b = IsPrefix (sight_of a).seen (sight_of b).seen
 -- The open call m of caller b is answered with p, and leaves the caller as b'. Before that it is
 -- stopped this often, and goes on each time.
 abbrev pub IsAnsweredAfter : {W : Type 0} → (W → Meaning) → (W → List ℕ → Type 0) → Row W
-    → (stops : ℕ) → (m : Data) → (b b' : Caller W) → Outcome → Type 0
+    → (stops : ℕ) → (m : CallState) → (b b' : Caller W) → Outcome → Type 0
 IsAnsweredAfter {W} meaning lawful row zero m b b' p =
-    (s : ℕ) × (t : ℕ) × CallTold meaning lawful row m b b' s t (Ok p)
+    (s : ℕ) × (t : ℕ) × TellsCallOf meaning lawful row m b b' s t (Ok p)
 IsAnsweredAfter {W} meaning lawful row (suc stops) m b b' p =
     (c : Caller W) × (s : ℕ) × (t : ℕ) × (asked : ℕ)
-    × CallTold meaning lawful row m b c s t (Err (Stopped asked))
-    × IsAnsweredAfter meaning lawful row stops (call_of c) c b' p
+    × TellsCallOf meaning lawful row m b c s t (Err (Stopped asked))
+    × IsAnsweredAfter meaning lawful row stops (caller_call c) c b' p
 
 -- A call of caller a was answered with o and left it as a'. Caller b has heard of that, and has then
 -- begun a call that is answered with p, at once or after stops. So p comes after o: an announced call
 -- at a higher sequence, and a read at no lower one.
 abbrev pub ComesBehind : {W : Type 0} → (W → Meaning) → (W → List ℕ → Type 0) → Type 0
 ComesBehind {W} meaning lawful =
-    (row : Row W) (m n : Data) (a a' b b' : Caller W) (s t stops : ℕ) (o p : Outcome)
-    → CallTold meaning lawful row m a a' s t (Ok o)
+    (row : Row W) (m n : CallState) (a a' b b' : Caller W) (s t stops : ℕ) (o p : Outcome)
+    → TellsCallOf meaning lawful row m a a' s t (Ok o)
     → HasHeard a' b → HasNoCall b.member
     → IsAnsweredAfter meaning lawful row stops n b b' p
-    → Beyond (seq_of o) p
+    → IsNotBefore (outcome_seq o) p
 
 -- the second caller's past begins with all that the first's had
 abbrev pub HasFollowed : {W : Type 0} → (told hearer : Caller W) → Type 0
@@ -54,11 +54,11 @@ HasFollowed a b = IsPrefix (sight_of a).past (sight_of b).past
 -- row do from then on, a's call has ended before b's begins.
 abbrev pub EndsFirst : {W : Type 0} → (W → Meaning) → (W → List ℕ → Type 0) → Type 0
 EndsFirst {W} meaning lawful =
-    (row : Row W) (m n : Data) (a a' b b' : Caller W) (s t p q : ℕ)
+    (row : Row W) (m n : CallState) (a a' b b' : Caller W) (s t p q : ℕ)
     (r result : Result Outcome CallErr)
-    → (first : CallTold meaning lawful row m a a' s t r) → IsIdle (call_of a')
+    → (first : TellsCallOf meaning lawful row m a a' s t r) → IsIdle (caller_call a')
     → HasFollowed a' b → HasNoCall b.member
-    → (second : CallTold meaning lawful row n b b' p q result) → 0 < second.steps
+    → (second : TellsCallOf meaning lawful row n b b' p q result) → 0 < second.steps
     → (es : List Event) → IsPrefix (sight_of b').past es
     → CallEndsBefore (setup_at meaning row)
     (first_of (setup_at meaning row) (start_at meaning row)) es

@@ -1,7 +1,7 @@
 -- What a call takes off the steps of its brake, and what it tells it.
 use Rattle.std.specs.Prelude.{◌≡◌, ℕ, ◌+◌, Option, Some, None, Result, Ok, Err}
 use Rattle.std.proofs.Common.{zero, suc}
-use Rattle.of_brake.specs.Stops.{Heard, next}
+use Rattle.of_brake.specs.Stops.{HasHeardAnswer, saturating_next}
 use Rattle.of_core.specs.declared.place.Outcome.{Outcome}
 use Rattle.of_caller.specs.declared.caller.CallErr.{CallErr}
 use Rattle.of_caller.specs.declared.caller.CallErr.TheVariants.{Stopped, Spent}
@@ -12,46 +12,46 @@ IsStop (Err (Stopped asked)) = Unit {0}
 IsStop (Err (Spent seq)) = ⊥
 
 -- of the steps left n were taken; none of no end
-abbrev pub GaveOf : (before after : Option ℕ) → (n : ℕ) → Type 0
-GaveOf None after n = after ≡ None
-GaveOf (Some left) after n = (rest : ℕ) × (left ≡ n + rest) × (after ≡ Some rest)
+abbrev pub TakesStepsFrom : (before after : Option ℕ) → (n : ℕ) → Type 0
+TakesStepsFrom None after n = after ≡ None
+TakesStepsFrom (Some left) after n = (rest : ℕ) × (left ≡ n + rest) × (after ≡ Some rest)
 
 -- the same of a brake, where it tells its steps left; whether it does never changes
-abbrev pub Gave : (before after : Option (Option ℕ)) → (n : ℕ) → Type 0
-Gave None after n = after ≡ None
-Gave (Some left) None n = ⊥
-Gave (Some left) (Some rest) n = GaveOf left rest n
+abbrev pub TakesSteps : (before after : Option (Option ℕ)) → (n : ℕ) → Type 0
+TakesSteps None after n = after ≡ None
+TakesSteps (Some left) None n = ⊥
+TakesSteps (Some left) (Some rest) n = TakesStepsFrom left rest n
 
 -- the brake gave as many steps as were counted from a to b
-abbrev pub Uses : (before after : Option (Option ℕ)) → (a b : ℕ) → Type 0
-Uses before after a b = (n : ℕ) × (b ≡ a + n) × Gave before after n
+abbrev pub UsesCountedSteps : (before after : Option (Option ℕ)) → (a b : ℕ) → Type 0
+UsesCountedSteps before after a b = (n : ℕ) × (b ≡ a + n) × TakesSteps before after n
 
 -- the last of so many asks is denied just where one step fewer was left at first; where there is no
 -- end, none is
-abbrev pub StopsOf : (left : Option ℕ) → (asked : ℕ) → Type 0
-StopsOf None asked = ⊥
-StopsOf (Some left) asked = asked ≡ left + 1
+abbrev pub StopsWhenUsedUp : (left : Option ℕ) → (asked : ℕ) → Type 0
+StopsWhenUsedUp None asked = ⊥
+StopsWhenUsedUp (Some left) asked = asked ≡ left + 1
 
 -- the same of a brake, where it tells its steps left
-abbrev pub StopsTold : (left : Option (Option ℕ)) → (asked : ℕ) → Type 0
-StopsTold None asked = Unit {0}
-StopsTold (Some left) asked = StopsOf left asked
+abbrev pub StopsWhenToldUsedUp : (left : Option (Option ℕ)) → (asked : ℕ) → Type 0
+StopsWhenToldUsedUp None asked = Unit {0}
+StopsWhenToldUsedUp (Some left) asked = StopsWhenUsedUp left asked
 
 -- a stop comes only where the steps left are used up
 abbrev pub StopsAt : (left : Option (Option ℕ)) → Result Outcome CallErr → Type 0
 StopsAt left (Ok o) = Unit {0}
-StopsAt left (Err (Stopped asked)) = StopsTold left asked
+StopsAt left (Err (Stopped asked)) = StopsWhenToldUsedUp left asked
 StopsAt left (Err (Spent seq)) = Unit {0}
 
 -- the brake was told of an answer, once, and else of none, where it counts them
-abbrev pub HearsOf : (before after : Option ℕ) → Result Outcome CallErr → Type 0
-HearsOf before after (Ok o) = Heard before after
-HearsOf before after (Err e) = after ≡ before
+abbrev pub HearsAnswerOnce : (before after : Option ℕ) → Result Outcome CallErr → Type 0
+HearsAnswerOnce before after (Ok o) = HasHeardAnswer before after
+HearsAnswerOnce before after (Err e) = after ≡ before
 
 -- a count that went up so many times; it stops at its type's end
 unfoldable pub later : (more : ℕ) → ℕ → ℕ
 later zero n = n
-later (suc more) n = next (later more n)
+later (suc more) n = saturating_next (later more n)
 
 -- it was asked so many times, where asks are counted
 abbrev pub AskedFor : (before after : Option ℕ) → (more : ℕ) → Type 0

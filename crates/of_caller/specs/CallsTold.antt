@@ -5,30 +5,30 @@ use Rattle.of_mem.specs.Meaning.{Meaning}
 use Rattle.of_core.specs.declared.place.Outcome.{Outcome}
 use Rattle.of_core.specs.declared.place.Outcome.TheVariants.{Spent as Over}
 use Rattle.of_core.specs.Table.{Setup}
-use Rattle.of_core.specs.Machine.{Data, IsOpen, opened}
-use Rattle.of_core.specs.World.{Start}
+use Rattle.of_core.specs.Machine.{CallState, IsOpen, begin}
+use Rattle.of_core.specs.World.{TableStart}
 use Rattle.of_core.specs.Bound.{bound}
 use Rattle.of_core.specs.Turn.{IsIdle}
-use Rattle.of_core.specs.Calls.{operations, Beyond, IsAnswered}
-use Rattle.of_row.specs.Views.{Kept, Sight, reach, shown}
-use Rattle.of_row.specs.Told.{begun_of}
+use Rattle.of_core.specs.Calls.{operations_begun, IsNotBefore, IsAnswered}
+use Rattle.of_row.specs.Views.{KnownCaller, View, seen_seq, seen_history}
+use Rattle.of_row.specs.Told.{operations_known}
 use Rattle.of_row.specs.Trail.{IsToldBy}
-use Rattle.of_row.specs.Rule.{HasEnded, HasOwn, OwnOnce, IsLegalFront}
-use Rattle.of_row.specs.Turned.{Meant, Tells, since_after}
+use Rattle.of_row.specs.Rule.{CallHasEnded, HasOwn, HasOwnOnce, IsLegalFront}
+use Rattle.of_row.specs.Turned.{IsMeantReply, TellsSteps, since_after}
 use Rattle.of_row.specs.declared.row.Row.{Row}
 use Rattle.of_row.specs.Rows.{key_of, setup_at, start_at}
 use Rattle.of_caller.specs.declared.caller.Caller.{Caller}
 use Rattle.of_caller.specs.declared.caller.CallErr.{CallErr}
 use Rattle.of_caller.specs.declared.caller.CallErr.TheVariants.{Stopped, Spent}
-use Rattle.of_caller.specs.Callers.{call_of, sight_of}
-use Rattle.of_caller.specs.Vain.{LastStep}
+use Rattle.of_caller.specs.Callers.{caller_call, sight_of}
+use Rattle.of_caller.specs.Vain.{IsLastStep}
 
 -- In these definitions a call goes on from the machine m, with the view v that keeps x, and n steps
 -- later it has come to the machine d, with the view w that keeps y.
 
 -- it has ended with this outcome
-pub record HasClosed (S : Setup) (Lawful : List ℕ → Type 0) (B : Start)
-    (m : Data) (v : Sight) (x : Kept) (n : ℕ) (d : Data) (w : Sight) (y : Kept)
+pub record HasEndedWith (S : Setup) (Lawful : List ℕ → Type 0) (B : TableStart)
+    (m : CallState) (v : View) (x : KnownCaller) (n : ℕ) (d : CallState) (w : View) (y : KnownCaller)
     (o : Outcome) : Type 0 where
   -- the caller is idle, and its machine holds the outcome
   pub idle : IsIdle d
@@ -37,20 +37,20 @@ pub record HasClosed (S : Setup) (Lawful : List ℕ → Type 0) (B : Start)
   pub kept : y.ended ≡ x.ended ++ record { op = m.op; outcome = o } ∷ []
   -- a batch that was seen has it with its reply; or it only reads, and the reply is the meaning in
   -- the state at its sequence; or what was seen has come to the limit without it
-  pub stands : HasEnded S B (shown w.seen) (reach B w.seen) m.caller m.made m.op o
+  pub stands : CallHasEnded S B (seen_history w.seen) (seen_seq B w.seen) m.caller m.made m.op o
   -- a read's reply is the meaning behind the batches that were seen up to its sequence
-  pub meant : Meant S B (shown w.seen) m.op o
+  pub meant : IsMeantReply S B (seen_history w.seen) m.op o
   -- an answer tells the steps of the whole call
-  pub steps : Tells (m.steps + n) o
+  pub steps : TellsSteps (m.steps + n) o
   -- and those of no call, a spent one neither, are more than the bound
   pub within : m.steps + n ≤ bound S
   -- an announced call is above all that was seen when it began, and no read is below
-  pub beyond : Beyond (since_after B v x) o
+  pub beyond : IsNotBefore (since_after B v x) o
   -- it is spent exactly where a round that began at the limit looked for it in vain
-  pub last : LastStep S Lawful d o
+  pub last : IsLastStep S Lawful d o
 
 -- it is open still, and has a step left
-pub record IsOpenStill (S : Setup) (m : Data) (x : Kept) (n : ℕ) (d : Data) (y : Kept)
+pub record IsStillOpen (S : Setup) (m : CallState) (x : KnownCaller) (n : ℕ) (d : CallState) (y : KnownCaller)
     : Type 0 where
   pub open_call : IsOpen d.place
   pub steps : d.steps ≡ m.steps + n
@@ -59,28 +59,28 @@ pub record IsOpenStill (S : Setup) (m : Data) (x : Kept) (n : ℕ) (d : Data) (y
 
 -- what the result says: an answer; a stop, for which the brake was asked once more than steps were
 -- made, and at most as often as the bound allows; or that the call is spent
-abbrev pub ResultTold : Setup → (List ℕ → Type 0) → Start
-    → Data → Sight → Kept → (steps : ℕ) → Data → Sight → Kept
+abbrev pub TellsResult : Setup → (List ℕ → Type 0) → TableStart
+    → CallState → View → KnownCaller → (steps : ℕ) → CallState → View → KnownCaller
     → Result Outcome CallErr → Type 0
-ResultTold S L B m v x n d w y (Ok o) = IsAnswered o × HasClosed S L B m v x n d w y o
-ResultTold S L B m v x n d w y (Err (Stopped asked)) =
-    IsOpenStill S m x n d y × (asked ≡ n + 1) × (m.steps + asked ≤ bound S)
-ResultTold S L B m v x n d w y (Err (Spent seq)) = HasClosed S L B m v x n d w y (Over seq)
+TellsResult S L B m v x n d w y (Ok o) = IsAnswered o × HasEndedWith S L B m v x n d w y o
+TellsResult S L B m v x n d w y (Err (Stopped asked)) =
+    IsStillOpen S m x n d y × (asked ≡ n + 1) × (m.steps + asked ≤ bound S)
+TellsResult S L B m v x n d w y (Err (Spent seq)) = HasEndedWith S L B m v x n d w y (Over seq)
 
 -- what is told of steps that were made: the member keeps the machine; what was seen is a legal
 -- history; it has of the caller's calls just those that the caller made, as they have ended,
 -- each announced one that was answered in one batch; and in the events of its past the caller's
 -- calls began and ended so
-pub record StepsTold (S : Setup) (B : Start) (d : Data) (w : Sight) (y : Kept) : Type 0 where
+pub record TellsStepsMade (S : Setup) (B : TableStart) (d : CallState) (w : View) (y : KnownCaller) : Type 0 where
   pub machine : y.machine ≡ d
   pub legal : IsLegalFront S B w.seen
   pub own : HasOwn S B w.seen y
-  pub once : OwnOnce S B w.seen y
+  pub once : HasOwnOnce S B w.seen y
   pub told : IsToldBy S B w.past d.caller y
 
 -- what a call tells with this result, where the count of steps went from a to b
-pub record HasTold (S : Setup) (Lawful : List ℕ → Type 0) (B : Start)
-    (m : Data) (v : Sight) (a : ℕ) (d : Data) (w : Sight) (b : ℕ)
+pub record TellsCall (S : Setup) (Lawful : List ℕ → Type 0) (B : TableStart)
+    (m : CallState) (v : View) (a : ℕ) (d : CallState) (w : View) (b : ℕ)
     (r : Result Outcome CallErr) : Type 0 where
   -- the steps are counted
   pub steps : ℕ
@@ -93,27 +93,27 @@ pub record HasTold (S : Setup) (Lawful : List ℕ → Type 0) (B : Start)
   pub made : d.made ≡ m.made
   pub op : d.op ≡ m.op
   -- the member keeps its caller; with no step made it knows what it knew
-  pub before : Kept
-  pub kept : Kept
+  pub before : KnownCaller
+  pub kept : KnownCaller
   pub kept_before : v.kept ≡ before ∷ []
   pub kept_now : w.kept ≡ kept ∷ []
   pub none : steps ≡ 0 → w ≡ v
-  pub some : 0 < steps → StepsTold S B d w kept
+  pub some : 0 < steps → TellsStepsMade S B d w kept
   -- before the first step the past had no call of the caller but those that it had begun
-  pub behind : 0 < steps → length (operations v.past m.caller) ≤ length (begun_of before)
+  pub behind : 0 < steps → length (operations_begun v.past m.caller) ≤ length (operations_known before)
   -- each step that is counted was made on the table
   pub turns : kept.turns ≡ before.turns + steps
   -- and the member keeps what was seen when the call began, also where it was stopped
   pub since : 0 < steps → kept.since ≡ since_after B v before
-  pub result : ResultTold S Lawful B m v before steps d w kept r
+  pub result : TellsResult S Lawful B m v before steps d w kept r
 
 -- what is told of the call m of a caller of the row
-abbrev pub CallTold : {W : Type 0} → (W → Meaning) → (W → List ℕ → Type 0) → Row W → (m : Data)
+abbrev pub TellsCallOf : {W : Type 0} → (W → Meaning) → (W → List ℕ → Type 0) → Row W → (m : CallState)
     → (before now : Caller W) → (a b : ℕ) → Result Outcome CallErr → Type 0
-CallTold meaning lawful r m before now a b result =
-    HasTold (setup_at meaning r) (lawful (key_of r).work) (start_at meaning r)
-    m (sight_of before) a (call_of now) (sight_of now) b result
+TellsCallOf meaning lawful r m before now a b result =
+    TellsCall (setup_at meaning r) (lawful (key_of r).work) (start_at meaning r)
+    m (sight_of before) a (caller_call now) (sight_of now) b result
 
 -- the call that a caller of the row begins with these words
-abbrev pub begun_by : {W : Type 0} → (W → Meaning) → Row W → Caller W → (op : List ℕ) → Data
-begun_by meaning r c op = opened (setup_at meaning r) (call_of c) op
+abbrev pub call_begun_by : {W : Type 0} → (W → Meaning) → Row W → Caller W → (op : List ℕ) → CallState
+call_begun_by meaning r c op = begin (setup_at meaning r) (caller_call c) op

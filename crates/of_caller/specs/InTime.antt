@@ -3,16 +3,16 @@
 use Rattle.std.specs.Prelude.{◌==◌, ℕ, ◌+◌, ◌≤◌, ◌<◌, if◌then◌else◌, List, [], ◌∷◌, ◌++◌, map, take, All, IsTrue, ◌≡◌}
 use Rattle.of_plan.specs.declared.plan.Item.{Item}
 use Rattle.of_plan.specs.Plan.{Plan}
-use Rattle.of_plan.specs.Ended.{Run}
-use Rattle.of_plan.specs.Report.{CallEntry, Report, Start, finished_of}
-use Rattle.of_eval.specs.Record.{IsLawful}
+use Rattle.of_plan.specs.Ended.{Ended}
+use Rattle.of_plan.specs.Report.{Entry, Report, Start, finished_of}
+use Rattle.of_eval.specs.Record.{IsLawfulRecord}
 use Rattle.of_core.specs.Table.{Setup}
-use Rattle.of_core.specs.World.{World, Start as TableStart}
+use Rattle.of_core.specs.World.{Moment, TableStart}
 use Rattle.of_core.specs.Shared.{MayStart}
-use Rattle.of_core.specs.Events.{Event, Begins, Turns, Loads, Evicts, Raises, happens, machine, run, IsSchedule}
-use Rattle.of_core.specs.Calls.{ended_in, outcomes}
-use Rattle.of_row.specs.Views.{Sight}
-use Rattle.of_caller.specs.Tables.{setup_for, lawful_for, opening_at}
+use Rattle.of_core.specs.Events.{Event, Begins, Turns, Loads, Evicts, Raises, after_event, machine_in, after_events, IsSchedule}
+use Rattle.of_core.specs.Calls.{outcome_of_step, outcomes}
+use Rattle.of_row.specs.Views.{View}
+use Rattle.of_caller.specs.Tables.{plan_setup, IsLawfulFor, opening_at}
 use Rattle.of_caller.specs.Scheduled.{scheduled, IsScheduled}
 use Rattle.of_caller.specs.Runs.{IsRunOf}
 use Rattle.of_caller.specs.Teams.{IsTeamOf}
@@ -37,20 +37,20 @@ over_in c (BeginsCall d ∷ ms) = over_in c ms
 over_in c (EndsCall d ∷ ms) = (if c == d then 1 else 0) + over_in c ms
 
 -- after the first k marks, of a run from this start, the call of the entry has ended
-abbrev pub HasEnded : Start → List Mark → (k : ℕ) → CallEntry → Type 0
+abbrev pub HasEnded : Start → List Mark → (k : ℕ) → Entry → Type 0
 HasEnded s ms k e = e.index < finished_of s e.caller + over_in e.caller (take k ms)
 
 -- after the first k marks it has not begun
-abbrev pub NotBegun : Start → List Mark → (k : ℕ) → CallEntry → Type 0
+abbrev pub NotBegun : Start → List Mark → (k : ℕ) → Entry → Type 0
 NotBegun s ms k e = finished_of s e.caller + begun_in e.caller (take k ms) ≤ e.index
 
 -- the first call ends before the second begins: there is a moment between them
-abbrev pub EndsBefore : Start → List Mark → CallEntry → CallEntry → Type 0
+abbrev pub EndsBefore : Start → List Mark → Entry → Entry → Type 0
 EndsBefore s ms e f = (k : ℕ) × HasEnded s ms k e × NotBegun s ms k f
 
 -- the second comes after the first in the history: at a higher sequence, or, if it was not
 -- announced, at no lower one
-abbrev pub StandsBehind : CallEntry → CallEntry → Type 0
+abbrev pub StandsBehind : Entry → Entry → Type 0
 StandsBehind e f = (e.seq ≤ f.seq) × (IsTrue f.announced → e.seq < f.seq)
 
 -- each entry comes after those whose calls ended before its own call began
@@ -61,39 +61,39 @@ RespectsTime s ms r =
 -- ---- the marks of a schedule
 
 -- the mark of an event: a begin has one, and a turn that ends a call
-abbrev pub marks_of : Setup → World → Event → List Mark
+abbrev pub marks_of : Setup → Moment → Event → List Mark
 marks_of S w (Begins i op) = BeginsCall i ∷ []
 marks_of S w (Turns i) =
-    map (λ o. EndsCall i) (ended_in (machine w i) (machine (happens S w (Turns i)) i))
+    map (λ o. EndsCall i) (outcome_of_step (machine_in w i) (machine_in (after_event S w (Turns i)) i))
 marks_of S w (Loads c) = []
 marks_of S w (Evicts k) = []
 marks_of S w (Raises c) = []
 
 -- the marks of events, from a world on
-abbrev pub marks_in : Setup → World → List Event → List Mark
+abbrev pub marks_in : Setup → Moment → List Event → List Mark
 marks_in S w [] = []
-marks_in S w (e ∷ es) = marks_of S w e ++ marks_in S (happens S w e) es
+marks_in S w (e ∷ es) = marks_of S w e ++ marks_in S (after_event S w e) es
 
 -- the marks of the plan's callers with these items for a schedule, from this start
 abbrev pub course_of : Plan → TableStart → List Item → List Mark
-course_of p B items = marks_in (setup_for p) (opening_at p B) (scheduled p B items)
+course_of p B items = marks_in (plan_setup p) (opening_at p B) (scheduled p B items)
 
 -- ---- what holds of all schedules and teams
 
 -- the report of what a schedule of the plan leaves, from whatever start, respects its real time
 abbrev pub SchedulesRespectTime : Plan → Type 0
 SchedulesRespectTime p =
-    (s : Start) (B : TableStart) → MayStart (setup_for p) (lawful_for p) B
-    → (es : List Event) → IsSchedule (setup_for p) (opening_at p B) es
-    → (e : Run) (left : IsRunOf p s B (run (setup_for p) (opening_at p B) es) e)
+    (s : Start) (B : TableStart) → MayStart (plan_setup p) (IsLawfulFor p) B
+    → (es : List Event) → IsSchedule (plan_setup p) (opening_at p B) es
+    → (e : Ended) (left : IsRunOf p s B (after_events (plan_setup p) (opening_at p B) es) e)
     → ((c : ℕ) → c < p.callers
-    → left.outcomes c ≡ outcomes (setup_for p) (opening_at p B) es c)
-    → (r : Report) → IsLawful p s e r
-    → RespectsTime s (marks_in (setup_for p) (opening_at p B) es) r
+    → left.outcomes c ≡ outcomes (plan_setup p) (opening_at p B) es c)
+    → (r : Report) → IsLawfulRecord p s e r
+    → RespectsTime s (marks_in (plan_setup p) (opening_at p B) es) r
 
 -- so does the report of what a team leaves, with the schedule that its run is
 abbrev pub TeamsRespectTime : Plan → Type 0
 TeamsRespectTime p =
-    (s : Start) (B : TableStart) (e : Run) (v : Sight) → IsTeamOf p s B e v
+    (s : Start) (B : TableStart) (e : Ended) (v : View) → IsTeamOf p s B e v
     → (items : List Item) × IsScheduled p s B items e
-    × ((r : Report) → IsLawful p s e r → RespectsTime s (course_of p B items) r)
+    × ((r : Report) → IsLawfulRecord p s e r → RespectsTime s (course_of p B items) r)

@@ -2,13 +2,13 @@
 use Rattle.std.specs.Prelude.{ℕ, zero, suc, ◌+◌, ◌-◌, List, [], map, slice_index_or}
 use Rattle.of_mem.specs.declared.work.RawReply.{RawReply}
 use Rattle.of_script.specs.declared.instr.Instr.{Instr}
-use Rattle.of_store.specs.State.{State, Response, last_store}
-use Rattle.of_eval.specs.Shapes.{cells_of}
+use Rattle.of_store.specs.State.{Store, Reply, last_store}
+use Rattle.of_eval.specs.Shapes.{reply_cells}
 use Rattle.of_eval.specs.Words.{reply_to}
 use Rattle.of_plan.specs.Plan.{Plan, scripts_of}
 use Rattle.of_core.specs.Machine.{Call}
-use Rattle.of_core.specs.World.{World, Start as TableStart}
-use Rattle.of_core.specs.History.{batch}
+use Rattle.of_core.specs.World.{Moment, TableStart}
+use Rattle.of_core.specs.History.{batch_at}
 
 -- the script of a caller's call with this ticket
 abbrev pub script_of_ticket : Plan → (caller ticket : ℕ) → List Instr
@@ -18,21 +18,21 @@ abbrev pub call_script : Plan → Call → List Instr
 call_script p c = script_of_ticket p c.caller c.ticket
 
 -- the calls of batch k, and their scripts
-abbrev pub batch_calls : TableStart → World → ℕ → List Call
-batch_calls B w k = (batch B w.batches k).calls
+abbrev pub batch_calls : TableStart → Moment → ℕ → List Call
+batch_calls B w k = (batch_at B w.batches k).calls
 
-abbrev pub batch_scripts : Plan → TableStart → World → ℕ → List (List Instr)
+abbrev pub batch_scripts : Plan → TableStart → Moment → ℕ → List (List Instr)
 batch_scripts p B w k = map (call_script p) (batch_calls B w k)
 
 -- the store after so many batches, by serial replay from the start's store
-abbrev pub store_behind : Plan → TableStart → State → World → ℕ → State
-store_behind p B st w zero = st
-store_behind p B st w (suc j) = last_store (store_behind p B st w j) (batch_scripts p B w (B.seq + j + 1))
+abbrev pub store_after_batches : Plan → TableStart → Store → Moment → ℕ → Store
+store_after_batches p B st w zero = st
+store_after_batches p B st w (suc j) = last_store (store_after_batches p B st w j) (batch_scripts p B w (B.seq + j + 1))
 
 -- the store after the batches up to sequence k
-abbrev pub store_after : Plan → TableStart → State → World → ℕ → State
-store_after p B st w k = store_behind p B st w (k - B.seq)
+abbrev pub store_at_seq : Plan → TableStart → Store → Moment → ℕ → Store
+store_at_seq p B st w k = store_after_batches p B st w (k - B.seq)
 
 -- a reply to so many instructions, as a work gives it
-abbrev pub raw_of : ℕ → Response → RawReply
-raw_of n r = cells_of (reply_to n r)
+abbrev pub raw_reply_of : ℕ → Reply → RawReply
+raw_reply_of n r = reply_cells (reply_to n r)

@@ -1,19 +1,19 @@
 -- A row that a plan's callers can share.
 use Rattle.std.specs.Prelude.{◌≡◌, ℕ, ◌≤◌, ◌<◌, length}
 use Rattle.of_eval.specs.declared.scripts.Scripts.{Scripts}
-use Rattle.of_eval.specs.Record.{cells_in}
+use Rattle.of_eval.specs.Record.{data_cells_of}
 use Rattle.of_eval.specs.Scripts.{scripts_meaning}
 use Rattle.of_plan.specs.Plan.{Plan, scripts_of}
 use Rattle.of_plan.specs.Report.{Start, finished_of}
-use Rattle.of_core.specs.World.{Start as TableStart}
+use Rattle.of_core.specs.World.{TableStart}
 use Rattle.of_row.specs.declared.row.Row.{Row}
 use Rattle.of_row.specs.Rows.{key_of, start_at}
-use Rattle.of_caller.specs.Starts.{StartsAt}
+use Rattle.of_caller.specs.Starts.{StartsAtPlan}
 
 -- the row is one of the plan: its callers, cells, limit and work
 pub record IsRowOf (p : Plan) (r : Row Scripts) : Type 0 where
   pub callers : (key_of r).callers ≡ p.callers
-  pub cells : (key_of r).cells ≡ cells_in p
+  pub cells : (key_of r).cells ≡ data_cells_of p
   pub limit : (key_of r).limit ≡ p.limit
   pub work_callers : (key_of r).work.callers ≡ p.callers
   pub work_blocks : (key_of r).work.blocks ≡ p.blocks
@@ -28,4 +28,4 @@ HasScripts p s = (c : ℕ) → c < p.callers → finished_of s c ≤ length (scr
 
 -- the row has started where the plan does
 abbrev pub HasStart : Plan → Row Scripts → Type 0
-HasStart p r = (s : Start) × StartsAt p s (start_of_row r) × HasScripts p s
+HasStart p r = (s : Start) × StartsAtPlan p s (start_of_row r) × HasScripts p s

@@ -3,29 +3,29 @@
 use Rattle.std.specs.Prelude.{◌≡◌, ℕ, ◌+◌, ◌-◌, ◌==◌, ◌≤◌, ◌<◌, if◌then◌else◌, List, [], length, map, take, drop, replicate, Some}
 use Rattle.std.specs.List.{range_with_len}
 use Rattle.std.proofs.Common.{get_or}
-use Rattle.of_eval.specs.Record.{state_of, IsLawful}
+use Rattle.of_eval.specs.Record.{end_state_of, IsLawfulRecord}
 use Rattle.of_eval.specs.Reported.{ReportsRun}
 use Rattle.of_plan.specs.declared.answer.Ending.{Ending}
 use Rattle.of_plan.specs.declared.answer.Ending.TheVariants.{Done}
 use Rattle.of_plan.specs.Plan.{Plan, IsPlan, scripts_of}
 use Rattle.of_plan.specs.Report.{Start, Report, stopped, finished_of}
-use Rattle.of_plan.specs.Legal.{to_do}
-use Rattle.of_plan.specs.Ended.{Run, answers_of, ending_of}
+use Rattle.of_plan.specs.Legal.{scripts_left}
+use Rattle.of_plan.specs.Ended.{Ended, answers_of, ending_of}
 use Rattle.of_plan.specs.Allowance.{KeepsAllowance}
 use Rattle.of_core.specs.declared.place.Outcome.{Outcome}
-use Rattle.of_core.specs.World.{World, Start as TableStart}
+use Rattle.of_core.specs.World.{Moment, TableStart}
 use Rattle.of_core.specs.Bound.{bound}
 use Rattle.of_core.specs.Shared.{IsStart}
-use Rattle.of_core.specs.Events.{Event, IsSchedule, machine, run}
+use Rattle.of_core.specs.Events.{Event, IsSchedule, machine_in, after_events}
 use Rattle.of_core.specs.Claim.{IsSound}
-use Rattle.of_core.specs.Moment.{table_words}
-use Rattle.of_core.specs.Calls.{Calls, NoneSpent, operations, outcomes, no_outcome, last_of, steps_told}
-use Rattle.of_caller.specs.Tables.{setup_for, opening_at, operation_of}
-use Rattle.of_caller.specs.Ends.{HoldsReply, AnswersFirst, AreAnswers, halted}
-use Rattle.of_caller.specs.Starts.{StartsAt}
+use Rattle.of_core.specs.Moment.{table_word_count}
+use Rattle.of_core.specs.Calls.{HasCalls, NoneSpent, operations_begun, outcomes, no_outcome, last_outcome, total_steps}
+use Rattle.of_caller.specs.Tables.{plan_setup, opening_at, operation_of}
+use Rattle.of_caller.specs.Ends.{OutcomeHoldsReply, AnswersStandBeforeSpent, AreAnswers, ending_if_left}
+use Rattle.of_caller.specs.Starts.{StartsAtPlan}
 
 -- these are the first of a caller's scripts behind so many, in their order
-pub record AreNext (p : Plan) (behind c : ℕ) (ops : List (List ℕ)) : Type 0 where
+pub record AreNextScripts (p : Plan) (behind c : ℕ) (ops : List (List ℕ)) : Type 0 where
   pub count : ℕ
   pub few : count ≤ length (scripts_of p c) - behind
   pub are : ops ≡ map operation_of (take count (drop behind (scripts_of p c)))
@@ -33,35 +33,35 @@ pub record AreNext (p : Plan) (behind c : ℕ) (ops : List (List ℕ)) : Type 0 
 -- how a caller ends whose calls have ended so, of which so many are answered: one that has a script
 -- left is spent where its last call was, and else stopped, having asked for one step more than its
 -- open call has made
-abbrev pub ends_at : (outs : List Outcome) → (steps to_do answered : ℕ) → Ending
-ends_at outs steps n a = if a == n then Done else halted (last_of outs) steps
+abbrev pub ending_of_calls : (outs : List Outcome) → (steps scripts_left answered : ℕ) → Ending
+ending_of_calls outs steps n a = if a == n then Done else ending_if_left (last_outcome outs) steps
 
 -- the plan's table has come from the start to this world, where the callers have begun these next
 -- scripts of theirs, and they have ended so
-pub record IsMomentOf (p : Plan) (s : Start) (B : TableStart) (w : World) (ops : ℕ → List (List ℕ)) (outs : ℕ → List Outcome) : Type 0 where
+pub record IsMomentOf (p : Plan) (s : Start) (B : TableStart) (w : Moment) (ops : ℕ → List (List ℕ)) (outs : ℕ → List Outcome) : Type 0 where
   pub plan : IsPlan p
-  pub starts : StartsAt p s B
-  pub sound : IsSound (setup_for p) B w
-  pub scripts : (c : ℕ) → c < p.callers → AreNext p (finished_of s c) c (ops c)
-  pub calls : (c : ℕ) → c < p.callers → Calls (setup_for p) B (finished_of s c) w c (ops c) (outs c)
+  pub starts : StartsAtPlan p s B
+  pub sound : IsSound (plan_setup p) B w
+  pub scripts : (c : ℕ) → c < p.callers → AreNextScripts p (finished_of s c) c (ops c)
+  pub calls : (c : ℕ) → c < p.callers → HasCalls (plan_setup p) B (finished_of s c) w c (ops c) (outs c)
 
 -- what the run has left of caller c tells how its calls have ended; answers are told by place, so
 -- none stands behind a spent call, whose script it would be taken for
-pub record TellsCalls (p : Plan) (s : Start) (w : World) (e : Run) (c : ℕ) (outs : List Outcome) : Type 0 where
-  pub answers_first : AnswersFirst outs
+pub record TellsCalls (p : Plan) (s : Start) (w : Moment) (e : Ended) (c : ℕ) (outs : List Outcome) : Type 0 where
+  pub answers_first : AnswersStandBeforeSpent outs
   pub told : AreAnswers outs (answers_of e c)
-  pub ended : ending_of e c ≡ ends_at outs (machine w c).steps (to_do p s c) (length (answers_of e c))
+  pub ended : ending_of e c ≡ ending_of_calls outs (machine_in w c).steps (scripts_left p s c) (length (answers_of e c))
 
 -- a run of the plan from the start has left this, where its table has come to this world
-pub record IsRunOf (p : Plan) (s : Start) (B : TableStart) (w : World) (e : Run) : Type 0 where
+pub record IsRunOf (p : Plan) (s : Start) (B : TableStart) (w : Moment) (e : Ended) : Type 0 where
   pub operations : ℕ → List (List ℕ)
   pub outcomes : ℕ → List Outcome
-  pub moment : IsMomentOf p s B w operations outcomes
+  pub moment : IsMomentOf p s B w operations_begun outcomes
   pub callers : (c : ℕ) → c < p.callers → TellsCalls p s w e c (outcomes c)
   pub answers : length e.answers ≡ p.callers
   pub endings : length e.endings ≡ p.callers
   pub words : e.words ≡ w.words
-  pub room : length w.words ≡ table_words (setup_for p)
+  pub room : length w.words ≡ table_word_count (plan_setup p)
 
 -- ---- what holds of a plan's starts and moments
 
@@ -69,58 +69,58 @@ pub record IsRunOf (p : Plan) (s : Start) (B : TableStart) (w : World) (e : Run)
 -- next scripts leads to a moment of the plan
 abbrev pub SchedulesAreMoments : Plan → Type 0
 SchedulesAreMoments p =
-    (s : Start) (B : TableStart) → StartsAt p s B → IsStart (setup_for p) B → B.seq ≤ p.limit
-    → (es : List Event) → IsSchedule (setup_for p) (opening_at p B) es
-    → ((c : ℕ) → c < p.callers → AreNext p (finished_of s c) c (operations es c))
-    → IsMomentOf p s B (run (setup_for p) (opening_at p B) es)
-    (operations es) (outcomes (setup_for p) (opening_at p B) es)
+    (s : Start) (B : TableStart) → StartsAtPlan p s B → IsStart (plan_setup p) B → B.seq ≤ p.limit
+    → (es : List Event) → IsSchedule (plan_setup p) (opening_at p B) es
+    → ((c : ℕ) → c < p.callers → AreNextScripts p (finished_of s c) c (operations_begun es c))
+    → IsMomentOf p s B (after_events (plan_setup p) (opening_at p B) es)
+    (operations_begun es) (outcomes (plan_setup p) (opening_at p B) es)
 
 -- what a start leaves before anything has happened: no answers, and each caller that has a script
 -- left is stopped
-abbrev pub untouched : Plan → Start → TableStart → Run
-untouched p s B = record {
+abbrev pub record_at_start : Plan → Start → TableStart → Ended
+record_at_start p s B = record {
   answers = replicate p.callers [];
-  endings = map (λ (c : ℕ). ends_at [] 0 (to_do p s c) 0) (range_with_len 0 p.callers);
+  endings = map (λ (c : ℕ). ending_of_calls [] 0 (scripts_left p s c) 0) (range_with_len 0 p.callers);
   words = (opening_at p B).words;
 }
 
 -- each start of a plan that a table may have is left so by a run
 abbrev pub StartsAreRuns : Plan → Type 0
 StartsAreRuns p =
-    (s : Start) (B : TableStart) → StartsAt p s B → IsStart (setup_for p) B → B.seq ≤ p.limit
-    → IsRunOf p s B (opening_at p B) (untouched p s B)
+    (s : Start) (B : TableStart) → StartsAtPlan p s B → IsStart (plan_setup p) B → B.seq ≤ p.limit
+    → IsRunOf p s B (opening_at p B) (record_at_start p s B)
 
 -- at each moment of a plan the raw reply of an answered call is that of some reply
 abbrev pub RepliesAreHeld : Type 0
 RepliesAreHeld =
-    (p : Plan) (s : Start) (B : TableStart) (w : World)
+    (p : Plan) (s : Start) (B : TableStart) (w : Moment)
     → (ops : ℕ → List (List ℕ)) (outs : ℕ → List Outcome) → IsMomentOf p s B w ops outs
-    → (c x : ℕ) → c < p.callers → x < length (outs c) → HoldsReply (get_or (outs c) x no_outcome)
+    → (c x : ℕ) → c < p.callers → x < length (outs c) → OutcomeHoldsReply (get_or (outs c) x no_outcome)
 
 -- ---- what holds of all runs
 
 -- what such a run leaves is a lawful record
 abbrev pub RunsAreLawful : Type 0
 RunsAreLawful =
-    (p : Plan) (s : Start) (B : TableStart) (w : World) (e : Run) → IsRunOf p s B w e
-    → (r : Report) × IsLawful p s e r
+    (p : Plan) (s : Start) (B : TableStart) (w : Moment) (e : Ended) → IsRunOf p s B w e
+    → (r : Report) × IsLawfulRecord p s e r
 
 -- and of its report all holds that holds of every run
 abbrev pub RunsAreReported : Type 0
 RunsAreReported =
-    (p : Plan) (s : Start) (B : TableStart) (w : World) (e : Run) → IsRunOf p s B w e
-    → (r : Report) → IsLawful p s e r → ReportsRun p s e r
+    (p : Plan) (s : Start) (B : TableStart) (w : Moment) (e : Ended) → IsRunOf p s B w e
+    → (r : Report) → IsLawfulRecord p s e r → ReportsRun p s e r
 
 -- the steps that the outcomes of caller c tell, and those of its open call
-abbrev pub steps_made : World → (c : ℕ) → List Outcome → ℕ
-steps_made w c outs = steps_told outs + (machine w c).steps
+abbrev pub steps_made : Moment → (c : ℕ) → List Outcome → ℕ
+steps_made w c outs = total_steps outs + (machine_in w c).steps
 
 -- in it a caller that has made at most n steps, and just n where it is stopped with no call spent,
 -- keeps them as its allowance, where its open call has a step left
 abbrev pub RunsKeepAllowances : Type 0
 RunsKeepAllowances =
-    (p : Plan) (s : Start) (B : TableStart) (w : World) (e : Run) (run : IsRunOf p s B w e)
-    → (r : Report) → IsLawful p s e r → (c n : ℕ) → c < p.callers
-    → (machine w c).steps < bound (setup_for p) → steps_made w c (run.outcomes c) ≤ n
-    → (state_of (ending_of e c) ≡ stopped → NoneSpent (run.outcomes c) → steps_made w c (run.outcomes c) ≡ n)
+    (p : Plan) (s : Start) (B : TableStart) (w : Moment) (e : Ended) (after_events : IsRunOf p s B w e)
+    → (r : Report) → IsLawfulRecord p s e r → (c n : ℕ) → c < p.callers
+    → (machine_in w c).steps < bound (plan_setup p) → steps_made w c (after_events.outcomes c) ≤ n
+    → (end_state_of (ending_of e c) ≡ stopped → NoneSpent (after_events.outcomes c) → steps_made w c (after_events.outcomes c) ≡ n)
     → KeepsAllowance p r c (Some n)

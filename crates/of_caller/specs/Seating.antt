@@ -5,17 +5,17 @@ use Rattle.of_plan.specs.declared.answer.Answer.{Answer}
 use Rattle.of_plan.specs.declared.answer.Ending.{Ending}
 use Rattle.of_plan.specs.Plan.{Plan}
 use Rattle.of_eval.specs.Scripts.{scripts_meaning}
-use Rattle.of_row.specs.Views.{Sight}
+use Rattle.of_row.specs.Views.{View}
 use Rattle.of_row.specs.Rule.{IsAsked, done_before}
-use Rattle.of_row.specs.Turned.{joined}
-use Rattle.of_row.specs.Rows.{IsOf, setup_at, start_at}
+use Rattle.of_row.specs.Turned.{after_join}
+use Rattle.of_row.specs.Rows.{IsSeatOf, setup_at, start_at}
 use Rattle.of_row.specs.declared.row.Row.{Row}
 use Rattle.of_caller.specs.declared.lane.Lane.{Lane}
 use Rattle.of_caller.specs.Callers.{sight_of}
 use Rattle.of_caller.specs.Lanes.{IsReady}
 
 -- a first pass that has asked for numbers below n alone, keeps no caller, and has evicted nothing and loaded nothing for it
-pub record HasSeated (n : ℕ) (v : Sight) : Type 0 where
+pub record HasSeated (n : ℕ) (v : View) : Type 0 where
   pub first : v.first ≡ true
   pub kept : v.kept ≡ []
   pub evicted : v.evicted ≡ []
@@ -23,7 +23,7 @@ pub record HasSeated (n : ℕ) (v : Sight) : Type 0 where
   pub below : (m : ℕ) → IsAsked m v.asked → m < n
 
 -- a pass has evicted these cells, in their order
-pub record Evicts (cells : List ℕ) (v w : Sight) : Type 0 where
+pub record EvictsCells (cells : List ℕ) (v w : View) : Type 0 where
   pub first : w.first ≡ v.first
   pub asked : w.asked ≡ v.asked
   pub kept : w.kept ≡ v.kept
@@ -48,12 +48,12 @@ module _ {X : Type 0} {Y : X → Type 0} where
 
   -- the lane's member is of the row
   abbrev pub IsAt : Row Scripts → Lane X Y → Type 0
-  IsAt r a = IsOf r a.caller.member.seat
+  IsAt r a = IsSeatOf r a.caller.member.seat
 
   -- what a pass knows that has taken in the members of the lanes
-  abbrev pub gathered : Sight → List (Lane X Y) → Sight
+  abbrev pub gathered : View → List (Lane X Y) → View
   gathered v [] = v
-  gathered v (a ∷ others) = gathered (joined v (sight_of a.caller)) others
+  gathered v (a ∷ others) = gathered (after_join v (sight_of a.caller)) others
 
   -- what the lanes leave, in order
   abbrev pub answers_in : List (Lane X Y) → List (List Answer)

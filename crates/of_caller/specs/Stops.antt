@@ -1,23 +1,23 @@
 -- What the brakes that tell their steps left say of the callers of a run.
 use Rattle.std.specs.Prelude.{◌≡◌, ℕ, ◌+◌, ◌-◌, ◌≤◌, ◌<◌, List, [], ◌∷◌, Option, Some, None}
-use Rattle.of_eval.specs.Record.{state_of}
+use Rattle.of_eval.specs.Record.{end_state_of}
 use Rattle.of_plan.specs.declared.answer.Answer.{Answer}
 use Rattle.of_plan.specs.declared.answer.Ending.{Ending}
 use Rattle.of_plan.specs.declared.answer.Ending.TheVariants.{Done, Stopped, Spent}
 use Rattle.of_plan.specs.Plan.{Plan, stop_of}
 use Rattle.of_plan.specs.Report.{EndState, stopped}
-use Rattle.of_plan.specs.Ended.{Run, answers_of, ending_of}
+use Rattle.of_plan.specs.Ended.{Ended, answers_of, ending_of}
 
 -- the steps that answers tell, added up
-abbrev pub told_in : List Answer → ℕ
-told_in [] = 0
-told_in (a ∷ others) = a.steps + told_in others
+abbrev pub answer_steps : List Answer → ℕ
+answer_steps [] = 0
+answer_steps (a ∷ others) = a.steps + answer_steps others
 
 -- the steps of a caller's open call, of which one ask more was made
-abbrev pub open_in : Ending → ℕ
-open_in Done = 0
-open_in (Stopped asked) = asked - 1
-open_in (Spent seq) = 0
+abbrev pub open_call_steps : Ending → ℕ
+open_call_steps Done = 0
+open_call_steps (Stopped asked) = asked - 1
+open_call_steps (Spent seq) = 0
 
 -- a caller with this stop that has ended so made so many steps: just as many as the stop where it
 -- is stopped, and else no more; without a stop it isn't stopped
@@ -26,19 +26,19 @@ KeepsStop None steps state = state ≡ stopped → ⊥
 KeepsStop (Some most) steps state = (steps ≤ most) × (state ≡ stopped → steps ≡ most)
 
 -- answers and an ending keep to a stop
-abbrev pub KeepStop : (stop : Option ℕ) → List Answer → Ending → Type 0
-KeepStop stop answers ending = KeepsStop stop (told_in answers + open_in ending) (state_of ending)
+abbrev pub KeepToStop : (stop : Option ℕ) → List Answer → Ending → Type 0
+KeepToStop stop answers ending = KeepsStop stop (answer_steps answers + open_call_steps ending) (end_state_of ending)
 
 -- the same, where a brake tells its steps left
-abbrev pub KeepStopBy : (left : Option (Option ℕ)) → (stop : Option ℕ) → List Answer → Ending → Type 0
-KeepStopBy None stop answers ending = Unit {0}
-KeepStopBy (Some steps) stop answers ending = KeepStop stop answers ending
+abbrev pub KeepToToldStop : (left : Option (Option ℕ)) → (stop : Option ℕ) → List Answer → Ending → Type 0
+KeepToToldStop None stop answers ending = Unit {0}
+KeepToToldStop (Some steps) stop answers ending = KeepToStop stop answers ending
 
 -- a caller of a run keeps to the plan's stop, where its brake tells its steps left
-abbrev pub CallerStops : Plan → Run → (caller : ℕ) → (left : Option (Option ℕ)) → Type 0
-CallerStops p e c left = KeepStopBy left (stop_of p c) (answers_of e c) (ending_of e c)
+abbrev pub CallerKeepsStop : Plan → Ended → (caller : ℕ) → (left : Option (Option ℕ)) → Type 0
+CallerKeepsStop p e c left = KeepToToldStop left (stop_of p c) (answers_of e c) (ending_of e c)
 
 -- so does each caller from c on, by the brake at its place
-abbrev pub KeepStops : {A : Type 0} → (A → Option (Option ℕ)) → Plan → Run → (c : ℕ) → List A → Type 0
+abbrev pub KeepStops : {A : Type 0} → (A → Option (Option ℕ)) → Plan → Ended → (c : ℕ) → List A → Type 0
 KeepStops left p e c [] = Unit {0}
-KeepStops left p e c (b ∷ bs) = (c < p.callers → CallerStops p e c (left b)) × KeepStops left p e (c + 1) bs
+KeepStops left p e c (b ∷ bs) = (c < p.callers → CallerKeepsStop p e c (left b)) × KeepStops left p e (c + 1) bs

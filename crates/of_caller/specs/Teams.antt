@@ -1,31 +1,31 @@
 -- What a team hands back: the record of a run, and a pass that has the run's calls.
 use Rattle.std.specs.Prelude.{◌≡◌, ℕ, ◌+◌, ◌-◌, ◌≤◌, ◌<◌, ◌⊎◌, List, [], ◌∷◌, ◌++◌, length, map, take, drop, slice_index_or, false, true, IsTrue, All, Any}
 use Rattle.of_eval.specs.declared.scripts.Scripts.{Scripts}
-use Rattle.of_eval.specs.Record.{IsLawful}
+use Rattle.of_eval.specs.Record.{IsLawfulRecord}
 use Rattle.of_eval.specs.Reported.{ReportsRun}
 use Rattle.of_plan.specs.declared.answer.Answer.{Answer}
 use Rattle.of_plan.specs.declared.answer.Ending.{Ending}
 use Rattle.of_plan.specs.declared.answer.Ending.TheVariants.{Done, Stopped, Spent}
 use Rattle.of_plan.specs.declared.plan.Item.{Item}
 use Rattle.of_plan.specs.Plan.{Plan, IsPlan, scripts_of, stop_of, bound_of}
-use Rattle.of_plan.specs.Report.{CallEntry, Report, Start, finished_of}
-use Rattle.of_plan.specs.Ended.{Run, answers_of, ending_of}
+use Rattle.of_plan.specs.Report.{Entry, Report, Start, finished_of}
+use Rattle.of_plan.specs.Ended.{Ended, answers_of, ending_of}
 use Rattle.of_plan.specs.Allowance.{KeepsAllowance}
 use Rattle.of_core.specs.declared.place.Outcome.TheVariants.{Spent as RanOut}
-use Rattle.of_core.specs.Machine.{Call, Data, IsOpen}
-use Rattle.of_core.specs.World.{Start as TableStart}
-use Rattle.of_core.specs.History.{batch}
+use Rattle.of_core.specs.Machine.{Call, CallState, IsOpen}
+use Rattle.of_core.specs.World.{TableStart}
+use Rattle.of_core.specs.History.{batch_at}
 use Rattle.of_core.specs.Turn.{IsIdle}
 use Rattle.of_core.specs.Calls.{NoneSpent}
 use Rattle.of_row.specs.declared.row.Row.{Row}
-use Rattle.of_row.specs.Views.{Committed, Ended, Kept, Sight, shown}
-use Rattle.of_row.specs.Rule.{Meets, KeepsAll}
-use Rattle.of_row.specs.Turned.{memo}
-use Rattle.of_caller.specs.Tables.{setup_for, lawful_for, operation_of}
-use Rattle.of_caller.specs.Starts.{StartsAt}
+use Rattle.of_row.specs.Views.{SeenBatch, EndedCall, KnownCaller, View, seen_history}
+use Rattle.of_row.specs.Rule.{ViewMeetsRule, KeepsAll}
+use Rattle.of_row.specs.Turned.{copied_view}
+use Rattle.of_caller.specs.Tables.{plan_setup, IsLawfulFor, operation_of}
+use Rattle.of_caller.specs.Starts.{StartsAtPlan}
 use Rattle.of_caller.specs.Ends.{AreAnswers}
 use Rattle.of_caller.specs.PlanRows.{start_of_row}
-use Rattle.of_caller.specs.Stops.{KeepStop}
+use Rattle.of_caller.specs.Stops.{KeepToStop}
 pub use Rattle.of_caller.specs.Scheduled.{evicted_by, evictions_of}
 use Rattle.of_caller.specs.Scheduled.{IsScheduled}
 
@@ -37,7 +37,7 @@ operation_at p c x = operation_of (slice_index_or (scripts_of p c) x [])
 
 -- calls that have ended are those of a caller's scripts behind so many, in order, and these are
 -- their answers
-pub record AreAnswered (p : Plan) (behind c : ℕ) (calls : List Ended) (answers : List Answer) : Type 0 where
+pub record AreAnswered (p : Plan) (behind c : ℕ) (calls : List EndedCall) (answers : List Answer) : Type 0 where
   pub few : length answers ≤ length (scripts_of p c) - behind
   pub scripts : map (λ e. e.op) calls ≡ map operation_of (take (length answers) (drop behind (scripts_of p c)))
   pub none_spent : NoneSpent (map (λ e. e.outcome) calls)
@@ -45,7 +45,7 @@ pub record AreAnswered (p : Plan) (behind c : ℕ) (calls : List Ended) (answers
 
 -- the machine of a stopped caller has the operation open, of which one ask more was made than
 -- steps, and at most as many as a call may make; it has none open where the first was denied
-pub record IsStopped (p : Plan) (op : List ℕ) (asked : ℕ) (m : Data) : Type 0 where
+pub record IsStopped (p : Plan) (op : List ℕ) (asked : ℕ) (m : CallState) : Type 0 where
   pub some : 1 ≤ asked
   pub within : asked ≤ bound_of p
   pub at_once : asked ≡ 1 → IsIdle m
@@ -54,37 +54,37 @@ pub record IsStopped (p : Plan) (op : List ℕ) (asked : ℕ) (m : Data) : Type 
 -- what is kept of a caller that ended so beyond its answered calls, the next script of which is
 -- number x, of n in all: nothing where it is done; at most the open call where it is stopped; the
 -- spent one where no sequence was left
-abbrev pub KeepsLast : Plan → (c x n : ℕ) → Data → List Ended → Ending → Type 0
-KeepsLast p c x n m beyond Done = (x ≡ n) × IsIdle m × (beyond ≡ [])
-KeepsLast p c x n m beyond (Stopped asked) =
+abbrev pub KeepsLastCall : Plan → (c x n : ℕ) → CallState → List EndedCall → Ending → Type 0
+KeepsLastCall p c x n m beyond Done = (x ≡ n) × IsIdle m × (beyond ≡ [])
+KeepsLastCall p c x n m beyond (Stopped asked) =
     (x < n) × IsStopped p (operation_at p c x) asked m × (beyond ≡ [])
-KeepsLast p c x n m beyond (Spent seq) =
+KeepsLastCall p c x n m beyond (Spent seq) =
     (x < n) × IsIdle m × (beyond ≡ record { op = operation_at p c x; outcome = RanOut seq } ∷ [])
 
 -- what is kept of a caller, of whose scripts so many were done before, is what its answers and its
 -- ending tell
-pub record KeepsCaller (p : Plan) (behind c : ℕ) (answers : List Answer) (ending : Ending) (x : Kept) : Type 0 where
-  pub calls : List Ended
-  pub beyond : List Ended
+pub record KeepsCaller (p : Plan) (behind c : ℕ) (answers : List Answer) (ending : Ending) (x : KnownCaller) : Type 0 where
+  pub calls : List EndedCall
+  pub beyond : List EndedCall
   pub ended : x.ended ≡ calls ++ beyond
   pub answered : AreAnswered p behind c calls answers
-  pub last : KeepsLast p c (behind + length answers) (length (scripts_of p c)) x.machine beyond ending
+  pub last : KeepsLastCall p c (behind + length answers) (length (scripts_of p c)) x.machine beyond ending
 
 -- a caller of this number is kept, of which this holds
-abbrev pub KeepsSo : (c : ℕ) → (Kept → Type 0) → List Kept → Type 0
-KeepsSo c P [] = ⊥
-KeepsSo c P (x ∷ xs) = ((x.machine.caller ≡ c) × P x) ⊎ KeepsSo c P xs
+abbrev pub KeepsCallerWith : (c : ℕ) → (KnownCaller → Type 0) → List KnownCaller → Type 0
+KeepsCallerWith c P [] = ⊥
+KeepsCallerWith c P (x ∷ xs) = ((x.machine.caller ≡ c) × P x) ⊎ KeepsCallerWith c P xs
 
 -- ---- a team's record and its pass
 
 -- a team of the plan's callers has left this record from the start, and its pass has this view
-pub record IsTeamOf (p : Plan) (s : Start) (B : TableStart) (e : Run) (v : Sight) : Type 0 where
+pub record IsTeamOf (p : Plan) (s : Start) (B : TableStart) (e : Ended) (v : View) : Type 0 where
   pub plan : IsPlan p
-  pub starts : StartsAt p s B
+  pub starts : StartsAtPlan p s B
   -- words and view meet the rule of a row, and the view keeps every number that is taken
-  pub meets : Meets (setup_for p) (lawful_for p) B e.words v
+  pub meets : ViewMeetsRule (plan_setup p) (IsLawfulFor p) B e.words v
   pub live : v.spent ≡ false
-  pub keeps_all : KeepsAll (setup_for p) e.words v
+  pub keeps_all : KeepsAll (plan_setup p) e.words v
   -- it is the row's first pass; it has evicted the plan's cells in their order
   pub first : v.first ≡ true
   pub loaded : v.loaded ≡ []
@@ -93,27 +93,27 @@ pub record IsTeamOf (p : Plan) (s : Start) (B : TableStart) (e : Run) (v : Sight
   pub answers : length e.answers ≡ p.callers
   pub endings : length e.endings ≡ p.callers
   pub each : (c : ℕ) → c < p.callers
-      → KeepsSo c (KeepsCaller p (finished_of s c) c (answers_of e c) (ending_of e c)) v.kept
+      → KeepsCallerWith c (KeepsCaller p (finished_of s c) c (answers_of e c) (ending_of e c)) v.kept
 
 -- the entry and the call are of one script
-abbrev pub IsEntryOf : CallEntry → Call → Type 0
+abbrev pub IsEntryOf : Entry → Call → Type 0
 IsEntryOf f k = (k.caller ≡ f.caller) × (k.ticket ≡ f.index + 1)
 
 -- the calls of the batch at this sequence, as it was seen
-abbrev pub seen_calls : TableStart → List Committed → ℕ → List Call
-seen_calls B seen k = (batch B (shown seen) k).calls
+abbrev pub seen_calls : TableStart → List SeenBatch → ℕ → List Call
+seen_calls B seen k = (batch_at B (seen_history seen) k).calls
 
 -- the announced entries of a report are the calls of the batches that were seen, up to its sequence
-pub record AnnouncesSeen (B : TableStart) (seen : List Committed) (r : Report) : Type 0 where
+pub record AnnouncesSeen (B : TableStart) (seen : List SeenBatch) (r : Report) : Type 0 where
   pub entries : All (λ f. IsTrue f.announced → Any (IsEntryOf f) (seen_calls B seen f.seq)) r.entries
   pub calls : (k : ℕ) → B.seq < k → k ≤ r.seq
       → All (λ d. Any (λ f. IsTrue f.announced × (f.seq ≡ k) × IsEntryOf f d) r.entries)
       (seen_calls B seen k)
 
 -- what was handed back is the record of a team, which is lawful, and a spent copy of its pass
-pub record IsHandedBack (p : Plan) (s : Start) (B : TableStart) (e : Run) (w : Sight) : Type 0 where
-  pub sight : Sight
-  pub copy : w ≡ memo sight
+pub record IsHandedBack (p : Plan) (s : Start) (B : TableStart) (e : Ended) (w : View) : Type 0 where
+  pub sight : View
+  pub copy : w ≡ copied_view sight
   pub team : IsTeamOf p s B e sight
   pub report : Report
   pub reported : ReportsRun p s e report
@@ -122,9 +122,9 @@ pub record IsHandedBack (p : Plan) (s : Start) (B : TableStart) (e : Run) (w : S
   pub scheduled : (items : List Item) × IsScheduled p s B items e
 
 -- from whatever start of the plan that is the row's
-abbrev pub HandsBack : Plan → Row Scripts → Run → Sight → Type 0
+abbrev pub HandsBack : Plan → Row Scripts → Ended → View → Type 0
 HandsBack p r e w =
-    (s : Start) → StartsAt p s (start_of_row r) → IsHandedBack p s (start_of_row r) e w
+    (s : Start) → StartsAtPlan p s (start_of_row r) → IsHandedBack p s (start_of_row r) e w
 
 -- ---- what holds of all teams
 
@@ -132,18 +132,18 @@ HandsBack p r e w =
 -- and its announced entries are the calls that its pass has seen
 abbrev pub TeamsAreLawful : Plan → Type 0
 TeamsAreLawful p =
-    (s : Start) (B : TableStart) (e : Run) (v : Sight) → IsTeamOf p s B e v
+    (s : Start) (B : TableStart) (e : Ended) (v : View) → IsTeamOf p s B e v
     → (r : Report) × ReportsRun p s e r × AnnouncesSeen B v.seen r
 
 -- a caller of it that keeps to its stop keeps that as its allowance
 abbrev pub TeamsKeepAllowances : Plan → Type 0
 TeamsKeepAllowances p =
-    (s : Start) (B : TableStart) (e : Run) (v : Sight) → IsTeamOf p s B e v
-    → (r : Report) → IsLawful p s e r → (c : ℕ) → c < p.callers
-    → KeepStop (stop_of p c) (answers_of e c) (ending_of e c) → KeepsAllowance p r c (stop_of p c)
+    (s : Start) (B : TableStart) (e : Ended) (v : View) → IsTeamOf p s B e v
+    → (r : Report) → IsLawfulRecord p s e r → (c : ℕ) → c < p.callers
+    → KeepToStop (stop_of p c) (answers_of e c) (ending_of e c) → KeepsAllowance p r c (stop_of p c)
 
 -- each team leaves what some schedule of its plan's callers leaves
 abbrev pub TeamsAreScheduled : Plan → Type 0
 TeamsAreScheduled p =
-    (s : Start) (B : TableStart) (e : Run) (v : Sight) → IsTeamOf p s B e v
+    (s : Start) (B : TableStart) (e : Ended) (v : View) → IsTeamOf p s B e v
     → (items : List Item) × IsScheduled p s B items e

@@ -4,17 +4,17 @@ use denote.Ref.{MutBor}
 use denote.Param.Members.{Shared}
 
 -- the items of two lists, one by one
-abbrev pub Both : {A : Type 0} → (A → A → Type 0) → List A → List A → Type 0
-Both P [] [] = Unit {0}
-Both P [] (y ∷ ys) = ⊥
-Both P (x ∷ xs) [] = ⊥
-Both P (x ∷ xs) (y ∷ ys) = P x y × Both P xs ys
+abbrev pub AllPaired : {A : Type 0} → (A → A → Type 0) → List A → List A → Type 0
+AllPaired P [] [] = Unit {0}
+AllPaired P [] (y ∷ ys) = ⊥
+AllPaired P (x ∷ xs) [] = ⊥
+AllPaired P (x ∷ xs) (y ∷ ys) = P x y × AllPaired P xs ys
 
 -- each item of the second list with the one at its place in the first, which may be longer
-abbrev pub Paired : {A B : Type 0} → (A → B → Type 0) → List A → List B → Type 0
-Paired P xs [] = Unit {0}
-Paired P [] (y ∷ ys) = ⊥
-Paired P (x ∷ xs) (y ∷ ys) = P x y × Paired P xs ys
+abbrev pub PrefixPaired : {A B : Type 0} → (A → B → Type 0) → List A → List B → Type 0
+PrefixPaired P xs [] = Unit {0}
+PrefixPaired P [] (y ∷ ys) = ⊥
+PrefixPaired P (x ∷ xs) (y ∷ ys) = P x y × PrefixPaired P xs ys
 
 module _ {F T : Type 0} (g : Shared F (MutBor T × Unit {0}) (Unit {0} × (MutBor T × Unit {0}))) (f : F) where
   -- f may be called with a `&mut` to x

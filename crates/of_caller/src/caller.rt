@@ -4,8 +4,8 @@ ghost use Rattle.std.specs.Prelude.{◌≡◌, ◌+◌, ◌<◌, ◌≤◌, ◌�
 ghost use Rattle.of_mem.specs.declared.work.TheConstants.{MOST_INSTRS};
 ghost use Rattle.of_core.specs.Machine.{IsOpen};
 ghost use Rattle.of_core.specs.Turn.{IsIdle};
-ghost use Rattle.of_brake.specs.Stops.{Rose, Heard};
-ghost use Rattle.of_row.specs.Rows.{IsOf, HasNoCall};
+ghost use Rattle.of_brake.specs.Stops.{HasRisen, HasHeardAnswer};
+ghost use Rattle.of_row.specs.Rows.{IsSeatOf, HasNoCall};
 
 use of_brake::{Brake, Steps};
 use of_core::{Machine, Outcome};
@@ -36,16 +36,16 @@ pub struct Caller<W: Work> {
 fn tell(brake: &mut Box<dyn Brake + Send>)
     ensures denials { denials brake.old ≤ denials brake.new }
     ensures left { left brake.new ≡ left brake.old }
-    ensures answers { Heard (answers brake.old) (answers brake.new) }
+    ensures answers { HasHeardAnswer (answers brake.old) (answers brake.new) }
     ensures asks { asks brake.new ≡ asks brake.old }
 {
     brake.answered();
 }
 
 impl<W: Work> Caller<W> {
-    ghost use Rattle.of_caller.specs.Callers.{IsCaller, LeavesIdle, call_of, made_of};
-    ghost use Rattle.of_caller.specs.CallsTold.{CallTold, begun_by};
-    ghost use Rattle.of_caller.specs.Brakes.{IsStop, StopsAt, Uses, HearsOf, AsksOf};
+    ghost use Rattle.of_caller.specs.Callers.{IsCaller, LeavesIdleMember, caller_call, calls_begun_by};
+    ghost use Rattle.of_caller.specs.CallsTold.{TellsCallOf, call_begun_by};
+    ghost use Rattle.of_caller.specs.Brakes.{IsStop, StopsAt, UsesCountedSteps, HearsAnswerOnce, AsksOf};
 
     /// The caller of a member that has no open call, whether it has made calls or none: it goes on
     /// with the next ticket. Without memory the error hands the member back.
@@ -54,12 +54,12 @@ impl<W: Work> Caller<W> {
         row: &Row<W>,
         member: Member,
     ) -> Result<Caller<W>, (Member, AllocError)>
-        requires row { IsOf row.now member.seat }
+        requires row { IsSeatOf row.now member.seat }
         requires idle { HasNoCall member }
         ensures caller { IfOk result (IsCaller W.meaning row.now) }
         ensures member { IfOk result (λ c. c.member ≡ member) }
-        ensures idle { IfOk result (λ c. IsIdle (call_of c)) }
-        ensures made { IfOk result (λ c. made_of c ≡ member.made) }
+        ensures idle { IfOk result (λ c. IsIdle (caller_call c)) }
+        ensures made { IfOk result (λ c. calls_begun_by c ≡ member.made) }
         ensures memory { IfErr result (λ e. e.0 ≡ member) }
     {
         members(row.work());
@@ -82,19 +82,19 @@ impl<W: Work> Caller<W> {
         steps: &mut Steps<L>,
     ) -> Result<Outcome, CallErr>
         requires caller { IsCaller W.meaning row.now self.old }
-        requires idle { IsIdle (call_of self.old) }
+        requires idle { IsIdle (caller_call self.old) }
         requires some { 1 ≤ length op.now }
         requires few { length op.now ≤ MOST_INSTRS }
-        requires made { made_of self.old + 1 < 4294967296 }
+        requires made { calls_begun_by self.old + 1 < 4294967296 }
         ensures caller { IsCaller W.meaning row.now self.new }
-        ensures told { CallTold W.meaning W.lawful row.now
-            (begun_by W.meaning row.now self.old op.now)
+        ensures told { TellsCallOf W.meaning W.lawful row.now
+            (call_begun_by W.meaning row.now self.old op.now)
             self.old self.new steps.old steps.new result }
         ensures denials { denials brake.old ≤ denials brake.new }
-        ensures cause { IsStop result → Rose (denials brake.old) (denials brake.new) }
+        ensures cause { IsStop result → HasRisen (denials brake.old) (denials brake.new) }
         ensures stop { StopsAt (left brake.old) result }
-        ensures left { Uses (left brake.old) (left brake.new) steps.old steps.new }
-        ensures answers { HearsOf (answers brake.old) (answers brake.new) result }
+        ensures left { UsesCountedSteps (left brake.old) (left brake.new) steps.old steps.new }
+        ensures answers { HearsAnswerOnce (answers brake.old) (answers brake.new) result }
         ensures asks { AsksOf (asks brake.old) (asks brake.new) steps.old steps.new result }
     {
         members(row.work());
@@ -112,15 +112,15 @@ impl<W: Work> Caller<W> {
         steps: &mut Steps<L>,
     ) -> Result<Outcome, CallErr>
         requires caller { IsCaller W.meaning row.now self.old }
-        requires open { IsOpen (call_of self.old).place }
+        requires open { IsOpen (caller_call self.old).place }
         ensures caller { IsCaller W.meaning row.now self.new }
-        ensures told { CallTold W.meaning W.lawful row.now (call_of self.old)
+        ensures told { TellsCallOf W.meaning W.lawful row.now (caller_call self.old)
             self.old self.new steps.old steps.new result }
         ensures denials { denials brake.old ≤ denials brake.new }
-        ensures cause { IsStop result → Rose (denials brake.old) (denials brake.new) }
+        ensures cause { IsStop result → HasRisen (denials brake.old) (denials brake.new) }
         ensures stop { StopsAt (left brake.old) result }
-        ensures left { Uses (left brake.old) (left brake.new) steps.old steps.new }
-        ensures answers { HearsOf (answers brake.old) (answers brake.new) result }
+        ensures left { UsesCountedSteps (left brake.old) (left brake.new) steps.old steps.new }
+        ensures answers { HearsAnswerOnce (answers brake.old) (answers brake.new) result }
         ensures asks { AsksOf (asks brake.old) (asks brake.new) steps.old steps.new result }
     {
         of_core::laws::machines();
@@ -144,14 +144,14 @@ impl<W: Work> Caller<W> {
 
     /// Whether no call is open.
     pub fn is_idle(&self) -> bool
-        ensures { IsTrue result ↔ IsIdle (call_of self.now) }
+        ensures { IsTrue result ↔ IsIdle (caller_call self.now) }
     {
         self.machine.is_idle()
     }
 
     /// How many calls of its number were begun, those before the row's start with them.
     pub fn made(&self) -> u32
-        ensures { result ≡ made_of self.now }
+        ensures { result ≡ calls_begun_by self.now }
     {
         self.machine.made()
     }
@@ -159,7 +159,7 @@ impl<W: Work> Caller<W> {
     /// The member again, with all that it knows. An open call stays open in it.
     pub fn leave(self) -> Member
         ensures is { result ≡ self.member }
-        ensures idle { LeavesIdle W.meaning self result }
+        ensures idle { LeavesIdleMember W.meaning self result }
     {
         idle_members::<W>();
         let Caller { member, machine: _ } = self;

@@ -3,8 +3,8 @@
 ghost use Rattle.std.specs.Prelude.{◌≡◌, ◌+◌, ◌-◌, ◌<◌, ◌≤◌, ◌++◌, ◌∷◌, []};
 ghost use Rattle.std.specs.Prelude.{IfSome, IfNone, length, vec_len, vec_capacity};
 ghost use Rattle.of_plan.specs.Plan.{scripts_of};
-ghost use Rattle.of_caller.specs.Ends.{Tells};
-ghost use Rattle.of_caller.specs.Lanes.{IsPlanRow, IsHeld, Appends, GaveFor, KeepsBrake, KeepsLeft};
+ghost use Rattle.of_caller.specs.Ends.{TellsAnswer};
+ghost use Rattle.of_caller.specs.Lanes.{IsPlanRow, IsHeldAnswer, Appends, TakesStepsOfAnswers, KeepsToBrake, KeepsLeft};
 ghost use Rattle.of_caller.specs.Lanes.{LaneAt, IsReady, LaneEnds, HasRun};
 
 use crate::caller::{CallErr, Caller};
@@ -48,9 +48,9 @@ pub(crate) fn put<T: Drop>(to: &mut Vec<T>, item: T)
 
 // Notes an answer.
 fn note(answers: &mut Vec<Answer>, outcome: Outcome)
-    requires held { IsHeld outcome }
+    requires held { IsHeldAnswer outcome }
     requires room { vec_len answers.old < vec_capacity answers.old }
-    ensures told { Appends (Tells outcome) answers.old.items answers.new.items }
+    ensures told { Appends (TellsAnswer outcome) answers.old.items answers.new.items }
     ensures room { vec_capacity answers.old ≤ vec_capacity answers.new }
 {
     let Outcome::Answered {
@@ -90,9 +90,9 @@ fn make_call<L: Ledger>(
     requires ready { LaneAt plan.now row.now lane.old (index - lane.old.first) }
     ensures goes { IfNone result (LaneAt plan.now row.now lane.new (index - lane.old.first + 1)) }
     ensures ends { IfSome result (LaneEnds plan.now row.now lane.new) }
-    ensures gave { IfNone result (GaveFor (left lane.old.brake) (left lane.new.brake)
+    ensures gave { IfNone result (TakesStepsOfAnswers (left lane.old.brake) (left lane.new.brake)
         lane.old.answers.items lane.new.answers.items) }
-    ensures stop { IfSome result (KeepsBrake (left lane.old.brake)
+    ensures stop { IfSome result (KeepsToBrake (left lane.old.brake)
         lane.old.answers.items lane.new.answers.items) }
     ensures same { (lane.new.number ≡ lane.old.number) × (lane.new.first ≡ lane.old.first) }
 {
@@ -122,7 +122,7 @@ fn make_calls<L: Ledger>(
     requires row { IsPlanRow plan.now row.now }
     requires ready { LaneAt plan.now row.now lane.old 0 }
     ensures ends { LaneEnds plan.now row.now lane.new result }
-    ensures stop { KeepsBrake (left lane.old.brake)
+    ensures stop { KeepsToBrake (left lane.old.brake)
         lane.old.answers.items lane.new.answers.items result }
     ensures same { (lane.new.number ≡ lane.old.number) × (lane.new.first ≡ lane.old.first) }
 {

@@ -1,9 +1,9 @@
 //! A row of zeros for a plan.
 
 ghost use Rattle.std.specs.Prelude.{◌≡◌, IfOk};
-ghost use Rattle.of_core.specs.Events.{zeros};
+ghost use Rattle.of_core.specs.Events.{zero_start};
 ghost use Rattle.of_row.specs.Passes.{IsFirst};
-ghost use Rattle.of_caller.specs.Tables.{setup_for};
+ghost use Rattle.of_caller.specs.Tables.{plan_setup};
 ghost use Rattle.of_caller.specs.PlanRows.{IsRowOf, HasStart, start_of_row};
 
 use crate::laws::plan_keeps_laws;
@@ -16,7 +16,7 @@ use std::alloc::{AllocError, Global};
 /// memory.
 pub fn row_for(alloc: Global, plan: &Plan) -> Result<(Row<Scripts>, Pass), AllocError>
     ensures row { IfOk result (λ r. IsRowOf plan.now r.0) }
-    ensures zeros { IfOk result (λ r. start_of_row r.0 ≡ zeros (setup_for plan.now)) }
+    ensures zeros { IfOk result (λ r. start_of_row r.0 ≡ zero_start (plan_setup plan.now)) }
     ensures start { IfOk result (λ r. HasStart plan.now r.0) }
     ensures pass { IfOk result (λ r. IsFirst r.0 r.1) }
 {

@@ -2,16 +2,16 @@
 
 ghost use Rattle.std.specs.Prelude.{◌≡◌, ◌+◌, ◌≤◌, ◌++◌, [], true, IfOk, map, vec_len, vec_capacity};
 ghost use Rattle.std.specs.Thread.{IsSync};
-ghost use Rattle.of_plan.specs.Ended.{run_of};
+ghost use Rattle.of_plan.specs.Ended.{ended_value};
 ghost use Rattle.of_row.specs.Views.{Each};
-ghost use Rattle.of_row.specs.Rows.{IsOf};
+ghost use Rattle.of_row.specs.Rows.{IsSeatOf};
 ghost use Rattle.of_row.specs.Passes.{IsFirst};
 ghost use Rattle.of_caller.specs.PlanRows.{IsRowOf, HasStart};
 ghost use Rattle.of_caller.specs.Stops.{KeepStops};
 ghost use Rattle.of_caller.specs.Teams.{HandsBack, evictions_of};
-ghost use Rattle.of_caller.specs.Trees.{Both};
+ghost use Rattle.of_caller.specs.Trees.{AllPaired};
 ghost use Rattle.of_caller.specs.Lanes.{IsPlanRow, IsReady, HasRun, KeepsLeft};
-ghost use Rattle.of_caller.specs.Seating.{Evicts, IsAt, gathered, answers_in, endings_in};
+ghost use Rattle.of_caller.specs.Seating.{EvictsCells, IsAt, gathered, answers_in, endings_in};
 
 use crate::lane::{Lane, put, run_lane};
 use crate::laws::teams_are_lawful;
@@ -27,10 +27,10 @@ use std::thread::{Threads, join_mut};
 // Makes the plan's evictions, in their order.
 fn evict_all(row: &Row<Scripts>, plan: &Plan, pass: &mut Pass)
     requires row { IsPlanRow plan.now row.now }
-    requires pass { IsOf row.now pass.old.seat }
+    requires pass { IsSeatOf row.now pass.old.seat }
     requires first { pass.old.seat.me.0.first ≡ true }
-    ensures pass { IsOf row.now pass.new.seat }
-    ensures view { Evicts (evictions_of plan.now) pass.old.seat.me.0 pass.new.seat.me.0 }
+    ensures pass { IsSeatOf row.now pass.new.seat }
+    ensures view { EvictsCells (evictions_of plan.now) pass.old.seat.me.0 pass.new.seat.me.0 }
 {
     let schedule = plan.schedule();
     for i in 0..schedule.len() {
@@ -44,7 +44,7 @@ fn evict_all(row: &Row<Scripts>, plan: &Plan, pass: &mut Pass)
 fn run_lanes<R: Threads + Sync>(rt: &R, row: &Row<Scripts>, plan: &Plan, lanes: &mut [Lane])
     requires row { IsPlanRow plan.now row.now }
     requires ready { Each (IsReady plan.now row.now) lanes.old }
-    ensures { Both (λ a b. HasRun plan.now row.now a b
+    ensures { AllPaired (λ a b. HasRun plan.now row.now a b
         × KeepsLeft (left a.brake) b.answers.items b.ending) lanes.old lanes.new }
 {
     let task = |lane: &mut Lane|
@@ -66,24 +66,24 @@ fn at_once<R: Threads + Sync>(
     lanes: &mut [Lane],
 )
     requires row { IsPlanRow plan.now row.now }
-    requires pass { IsOf row.now pass.old.seat }
+    requires pass { IsSeatOf row.now pass.old.seat }
     requires first { pass.old.seat.me.0.first ≡ true }
     requires ready { Each (IsReady plan.now row.now) lanes.old }
-    ensures pass { IsOf row.now pass.new.seat }
-    ensures view { Evicts (evictions_of plan.now) pass.old.seat.me.0 pass.new.seat.me.0 }
-    ensures lanes { Both (λ a b. HasRun plan.now row.now a b
+    ensures pass { IsSeatOf row.now pass.new.seat }
+    ensures view { EvictsCells (evictions_of plan.now) pass.old.seat.me.0 pass.new.seat.me.0 }
+    ensures lanes { AllPaired (λ a b. HasRun plan.now row.now a b
         × KeepsLeft (left a.brake) b.answers.items b.ending) lanes.old lanes.new }
 {
     let mut calls = ||
         requires { IsSync R.row × IsPlanRow plan.now row.now
             × Each (IsReady plan.now row.now) lanes.now }
-        ensures { Both (λ a b. HasRun plan.entry.now row.entry.now a b
+        ensures { AllPaired (λ a b. HasRun plan.entry.now row.entry.now a b
             × KeepsLeft (left a.brake) b.answers.items b.ending) lanes.entry.now lanes.exit.now }
     { run_lanes(rt, row, plan, lanes) };
     let mut evictions = ||
-        requires { IsPlanRow plan.now row.now × IsOf row.now pass.now.seat
+        requires { IsPlanRow plan.now row.now × IsSeatOf row.now pass.now.seat
             × (pass.now.seat.me.0.first ≡ true) }
-        ensures { IsOf row.entry.now pass.exit.now.seat × Evicts (evictions_of plan.entry.now)
+        ensures { IsSeatOf row.entry.now pass.exit.now.seat × EvictsCells (evictions_of plan.entry.now)
             pass.entry.now.seat.me.0 pass.exit.now.seat.me.0 }
     { evict_all(row, plan, pass) };
     join_mut(rt, &mut calls, &mut evictions);
@@ -97,11 +97,11 @@ fn gather(
     all: &mut Vec<Vec<Answer>>,
     endings: &mut Vec<Ending>,
 ) -> Pass
-    requires pass { IsOf row.now pass.seat }
+    requires pass { IsSeatOf row.now pass.seat }
     requires lanes { Each (IsAt row.now) lanes.items }
     requires answers_room { vec_len all.old + vec_len lanes ≤ vec_capacity all.old }
     requires endings_room { vec_len endings.old + vec_len lanes ≤ vec_capacity endings.old }
-    ensures pass { IsOf row.now result.seat }
+    ensures pass { IsSeatOf row.now result.seat }
     ensures view { result.seat.me.0 ≡ gathered pass.seat.me.0 lanes.items }
     ensures answers { map (λ v. v.items) all.new.items
         ≡ map (λ v. v.items) all.old.items ++ answers_in lanes.items }
@@ -144,9 +144,9 @@ pub fn team<R: Threads + Sync>(
     requires start { HasStart plan.now row }
     requires pass { IsFirst row pass }
     requires brakes { plan.now.callers ≤ vec_len brakes }
-    ensures handed { IfOk result (λ r. HandsBack plan.now row (run_of r.0) r.1.seat.me.0) }
+    ensures handed { IfOk result (λ r. HandsBack plan.now row (ended_value r.0) r.1.seat.me.0) }
     ensures stops { IfOk result (λ r.
-        KeepStops (λ b. left b) plan.now (run_of r.0) 0 brakes.items) }
+        KeepStops (λ b. left b) plan.now (ended_value r.0) 0 brakes.items) }
 {
     teams_are_lawful(plan);
     let callers = plan.callers() as usize;

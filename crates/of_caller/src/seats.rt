@@ -1,12 +1,12 @@
 //! The callers of a team before they run. All that a team needs memory for is made here.
 
 ghost use Rattle.std.specs.Prelude.{◌≡◌, ◌+◌, ◌<◌, ◌≤◌, [], IfOk, length, vec_len, vec_capacity};
-ghost use Rattle.of_brake.specs.Stops.{Armed};
+ghost use Rattle.of_brake.specs.Stops.{IsArmedWith};
 ghost use Rattle.of_plan.specs.Plan.{stop_of};
-ghost use Rattle.of_row.specs.Rows.{IsOf};
+ghost use Rattle.of_row.specs.Rows.{IsSeatOf};
 ghost use Rattle.of_row.specs.Passes.{IsFirst};
 ghost use Rattle.of_caller.specs.Lanes.{IsPlanRow, Appends};
-ghost use Rattle.of_caller.specs.Trees.{Paired};
+ghost use Rattle.of_caller.specs.Trees.{PrefixPaired};
 ghost use Rattle.of_caller.specs.Seating.{HasSeated, IsSeat, Seated};
 
 use crate::caller::Caller;
@@ -20,7 +20,7 @@ use std::alloc::{AllocError, Global};
 
 // Arms a brake with a caller's stop.
 fn arm(brake: &mut Box<dyn Brake + Send>, stop: Option<u64>)
-    ensures { Armed (left brake.old) stop (left brake.new) }
+    ensures { IsArmedWith (left brake.old) stop (left brake.new) }
 {
     brake.arm(stop);
 }
@@ -36,14 +36,14 @@ fn seat_one(
     lanes: &mut Vec<Lane>,
 ) -> Result<Pass, AllocError>
     requires row { IsPlanRow plan.now row.now }
-    requires pass { IsOf row.now pass.seat }
+    requires pass { IsSeatOf row.now pass.seat }
     requires seated { HasSeated number pass.seat.me.0 }
     requires number { number < plan.now.callers }
     requires room { vec_len lanes.old < vec_capacity lanes.old }
-    ensures pass { IfOk result (λ p. IsOf row.now p.seat) }
+    ensures pass { IfOk result (λ p. IsSeatOf row.now p.seat) }
     ensures seated { IfOk result (λ p. HasSeated (number + 1) p.seat.me.0) }
     ensures lane { IfOk result (λ p. Appends (λ a. IsSeat plan.now row.now number a
-        × Armed (left brake) (stop_of plan.now number) (left a.brake))
+        × IsArmedWith (left brake) (stop_of plan.now number) (left a.brake))
         lanes.old.items lanes.new.items) }
     ensures room { (vec_capacity lanes.old ≤ vec_capacity lanes.new)
         × (vec_len lanes.new ≤ vec_len lanes.old + 1) }
@@ -90,12 +90,12 @@ pub(crate) fn seat_all(
     requires brakes { plan.now.callers ≤ vec_len brakes }
     requires none { lanes.old.items ≡ [] }
     requires room { plan.now.callers ≤ vec_capacity lanes.old }
-    ensures pass { IfOk result (λ p. IsOf row.now p.seat) }
+    ensures pass { IfOk result (λ p. IsSeatOf row.now p.seat) }
     ensures seated { IfOk result (λ p. HasSeated plan.now.callers p.seat.me.0) }
     ensures lanes { IfOk result (λ p. Seated plan.now row.now 0 lanes.new.items) }
     ensures all { IfOk result (λ p. length lanes.new.items ≡ plan.now.callers) }
-    ensures armed { IfOk result (λ p. Paired
-        (λ b a. Armed (left b) (stop_of plan.now a.number) (left a.brake))
+    ensures armed { IfOk result (λ p. PrefixPaired
+        (λ b a. IsArmedWith (left b) (stop_of plan.now a.number) (left a.brake))
         brakes.items lanes.new.items) }
 {
     for number in 0..plan.callers() {

@@ -4,14 +4,14 @@ ghost use Rattle.std.specs.Prelude.{◌<◌, length};
 ghost use Rattle.std.specs.Thread.{IsSync};
 ghost use denote.Param.Send.{IsSend};
 ghost use Rattle.of_row.specs.Views.{Each};
-ghost use Rattle.of_caller.specs.Trees.{Both, Takes, Leaves};
+ghost use Rattle.of_caller.specs.Trees.{AllPaired, Takes, Leaves};
 
 use std::thread::{Threads, join_mut};
 
 fn run_few<T, F: Fn(&mut T)>(task: &F, items: &mut [T])
     requires few { length items.old < 2 }
     requires ready { Each (Takes F.Fn task.now) items.old }
-    ensures { Both (Leaves F.Fn task.now) items.old items.new }
+    ensures { AllPaired (Leaves F.Fn task.now) items.old items.new }
 {
     if !items.is_empty() {
         run_one(task, &mut items[0]);
@@ -33,7 +33,7 @@ pub(crate) fn run_all<T: Send, F: Fn(&mut T) + Sync, R: Threads + Sync>(
     items: &mut [T],
 )
     requires { Each (Takes F.Fn task.now) items.old }
-    ensures { Both (Leaves F.Fn task.now) items.old items.new }
+    ensures { AllPaired (Leaves F.Fn task.now) items.old items.new }
 {
     if items.len() < 2 {
         run_few(task, items);
@@ -54,18 +54,18 @@ fn run_both<T: Send, F: Fn(&mut T) + Sync, R: Threads + Sync>(
     requires some { (0 < length front.old) × (0 < length back.old) }
     requires front { Each (Takes F.Fn task.now) front.old }
     requires back { Each (Takes F.Fn task.now) back.old }
-    ensures front { Both (Leaves F.Fn task.now) front.old front.new }
-    ensures back { Both (Leaves F.Fn task.now) back.old back.new }
+    ensures front { AllPaired (Leaves F.Fn task.now) front.old front.new }
+    ensures back { AllPaired (Leaves F.Fn task.now) back.old back.new }
 {
     let mut left = ||
         requires { IsSync R.row × IsSync F.row × IsSend T.row × (0 < length front.now)
             × Each (Takes F.Fn task.now) front.now }
-        ensures { Both (Leaves F.Fn task.entry.now) front.entry.now front.exit.now }
+        ensures { AllPaired (Leaves F.Fn task.entry.now) front.entry.now front.exit.now }
     { run_all(rt, task, front) };
     let mut right = ||
         requires { IsSync R.row × IsSync F.row × IsSend T.row × (0 < length back.now)
             × Each (Takes F.Fn task.now) back.now }
-        ensures { Both (Leaves F.Fn task.entry.now) back.entry.now back.exit.now }
+        ensures { AllPaired (Leaves F.Fn task.entry.now) back.entry.now back.exit.now }
     { run_all(rt, task, back) };
     join_mut(rt, &mut left, &mut right);
 }

@@ -2,16 +2,16 @@
 use Rattle.std.specs.Prelude.{ℕ, ◌≡◌, ◌<◌}
 use Rattle.of_cell.specs.Cells.{request_cell, data_cell, log_count_cell, log_addr_cell, log_value_cell, durable_cells, durable_place, script_place, announce_place, members_place, table_words}
 
-pub data Cell : Type 0 where
-  Current : Cell
-  Request : (caller : ℕ) → Cell
-  DataCell : (addr : ℕ) → Cell
-  LogCount : (caller : ℕ) → Cell
-  LogAddr : (caller entry : ℕ) → Cell
-  LogValue : (caller entry : ℕ) → Cell
+pub data CellName : Type 0 where
+  Current : CellName
+  Request : (caller : ℕ) → CellName
+  DataCell : (addr : ℕ) → CellName
+  LogCount : (caller : ℕ) → CellName
+  LogAddr : (caller entry : ℕ) → CellName
+  LogValue : (caller entry : ℕ) → CellName
 
 -- a cell that the shape has
-abbrev pub IsCell : (callers cells : ℕ) → Cell → Type 0
+abbrev pub IsCell : (callers cells : ℕ) → CellName → Type 0
 IsCell callers cells Current = Unit {0}
 IsCell callers cells (Request caller) = caller < callers
 IsCell callers cells (DataCell addr) = addr < cells
@@ -19,7 +19,7 @@ IsCell callers cells (LogCount caller) = caller < callers
 IsCell callers cells (LogAddr caller entry) = (caller < callers) × (entry < cells)
 IsCell callers cells (LogValue caller entry) = (caller < callers) × (entry < cells)
 
-abbrev pub cell_number : (callers cells : ℕ) → Cell → ℕ
+abbrev pub cell_number : (callers cells : ℕ) → CellName → ℕ
 cell_number callers cells Current = 0
 cell_number callers cells (Request caller) = request_cell caller
 cell_number callers cells (DataCell addr) = data_cell callers addr
@@ -29,38 +29,38 @@ cell_number callers cells (LogValue caller entry) = log_value_cell callers cells
 
 -- no two cells have one number
 abbrev pub CellsDiffer : (callers cells : ℕ) → Type 0
-CellsDiffer callers cells = (c d : Cell) → IsCell callers cells c → IsCell callers cells d → cell_number callers cells c ≡ cell_number callers cells d → c ≡ d
+CellsDiffer callers cells = (c d : CellName) → IsCell callers cells c → IsCell callers cells d → cell_number callers cells c ≡ cell_number callers cells d → c ≡ d
 
 -- the cells' numbers are below the number of cells
 abbrev pub CellsBelow : (callers cells : ℕ) → Type 0
-CellsBelow callers cells = (c : Cell) → IsCell callers cells c → cell_number callers cells c < durable_cells callers cells
+CellsBelow callers cells = (c : CellName) → IsCell callers cells c → cell_number callers cells c < durable_cells callers cells
 
-pub data Word : Type 0 where
-  CellWord : (cell : ℕ) → Word
-  DurableWord : (cell : ℕ) → Word
-  ScriptWord : (caller x : ℕ) → Word
-  Announcement : (caller : ℕ) → Word
-  Members : Word
+pub data WordName : Type 0 where
+  CellWord : (cell : ℕ) → WordName
+  DurableWord : (cell : ℕ) → WordName
+  ScriptWord : (caller x : ℕ) → WordName
+  Announcement : (caller : ℕ) → WordName
+  Members : WordName
 
 -- a word that the shape's table has
-abbrev pub IsWord : (callers instrs cells : ℕ) → Word → Type 0
+abbrev pub IsWord : (callers instrs cells : ℕ) → WordName → Type 0
 IsWord callers instrs cells (CellWord cell) = cell < durable_cells callers cells
 IsWord callers instrs cells (DurableWord cell) = cell < durable_cells callers cells
 IsWord callers instrs cells (ScriptWord caller x) = (caller < callers) × (x < instrs)
 IsWord callers instrs cells (Announcement caller) = caller < callers
 IsWord callers instrs cells Members = Unit {0}
 
-abbrev pub place : (callers instrs cells : ℕ) → Word → ℕ
-place callers instrs cells (CellWord cell) = cell
-place callers instrs cells (DurableWord cell) = durable_place callers cells cell
-place callers instrs cells (ScriptWord caller x) = script_place callers instrs cells caller x
-place callers instrs cells (Announcement caller) = announce_place callers instrs cells caller
-place callers instrs cells Members = members_place callers instrs cells
+abbrev pub word_place : (callers instrs cells : ℕ) → WordName → ℕ
+word_place callers instrs cells (CellWord cell) = cell
+word_place callers instrs cells (DurableWord cell) = durable_place callers cells cell
+word_place callers instrs cells (ScriptWord caller x) = script_place callers instrs cells caller x
+word_place callers instrs cells (Announcement caller) = announce_place callers instrs cells caller
+word_place callers instrs cells Members = members_place callers instrs cells
 
 -- no two words have one place
 abbrev pub PlacesDiffer : (callers instrs cells : ℕ) → Type 0
-PlacesDiffer callers instrs cells = (v w : Word) → IsWord callers instrs cells v → IsWord callers instrs cells w → place callers instrs cells v ≡ place callers instrs cells w → v ≡ w
+PlacesDiffer callers instrs cells = (v w : WordName) → IsWord callers instrs cells v → IsWord callers instrs cells w → word_place callers instrs cells v ≡ word_place callers instrs cells w → v ≡ w
 
 -- the places are below the number of words
 abbrev pub PlacesBelow : (callers instrs cells : ℕ) → Type 0
-PlacesBelow callers instrs cells = (w : Word) → IsWord callers instrs cells w → place callers instrs cells w < table_words callers instrs cells
+PlacesBelow callers instrs cells = (w : WordName) → IsWord callers instrs cells w → word_place callers instrs cells w < table_words callers instrs cells

@@ -1,7 +1,7 @@
 //! What follows from the numbers of cells and places. Nothing here has a body to run: a proof cites the clauses.
 
 ghost use Rattle.std.specs.Prelude.{◌≡◌, ℕ, ◌^◌, ◌<◌, ◌↔◌};
-ghost use Rattle.of_cell.specs.Words.{word, seq, pay, IsEarlier};
+ghost use Rattle.of_cell.specs.Words.{pack, seq_of, payload_of, IsEarlier};
 ghost use Rattle.of_cell.specs.Cells.{durable_cells, table_words, step_bound};
 ghost use Rattle.of_cell.specs.Named.{CellsDiffer, CellsBelow, PlacesDiffer, PlacesBelow};
 
@@ -9,8 +9,8 @@ use crate::Shape;
 
 /// A word is its sequence and its payload, and words are ordered as these pairs are.
 pub fn words_are_pairs()
-    ensures parts { (s p : ℕ) → p < 2 ^ 32 → (seq (word s p) ≡ s) × (pay (word s p) ≡ p) }
-    ensures whole { (w : ℕ) → word (seq w) (pay w) ≡ w }
+    ensures parts { (s p : ℕ) → p < 2 ^ 32 → (seq_of (pack s p) ≡ s) × (payload_of (pack s p) ≡ p) }
+    ensures whole { (w : ℕ) → pack (seq_of w) (payload_of w) ≡ w }
     ensures order { (v w : ℕ) → (v < w) ↔ IsEarlier v w }
 {}
 

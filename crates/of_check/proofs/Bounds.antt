@@ -7,21 +7,21 @@ use Rattle.std.proofs.lemmas.List.Elements.{recursion_from_All}
 use Rattle.std.proofs.lemmas.List.Sums.{sum_by-cons, sum_by-set, get_or-le-sum_by}
 use Rattle.of_script.specs.declared.instr.Instr.{Instr}
 use Rattle.of_plan.specs.Plan.{Plan, IsPlan, scripts_of}
-use Rattle.of_plan.specs.Report.{CallEntry, EndState, done, stopped, spent, CallerLine, Report, Start, empty_start, line_of}
-use Rattle.of_plan.specs.Legal.{HasEnded, IsLegal}
+use Rattle.of_plan.specs.Report.{Entry, EndState, done, stopped, spent, Line, Report, Start, empty_start, caller_line}
+use Rattle.of_plan.specs.Legal.{HasEndState, IsLegal}
 use Rattle.of_check.specs.declared.claims.CallClaim.{CallClaim}
 use Rattle.of_check.specs.Claims.{call_claim}
-use Rattle.of_check.specs.Course.{Course, begun, after, course_end, index_for, AllFollow}
+use Rattle.of_check.specs.Course.{Replay, replay_at_start, after_claimed_call, course_end, index_for, AllFollow}
 use Rattle.of_check.specs.Endings.{left_of}
 use Rattle.of_check.proofs.Own.{still_wide}
 use Rattle.of_check.proofs.Following.{own_facts, since_start, few_sequences}
 use Rattle.of_check.proofs.Reports.{KnowsEach, follow_all, last_is, is_ending}
 
 -- each call raises one count
-counts_are : (p : Plan) (c : Course) (qs : List CallClaim) → p.callers ≤ length c.counts → AllFollow p c qs → (length (course_end p c qs).counts ≡ length c.counts) × (sum (course_end p c qs).counts ≡ sum c.counts + length qs)
+counts_are : (p : Plan) (c : Replay) (qs : List CallClaim) → p.callers ≤ length c.counts → AllFollow p c qs → (length (course_end p c qs).counts ≡ length c.counts) × (sum (course_end p c qs).counts ≡ sum c.counts + length qs)
 counts_are p c [] wide all = (refl, omega arith)
 counts_are p c (q ∷ qs) wide all =
-    let again = counts_are p (after p c q) qs (still_wide c.counts q.caller (index_for c q + 1) p.callers wide) all.1 in
+    let again = counts_are p (after_claimed_call p c q) qs (still_wide c.counts q.caller (index_for c q + 1) p.callers wide) all.1 in
     let below : q.caller < p.callers = all.0.caller in
     let raised = sum_by-set (λ (n : ℕ). n) c.counts q.caller (index_for c q + 1) 0 (omega arith) in
     (omega (arith, again.0, length-set c.counts q.caller (index_for c q + 1)), omega (arith, again.1, raised))
@@ -45,26 +45,26 @@ zero_at zero a = refl
 zero_at (suc n) zero = refl
 zero_at (suc n) (suc a) = zero_at n a
 
-few_calls : (p : Plan) → IsPlan p → (qs : List CallClaim) → AllFollow p (begun (empty_start p)) qs → length qs ≤ 20000
+few_calls : (p : Plan) → IsPlan p → (qs : List CallClaim) → AllFollow p (replay_at_start (empty_start p)) qs → length qs ≤ 20000
 few_calls p plan qs all =
-    let start = begun (empty_start p) in
+    let start = replay_at_start (empty_start p) in
     let width : length start.counts ≡ p.callers = length-replicate {A = ℕ} p.callers 0 in
-    let counts = counts_are p (begun (empty_start p)) qs (omega (arith, width)) all in
-    let upto = sum_upto (course_end p (begun (empty_start p)) qs).counts p.scripts (omega (arith, counts.0, width, plan.each_caller))
+    let counts = counts_are p (replay_at_start (empty_start p)) qs (omega (arith, width)) all in
+    let upto = sum_upto (course_end p (replay_at_start (empty_start p)) qs).counts p.scripts (omega (arith, counts.0, width, plan.each_caller))
     (λ k lt.
-    let facts = own_facts p (begun (empty_start p)) qs k (omega (arith, width)) all in
+    let facts = own_facts p (replay_at_start (empty_start p)) qs k (omega (arith, width)) all in
     let none : get_or (replicate p.callers 0) k 0 ≡ 0 = zero_at p.callers k in
     omega (arith, facts.count, facts.few, none)) in
     omega (arith, counts.1, upto, sum_zeros p.callers, plan.few_scripts)
 
 -- no number of 32 bits is too small for these
-abbrev pub IsSmallCall : CallEntry → Type 0
+abbrev pub IsSmallCall : Entry → Type 0
 IsSmallCall e = (e.seq ≤ 4294967295) × (e.caller ≤ 4294967295)
 
-abbrev pub IsSmallEnd : CallerLine → Type 0
+abbrev pub IsSmallEnd : Line → Type 0
 IsSmallEnd l = (l.answered ≤ 4294967295) × (l.longest ≤ 4294967295)
 
-answered_few : (s : EndState) (answered scripts seq limit : ℕ) → HasEnded s answered scripts seq limit → answered ≤ scripts
+answered_few : (s : EndState) (answered scripts seq limit : ℕ) → HasEndState s answered scripts seq limit → answered ≤ scripts
 answered_few done answered scripts seq limit h = omega (arith, h)
 answered_few stopped answered scripts seq limit h = omega (arith, h)
 answered_few spent answered scripts seq limit h = omega (arith, h.0)
@@ -74,7 +74,7 @@ pub seq_few : (p : Plan) → IsPlan p → (r : Report) → IsLegal p (empty_star
 seq_few p plan r legal =
     let knows : KnowsEach p (empty_start p) = length-replicate {A = ℕ} p.callers 0 in
     let follow = follow_all p (empty_start p) knows r legal in
-    omega (arith, last_is p (empty_start p) knows r legal, few_sequences p 0 (begun (empty_start p)) (map call_claim r.entries) (since_start (empty_start p)) follow, few_calls p plan (map call_claim r.entries) follow)
+    omega (arith, last_is p (empty_start p) knows r legal, few_sequences p 0 (replay_at_start (empty_start p)) (map call_claim r.entries) (since_start (empty_start p)) follow, few_calls p plan (map call_claim r.entries) follow)
 
 module _ (p : Plan) (plan : IsPlan p) (s : Start) (knows : KnowsEach p s) (r : Report) (legal : IsLegal p s r) (range : r.seq ≤ 4294967295) where
   pub small_calls : Each IsSmallCall r.entries
@@ -86,10 +86,10 @@ module _ (p : Plan) (plan : IsPlan p) (s : Start) (knows : KnowsEach p s) (r : R
   pub small_ends : Each IsSmallEnd r.callers
   small_ends = recursion_from_All IsSmallEnd r.callers (λ k d lt. small k d lt)
     where
-      small : (k : ℕ) (d : CallerLine) → k < length r.callers → IsSmallEnd (get_or r.callers k d)
+      small : (k : ℕ) (d : Line) → k < length r.callers → IsSmallEnd (get_or r.callers k d)
       small k d lt =
           let below : k < p.callers = omega (arith, lt, legal.open_calls.each_caller) in
           let is = is_ending p s knows r legal k below in
-          let answered = answered_few (line_of r k).state (line_of r k).answered (left_of p s.finished k) r.seq p.limit is.ended in
+          let answered = answered_few (caller_line r k).state (caller_line r k).answered (left_of p s.finished k) r.seq p.limit is.ended in
           subst IsSmallEnd (get_or_default r.callers k (record { state = done; answered = 0; entries = 0; longest = 0 }) d lt)
           (omega (arith, answered, few_scripts p plan k below), omega (arith, is.within.0, plan.few_callers, plan.few_blocks))

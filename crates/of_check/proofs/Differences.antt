@@ -5,12 +5,12 @@ use Rattle.std.proofs.lemmas.Slice.Eq.{bytes_eq-Decides}
 use Rattle.std.specs.List.{join_with_byte}
 use Rattle.std.proofs.lemmas.List.{take_more, take_all, get_or-take, length-take, length-drop}
 use Rattle.std.proofs.lemmas.List.Splits.{join_with_byte-slice_split}
-use Rattle.of_plan.specs.Lines.{lines}
+use Rattle.of_plan.specs.Lines.{text_lines}
 use Rattle.of_plan.proofs.LinesAt.{next_at, count_at_last}
 use Rattle.of_check.specs.Causes.{DifferFirst}
 
 -- texts with the same lines are the same
-lines_text : (a b : List ℕ) → lines a ≡ lines b → a ≡ b
+lines_text : (a b : List ℕ) → text_lines a ≡ text_lines b → a ≡ b
 lines_text a b e = sym (join_with_byte-slice_split 10 a) ∙ ap (join_with_byte 10) e ∙ join_with_byte-slice_split 10 b
 
 below : (ls : List (List ℕ)) (at : ℕ) (line : List ℕ) (rest : List (List ℕ)) → drop at ls ≡ line ∷ rest → at < length ls
@@ -23,33 +23,33 @@ same_more xs ys at line rest others same here there =
     take_more xs at [] (below xs at line rest here) ∙ (λ i. same i ++ line_is i ∷ []) ∙ sym (take_more ys at [] (below ys at line others there))
 
 -- this line differs
-pub differ_here : (one other : List ℕ) (at : ℕ) (x y : List ℕ) (rest others : List (List ℕ)) → take at (lines one) ≡ take at (lines other) → drop at (lines one) ≡ x ∷ rest → drop at (lines other) ≡ y ∷ others → (x ≡ y → ⊥) → DifferFirst one other at
+pub differ_here : (one other : List ℕ) (at : ℕ) (x y : List ℕ) (rest others : List (List ℕ)) → take at (text_lines one) ≡ take at (text_lines other) → drop at (text_lines one) ≡ x ∷ rest → drop at (text_lines other) ≡ y ∷ others → (x ≡ y → ⊥) → DifferFirst one other at
 differ_here one other at x y rest others same here there never = record {
   same = same;
   differ = λ e. never (
-      sym (next_at (lines one) at x rest here) ∙ sym (get_or-take (at + 1) (lines one) at [] (omega arith))
+      sym (next_at (text_lines one) at x rest here) ∙ sym (get_or-take (at + 1) (text_lines one) at [] (omega arith))
       ∙ ap (λ (ls : List (List ℕ)). get_or ls at []) e
-      ∙ get_or-take (at + 1) (lines other) at [] (omega arith) ∙ next_at (lines other) at y others there);
+      ∙ get_or-take (at + 1) (text_lines other) at [] (omega arith) ∙ next_at (text_lines other) at y others there);
 }
 
 -- where one text is at its end, the next line differs
-ends_first : (one other : List ℕ) (at : ℕ) (line : List ℕ) (others : List (List ℕ)) → drop at (lines one) ≡ line ∷ [] → drop at (lines other) ≡ line ∷ others → (one ≡ other → ⊥) → take (at + 1 + 1) (lines one) ≡ take (at + 1 + 1) (lines other) → ⊥
+ends_first : (one other : List ℕ) (at : ℕ) (line : List ℕ) (others : List (List ℕ)) → drop at (text_lines one) ≡ line ∷ [] → drop at (text_lines other) ≡ line ∷ others → (one ≡ other → ⊥) → take (at + 1 + 1) (text_lines one) ≡ take (at + 1 + 1) (text_lines other) → ⊥
 ends_first one other at line [] here there never e =
-    let first = take_all (at + 1 + 1) (lines one) (omega (arith, count_at_last (lines one) at line here)) in
-    let second = take_all (at + 1 + 1) (lines other) (omega (arith, count_at_last (lines other) at line there)) in
+    let first = take_all (at + 1 + 1) (text_lines one) (omega (arith, count_at_last (text_lines one) at line here)) in
+    let second = take_all (at + 1 + 1) (text_lines other) (omega (arith, count_at_last (text_lines other) at line there)) in
     never (lines_text one other (sym first ∙ e ∙ second))
 ends_first one other at line (next ∷ others) here there never e =
-    omega (arith, count_at_last (lines one) at line here, length-drop at (lines other), ap length there, length-take (at + 1 + 1) (lines one), length-take (at + 1 + 1) (lines other), ap length e)
+    omega (arith, count_at_last (text_lines one) at line here, length-drop at (text_lines other), ap length there, length-take (at + 1 + 1) (text_lines one), length-take (at + 1 + 1) (text_lines other), ap length e)
 
-pub one_ends : (one other : List ℕ) (at : ℕ) (line : List ℕ) (others : List (List ℕ)) → take at (lines one) ≡ take at (lines other) → drop at (lines one) ≡ line ∷ [] → drop at (lines other) ≡ line ∷ others → (one ≡ other → ⊥) → DifferFirst one other (at + 1)
+pub one_ends : (one other : List ℕ) (at : ℕ) (line : List ℕ) (others : List (List ℕ)) → take at (text_lines one) ≡ take at (text_lines other) → drop at (text_lines one) ≡ line ∷ [] → drop at (text_lines other) ≡ line ∷ others → (one ≡ other → ⊥) → DifferFirst one other (at + 1)
 one_ends one other at line others same here there never = record {
-  same = same_more (lines one) (lines other) at line [] others same here there;
+  same = same_more (text_lines one) (text_lines other) at line [] others same here there;
   differ = ends_first one other at line others here there never;
 }
 
-pub other_ends : (one other : List ℕ) (at : ℕ) (line : List ℕ) (rest : List (List ℕ)) → take at (lines one) ≡ take at (lines other) → drop at (lines one) ≡ line ∷ rest → drop at (lines other) ≡ line ∷ [] → (one ≡ other → ⊥) → DifferFirst one other (at + 1)
+pub other_ends : (one other : List ℕ) (at : ℕ) (line : List ℕ) (rest : List (List ℕ)) → take at (text_lines one) ≡ take at (text_lines other) → drop at (text_lines one) ≡ line ∷ rest → drop at (text_lines other) ≡ line ∷ [] → (one ≡ other → ⊥) → DifferFirst one other (at + 1)
 other_ends one other at line rest same here there never = record {
-  same = same_more (lines one) (lines other) at line rest [] same here there;
+  same = same_more (text_lines one) (text_lines other) at line rest [] same here there;
   differ = λ e. ends_first other one at line rest there here (λ s. never (sym s)) (sym e);
 }
 

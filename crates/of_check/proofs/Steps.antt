@@ -4,45 +4,45 @@ use Rattle.std.specs.Prelude.{flat_map}
 use Rattle.std.proofs.lemmas.List.{append-nil}
 use Rattle.std.proofs.lemmas.List.Concat.{flat_map-cons}
 use Rattle.of_plan.specs.Plan.{Plan}
-use Rattle.of_plan.specs.Report.{CallEntry, Start}
+use Rattle.of_plan.specs.Report.{Entry, Start}
 use Rattle.of_check.specs.declared.claims.CallClaim.{CallClaim}
-use Rattle.of_check.specs.declared.replay.Replay.{Replay}
-use Rattle.of_check.specs.Course.{Course, begun, index_for, entry_for, entries_from, course_end, Follows, AllFollow, course_of, entries_so_far, Took, TookAll}
+use Rattle.of_check.specs.declared.replay.Replay.{Replay as RustReplay}
+use Rattle.of_check.specs.Course.{Replay, replay_at_start, index_for, entry_for, entries_from, course_end, MayFollow, AllFollow, replay_value, entries_so_far, HasRunCall, HasRunCalls}
 
 -- the claims that are left lead from the replay where all lead from the start
-pub record Comes (p : Plan) (s : Start) (qs : List CallClaim) (r : Replay) (rest : List CallClaim) : Type 0 where
+pub record Comes (p : Plan) (s : Start) (qs : List CallClaim) (r : RustReplay) (rest : List CallClaim) : Type 0 where
   pub wide : length r.counts.items ≡ p.callers
-  pub back : AllFollow p (course_of r) rest → AllFollow p (begun s) qs
-  pub on : AllFollow p (begun s) qs → AllFollow p (course_of r) rest
-  pub course : course_end p (course_of r) rest ≡ course_end p (begun s) qs
-  pub entries : entries_so_far r ++ entries_from p (course_of r) rest ≡ entries_from p (begun s) qs
+  pub back : AllFollow p (replay_value r) rest → AllFollow p (replay_at_start s) qs
+  pub on : AllFollow p (replay_at_start s) qs → AllFollow p (replay_value r) rest
+  pub course : course_end p (replay_value r) rest ≡ course_end p (replay_at_start s) qs
+  pub entries : entries_so_far r ++ entries_from p (replay_value r) rest ≡ entries_from p (replay_at_start s) qs
 
-pub comes_first : (p : Plan) (s : Start) (qs : List CallClaim) (r : Replay) → length s.finished ≡ p.callers → course_of r ≡ begun s → entries_so_far r ≡ [] → Comes p s qs r qs
+pub comes_first : (p : Plan) (s : Start) (qs : List CallClaim) (r : RustReplay) → length s.finished ≡ p.callers → replay_value r ≡ replay_at_start s → entries_so_far r ≡ [] → Comes p s qs r qs
 comes_first p s qs r knows same none = record {
-  wide = ap (λ (c : Course). length c.counts) same ∙ knows;
-  back = λ all. subst (λ (c : Course). AllFollow p c qs) same all;
-  on = λ all. subst (λ (c : Course). AllFollow p c qs) (sym same) all;
-  course = ap (λ (c : Course). course_end p c qs) same;
-  entries = ap (λ (es : List CallEntry). es ++ entries_from p (course_of r) qs) none ∙ ap (λ (c : Course). entries_from p c qs) same;
+  wide = ap (λ (c : Replay). length c.counts) same ∙ knows;
+  back = λ all. subst (λ (c : Replay). AllFollow p c qs) same all;
+  on = λ all. subst (λ (c : Replay). AllFollow p c qs) (sym same) all;
+  course = ap (λ (c : Replay). course_end p c qs) same;
+  entries = ap (λ (es : List Entry). es ++ entries_from p (replay_value r) qs) none ∙ ap (λ (c : Replay). entries_from p c qs) same;
 }
 
-pub comes_on : (p : Plan) (s : Start) (qs rest : List CallClaim) (q : CallClaim) (r now : Replay) → Comes p s qs r (q ∷ rest) → Took p r now q → Comes p s qs now rest
+pub comes_on : (p : Plan) (s : Start) (qs rest : List CallClaim) (q : CallClaim) (r now : RustReplay) → Comes p s qs r (q ∷ rest) → HasRunCall p r now q → Comes p s qs now rest
 comes_on p s qs rest q r now comes took = record {
-  wide = ap (λ (c : Course). length c.counts) took.course ∙ length-set r.counts.items q.caller (index_for (course_of r) q + 1) ∙ comes.wide;
-  back = λ all. comes.back (took.follows, subst (λ (c : Course). AllFollow p c rest) took.course all);
-  on = λ all. subst (λ (c : Course). AllFollow p c rest) (sym took.course) (comes.on all).1;
-  course = ap (λ (c : Course). course_end p c rest) took.course ∙ comes.course;
+  wide = ap (λ (c : Replay). length c.counts) took.course ∙ length-set r.counts.items q.caller (index_for (replay_value r) q + 1) ∙ comes.wide;
+  back = λ all. comes.back (took.follows, subst (λ (c : Replay). AllFollow p c rest) took.course all);
+  on = λ all. subst (λ (c : Replay). AllFollow p c rest) (sym took.course) (comes.on all).1;
+  course = ap (λ (c : Replay). course_end p c rest) took.course ∙ comes.course;
   entries =
-      ap (λ (es : List CallEntry). es ++ entries_from p (course_of now) rest) took.entries
-      ∙ append_assoc (entries_so_far r) (entry_for p (course_of r) q ∷ []) (entries_from p (course_of now) rest)
-      ∙ ap (λ (c : Course). entries_so_far r ++ entry_for p (course_of r) q ∷ entries_from p c rest) took.course
+      ap (λ (es : List Entry). es ++ entries_from p (replay_value now) rest) took.entries
+      ∙ append_assoc (entries_so_far r) (entry_for p (replay_value r) q ∷ []) (entries_from p (replay_value now) rest)
+      ∙ ap (λ (c : Replay). entries_so_far r ++ entry_for p (replay_value r) q ∷ entries_from p c rest) took.course
       ∙ comes.entries;
 }
 
-pub comes_stuck : (p : Plan) (s : Start) (qs rest : List CallClaim) (q : CallClaim) (r : Replay) → Comes p s qs r (q ∷ rest) → (Follows p (course_of r) q → ⊥) → AllFollow p (begun s) qs → ⊥
+pub comes_stuck : (p : Plan) (s : Start) (qs rest : List CallClaim) (q : CallClaim) (r : RustReplay) → Comes p s qs r (q ∷ rest) → (MayFollow p (replay_value r) q → ⊥) → AllFollow p (replay_at_start s) qs → ⊥
 comes_stuck p s qs rest q r comes none all = none (comes.on all).0
 
-pub comes_last : (p : Plan) (s : Start) (qs : List CallClaim) (r : Replay) → Comes p s qs r [] → TookAll p s qs r
+pub comes_last : (p : Plan) (s : Start) (qs : List CallClaim) (r : RustReplay) → Comes p s qs r [] → HasRunCalls p s qs r
 comes_last p s qs r comes = record { follow = comes.back tt; course = comes.course; entries = sym (append-nil (entries_so_far r)) ∙ comes.entries }
 
 -- ---- a list that is read piece by piece

@@ -5,7 +5,7 @@ use Rattle.std.specs.Ordering.{nat_cmp}
 use Rattle.std.specs.List.Sorted.{IsStrictlySortedBy}
 use Rattle.std.specs.Map.{keys_of}
 use Rattle.std.proofs.lemmas.List.{ext_get_or}
-use Rattle.of_store.specs.State.{State, IsState, queue}
+use Rattle.of_store.specs.State.{Store, IsState, queue}
 use Rattle.of_report.proofs.Keys.{entries-from_entries}
 
 pub apart : (b r : Bool) (P : Type 0) → r ≡ not b → Decides b P → r ≡ true → P → ⊥
@@ -23,7 +23,7 @@ pub same_entries : (es fs : List (ℕ × ℕ)) (m n : FinMap nat_cmp ℕ) → Is
 same_entries es fs m n one other is are same =
     sym (entries-from_entries es one) ∙ ap (λ (k : FinMap nat_cmp ℕ). entries k) (is ∙ same ∙ sym are) ∙ entries-from_entries fs other
 
-pub same_state : (s t : State) → IsState s → IsState t → s.room ≡ t.room → s.registers ≡ t.registers → s.keys ≡ t.keys → ((q : ℕ) → q < 4 → queue s q ≡ queue t q) → s ≡ t
+pub same_state : (s t : Store) → IsState s → IsState t → s.room ≡ t.room → s.registers ≡ t.registers → s.keys ≡ t.keys → ((q : ℕ) → q < 4 → queue s q ≡ queue t q) → s ≡ t
 same_state s t one other room registers keys each =
     let queues : s.queues ≡ t.queues = ext_get_or [] s.queues t.queues (one.queues ∙ sym other.queues) (λ q lt. each q (omega (arith, lt, one.queues))) in
     λ i. record { registers = registers i; keys = keys i; queues = queues i; room = room i }

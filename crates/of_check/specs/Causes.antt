@@ -2,9 +2,9 @@
 use Rattle.std.specs.Prelude.{◌≡◌, ◌≢◌, ℕ, ◌+◌, ◌<◌, List, length, take, false, All, IsTrue, slice_index_or}
 use Rattle.of_script.specs.Language.{reads_only}
 use Rattle.of_plan.specs.Plan.{Plan, scripts_of}
-use Rattle.of_plan.specs.Lines.{lines}
-use Rattle.of_plan.specs.Report.{Report, CallerLine, Start, empty_start}
-use Rattle.of_plan.specs.Legal.{HasOpenCall, HasEnded, IsWithinBound}
+use Rattle.of_plan.specs.Lines.{text_lines}
+use Rattle.of_plan.specs.Report.{Report, Line, Start, empty_start}
+use Rattle.of_plan.specs.Legal.{HasOpenCall, HasEndState, IsWithinBound}
 use Rattle.of_report.specs.ReportText.{report_text}
 use Rattle.of_check.specs.declared.claims.CallClaim.{CallClaim}
 use Rattle.of_check.specs.declared.claims.EndClaim.{EndClaim}
@@ -13,18 +13,18 @@ use Rattle.of_check.specs.declared.cause.EntryRule.TheVariants.{NoCaller, NoScri
 use Rattle.of_check.specs.declared.cause.EndRule.{EndRule}
 use Rattle.of_check.specs.declared.cause.EndRule.TheVariants.{Answered, Ending, Steps}
 use Rattle.of_check.specs.declared.cause.Cause.{Cause}
-use Rattle.of_check.specs.declared.cause.Cause.TheVariants.{Callers, Entry, Caller, Line}
-use Rattle.of_check.specs.Claims.{calls_in, ends_in}
-use Rattle.of_check.specs.Course.{Course, begun, index_for, script_for, course_end, FollowsWithin, AllFollow}
+use Rattle.of_check.specs.declared.cause.Cause.TheVariants.{Callers, Entry, Caller, Line as RustLine}
+use Rattle.of_check.specs.Claims.{call_claims_of_text, end_claims_of_text}
+use Rattle.of_check.specs.Course.{Replay, replay_at_start, index_for, script_for, course_end, MayFollowWithin, AllFollow}
 use Rattle.of_check.specs.Endings.{left_of, IsEnding, claimed_line_at}
 use Rattle.of_check.specs.Verdict.{IsClaimed}
 
 -- the claimed call breaks this rule, and none before it
-abbrev pub BreaksEntry : EntryRule → Plan → Course → CallClaim → Type 0
+abbrev pub BreaksEntry : EntryRule → Plan → Replay → CallClaim → Type 0
 BreaksEntry NoCaller p c q = q.caller < p.callers → ⊥
 BreaksEntry NoScript p c q = (q.caller < p.callers) × (index_for c q < length (scripts_of p q.caller) → ⊥)
-BreaksEntry Place p c q = (q.caller < p.callers) × (index_for c q < length (scripts_of p q.caller)) × (FollowsWithin c.last.announced q.announced c.last q → ⊥)
-BreaksEntry Writes p c q = (q.caller < p.callers) × (index_for c q < length (scripts_of p q.caller)) × FollowsWithin c.last.announced q.announced c.last q × (q.announced ≡ false) × (All (λ i. IsTrue (reads_only i)) (script_for p c q) → ⊥)
+BreaksEntry Place p c q = (q.caller < p.callers) × (index_for c q < length (scripts_of p q.caller)) × (MayFollowWithin c.last.announced q.announced c.last q → ⊥)
+BreaksEntry Writes p c q = (q.caller < p.callers) × (index_for c q < length (scripts_of p q.caller)) × MayFollowWithin c.last.announced q.announced c.last q × (q.announced ≡ false) × (All (λ i. IsTrue (reads_only i)) (script_for p c q) → ⊥)
 
 -- the claim of an entry
 abbrev pub call_at : List CallClaim → ℕ → CallClaim
@@ -33,14 +33,14 @@ call_at calls index = slice_index_or calls index (record { seq = 0; caller = 0; 
 -- the claimed calls before this one may come one after another, and this one breaks the rule
 pub record BreaksAt (p : Plan) (s : Start) (calls : List CallClaim) (index : ℕ) (rule : EntryRule) : Type 0 where
   pub there : index < length calls
-  pub before : AllFollow p (begun s) (take index calls)
-  pub breaks : BreaksEntry rule p (course_end p (begun s) (take index calls)) (call_at calls index)
+  pub before : AllFollow p (replay_at_start s) (take index calls)
+  pub breaks : BreaksEntry rule p (course_end p (replay_at_start s) (take index calls)) (call_at calls index)
 
 -- the line of a caller that had so many scripts to do breaks this rule, and none before it
-abbrev pub BreaksEnd : EndRule → Plan → (scripts seq : ℕ) → CallerLine → Type 0
+abbrev pub BreaksEnd : EndRule → Plan → (scripts seq : ℕ) → Line → Type 0
 BreaksEnd Answered p scripts seq l = HasOpenCall l.state l.answered l.entries → ⊥
-BreaksEnd Ending p scripts seq l = HasOpenCall l.state l.answered l.entries × (HasEnded l.state l.answered scripts seq p.limit → ⊥)
-BreaksEnd Steps p scripts seq l = HasOpenCall l.state l.answered l.entries × HasEnded l.state l.answered scripts seq p.limit × (IsWithinBound p l → ⊥)
+BreaksEnd Ending p scripts seq l = HasOpenCall l.state l.answered l.entries × (HasEndState l.state l.answered scripts seq p.limit → ⊥)
+BreaksEnd Steps p scripts seq l = HasOpenCall l.state l.answered l.entries × HasEndState l.state l.answered scripts seq p.limit × (IsWithinBound p l → ⊥)
 
 -- the callers before this one may end so, and this one breaks the rule
 pub record BreaksFirst (p : Plan) (done : List ℕ) (seq : ℕ) (counts : List ℕ) (ends : List EndClaim) (caller : ℕ) (rule : EndRule) : Type 0 where
@@ -50,27 +50,27 @@ pub record BreaksFirst (p : Plan) (done : List ℕ) (seq : ℕ) (counts : List �
 
 -- all claimed calls may come one after another, and behind them this caller breaks the rule
 pub record BreaksCaller (p : Plan) (s : Start) (calls : List CallClaim) (ends : List EndClaim) (caller : ℕ) (rule : EndRule) : Type 0 where
-  pub all : AllFollow p (begun s) calls
-  pub first : (let c = course_end p (begun s) calls in BreaksFirst p s.finished c.last.seq c.counts ends caller rule)
+  pub all : AllFollow p (replay_at_start s) calls
+  pub first : (let c = course_end p (replay_at_start s) calls in BreaksFirst p s.finished c.last.seq c.counts ends caller rule)
 
 -- the first line at which two texts differ is the one with so many lines above it
 pub record DifferFirst (one other : List ℕ) (above : ℕ) : Type 0 where
-  pub same : take above (lines one) ≡ take above (lines other)
-  pub differ : take (above + 1) (lines one) ≢ take (above + 1) (lines other)
+  pub same : take above (text_lines one) ≡ take above (text_lines other)
+  pub differ : take (above + 1) (text_lines one) ≢ take (above + 1) (text_lines other)
 
 -- the text differs there from that of the one legal report that its claims can be
 pub record DiffersAt (p : Plan) (s : Start) (text wanted : List ℕ) (above : ℕ) : Type 0 where
   pub made : Report
-  pub claimed : IsClaimed p s (calls_in text) (ends_in text) made
+  pub claimed : IsClaimed p s (call_claims_of_text text) (end_claims_of_text text) made
   pub text_of : wanted ≡ report_text made
   pub line : DifferFirst text wanted above
 
 -- why the text is no legal report of the plan from the start
 abbrev pub IsCauseFrom : Plan → Start → (text : List ℕ) → Cause → Type 0
-IsCauseFrom p s text (Callers count) = (length (ends_in text) ≡ count) × (count ≢ p.callers)
-IsCauseFrom p s text (Entry index rule) = BreaksAt p s (calls_in text) index rule
-IsCauseFrom p s text (Caller caller rule) = BreaksCaller p s (calls_in text) (ends_in text) caller rule
-IsCauseFrom p s text (Line above wanted) = DiffersAt p s text wanted.items above
+IsCauseFrom p s text (Callers count) = (length (end_claims_of_text text) ≡ count) × (count ≢ p.callers)
+IsCauseFrom p s text (Entry index rule) = BreaksAt p s (call_claims_of_text text) index rule
+IsCauseFrom p s text (Caller caller rule) = BreaksCaller p s (call_claims_of_text text) (end_claims_of_text text) caller rule
+IsCauseFrom p s text (RustLine above wanted) = DiffersAt p s text wanted.items above
 
 -- and from the empty start
 abbrev pub IsCause : Plan → (text : List ℕ) → Cause → Type 0

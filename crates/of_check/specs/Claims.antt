@@ -3,35 +3,35 @@
 use Rattle.std.specs.Prelude.{ℕ, Bool, true, false, List, [], ◌∷◌, if◌then◌else◌, flat_map, codes, Option, Some, None}
 use Rattle.std.specs.Str.{bytes_eq}
 use Rattle.std.specs.Option.{option_to_list}
-use Rattle.of_script.specs.Text.{words}
-use Rattle.of_script.specs.Reading.{◌>>=◌, number_at}
-use Rattle.of_plan.specs.Lines.{lines}
+use Rattle.of_script.specs.Text.{text_words}
+use Rattle.of_script.specs.Reading.{◌>>=◌, next_number}
+use Rattle.of_plan.specs.Lines.{text_lines}
 use Rattle.of_report.specs.declared.report.EndState.{EndState as TheState}
 use Rattle.of_report.specs.declared.report.EndState.TheVariants.{Done, Stopped, Spent}
-use Rattle.of_plan.specs.Report.{CallEntry, EndState, done, stopped, spent, CallerLine}
+use Rattle.of_plan.specs.Report.{Entry, EndState, done, stopped, spent, Line}
 use Rattle.of_check.specs.declared.claims.CallClaim.{CallClaim}
 use Rattle.of_check.specs.declared.claims.EndClaim.{EndClaim}
 
 -- what an entry says beyond the plan
-abbrev pub call_claim : CallEntry → CallClaim
+abbrev pub call_claim : Entry → CallClaim
 call_claim e = record { seq = e.seq; caller = e.caller; announced = e.announced }
 
 -- how a caller ended, as the code has it
-abbrev pub told_state : EndState → TheState
-told_state done = Done
-told_state stopped = Stopped
-told_state spent = Spent
+abbrev pub code_end_state : EndState → TheState
+code_end_state done = Done
+code_end_state stopped = Stopped
+code_end_state spent = Spent
 
 -- what a line says beyond the entries
-abbrev pub end_claim : CallerLine → EndClaim
-end_claim l = record { state = told_state l.state; answered = l.answered; longest = l.longest }
+abbrev pub end_claim : Line → EndClaim
+end_claim l = record { state = code_end_state l.state; answered = l.answered; longest = l.longest }
 
 -- ---- reading
 
 -- the first word, and the others
-abbrev pub word_at : List (List ℕ) → Option (List ℕ × List (List ℕ))
-word_at [] = None
-word_at (w ∷ ws) = Some (w, ws)
+abbrev pub first_word : List (List ℕ) → Option (List ℕ × List (List ℕ))
+first_word [] = None
+first_word (w ∷ ws) = Some (w, ws)
 
 -- whether a call was announced, by the word of its kind
 abbrev pub kind_named : List ℕ → Option Bool
@@ -51,10 +51,10 @@ state_named name =
 -- the words behind `entry`: sequence, caller, index and kind
 abbrev pub call_in : List (List ℕ) → Option CallClaim
 call_in ws = do
-  seq ← number_at 4294967295 ws
-  caller ← number_at 4294967295 seq.1
-  index ← word_at caller.1
-  kind ← word_at index.1
+  seq ← next_number 4294967295 ws
+  caller ← next_number 4294967295 seq.1
+  index ← first_word caller.1
+  kind ← first_word index.1
   announced ← kind_named kind.0
   Some (record { seq = seq.0; caller = caller.0; announced = announced })
 
@@ -62,36 +62,36 @@ call_in ws = do
 -- of its longest call
 abbrev pub end_in : List (List ℕ) → Option EndClaim
 end_in ws = do
-  caller ← word_at ws
-  state ← word_at caller.1
+  caller ← first_word ws
+  state ← first_word caller.1
   named ← state_named state.0
-  answered ← number_at 4294967295 state.1
-  entries ← word_at answered.1
-  longest ← number_at 4294967295 entries.1
+  answered ← next_number 4294967295 state.1
+  entries ← first_word answered.1
+  longest ← next_number 4294967295 entries.1
   Some (record { state = named; answered = answered.0; longest = longest.0 })
 
 -- what the words of a line claim, where they are an entry's
 abbrev pub call_of_line : List (List ℕ) → Option CallClaim
 call_of_line ws = do
-  name ← word_at ws
+  name ← first_word ws
   if bytes_eq name.0 (codes "entry") then call_in name.1 else None
 
 -- what the words of a line claim, where they are a caller's
 abbrev pub end_of_line : List (List ℕ) → Option EndClaim
 end_of_line ws = do
-  name ← word_at ws
+  name ← first_word ws
   if bytes_eq name.0 (codes "caller") then end_in name.1 else None
 
 -- the claims of a line, one or none
-abbrev pub calls_of : List ℕ → List CallClaim
-calls_of line = option_to_list (call_of_line (words line))
+abbrev pub call_claims_of_line : List ℕ → List CallClaim
+call_claims_of_line line = option_to_list (call_of_line (text_words line))
 
-abbrev pub ends_of : List ℕ → List EndClaim
-ends_of line = option_to_list (end_of_line (words line))
+abbrev pub end_claims_of_line : List ℕ → List EndClaim
+end_claims_of_line line = option_to_list (end_of_line (text_words line))
 
 -- the claims of a text, line by line
-abbrev pub calls_in : List ℕ → List CallClaim
-calls_in text = flat_map calls_of (lines text)
+abbrev pub call_claims_of_text : List ℕ → List CallClaim
+call_claims_of_text text = flat_map call_claims_of_line (text_lines text)
 
-abbrev pub ends_in : List ℕ → List EndClaim
-ends_in text = flat_map ends_of (lines text)
+abbrev pub end_claims_of_text : List ℕ → List EndClaim
+end_claims_of_text text = flat_map end_claims_of_line (text_lines text)

@@ -2,16 +2,16 @@
 use Rattle.std.specs.Prelude.{◌≡◌, ℕ, ◌-◌, ◌<◌, List, length, map, slice_index, slice_index_or}
 use Rattle.std.specs.List.{range_with_len}
 use Rattle.of_plan.specs.Plan.{Plan, scripts_of}
-use Rattle.of_plan.specs.Report.{CallerLine}
-use Rattle.of_plan.specs.Legal.{HasOpenCall, HasEnded, IsWithinBound}
+use Rattle.of_plan.specs.Report.{Line}
+use Rattle.of_plan.specs.Legal.{HasOpenCall, HasEndState, IsWithinBound}
 use Rattle.of_report.specs.declared.report.EndState.TheVariants.{Done}
-use Rattle.of_report.specs.Report.{state_of}
+use Rattle.of_report.specs.Report.{end_state_value}
 use Rattle.of_check.specs.declared.claims.EndClaim.{EndClaim}
 
 -- the line of a caller with so many entries
-abbrev pub claimed_line : ℕ → EndClaim → CallerLine
+abbrev pub claimed_line : ℕ → EndClaim → Line
 claimed_line entries e = record {
-  state = state_of e.state;
+  state = end_state_value e.state;
   answered = e.answered;
   entries = entries;
   longest = e.longest;
@@ -22,9 +22,9 @@ abbrev pub left_of : Plan → (done : List ℕ) → ℕ → ℕ
 left_of p done c = length (scripts_of p c) - slice_index done c
 
 -- a caller that had so many scripts to do may end so, at the last sequence
-pub record IsEnding (p : Plan) (scripts seq : ℕ) (l : CallerLine) : Type 0 where
+pub record IsEnding (p : Plan) (scripts seq : ℕ) (l : Line) : Type 0 where
   pub open_call : HasOpenCall l.state l.answered l.entries
-  pub ended : HasEnded l.state l.answered scripts seq p.limit
+  pub ended : HasEndState l.state l.answered scripts seq p.limit
   pub within : IsWithinBound p l
 
 -- the claim of a caller
@@ -32,7 +32,7 @@ abbrev pub end_at : List EndClaim → ℕ → EndClaim
 end_at ends c = slice_index_or ends c (record { state = Done; answered = 0; longest = 0 })
 
 -- the line of a caller, of whose scripts so many were done at the start and so many are done now
-abbrev pub claimed_line_at : (done counts : List ℕ) → List EndClaim → ℕ → CallerLine
+abbrev pub claimed_line_at : (done counts : List ℕ) → List EndClaim → ℕ → Line
 claimed_line_at done counts ends c =
     claimed_line (slice_index counts c - slice_index done c) (end_at ends c)
 
@@ -42,10 +42,10 @@ pub record AreEndings (p : Plan) (done : List ℕ) (seq : ℕ) (counts : List �
   pub each : (c : ℕ) → c < p.callers → IsEnding p (left_of p done c) seq (claimed_line_at done counts ends c)
 
 -- the lines of all callers
-abbrev pub claimed_lines : Plan → (done counts : List ℕ) → List EndClaim → List CallerLine
+abbrev pub claimed_lines : Plan → (done counts : List ℕ) → List EndClaim → List Line
 claimed_lines p done counts ends = map (claimed_line_at done counts ends) (range_with_len 0 p.callers)
 
 -- these are the lines, and each caller may end so
-pub record AreLines (p : Plan) (done : List ℕ) (seq : ℕ) (counts : List ℕ) (ends : List EndClaim) (lines : List CallerLine) : Type 0 where
+pub record AreLines (p : Plan) (done : List ℕ) (seq : ℕ) (counts : List ℕ) (ends : List EndClaim) (lines : List Line) : Type 0 where
   pub endings : AreEndings p done seq counts ends
   pub are : lines ≡ claimed_lines p done counts ends

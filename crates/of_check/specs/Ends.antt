@@ -1,14 +1,14 @@
 -- Whether an image is where a report ends.
 use Rattle.std.specs.Prelude.{◌≡◌, ◌≢◌, ℕ, ◌+◌, ◌<◌, List, [], ◌∷◌, if◌then◌else◌}
 use Rattle.of_plan.specs.Plan.{Plan}
-use Rattle.of_plan.specs.Report.{CallEntry, Report, Start, entries_of, finished_of}
-use Rattle.of_report.specs.Image.{Image, ticket_in}
+use Rattle.of_plan.specs.Report.{Entry, Report, Start, entries_of, finished_of}
+use Rattle.of_report.specs.Image.{Image, image_ticket}
 use Rattle.of_check.specs.declared.ends.LeftRule.{LeftRule}
 use Rattle.of_check.specs.declared.ends.LeftRule.TheVariants.{Callers, Blocks, Sequence, Ticket, Store}
 
 -- the ticket that a caller has behind these entries of it, where it had this one before: it counts
 -- up to its last announced entry. A read that wasn't announced leaves no ticket
-abbrev pub ticket_behind : (before : ℕ) → List CallEntry → ℕ
+abbrev pub ticket_behind : (before : ℕ) → List Entry → ℕ
 ticket_behind before [] = before
 ticket_behind before (e ∷ es) = ticket_behind (if e.announced then e.index + 1 else before) es
 
@@ -18,7 +18,7 @@ ticket_after s r c = ticket_behind (finished_of s c) (entries_of r c)
 
 -- the ticket of a caller in the image is that behind the report
 abbrev pub HasTicket : Start → Report → Image → (caller : ℕ) → Type 0
-HasTicket s r i c = ticket_in i c ≡ ticket_after s r c
+HasTicket s r i c = image_ticket i c ≡ ticket_after s r c
 
 -- the image has the plan's callers and blocks, and it is where the report ends: its sequence, its
 -- tickets and its store

@@ -1,11 +1,11 @@
 -- Where a report begins.
 use Rattle.std.specs.Prelude.{ℕ, List}
-use Rattle.of_store.specs.State.{State}
+use Rattle.of_store.specs.State.{Store}
 use Rattle.of_plan.specs.Report.{Start}
 use Rattle.of_check.specs.declared.start.Start.{Start as TheStart}
 
 -- the start at this sequence and this store, where so many scripts of each caller are done
-abbrev pub start_at : (seq : ℕ) (done : List ℕ) (store : State) → Start
+abbrev pub start_at : (seq : ℕ) (done : List ℕ) (store : Store) → Start
 start_at seq done store = record { store = store; seq = seq; finished = done }
 
 -- the start that the code has

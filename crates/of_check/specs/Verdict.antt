@@ -43,15 +43,15 @@ IsVerdictFrom p s text Legal = IsLegalFrom p s text
 IsVerdictFrom p s text Illegal = IsLegalFrom p s text → ⊥
 
 -- the report makes these claims
-pub record Makes (r : Report) (calls : List CallClaim) (ends : List EndClaim) : Type 0 where
+pub record MakesClaims (r : Report) (calls : List CallClaim) (ends : List EndClaim) : Type 0 where
   pub of_entries : map call_claim r.entries ≡ calls
   pub of_callers : map end_claim r.callers ≡ ends
 
 -- no legal report makes these claims
-abbrev pub NoneMakes : Plan → Start → List CallClaim → List EndClaim → Type 0
-NoneMakes p s calls ends = (r : Report) → IsLegal p s r → Makes r calls ends → ⊥
+abbrev pub NoLegalReportMakes : Plan → Start → List CallClaim → List EndClaim → Type 0
+NoLegalReportMakes p s calls ends = (r : Report) → IsLegal p s r → MakesClaims r calls ends → ⊥
 
 -- a legal report, and the only one that can make these claims
 pub record IsClaimed (p : Plan) (s : Start) (calls : List CallClaim) (ends : List EndClaim) (made : Report) : Type 0 where
   pub legal : IsLegal p s made
-  pub only : (r : Report) → IsLegal p s r → Makes r calls ends → made ≡ r
+  pub only : (r : Report) → IsLegal p s r → MakesClaims r calls ends → made ≡ r

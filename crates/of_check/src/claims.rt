@@ -1,7 +1,7 @@
 //! What the lines of a text claim of a report; a line that can't be read claims nothing.
 
 ghost use Rattle.std.specs.Prelude.{◌≡◌, IfOk};
-ghost use Rattle.of_script.specs.Text.{words};
+ghost use Rattle.of_script.specs.Text.{text_words};
 ghost use Rattle.of_check.specs.Claims as claimed;
 
 use of_report::EndState;
@@ -62,7 +62,7 @@ fn state_named(name: &[u8]) -> Option<EndState>
 
 // The claim in the words behind `entry`.
 fn call_in(bytes: &[u8]) -> Option<CallClaim>
-    ensures { result ≡ claimed.call_in (words bytes.now) }
+    ensures { result ≡ claimed.call_in (text_words bytes.now) }
 {
     let (seq, rest) = next_number(bytes, u32::MAX)?;
     let (caller, rest) = next_number(rest, u32::MAX)?;
@@ -78,7 +78,7 @@ fn call_in(bytes: &[u8]) -> Option<CallClaim>
 
 // The claim in the words behind `caller`.
 fn end_in(bytes: &[u8]) -> Option<EndClaim>
-    ensures { result ≡ claimed.end_in (words bytes.now) }
+    ensures { result ≡ claimed.end_in (text_words bytes.now) }
 {
     let (_, rest) = word(bytes)?;
     let (state, rest) = word(rest)?;
@@ -95,7 +95,7 @@ fn end_in(bytes: &[u8]) -> Option<EndClaim>
 
 // What a line claims, where it is an entry's.
 fn call_of_line(line: &[u8]) -> Option<CallClaim>
-    ensures { result ≡ claimed.call_of_line (words line.now) }
+    ensures { result ≡ claimed.call_of_line (text_words line.now) }
 {
     let (name, rest) = word(line)?;
     if name != b"entry".as_slice() {
@@ -106,7 +106,7 @@ fn call_of_line(line: &[u8]) -> Option<CallClaim>
 
 // What a line claims, where it is a caller's.
 fn end_of_line(line: &[u8]) -> Option<EndClaim>
-    ensures { result ≡ claimed.end_of_line (words line.now) }
+    ensures { result ≡ claimed.end_of_line (text_words line.now) }
 {
     let (name, rest) = word(line)?;
     if name != b"caller".as_slice() {
@@ -117,13 +117,13 @@ fn end_of_line(line: &[u8]) -> Option<EndClaim>
 
 impl Claims {
     ghost use Rattle.std.specs.Prelude.{◌≡◌, ◌++◌, OnOk};
-    ghost use Rattle.of_check.specs.Claims.{calls_of, ends_of, calls_in, ends_in};
+    ghost use Rattle.of_check.specs.Claims.{call_claims_of_line, end_claims_of_line, call_claims_of_text, end_claims_of_text};
 
     // Adds what a line claims. The error is want of memory.
     fn add(&mut self, line: &[u8]) -> Result<(), AllocError>
         ensures calls { OnOk result
-            (self.new.calls.items ≡ self.old.calls.items ++ calls_of line.now) }
-        ensures ends { OnOk result (self.new.ends.items ≡ self.old.ends.items ++ ends_of line.now) }
+            (self.new.calls.items ≡ self.old.calls.items ++ call_claims_of_line line.now) }
+        ensures ends { OnOk result (self.new.ends.items ≡ self.old.ends.items ++ end_claims_of_line line.now) }
     {
         if let Some(call) = call_of_line(line) {
             self.calls.push(call)?;
@@ -136,8 +136,8 @@ impl Claims {
 
     /// What a text claims. The error is want of memory.
     pub(crate) fn read(alloc: Global, text: &[u8]) -> Result<Claims, AllocError>
-        ensures calls { IfOk result (λ claims. claims.calls.items ≡ calls_in text.now) }
-        ensures ends { IfOk result (λ claims. claims.ends.items ≡ ends_in text.now) }
+        ensures calls { IfOk result (λ claims. claims.calls.items ≡ call_claims_of_text text.now) }
+        ensures ends { IfOk result (λ claims. claims.ends.items ≡ end_claims_of_text text.now) }
     {
         let mut claims = Claims {
             calls: Vec::new(alloc),

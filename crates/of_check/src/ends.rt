@@ -5,8 +5,8 @@ ghost use Rattle.std.specs.BTreeMap.{IsOrdered};
 ghost use Rattle.std.specs.Ordering.{nat_cmp};
 ghost use Rattle.of_script.specs.declared.instr.TheConstants.{MOST_INSTRS};
 ghost use Rattle.of_plan.specs.Report.{Start as PlainStart};
-ghost use Rattle.of_report.specs.Report.{entry_of, report_of};
-ghost use Rattle.of_report.specs.Image.{IsImage, image_of};
+ghost use Rattle.of_report.specs.Report.{entry_value, report_value};
+ghost use Rattle.of_report.specs.Image.{IsImage, image_value};
 ghost use Rattle.of_check.specs.Ends.{ticket_behind, HasTicket, BreaksTicket, EndsAt, BreaksLeft};
 
 use of_plan::Plan;
@@ -34,7 +34,7 @@ pub enum LeftRule {
 // The ticket of a caller behind these entries, where it had this one before.
 fn ticket_behind(before: u32, entries: &[Entry], caller: u32) -> u64
     ensures { result ≡ ticket_behind before
-        (filter (λ e. e.caller == caller) (map entry_of entries.now)) }
+        (filter (λ e. e.caller == caller) (map entry_value entries.now)) }
 {
     let mut ticket = u64::from(before);
     for entry in entries {
@@ -79,12 +79,12 @@ fn same_store(one: &Store, other: &Store) -> bool
 // The first caller whose ticket is not the one behind the report; None where all are.
 fn wrong_ticket(plan: &Plan, done: &[u32], report: &Report, image: &Image) -> Option<u32>
     requires done { length done.now ≡ plan.now.callers }
-    requires image { IsImage MOST_INSTRS (image_of image.now) }
+    requires image { IsImage MOST_INSTRS (image_value image.now) }
     requires callers { image.now.callers ≡ plan.now.callers }
     ensures { (s : PlainStart) → s.finished ≡ done.now → MatchOption result
         ((c : ℕ) → c < plan.now.callers
-        → HasTicket s (report_of report.now) (image_of image.now) c)
-        (λ c. BreaksTicket plan.now s (report_of report.now) (image_of image.now) c) }
+        → HasTicket s (report_value report.now) (image_value image.now) c)
+        (λ c. BreaksTicket plan.now s (report_value report.now) (image_value image.now) c) }
 {
     for caller in 0..plan.callers() {
         let ticket = ticket_behind(done[caller as usize], &report.entries, caller);
@@ -99,10 +99,10 @@ fn wrong_ticket(plan: &Plan, done: &[u32], report: &Report, image: &Image) -> Op
 /// of each caller are done; nothing exactly where the image is the report's end.
 pub fn why_left(plan: &Plan, done: &[u32], report: &Report, image: &Image) -> Option<LeftRule>
     requires done { length done.now ≡ plan.now.callers }
-    requires image { IsImage MOST_INSTRS (image_of image.now) }
+    requires image { IsImage MOST_INSTRS (image_value image.now) }
     ensures { (s : PlainStart) → s.finished ≡ done.now → MatchOption result
-        (EndsAt plan.now s (report_of report.now) (image_of image.now))
-        (BreaksLeft plan.now s (report_of report.now) (image_of image.now)) }
+        (EndsAt plan.now s (report_value report.now) (image_value image.now))
+        (BreaksLeft plan.now s (report_value report.now) (image_value image.now)) }
 {
     if image.callers != plan.callers() {
         return Some(LeftRule::Callers);

@@ -3,7 +3,7 @@
 ghost use Rattle.std.specs.Prelude.{◌≡◌, ◌↔◌, [], IsTrue, length, IfOk, MatchOption};
 ghost use Rattle.std.specs.Bool.{MatchBool};
 ghost use Rattle.of_check.specs.Starts.{start_of};
-ghost use Rattle.of_check.specs.Course.{FollowsWithin, Follows, AllFollow, Took, TookAll, begun, course_of, entries_so_far};
+ghost use Rattle.of_check.specs.Course.{MayFollowWithin, MayFollow, AllFollow, HasRunCall, HasRunCalls, replay_at_start, replay_value, entries_so_far};
 
 use crate::claims::CallClaim;
 use crate::start::Start;
@@ -24,7 +24,7 @@ pub(crate) struct Replay {
 
 // Whether a call may stand behind the last one.
 pub(crate) fn follows(last: CallClaim, next: CallClaim) -> bool
-    ensures { IsTrue result ↔ FollowsWithin last.announced next.announced last next }
+    ensures { IsTrue result ↔ MayFollowWithin last.announced next.announced last next }
 {
     let same = next.seq == last.seq;
     let one_more = u64::from(next.seq) == u64::from(last.seq) + 1;
@@ -39,7 +39,7 @@ pub(crate) fn follows(last: CallClaim, next: CallClaim) -> bool
 impl Replay {
     // No call has run since the start.
     pub(crate) fn new(alloc: Global, start: Start) -> Replay
-        ensures course { course_of result ≡ begun (start_of start) }
+        ensures course { replay_value result ≡ replay_at_start (start_of start) }
         ensures entries { entries_so_far result ≡ [] }
     {
         let Start {
@@ -64,8 +64,8 @@ impl Replay {
     pub(crate) fn take(&mut self, plan: &Plan, call: CallClaim) -> Result<bool, AllocError>
         requires { length self.old.counts.items ≡ plan.now.callers }
         ensures { IfOk result (λ taken. MatchBool taken
-            (Took plan.now self.old self.new call)
-            (Follows plan.now (course_of self.old) call → ⊥)) }
+            (HasRunCall plan.now self.old self.new call)
+            (MayFollow plan.now (replay_value self.old) call → ⊥)) }
     {
         if call.caller >= plan.callers() {
             return Ok(false);
@@ -105,8 +105,8 @@ impl Replay {
     ) -> Result<Option<Replay>, AllocError>
         requires { length start.finished.items ≡ plan.now.callers }
         ensures { IfOk result (λ found. MatchOption found
-            (AllFollow plan.now (begun (start_of start)) calls.now → ⊥)
-            (TookAll plan.now (start_of start) calls.now)) }
+            (AllFollow plan.now (replay_at_start (start_of start)) calls.now → ⊥)
+            (HasRunCalls plan.now (start_of start) calls.now)) }
     {
         let mut replay = Replay::new(alloc, start);
         for call in calls {

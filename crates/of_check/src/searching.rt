@@ -2,11 +2,11 @@
 
 ghost use Rattle.std.specs.Prelude.{◌≡◌, ◌↔◌, ◌<◌, ℕ, IsTrue, length, IfOk, MatchOption, MatchResult};
 ghost use Rattle.of_plan.specs.Plan.{scripts_of};
-ghost use Rattle.of_plan.specs.Lines.{lines as lines_of};
-ghost use Rattle.of_plan.specs.Legal.{HasOpenCall, HasEnded};
-ghost use Rattle.of_report.specs.Report.{report_of, state_of};
+ghost use Rattle.of_plan.specs.Lines.{text_lines as lines_of};
+ghost use Rattle.of_plan.specs.Legal.{HasOpenCall, HasEndState};
+ghost use Rattle.of_report.specs.Report.{report_value, end_state_value};
 ghost use Rattle.of_check.specs.Starts.{start_of};
-ghost use Rattle.of_check.specs.Course.{Follows, TookAll, course_of};
+ghost use Rattle.of_check.specs.Course.{MayFollow, HasRunCalls, replay_value};
 ghost use Rattle.of_check.specs.Endings.{IsEnding, AreEndings, claimed_line};
 ghost use Rattle.of_check.specs.Verdict.{IsLegalText, IsTextOf};
 ghost use Rattle.of_check.specs.Causes.{BreaksEntry, BreaksAt, BreaksEnd, BreaksFirst, IsCause, DifferFirst, IsCauseFrom};
@@ -25,8 +25,8 @@ use std::alloc::{AllocError, Global};
 // The rule that a claimed call breaks; None where it may come next.
 fn broken_entry(plan: &Plan, replay: &Replay, call: CallClaim) -> Option<EntryRule>
     requires { length replay.now.counts.items ≡ plan.now.callers }
-    ensures { MatchOption result (Follows plan.now (course_of replay.now) call)
-        (λ rule. BreaksEntry rule plan.now (course_of replay.now) call) }
+    ensures { MatchOption result (MayFollow plan.now (replay_value replay.now) call)
+        (λ rule. BreaksEntry rule plan.now (replay_value replay.now) call) }
 {
     if call.caller >= plan.callers() {
         return Some(EntryRule::NoCaller);
@@ -54,7 +54,7 @@ fn replayed(
 ) -> Result<Result<Replay, (usize, EntryRule)>, AllocError>
     requires { length start.finished.items ≡ plan.now.callers }
     ensures { IfOk result (λ found. MatchResult found
-        (TookAll plan.now (start_of start) calls.now)
+        (HasRunCalls plan.now (start_of start) calls.now)
         (λ x. BreaksAt plan.now (start_of start) calls.now x.0 x.1)) }
 {
     let mut replay = Replay::new(alloc, start);
@@ -71,7 +71,7 @@ fn replayed(
 
 // Whether the entries are those of answered calls and an open one.
 fn has_open_call(entries: u32, end: EndClaim) -> bool
-    ensures { IsTrue result ↔ HasOpenCall (state_of end.state) end.answered entries }
+    ensures { IsTrue result ↔ HasOpenCall (end_state_value end.state) end.answered entries }
 {
     match end.state {
         EndState::Done | EndState::Spent => entries == end.answered,
@@ -81,7 +81,7 @@ fn has_open_call(entries: u32, end: EndClaim) -> bool
 
 // Whether a caller with so many scripts may end so.
 fn has_ended(scripts: u32, seq: u32, limit: u32, end: EndClaim) -> bool
-    ensures { IsTrue result ↔ HasEnded (state_of end.state) end.answered scripts seq limit }
+    ensures { IsTrue result ↔ HasEndState (end_state_value end.state) end.answered scripts seq limit }
 {
     match end.state {
         EndState::Done => end.answered == scripts,
@@ -172,7 +172,7 @@ pub fn report_or_cause(
 ) -> Result<Result<Report, Cause>, AllocError>
     requires { length start.finished.items ≡ plan.now.callers }
     ensures { IfOk result (λ found. MatchResult found
-        (λ report. IsTextOf plan.now (start_of start) text.now (report_of report))
+        (λ report. IsTextOf plan.now (start_of start) text.now (report_value report))
         (IsCauseFrom plan.now (start_of start) text.now)) }
 {
     let done = Vec::from_slice(alloc, &start.finished)?;

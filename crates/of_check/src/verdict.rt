@@ -1,10 +1,10 @@
 //! The verdict on a text.
 
 ghost use Rattle.std.specs.Prelude.{◌≡◌, ◌≤◌, length, IfOk, MatchOption};
-ghost use Rattle.of_report.specs.Report.{report_of};
+ghost use Rattle.of_report.specs.Report.{report_value};
 ghost use Rattle.of_check.specs.Starts.{start_of};
 ghost use Rattle.of_check.specs.declared.verdict.Verdict.TheVariants.{Legal, Illegal};
-ghost use Rattle.of_check.specs.Verdict.{greatest_seq, IsVerdict, IsVerdictFrom, IsLegalFrom, IsTextOf, NoneMakes, IsClaimed};
+ghost use Rattle.of_check.specs.Verdict.{greatest_seq, IsVerdict, IsVerdictFrom, IsLegalFrom, IsTextOf, NoLegalReportMakes, IsClaimed};
 
 use crate::claims::Claims;
 use crate::endings::lines;
@@ -39,9 +39,9 @@ fn claimed(
     requires each { length start.finished.items ≡ plan.now.callers }
     requires ends { length claims.now.ends.items ≡ plan.now.callers }
     ensures { IfOk result (λ found. MatchOption found
-        (NoneMakes plan.now (start_of start) claims.now.calls.items claims.now.ends.items)
+        (NoLegalReportMakes plan.now (start_of start) claims.now.calls.items claims.now.ends.items)
         (λ made. IsClaimed plan.now (start_of start) claims.now.calls.items
-        claims.now.ends.items (report_of made))) }
+        claims.now.ends.items (report_value made))) }
 {
     let done = Vec::from_slice(alloc, &start.finished)?;
     let Some(replay) = Replay::all(alloc, plan, start, &claims.calls)? else {
@@ -74,7 +74,7 @@ pub fn read_report(
     requires { length start.finished.items ≡ plan.now.callers }
     ensures { IfOk result (λ found. MatchOption found
         (IsLegalFrom plan.now (start_of start) text.now → ⊥)
-        (λ report. IsTextOf plan.now (start_of start) text.now (report_of report))) }
+        (λ report. IsTextOf plan.now (start_of start) text.now (report_value report))) }
 {
     let claims = Claims::read(alloc, text)?;
     if claims.ends.len() != plan.callers() as usize {

@@ -4,22 +4,22 @@ use Rattle.std.proofs.lemmas.List.{length-map, take_all}
 use Rattle.std.proofs.lemmas.Bool.Decides.{nat_tests}
 use Rattle.of_cell.specs.declared.shape.TheConstants.{MOST_CALLERS, MOST_DATA_CELLS}
 use Rattle.of_core.specs.declared.machine.trying.TheConstants.{MOST_TRIES}
-use Rattle.of_cell.specs.Words.{word, seq, pay}
-use Rattle.of_mem.specs.Meaning.{Meaning, Sound, Agrees, written}
-use Rattle.of_mem.specs.Pairs.{value_at}
-use Rattle.of_mem.specs.Pad.{over}
+use Rattle.of_cell.specs.Words.{pack, seq_of, payload_of}
+use Rattle.of_mem.specs.Meaning.{Meaning, IsSoundMeaning, Agrees, with_writes_in}
+use Rattle.of_mem.specs.Pairs.{value_for}
+use Rattle.of_mem.specs.Pad.{overlaid}
 use Rattle.of_core.specs.declared.place.Place.{Place}
 use Rattle.of_core.specs.declared.place.Place.TheVariants.{TryCurrent, TryRequest, TryCell, LoadCurrent, CopyLog, LookAgain, LoadAnnouncement, LoadTicket, LoadScript, LoadCell, RaiseClosed}
-use Rattle.of_core.specs.Table.{Setup, setup_of, base, ticket_cell, cell}
-use Rattle.of_core.specs.Machine.{Data, no_call, log_words, learned}
-use Rattle.of_core.specs.Steps.{want, want_at, copy_more, FoundBy}
-use Rattle.of_core.specs.History.{state, batch, numbers}
+use Rattle.of_core.specs.Table.{Setup, setup_of, first_operation_cell, ticket_cell, data_word}
+use Rattle.of_core.specs.Machine.{CallState, no_call, log_words, with_cell_known}
+use Rattle.of_core.specs.Steps.{want, want_at, with_log_word_copied, IsFoundBy}
+use Rattle.of_core.specs.History.{state_after, batch_at, numbers_after}
 use Rattle.of_core.specs.Shared.{IsLog}
-use Rattle.of_core.specs.Rounds.{Helper, Past}
-use Rattle.of_core.specs.Scan.{Scans}
-use Rattle.of_core.specs.Transaction.{Mode}
-use Rattle.of_core.specs.Invariant.{At}
-use Rattle.of_core.specs.Meets.{Meets}
+use Rattle.of_core.specs.Rounds.{MayHelp, IsPastOwnTicket}
+use Rattle.of_core.specs.Scan.{IsInScan}
+use Rattle.of_core.specs.Transaction.{AppliesAs}
+use Rattle.of_core.specs.Invariant.{HoldsAtPlace}
+use Rattle.of_core.specs.Meets.{MayTake}
 use Rattle.of_core.proofs.Logs.{room_for}
 use Rattle.of_core.proofs.States.{state_length}
 use Rattle.of_core.proofs.Assembling.{logs_of}
@@ -29,42 +29,42 @@ use Rattle.of_core.proofs.Tries.{watch_more}
 use Rattle.of_core.proofs.Helping.{copied_count}
 
 -- a call's steps are still counted
-pub few_steps : (n m l : ℕ) (M : Meaning) (Lawful : List ℕ → Type 0) (d : Data) (found : ℕ) → n ≤ MOST_CALLERS → m ≤ MOST_DATA_CELLS → Meets (setup_of n m l M) Lawful d found → d.steps + 1 < 18446744073709551616
+pub few_steps : (n m l : ℕ) (M : Meaning) (Lawful : List ℕ → Type 0) (d : CallState) (found : ℕ) → n ≤ MOST_CALLERS → m ≤ MOST_DATA_CELLS → MayTake (setup_of n m l M) Lawful d found → d.steps + 1 < 18446744073709551616
 few_steps n m l M Lawful d found p q h = let w = (h.good.within h.caller d h.in_range h.here).steps in omega arith
 
-module _ (S : Setup) (Lawful : List ℕ → Type 0) (m : Data) (found : ℕ) (h : Meets S Lawful m found) where
-  place_at : (p : Place) → m.place ≡ p → At S h.start h.world.words h.world.batches h.caller m p
-  place_at p q = subst (At S h.start h.world.words h.world.batches h.caller m) q (h.good.core.each h.caller m h.in_range h.here)
+module _ (S : Setup) (Lawful : List ℕ → Type 0) (m : CallState) (found : ℕ) (h : MayTake S Lawful m found) where
+  place_at : (p : Place) → m.place ≡ p → HoldsAtPlace S h.start h.world.words h.world.batches h.caller m p
+  place_at p q = subst (HoldsAtPlace S h.start h.world.words h.world.batches h.caller m) q (h.good.core.each h.caller m h.in_range h.here)
 
-  found_at : (p : Place) → m.place ≡ p → FoundBy (want_at S m p) h.world.words found
+  found_at : (p : Place) → m.place ≡ p → IsFoundBy (want_at S m p) h.world.words found
   unfolding want
-  found_at p q = subst (λ (x : Place). FoundBy (want_at S m x) h.world.words found) q h.finds
+  found_at p q = subst (λ (x : Place). IsFoundBy (want_at S m x) h.world.words found) q h.finds
 
   -- the current-transaction word
-  pub try_current_owner : m.place ≡ TryCurrent → pay found < S.callers
+  pub try_current_owner : m.place ≡ TryCurrent → payload_of found < S.callers
   try_current_owner q = rw (found_at TryCurrent q) h.good.core.shared.counted.owner_in
 
-  pub try_current_upto : m.place ≡ TryCurrent → seq found ≤ S.limit
+  pub try_current_upto : m.place ≡ TryCurrent → seq_of found ≤ S.limit
   try_current_upto q = rw (found_at TryCurrent q) h.good.core.shared.counted.limit
 
   pub tries_few : m.place ≡ TryCurrent → m.tries < MOST_TRIES
   tries_few q = (place_at TryCurrent q).3
 
-  pub load_current_owner : m.place ≡ LoadCurrent → pay found < S.callers
+  pub load_current_owner : m.place ≡ LoadCurrent → payload_of found < S.callers
   load_current_owner q = rw (found_at LoadCurrent q) h.good.core.shared.counted.owner_in
 
-  pub load_current_upto : m.place ≡ LoadCurrent → seq found ≤ S.limit
+  pub load_current_upto : m.place ≡ LoadCurrent → seq_of found ≤ S.limit
   load_current_upto q = rw (found_at LoadCurrent q) h.good.core.shared.counted.limit
 
   pub rounds_few : m.place ≡ LoadCurrent → m.rounds ≤ 2
   rounds_few q = (place_at LoadCurrent q).2.few
 
   -- the operation has words
-  helper_words : Helper S h.start h.world.words h.world.batches h.caller m → 1 ≤ length m.op
+  helper_words : MayHelp S h.start h.world.words h.world.batches h.caller m → 1 ≤ length m.op
   helper_words (inl r) = r.begun.some
   helper_words (inr t) = t.fresh.some
 
-  mode_words : (b : Bool) → b ≡ true → Mode S h.start h.world.words h.world.batches h.caller m b → 1 ≤ length m.op
+  mode_words : (b : Bool) → b ≡ true → AppliesAs S h.start h.world.words h.world.batches h.caller m b → 1 ≤ length m.op
   mode_words true e p = helper_words p.0
   mode_words false e p = absurd (let z : ◌≡◌ {A = Bool} false true = e in cc)
 
@@ -81,64 +81,64 @@ module _ (S : Setup) (Lawful : List ℕ → Type 0) (m : Data) (found : ℕ) (h 
   closed_words q e = mode_words m.helps e (place_at RaiseClosed q).0.mode
 
   -- the log that is helped with
-  pub copy_count : (x : ℕ) → m.place ≡ CopyLog x → get_or (copy_more m found) 0 0 ≤ S.cells
+  pub copy_count : (x : ℕ) → m.place ≡ CopyLog x → get_or (with_log_word_copied m found) 0 0 ≤ S.cells
   copy_count x q = rw (found_at (CopyLog x) q) (copied_count S Lawful h.start h.world h.good.core h.caller m h.in_range m x (place_at (CopyLog x) q).0)
 
-  pub look_log : m.place ≡ LookAgain → found ≡ word m.seq 0 → (es : List (ℕ × ℕ)) × (m.copy ≡ log_words es) × IsLog S es
+  pub look_log : m.place ≡ LookAgain → found ≡ pack m.seq 0 → (es : List (ℕ × ℕ)) × (m.copy ≡ log_words es) × IsLog S es
   look_log q e =
       let f = found_at LookAgain q in
       let a = place_at LookAgain q in
       let b = a.0.copied (sym f ∙ e) in
-      let es : List (ℕ × ℕ) = (batch h.start h.world.batches m.seq).log in
+      let es : List (ℕ × ℕ) = (batch_at h.start h.world.batches m.seq).log in
       let whole : length m.copy ≡ length (log_words es) = a.1 (sym f ∙ e) in
       (es, b.1 ∙ take_all (length m.copy) (log_words es) (omega (arith, whole)), h.good.core.shared.counted.logs m.seq a.0.after a.0.current_word.upto)
 
   -- the state of a sequence that stands
-  numbers_length : (s : ℕ) → h.start.seq ≤ s → s ≤ h.start.seq + length h.world.batches → length (numbers h.start h.world.batches s) ≡ S.cells
-  numbers_length s l u = length-map (state h.start h.world.batches s) pay ∙ state_length S h.start h.world.batches h.good.core.shared.start (logs_of S Lawful h.start h.world h.good.core) s l u
+  numbers_length : (s : ℕ) → h.start.seq ≤ s → s ≤ h.start.seq + length h.world.batches → length (numbers_after h.start h.world.batches s) ≡ S.cells
+  numbers_length s l u = length-map (state_after h.start h.world.batches s) payload_of ∙ state_length S h.start h.world.batches h.good.core.shared.start (logs_of S Lawful h.start h.world h.good.core) s l u
 
   -- what is known behind a load in a try agrees with its state
-  pub try_agrees : (x : ℕ) → m.place ≡ TryCell x → seq found ≤ m.seq → (xs : List ℕ) × (length xs ≡ S.cells) × Lawful xs × Agrees (learned S m x found) xs
+  pub try_agrees : (x : ℕ) → m.place ≡ TryCell x → seq_of found ≤ m.seq → (xs : List ℕ) × (length xs ≡ S.cells) × Lawful xs × Agrees (with_cell_known S m x found) xs
   try_agrees x q l =
-      let f : found ≡ cell S h.world.words x = found_at (TryCell x) q in
+      let f : found ≡ data_word S h.world.words x = found_at (TryCell x) q in
       let a = place_at (TryCell x) q in
-      let fresh : seq (cell S h.world.words x) ≤ m.seq = rw (← f) l in
+      let fresh : seq_of (data_word S h.world.words x) ≤ m.seq = rw (← f) l in
       let upto : m.seq ≤ h.start.seq + length h.world.batches = omega (arith, a.1.upto, h.good.core.shared.counted.count) in (
-        numbers h.start h.world.batches m.seq,
+        numbers_after h.start h.world.batches m.seq,
         numbers_length m.seq a.1.from upto,
         h.good.core.shared.stands.lawful m.seq a.1.from upto,
         rw f (watch_more S Lawful h.start h.world h.good.core h.caller m h.in_range m.seq m.owner m a.1 a.3 x a.4 fresh).agrees,
       )
 
   -- the announcement of the caller that the scan has come to
-  pub announced_small : m.place ≡ LoadAnnouncement → pay found ≤ S.instrs
+  pub announced_small : m.place ≡ LoadAnnouncement → payload_of found ≤ S.instrs
   announced_small q = rw (found_at LoadAnnouncement q) (h.good.core.shared.heard.small m.scan (place_at LoadAnnouncement q).3)
 
-  pub announced_some : m.place ≡ LoadAnnouncement → 0 < seq found → 1 ≤ pay found
+  pub announced_some : m.place ≡ LoadAnnouncement → 0 < seq_of found → 1 ≤ payload_of found
   announced_some q = rw (found_at LoadAnnouncement q) (h.good.core.shared.heard.some m.scan (place_at LoadAnnouncement q).3)
 
-  pub heard_small : m.place ≡ LoadTicket → pay m.heard ≤ S.instrs
+  pub heard_small : m.place ≡ LoadTicket → payload_of m.heard ≤ S.instrs
   heard_small q = (place_at LoadTicket q).4.small
 
-  pub heard_some : m.place ≡ LoadTicket → 0 < seq m.heard → 1 ≤ pay m.heard
+  pub heard_some : m.place ≡ LoadTicket → 0 < seq_of m.heard → 1 ≤ payload_of m.heard
   heard_some q = (place_at LoadTicket q).4.some
 
   -- no call that was run is that caller's, so nothing lies over its ticket cell
-  value_absent : (es : List (ℕ × ℕ)) (a : ℕ) → ((j : ℕ) → j < length es → (get_or es j (0, 0)).0 ≡ a → ⊥) → value_at es a ≡ None
+  value_absent : (es : List (ℕ × ℕ)) (a : ℕ) → ((j : ℕ) → j < length es → (get_or es j (0, 0)).0 ≡ a → ⊥) → value_for es a ≡ None
   value_absent [] a n = refl
   value_absent (e ∷ es) a n =
       let z : (e.0 == a) ≡ false = let ne : e.0 ≡ a → ⊥ = n 0 (omega arith) in grind (arith, nat_tests) in
       rw z (value_absent es a (λ j l q. n (suc j) (omega arith) q))
 
-  pub ticket_unnamed : m.place ≡ LoadAnnouncement → value_at m.log (ticket_cell S m.scan) ≡ None
+  pub ticket_unnamed : m.place ≡ LoadAnnouncement → value_for m.log (ticket_cell S m.scan) ≡ None
   ticket_unnamed q = value_absent m.log (ticket_cell S m.scan) none
     where
-      o : Scans S h.start h.world.words h.world.batches h.caller m
+      o : IsInScan S h.start h.world.words h.world.batches h.caller m
       o = (place_at LoadAnnouncement q).2
 
       none : (j : ℕ) → j < length m.log → (get_or m.log j (0, 0)).0 ≡ ticket_cell S m.scan → ⊥
       none j l e =
-          let low : (get_or m.log j (0, 0)).0 < base S = omega (arith, e, room_for m.scan S.callers (S.instrs + 2) (place_at LoadAnnouncement q).3) in
+          let low : (get_or m.log j (0, 0)).0 < first_operation_cell S = omega (arith, e, room_for m.scan S.callers (S.instrs + 2) (place_at LoadAnnouncement q).3) in
           let r = o.over.rows j l low in
           let c : ℕ = (get_or m.calls r.0 no_call).caller in
           let under : c < m.scan = o.below r.0 no_call r.1 in
@@ -151,29 +151,29 @@ module _ (S : Setup) (Lawful : List ℕ → Type 0) (m : Data) (found : ℕ) (h 
   pub script_some : (a : ℕ) → m.place ≡ LoadCell a → 1 ≤ length m.script
   script_some a q =
       let p = place_at (LoadCell a) q in
-      let new : 0 < seq m.heard = omega (arith, p.5.new) in
+      let new : 0 < seq_of m.heard = omega (arith, p.5.new) in
       omega (arith, p.5.many, p.4.some new)
 
   -- what is known in a scan, under the log, agrees with what its calls lead to
-  scan_agrees : Sound S.meaning Lawful (base S) S.cells → (n : Data) → Past S h.start h.world.words h.world.batches h.caller n → Scans S h.start h.world.words h.world.batches h.caller n
-      → (xs : List ℕ) × (length xs ≡ S.cells) × Lawful xs × Agrees (over n.known n.log) xs
+  scan_agrees : IsSoundMeaning S.meaning Lawful (first_operation_cell S) S.cells → (n : CallState) → IsPastOwnTicket S h.start h.world.words h.world.batches h.caller n → IsInScan S h.start h.world.words h.world.batches h.caller n
+      → (xs : List ℕ) × (length xs ≡ S.cells) × Lawful xs × Agrees (overlaid n.known n.log) xs
   scan_agrees sound n p o =
-      let xs : List ℕ = numbers h.start h.world.batches n.seq in
+      let xs : List ℕ = numbers_after h.start h.world.batches n.seq in
       let upto : n.seq ≤ h.start.seq + length h.world.batches = at_risen S Lawful h.start h.world h.good.core h.caller m h.in_range n p.looks in
       let size : length xs ≡ S.cells = numbers_length n.seq p.looks.round.from upto in
       let lawful : Lawful xs = h.good.core.shared.stands.lawful n.seq p.looks.round.from upto in (
-        written xs n.log,
+        with_writes_in xs n.log,
         left_length S Lawful sound xs n.calls n.log size lawful o.over,
         left_lawful S Lawful sound xs n.calls n.log size lawful o.over,
         left_agrees S Lawful sound xs n.calls n.log size lawful o.over n.known p.looks.agrees,
       )
 
-  pub script_agrees : Sound S.meaning Lawful (base S) S.cells → (j : ℕ) → m.place ≡ LoadScript j → (xs : List ℕ) × (length xs ≡ S.cells) × Lawful xs × Agrees (over m.known m.log) xs
+  pub script_agrees : IsSoundMeaning S.meaning Lawful (first_operation_cell S) S.cells → (j : ℕ) → m.place ≡ LoadScript j → (xs : List ℕ) × (length xs ≡ S.cells) × Lawful xs × Agrees (overlaid m.known m.log) xs
   script_agrees sound j q = let a = place_at (LoadScript j) q in scan_agrees sound m a.0 a.2
 
-  pub cell_agrees : Sound S.meaning Lawful (base S) S.cells → (x : ℕ) → m.place ≡ LoadCell x → seq found ≤ m.seq → (xs : List ℕ) × (length xs ≡ S.cells) × Lawful xs × Agrees (over (learned S m x found) m.log) xs
+  pub cell_agrees : IsSoundMeaning S.meaning Lawful (first_operation_cell S) S.cells → (x : ℕ) → m.place ≡ LoadCell x → seq_of found ≤ m.seq → (xs : List ℕ) × (length xs ≡ S.cells) × Lawful xs × Agrees (overlaid (with_cell_known S m x found) m.log) xs
   cell_agrees sound x q l =
-      let f : found ≡ cell S h.world.words x = found_at (LoadCell x) q in
+      let f : found ≡ data_word S h.world.words x = found_at (LoadCell x) q in
       let a = place_at (LoadCell x) q in
-      let fresh : seq (cell S h.world.words x) ≤ m.seq = rw (← f) l in
-      rw f (scan_agrees sound (record m { known = learned S m x (cell S h.world.words x) }) (learn_past S Lawful h.start h.world h.good.core h.caller m h.in_range m a.0 x a.6 fresh) a.2)
+      let fresh : seq_of (data_word S h.world.words x) ≤ m.seq = rw (← f) l in
+      rw f (scan_agrees sound (record m { known = with_cell_known S m x (data_word S h.world.words x) }) (learn_past S Lawful h.start h.world h.good.core h.caller m h.in_range m a.0 x a.6 fresh) a.2)

@@ -3,29 +3,29 @@ use Rattle.std.proofs.Common.{◌≡◌, ℕ, ◌+◌, ◌-◌, ◌<◌, ◌≤�
 use Rattle.std.proofs.lemmas.Bool.{cases_eq, cases_lt}
 use Rattle.std.proofs.lemmas.Bool.Decides.{nat_tests}
 use Rattle.std.proofs.lemmas.List.{append-nil, set-get_or, get_or-set_same, get_or-set_other}
-use Rattle.of_cell.specs.Words.{word, seq, pay}
+use Rattle.of_cell.specs.Words.{pack, seq_of, payload_of}
 use Rattle.of_cell.proofs.Order.{seq_less, seq_word, pay_word, word_more}
 use Rattle.of_core.specs.declared.place.Place.TheVariants.{LoadTarget, ExchangeTarget, ReloadTarget, CloseRequest}
-use Rattle.of_core.specs.Table.{Setup, script_at, size, durable_at, log_at, script_word, current_word, request_of, cell, log_word, durable_word, durable_cell, last, holder, risen}
-use Rattle.of_core.specs.Machine.{Data, entry}
-use Rattle.of_core.specs.Steps.{after_load_target, took_at}
-use Rattle.of_core.specs.World.{Read, World, Start, stepped_on}
-use Rattle.of_core.specs.History.{batch, at}
-use Rattle.of_core.specs.Shared.{Kinds, IsRequest, Opened, DataCells, IsEntry, Durable}
-use Rattle.of_core.specs.Rounds.{Helper}
-use Rattle.of_core.specs.Transaction.{Applies, Mode}
-use Rattle.of_core.specs.Invariant.{At, Core}
-use Rattle.of_core.specs.Moves.{Goes}
+use Rattle.of_core.specs.Table.{Setup, script_word_at, cell_count, durable_at, log_at, script_word, current_word, request_of, data_word, log_word_of, durable_word, durable_cell, committed_seq, committed_owner, durable_seq}
+use Rattle.of_core.specs.Machine.{CallState, log_entry}
+use Rattle.of_core.specs.Steps.{after_load_target, take_word_at}
+use Rattle.of_core.specs.World.{Read, Moment, TableStart, after_counted_step}
+use Rattle.of_core.specs.History.{batch_at, data_word_after}
+use Rattle.of_core.specs.Shared.{WordsHaveTheirKind, IsRequest, IsLastOpen, DataCellsMatchState, IsEntry, DurableWordsMatch}
+use Rattle.of_core.specs.Rounds.{MayHelp}
+use Rattle.of_core.specs.Transaction.{IsApplying, AppliesAs}
+use Rattle.of_core.specs.Invariant.{HoldsAtPlace, MeetsCore}
+use Rattle.of_core.specs.Moves.{KeepsGuarantee}
 use Rattle.of_core.proofs.States.{old, named_at, named_later, unnamed, cases_named}
 use Rattle.of_core.proofs.Assembling.{assemble, assemble_read, logs_of}
 use Rattle.of_core.proofs.Stability.{at_stable, floor_of}
 use Rattle.of_core.proofs.Touches.{Touches, durable_of, heard_of, held_now, kinds_same, moves_of, request_same, shared_of}
 
-module _ (S : Setup) (Lawful : List ℕ → Type 0) (B : Start) where
-  module _ (w : World) (g : Core S Lawful B w) (i : ℕ) (m : Data) (h : i < S.callers) where
+module _ (S : Setup) (Lawful : List ℕ → Type 0) (B : TableStart) where
+  module _ (w : Moment) (g : MeetsCore S Lawful B w) (i : ℕ) (m : CallState) (h : i < S.callers) where
     -- an applying machine goes on with what its place says of the words
-    applies_as : (xs : List ℕ) (j k : ℕ) → Applies S B xs w.batches i m j → (n : Data)
-        → n.caller ≡ m.caller → n.made ≡ m.made → n.op ≡ m.op → n.seq ≡ m.seq → n.owner ≡ m.owner → n.log ≡ m.log → n.raw ≡ m.raw → n.helps ≡ m.helps → n.kept ≡ m.kept → n.rounds ≡ m.rounds → n.first ≡ m.first → n.tries ≡ m.tries → k ≤ j → Applies S B xs w.batches i n k
+    applies_as : (xs : List ℕ) (j k : ℕ) → IsApplying S B xs w.batches i m j → (n : CallState)
+        → n.caller ≡ m.caller → n.made ≡ m.made → n.op ≡ m.op → n.seq ≡ m.seq → n.owner ≡ m.owner → n.log ≡ m.log → n.raw ≡ m.raw → n.helps ≡ m.helps → n.kept ≡ m.kept → n.rounds ≡ m.rounds → n.first ≡ m.first → n.tries ≡ m.tries → k ≤ j → IsApplying S B xs w.batches i n k
     applies_as xs j k p n a b c d e f r hh kk rr ff tt1 le = record {
       mode = mode_of m.helps n.helps hh p.mode;
       after = rw d p.after;
@@ -35,7 +35,7 @@ module _ (S : Setup) (Lawful : List ℕ → Type 0) (B : Start) where
       done = rw (d, f) (λ y l. p.done y (omega arith));
     }
       where
-        helper : Helper S B xs w.batches i m → Helper S B xs w.batches i n
+        helper : MayHelp S B xs w.batches i m → MayHelp S B xs w.batches i n
         helper (inl q) = inl (record {
           begun = record {
             caller = a ∙ q.begun.caller;
@@ -67,62 +67,62 @@ module _ (S : Setup) (Lawful : List ℕ → Type 0) (B : Start) where
           few = rw tt1 q.few;
         })
 
-        mode_of : (x y : Bool) → y ≡ x → Mode S B xs w.batches i m x → Mode S B xs w.batches i n y
+        mode_of : (x y : Bool) → y ≡ x → AppliesAs S B xs w.batches i m x → AppliesAs S B xs w.batches i n y
         mode_of true true z q = (helper q.0, rw (d, e) q.1, rw d q.2)
         mode_of false false z q = record { caller = a ∙ q.caller; owner = e ∙ q.owner; says = rw b q.says; upto = rw b q.upto; reached = rw b q.reached; call = rw (b, c, d, r) q.call; asks = rw d q.asks; unowned = rw d q.unowned; logs = rw d q.logs }
         mode_of true false z q = cc
         mode_of false true z q = cc
 
-    target_in : (j : ℕ) → Applies S B w.words w.batches i m j → (k : ℕ) → k < length m.log → IsEntry S (entry m k)
+    target_in : (j : ℕ) → IsApplying S B w.words w.batches i m j → (k : ℕ) → k < length m.log → IsEntry S (log_entry m k)
     target_in j p k l = let t = p.log.each k l in subst (λ (e : ℕ × ℕ). IsEntry S e) t.2 ((g.shared.counted.logs m.seq p.after p.upto).entries t.0 (0, 0) t.1)
 
-    pub load_target_kept : (j : ℕ) → At S B w.words w.batches i m (LoadTarget j) → Goes S Lawful B i w (stepped_on S i m (LoadTarget j) w)
-    load_target_kept j a = assemble_read S Lawful B w g i h _ _ (took_at S m found (LoadTarget j)) (set-get_or w.words (S.callers + 1 + (entry m j).0) 0) (append-nil w.batches) (
-        go (nat_lt (seq found) m.seq) refl)
+    pub load_target_kept : (j : ℕ) → HoldsAtPlace S B w.words w.batches i m (LoadTarget j) → KeepsGuarantee S Lawful B i w (after_counted_step S i m (LoadTarget j) w)
+    load_target_kept j a = assemble_read S Lawful B w g i h _ _ (take_word_at S m found (LoadTarget j)) (set-get_or w.words (S.callers + 1 + (log_entry m j).0) 0) (append-nil w.batches) (
+        go (nat_lt (seq_of found) m.seq) refl)
       where
         found : ℕ
-        found = cell S w.words (entry m j).0
+        found = data_word S w.words (log_entry m j).0
 
-        go : (b : Bool) → nat_lt (seq found) m.seq ≡ b → At S B w.words w.batches i (after_load_target m j found b) (after_load_target m j found b).place
-        go true e = (applies_as w.words j j a.0 _ refl refl refl refl refl refl refl refl refl refl refl refl (omega arith), a.1, a.2, (let x : seq found < m.seq = grind (arith, nat_tests) in x), inl refl)
-        go false e = (applies_as w.words j j a.0 _ refl refl refl refl refl refl refl refl refl refl refl refl (omega arith), a.1, a.2, (let x : m.seq ≤ seq found = grind (arith, nat_tests) in x), omega arith, held_now S Lawful B w g (entry m j).0 (target_in j a.0 j a.1).0)
+        go : (b : Bool) → nat_lt (seq_of found) m.seq ≡ b → HoldsAtPlace S B w.words w.batches i (after_load_target m j found b) (after_load_target m j found b).place
+        go true e = (applies_as w.words j j a.0 _ refl refl refl refl refl refl refl refl refl refl refl refl (omega arith), a.1, a.2, (let x : seq_of found < m.seq = grind (arith, nat_tests) in x), inl refl)
+        go false e = (applies_as w.words j j a.0 _ refl refl refl refl refl refl refl refl refl refl refl refl (omega arith), a.1, a.2, (let x : m.seq ≤ seq_of found = grind (arith, nat_tests) in x), omega arith, held_now S Lawful B w g (log_entry m j).0 (target_in j a.0 j a.1).0)
 
-    pub reload_target_kept : (j : ℕ) → At S B w.words w.batches i m (ReloadTarget j) → Goes S Lawful B i w (stepped_on S i m (ReloadTarget j) w)
-    reload_target_kept j a = assemble_read S Lawful B w g i h _ _ (took_at S m (cell S w.words (entry m j).0) (ReloadTarget j)) (set-get_or w.words (S.callers + 1 + (entry m j).0) 0) (append-nil w.batches)
-        (applies_as w.words j j a.0 _ refl refl refl refl refl refl refl refl refl refl refl refl (omega arith), a.1, a.2, a.3, omega arith, held_now S Lawful B w g (entry m j).0 (target_in j a.0 j a.1).0)
+    pub reload_target_kept : (j : ℕ) → HoldsAtPlace S B w.words w.batches i m (ReloadTarget j) → KeepsGuarantee S Lawful B i w (after_counted_step S i m (ReloadTarget j) w)
+    reload_target_kept j a = assemble_read S Lawful B w g i h _ _ (take_word_at S m (data_word S w.words (log_entry m j).0) (ReloadTarget j)) (set-get_or w.words (S.callers + 1 + (log_entry m j).0) 0) (append-nil w.batches)
+        (applies_as w.words j j a.0 _ refl refl refl refl refl refl refl refl refl refl refl refl (omega arith), a.1, a.2, a.3, omega arith, held_now S Lawful B w g (log_entry m j).0 (target_in j a.0 j a.1).0)
 
-    pub exchange_target_kept : (j f : ℕ) → At S B w.words w.batches i m (ExchangeTarget j f) → Goes S Lawful B i w (stepped_on S i m (ExchangeTarget j f) w)
+    pub exchange_target_kept : (j f : ℕ) → HoldsAtPlace S B w.words w.batches i m (ExchangeTarget j f) → KeepsGuarantee S Lawful B i w (after_counted_step S i m (ExchangeTarget j f) w)
     exchange_target_kept j f a = go (found == f) refl
       where
         x : ℕ
-        x = (entry m j).0
+        x = (log_entry m j).0
 
         found : ℕ
-        found = cell S w.words x
+        found = data_word S w.words x
 
         new : ℕ
-        new = word m.seq (entry m j).1
+        new = pack m.seq (log_entry m j).1
 
-        e : IsEntry S (entry m j)
+        e : IsEntry S (log_entry m j)
         e = target_in j a.0 j a.1
 
-        n_is : last w.words ≡ B.seq + length w.batches
+        n_is : committed_seq w.words ≡ B.seq + length w.batches
         n_is = g.shared.counted.count
 
-        new_seq : seq new ≡ m.seq
-        new_seq = seq_word m.seq (entry m j).1 e.1
+        new_seq : seq_of new ≡ m.seq
+        new_seq = seq_word m.seq (log_entry m j).1 e.1
 
-        n : Data
-        n = took_at S m found (ExchangeTarget j f)
+        n : CallState
+        n = take_word_at S m found (ExchangeTarget j f)
 
         go : {rs : List Read} → (b : Bool) → (found == f) ≡ b
-            → Goes S Lawful B i w (record { words = set w.words (S.callers + 1 + x) (if b then new else found); machines = set w.machines i n; batches = w.batches ++ []; reads = rs; loaded = w.loaded })
+            → KeepsGuarantee S Lawful B i w (record { words = set w.words (S.callers + 1 + x) (if b then new else found); machines = set w.machines i n; batches = w.batches ++ []; reads = rs; loaded = w.loaded })
         go false q =
             let y : found ≡ f → ⊥ = grind (arith, nat_tests) in
             assemble_read S Lawful B w g i h _ _ n (set-get_or w.words (S.callers + 1 + x) 0) (append-nil w.batches)
             (applies_as w.words j j a.0 n refl refl refl refl refl refl refl refl refl refl refl refl (omega arith), a.1, a.2, newer y a.4)
           where
-            newer : (found ≡ f → ⊥) → (found ≡ f) ⊎ (m.seq ≤ seq found) → m.seq ≤ seq found
+            newer : (found ≡ f → ⊥) → (found ≡ f) ⊎ (m.seq ≤ seq_of found) → m.seq ≤ seq_of found
             newer y (inl z) = absurd (y z)
             newer y (inr z) = z
         go true q =
@@ -139,7 +139,7 @@ module _ (S : Setup) (Lawful : List ℕ → Type 0) (B : Start) where
             fits : S.callers + 1 + x < length w.words
             fits = omega (arith, g.shared.room, e.0)
 
-            here : cell S vs x ≡ new
+            here : data_word S vs x ≡ new
             here = get_or-set_same w.words (S.callers + 1 + x) new 0 fits
 
             elsewhere : (c : ℕ) → (c ≡ S.callers + 1 + x → ⊥) → get_or vs c 0 ≡ get_or w.words c 0
@@ -151,41 +151,41 @@ module _ (S : Setup) (Lawful : List ℕ → Type 0) (B : Start) where
             req_same : (k : ℕ) → k < S.callers → request_of vs k ≡ request_of w.words k
             req_same k l = elsewhere (k + 1) (omega arith)
 
-            log_same : (k y : ℕ) → log_word S vs k y ≡ log_word S w.words k y
+            log_same : (k y : ℕ) → log_word_of S vs k y ≡ log_word_of S w.words k y
             log_same k y = elsewhere (log_at S k y) (omega (arith, e.0))
 
             behind : (k y : ℕ) → script_word S vs k y ≡ script_word S w.words k y
-            behind k y = elsewhere (script_at S k y) (omega (arith, e.0))
+            behind k y = elsewhere (script_word_at S k y) (omega (arith, e.0))
 
-            log_kept_at : (k : ℕ) → log_word S vs k 0 ≡ log_word S w.words k 0
+            log_kept_at : (k : ℕ) → log_word_of S vs k 0 ≡ log_word_of S w.words k 0
             log_kept_at k = log_same k 0
 
-            dur_same : (c : ℕ) → c < size S → durable_word S vs c ≡ durable_word S w.words c
+            dur_same : (c : ℕ) → c < cell_count S → durable_word S vs c ≡ durable_word S w.words c
             dur_same c l = elsewhere (durable_at S c) (omega (arith, e.0))
 
-            open_same : Opened B w.words → Opened B vs
-            open_same o = record { any = rw current_same o.any; asks = rw current_same (req_same (holder w.words) g.shared.counted.owner_in ∙ o.asks) }
+            open_same : IsLastOpen B w.words → IsLastOpen B vs
+            open_same o = record { any = rw current_same o.any; asks = rw current_same (req_same (committed_owner w.words) g.shared.counted.owner_in ∙ o.asks) }
 
-            older : seq found < m.seq
+            older : seq_of found < m.seq
             older = rw same a.3
 
-            cell_same : (y : ℕ) → (y ≡ x → ⊥) → cell S vs y ≡ cell S w.words y
+            cell_same : (y : ℕ) → (y ≡ x → ⊥) → data_word S vs y ≡ data_word S w.words y
             cell_same y r = elsewhere (S.callers + 1 + y) (omega arith)
 
             -- a cell of an older transaction's entry can't be found older
-            is_last : m.seq ≡ last w.words
-            is_last = last_or (g.shared.data_cells.each x e.0) (cases_lt m.seq (last w.words))
+            is_last : m.seq ≡ committed_seq w.words
+            is_last = last_or (g.shared.data_cells.each x e.0) (cases_lt m.seq (committed_seq w.words))
               where
-                t : (k : ℕ) × (k < length (batch B w.batches m.seq).log) × (get_or (batch B w.batches m.seq).log k (0, 0) ≡ entry m j)
+                t : (k : ℕ) × (k < length (batch_at B w.batches m.seq).log) × (get_or (batch_at B w.batches m.seq).log k (0, 0) ≡ log_entry m j)
                 t = a.0.log.each j a.1
 
-                from : (n : ℕ) → m.seq ≤ n → n ≤ B.seq + length w.batches → m.seq ≤ seq (at B w.batches n x)
-                from n l k = subst (λ (e : ℕ × ℕ). m.seq ≤ seq (at B w.batches n e.0)) t.2 (named_later S B w.batches g.shared.start (logs_of S Lawful B w g) m.seq n t.0 a.0.after l k t.1)
+                from : (n : ℕ) → m.seq ≤ n → n ≤ B.seq + length w.batches → m.seq ≤ seq_of (data_word_after B w.batches n x)
+                from n l k = subst (λ (e : ℕ × ℕ). m.seq ≤ seq_of (data_word_after B w.batches n e.0)) t.2 (named_later S B w.batches g.shared.start (logs_of S Lawful B w g) m.seq n t.0 a.0.after l k t.1)
 
-                last_or : (found ≡ at B w.batches (last w.words) x) ⊎ (Opened B w.words × (found ≡ at B w.batches (last w.words - 1) x)) → (m.seq < last w.words) ⊎ (last w.words ≤ m.seq) → m.seq ≡ last w.words
+                last_or : (found ≡ data_word_after B w.batches (committed_seq w.words) x) ⊎ (IsLastOpen B w.words × (found ≡ data_word_after B w.batches (committed_seq w.words - 1) x)) → (m.seq < committed_seq w.words) ⊎ (committed_seq w.words ≤ m.seq) → m.seq ≡ committed_seq w.words
                 last_or d (inr l) = omega (arith, a.0.upto)
-                last_or (inl d) (inl l) = absurd (omega (arith, older, from (last w.words) (omega arith) (omega (arith, n_is)), ap seq d))
-                last_or (inr d) (inl l) = absurd (omega (arith, older, from (last w.words - 1) (omega arith) (omega (arith, n_is)), ap seq d.1))
+                last_or (inl d) (inl l) = absurd (omega (arith, older, from (committed_seq w.words) (omega arith) (omega (arith, n_is)), ap seq_of d))
+                last_or (inr d) (inl l) = absurd (omega (arith, older, from (committed_seq w.words - 1) (omega arith) (omega (arith, n_is)), ap seq_of d.1))
 
             rises : (c : ℕ) → (c ≡ S.callers + 1 + x) ⊎ (c ≡ S.callers + 1 + x → ⊥) → get_or w.words c 0 ≤ get_or vs c 0
             rises c (inl r) = rw r (omega (arith, here, seq_less found new (omega (arith, older, new_seq))))
@@ -205,65 +205,65 @@ module _ (S : Setup) (Lawful : List ℕ → Type 0) (B : Start) where
               announcements = λ k l. inl (behind k S.instrs);
             }
               where
-                cells_change : (y : ℕ) → (y ≡ x) ⊎ (y ≡ x → ⊥) → (cell S vs y ≡ cell S w.words y) ⊎ (last w.words ≤ seq (cell S vs y))
+                cells_change : (y : ℕ) → (y ≡ x) ⊎ (y ≡ x → ⊥) → (data_word S vs y ≡ data_word S w.words y) ⊎ (committed_seq w.words ≤ seq_of (data_word S vs y))
                 cells_change y (inl r) = inr (rw (r, here, new_seq) (omega (arith, is_last)))
                 cells_change y (inr r) = inl (cell_same y r)
 
-            kinds : Kinds S B vs w.batches
+            kinds : WordsHaveTheirKind S B vs w.batches
             kinds = kinds_same S Lawful B i w.words vs w.batches (touches i) g.shared (λ k l. request_same S Lawful B i w.words vs w.batches (touches i) g.shared k l (req_same k l)) (λ k y l u. log_same k y)
 
-            kept : At S B vs w.batches i m (ExchangeTarget j f)
+            kept : HoldsAtPlace S B vs w.batches i m (ExchangeTarget j f)
             kept = at_stable S Lawful B (i + 1) w.words w.batches vs w.batches (moves_of S Lawful B (i + 1) w.words vs w.batches (touches (i + 1)) g.shared) g.shared i h (λ z. omega arith) m (ExchangeTarget j f) a
 
-            in_state : new ≡ at B w.batches (last w.words) x
+            in_state : new ≡ data_word_after B w.batches (committed_seq w.words) x
             in_state = let t = a.0.log.each j a.1 in
-                let q : at B w.batches m.seq x ≡ new = subst (λ (e : ℕ × ℕ). at B w.batches m.seq e.0 ≡ word m.seq e.1) t.2 (named_at S B w.batches g.shared.start (logs_of S Lawful B w g) m.seq t.0 a.0.after (omega (arith, a.0.upto, n_is)) t.1) in
+                let q : data_word_after B w.batches m.seq x ≡ new = subst (λ (e : ℕ × ℕ). data_word_after B w.batches m.seq e.0 ≡ pack m.seq e.1) t.2 (named_at S B w.batches g.shared.start (logs_of S Lawful B w g) m.seq t.0 a.0.after (omega (arith, a.0.upto, n_is)) t.1) in
                 rw (← is_last) (sym q)
 
-            data_cells : DataCells S B vs w.batches
+            data_cells : DataCellsMatchState S B vs w.batches
             data_cells = record { each = λ y l. each y l (cases_eq y x) (g.shared.data_cells.each y l) }
               where
-                each : (y : ℕ) → y < S.cells → (y ≡ x) ⊎ (y ≡ x → ⊥) → (cell S w.words y ≡ at B w.batches (last w.words) y) ⊎ (Opened B w.words × (cell S w.words y ≡ at B w.batches (last w.words - 1) y))
-                    → (cell S vs y ≡ at B w.batches (last vs) y) ⊎ (Opened B vs × (cell S vs y ≡ at B w.batches (last vs - 1) y))
+                each : (y : ℕ) → y < S.cells → (y ≡ x) ⊎ (y ≡ x → ⊥) → (data_word S w.words y ≡ data_word_after B w.batches (committed_seq w.words) y) ⊎ (IsLastOpen B w.words × (data_word S w.words y ≡ data_word_after B w.batches (committed_seq w.words - 1) y))
+                    → (data_word S vs y ≡ data_word_after B w.batches (committed_seq vs) y) ⊎ (IsLastOpen B vs × (data_word S vs y ≡ data_word_after B w.batches (committed_seq vs - 1) y))
                 each y l (inl r) d = inl (rw (r, current_same) (here ∙ in_state))
                 each y l (inr r) (inl d) = inl (rw current_same (cell_same y r ∙ d))
                 each y l (inr r) (inr d) = inr (open_same d.0, rw current_same (cell_same y r ∙ d.1))
 
-            durable : Durable S B vs w.batches
+            durable : DurableWordsMatch S B vs w.batches
             durable = durable_of S Lawful B i w.words vs w.batches (touches i) g.shared (λ y l. fresh y l (cases_eq y x)) step (λ y l. cells (g.shared.durable.cells y l)) (λ k l u p o q y v. log_same p y)
               where
-                fresh : (y : ℕ) → y < S.cells → (y ≡ x) ⊎ (y ≡ x → ⊥) → seq (cell S vs y) ≤ risen S w.words
+                fresh : (y : ℕ) → y < S.cells → (y ≡ x) ⊎ (y ≡ x → ⊥) → seq_of (data_word S vs y) ≤ durable_seq S w.words
                 fresh y l (inl r) = rw (r, here, new_seq) a.2
                 fresh y l (inr r) = rw (cell_same y r) (g.shared.durable.fresh y l)
 
-                step : (last w.words ≡ risen S w.words) ⊎ ((last w.words ≡ risen S w.words + 1) × Opened B w.words) → (last w.words ≡ risen S w.words) ⊎ ((last w.words ≡ risen S w.words + 1) × Opened B vs)
+                step : (committed_seq w.words ≡ durable_seq S w.words) ⊎ ((committed_seq w.words ≡ durable_seq S w.words + 1) × IsLastOpen B w.words) → (committed_seq w.words ≡ durable_seq S w.words) ⊎ ((committed_seq w.words ≡ durable_seq S w.words + 1) × IsLastOpen B vs)
                 step (inl q) = inl q
                 step (inr q) = inr (q.0, open_same q.1)
 
-                cells : {p q r : Type 0} → p ⊎ (Opened B w.words × q × r) → p ⊎ (Opened B vs × q × r)
+                cells : {p q r : Type 0} → p ⊎ (IsLastOpen B w.words × q × r) → p ⊎ (IsLastOpen B vs × q × r)
                 cells (inl d) = inl d
                 cells (inr d) = inr (open_same d.0, d.1, d.2)
 
-    pub close_request_kept : At S B w.words w.batches i m CloseRequest → Goes S Lawful B i w (stepped_on S i m CloseRequest w)
-    close_request_kept a = go (found == word m.seq 0) refl
+    pub close_request_kept : HoldsAtPlace S B w.words w.batches i m CloseRequest → KeepsGuarantee S Lawful B i w (after_counted_step S i m CloseRequest w)
+    close_request_kept a = go (found == pack m.seq 0) refl
       where
         found : ℕ
         found = request_of w.words m.owner
 
-        n : Data
-        n = took_at S m found CloseRequest
+        n : CallState
+        n = take_word_at S m found CloseRequest
 
-        n_is : last w.words ≡ B.seq + length w.batches
+        n_is : committed_seq w.words ≡ B.seq + length w.batches
         n_is = g.shared.counted.count
 
         owner_in : m.owner < S.callers
         owner_in = rw (← a.0.committed) (g.shared.counted.owners m.seq a.0.after a.0.upto)
 
-        go : {rs : List Read} → (b : Bool) → (found == word m.seq 0) ≡ b
-            → Goes S Lawful B i w (record { words = set w.words (m.owner + 1) (if b then word m.seq 1 else found); machines = set w.machines i n; batches = w.batches ++ []; reads = rs; loaded = w.loaded })
+        go : {rs : List Read} → (b : Bool) → (found == pack m.seq 0) ≡ b
+            → KeepsGuarantee S Lawful B i w (record { words = set w.words (m.owner + 1) (if b then pack m.seq 1 else found); machines = set w.machines i n; batches = w.batches ++ []; reads = rs; loaded = w.loaded })
         go false q =
-            let z : found ≡ word m.seq 0 → ⊥ = grind (arith, nat_tests) in
-            let f : word m.seq 0 ≤ found = rw a.0.committed at (floor_of S Lawful B w.words w.batches g.shared m.seq a.0.after a.0.upto) in
+            let z : found ≡ pack m.seq 0 → ⊥ = grind (arith, nat_tests) in
+            let f : pack m.seq 0 ≤ found = rw a.0.committed data_word_after (floor_of S Lawful B w.words w.batches g.shared m.seq a.0.after a.0.upto) in
             assemble_read S Lawful B w g i h _ _ n (set-get_or w.words (m.owner + 1) 0) (append-nil w.batches)
             (applies_as w.words (length m.log) (length m.log) a.0 n refl refl refl refl refl refl refl refl refl refl refl refl (omega arith), a.1, omega arith)
         go true q =
@@ -271,43 +271,43 @@ module _ (S : Setup) (Lawful : List ℕ → Type 0) (B : Start) where
             (assemble S Lawful B w g i h vs w.batches n (moves_of S Lawful B i w.words vs w.batches (touches i) g.shared) (shared_of S Lawful B i w.words vs w.batches (touches i) g.shared data_cells durable (heard_of S Lawful B i w.words vs w.batches (touches i) g.shared behind (λ p l. rw (log_kept_at p) (g.shared.heard.counts p l))) kinds)
             (applies_as vs (length m.log) (length m.log) kept.0 n refl refl refl refl refl refl refl refl refl refl refl refl (omega arith), kept.1, rw here (word_more m.seq 0 1 (omega arith))))
           where
-            was : found ≡ word m.seq 0
+            was : found ≡ pack m.seq 0
             was = grind (arith, nat_tests)
 
             vs : List ℕ
-            vs = set w.words (m.owner + 1) (word m.seq 1)
+            vs = set w.words (m.owner + 1) (pack m.seq 1)
 
-            here : request_of vs m.owner ≡ word m.seq 1
-            here = get_or-set_same w.words (m.owner + 1) (word m.seq 1) 0 (omega (arith, g.shared.room, owner_in))
+            here : request_of vs m.owner ≡ pack m.seq 1
+            here = get_or-set_same w.words (m.owner + 1) (pack m.seq 1) 0 (omega (arith, g.shared.room, owner_in))
 
             elsewhere : (c : ℕ) → (c ≡ m.owner + 1 → ⊥) → get_or vs c 0 ≡ get_or w.words c 0
-            elsewhere c r = get_or-set_other w.words (m.owner + 1) c (word m.seq 1) 0 r
+            elsewhere c r = get_or-set_other w.words (m.owner + 1) c (pack m.seq 1) 0 r
 
             current_same : current_word vs ≡ current_word w.words
             current_same = elsewhere 0 (omega arith)
 
-            cell_same : (x : ℕ) → x < S.cells → cell S vs x ≡ cell S w.words x
+            cell_same : (x : ℕ) → x < S.cells → data_word S vs x ≡ data_word S w.words x
             cell_same x l = elsewhere (S.callers + 1 + x) (omega (arith, owner_in))
 
             behind : (k y : ℕ) → script_word S vs k y ≡ script_word S w.words k y
-            behind k y = elsewhere (script_at S k y) (omega (arith, owner_in))
+            behind k y = elsewhere (script_word_at S k y) (omega (arith, owner_in))
 
-            log_kept_at : (k : ℕ) → log_word S vs k 0 ≡ log_word S w.words k 0
+            log_kept_at : (k : ℕ) → log_word_of S vs k 0 ≡ log_word_of S w.words k 0
             log_kept_at k = elsewhere (log_at S k 0) (omega (arith, owner_in))
 
-            is_last : m.seq ≡ last w.words
-            is_last = last_or (cases_lt m.seq (last w.words))
+            is_last : m.seq ≡ committed_seq w.words
+            is_last = last_or (cases_lt m.seq (committed_seq w.words))
               where
-                last_or : (m.seq < last w.words) ⊎ (last w.words ≤ m.seq) → m.seq ≡ last w.words
+                last_or : (m.seq < committed_seq w.words) ⊎ (committed_seq w.words ≤ m.seq) → m.seq ≡ committed_seq w.words
                 last_or (inr l) = omega (arith, a.0.upto)
-                last_or (inl l) = let y : word m.seq 0 < request_of w.words m.owner = rw a.0.committed at (g.shared.requests.closed m.seq a.0.after l) in absurd (omega (arith, was))
+                last_or (inl l) = let y : pack m.seq 0 < request_of w.words m.owner = rw a.0.committed data_word_after (g.shared.requests.closed m.seq a.0.after l) in absurd (omega (arith, was))
 
-            request : (j : ℕ) → (j ≡ m.owner) ⊎ (j ≡ m.owner → ⊥) → (request_of vs j ≡ request_of w.words j) ⊎ ((B.seq < last w.words) × ((batch B w.batches (last w.words)).owner ≡ j) × (request_of w.words j ≡ word (last w.words) 0) × (request_of vs j ≡ word (last w.words) 1))
+            request : (j : ℕ) → (j ≡ m.owner) ⊎ (j ≡ m.owner → ⊥) → (request_of vs j ≡ request_of w.words j) ⊎ ((B.seq < committed_seq w.words) × ((batch_at B w.batches (committed_seq w.words)).owner ≡ j) × (request_of w.words j ≡ pack (committed_seq w.words) 0) × (request_of vs j ≡ pack (committed_seq w.words) 1))
             request j (inl r) = inr (
               omega (arith, is_last, a.0.after),
-              subst (λ (k : ℕ). (batch B w.batches k).owner ≡ j) is_last (a.0.committed ∙ sym r),
-              ap (request_of w.words) r ∙ was ∙ ap (λ (k : ℕ). word k 0) is_last,
-              ap (request_of vs) r ∙ here ∙ ap (λ (k : ℕ). word k 1) is_last,
+              subst (λ (k : ℕ). (batch_at B w.batches k).owner ≡ j) is_last (a.0.committed ∙ sym r),
+              ap (request_of w.words) r ∙ was ∙ ap (λ (k : ℕ). pack k 0) is_last,
+              ap (request_of vs) r ∙ here ∙ ap (λ (k : ℕ). pack k 1) is_last,
             )
             request j (inr r) = inl (elsewhere (j + 1) (omega arith))
 
@@ -317,7 +317,7 @@ module _ (S : Setup) (Lawful : List ℕ → Type 0) (B : Start) where
 
             touches : (k : ℕ) → Touches S Lawful B k w.words vs w.batches
             touches k = record {
-              room = length-set w.words (m.owner + 1) (word m.seq 1);
+              room = length-set w.words (m.owner + 1) (pack m.seq 1);
               current_word = current_same;
               requests = λ j l r. request j (cases_eq j m.owner);
               logs = λ j l r x u. elsewhere (log_at S j x) (omega (arith, owner_in));
@@ -332,50 +332,50 @@ module _ (S : Setup) (Lawful : List ℕ → Type 0) (B : Start) where
             is_request : (j : ℕ) → j < S.callers → (j ≡ m.owner) ⊎ (j ≡ m.owner → ⊥) → IsRequest B w.words w.batches j (request_of vs j)
             is_request j l (inr r) = request_same S Lawful B i w.words vs w.batches (touches i) g.shared j l (elsewhere (j + 1) (omega arith))
             is_request j l (inl r) = λ b.
-                let e : request_of vs j ≡ word m.seq 1 = ap (request_of vs) r ∙ here in
-                let f : seq (request_of vs j) ≡ m.seq = ap seq e ∙ seq_word m.seq 1 (omega arith) in
-                inr (ap pay e ∙ pay_word m.seq 1 (omega arith), rw f a.0.upto, rw f (a.0.committed ∙ sym r))
+                let e : request_of vs j ≡ pack m.seq 1 = ap (request_of vs) r ∙ here in
+                let f : seq_of (request_of vs j) ≡ m.seq = ap seq_of e ∙ seq_word m.seq 1 (omega arith) in
+                inr (ap payload_of e ∙ pay_word m.seq 1 (omega arith), rw f a.0.upto, rw f (a.0.committed ∙ sym r))
 
-            kinds : Kinds S B vs w.batches
+            kinds : WordsHaveTheirKind S B vs w.batches
             kinds = kinds_same S Lawful B i w.words vs w.batches (touches i) g.shared (λ j l. is_request j l (cases_eq j m.owner)) (λ j y l u. elsewhere (log_at S j y) (omega (arith, owner_in)))
 
-            kept : At S B vs w.batches i m CloseRequest
+            kept : HoldsAtPlace S B vs w.batches i m CloseRequest
             kept = at_stable S Lawful B (i + 1) w.words w.batches vs w.batches (moves_of S Lawful B (i + 1) w.words vs w.batches (touches (i + 1)) g.shared) g.shared i h (λ z. omega arith) m CloseRequest a
 
             -- the durable word of CUR has reached the batch
-            d_is : risen S w.words ≡ last w.words
+            d_is : durable_seq S w.words ≡ committed_seq w.words
             d_is = d_of g.shared.durable.step
               where
-                d_of : (last w.words ≡ risen S w.words) ⊎ ((last w.words ≡ risen S w.words + 1) × Opened B w.words) → risen S w.words ≡ last w.words
+                d_of : (committed_seq w.words ≡ durable_seq S w.words) ⊎ ((committed_seq w.words ≡ durable_seq S w.words + 1) × IsLastOpen B w.words) → durable_seq S w.words ≡ committed_seq w.words
                 d_of (inl z) = sym z
                 d_of (inr z) = absurd (omega (arith, z.0, a.1, is_last))
 
             -- a word of the state before, at least as new as the batch, is no such word
-            whole : (x v : ℕ) → x < S.cells → ((k : ℕ) → k < length m.log → (entry m k).0 ≡ x → m.seq ≤ seq v) → v ≡ at B w.batches (last w.words - 1) x → v ≡ at B w.batches (last w.words) x
-            whole x v l newer q = named (cases_named (batch B w.batches m.seq).log x)
+            whole : (x v : ℕ) → x < S.cells → ((k : ℕ) → k < length m.log → (log_entry m k).0 ≡ x → m.seq ≤ seq_of v) → v ≡ data_word_after B w.batches (committed_seq w.words - 1) x → v ≡ data_word_after B w.batches (committed_seq w.words) x
+            whole x v l newer q = named (cases_named (batch_at B w.batches m.seq).log x)
               where
-                before : seq (at B w.batches (last w.words - 1) x) ≤ last w.words - 1
-                before = old S B w.batches g.shared.start (logs_of S Lawful B w g) (last w.words - 1) x (omega (arith, is_last, a.0.after)) (omega (arith, n_is)) l
+                before : seq_of (data_word_after B w.batches (committed_seq w.words - 1) x) ≤ committed_seq w.words - 1
+                before = old S B w.batches g.shared.start (logs_of S Lawful B w g) (committed_seq w.words - 1) x (omega (arith, is_last, a.0.after)) (omega (arith, n_is)) l
 
-                named : ((k : ℕ) × (k < length (batch B w.batches m.seq).log) × ((get_or (batch B w.batches m.seq).log k (0, 0)).0 ≡ x)) ⊎ ((k : ℕ) → k < length (batch B w.batches m.seq).log → (get_or (batch B w.batches m.seq).log k (0, 0)).0 ≡ x → ⊥)
-                    → v ≡ at B w.batches (last w.words) x
+                named : ((k : ℕ) × (k < length (batch_at B w.batches m.seq).log) × ((get_or (batch_at B w.batches m.seq).log k (0, 0)).0 ≡ x)) ⊎ ((k : ℕ) → k < length (batch_at B w.batches m.seq).log → (get_or (batch_at B w.batches m.seq).log k (0, 0)).0 ≡ x → ⊥)
+                    → v ≡ data_word_after B w.batches (committed_seq w.words) x
                 named (inl k) =
                     let t = a.0.log.all k.0 k.1 in
-                    let y : m.seq ≤ seq v = newer t.0 t.1 (ap (λ (e : ℕ × ℕ). e.0) t.2 ∙ k.2) in
-                    absurd (omega (arith, before, ap seq q, is_last, a.0.after))
-                named (inr away) = q ∙ sym (rw is_last at (unnamed S B w.batches g.shared.start (logs_of S Lawful B w g) m.seq x a.0.after (omega (arith, a.0.upto, n_is)) away))
+                    let y : m.seq ≤ seq_of v = newer t.0 t.1 (ap (λ (e : ℕ × ℕ). e.0) t.2 ∙ k.2) in
+                    absurd (omega (arith, before, ap seq_of q, is_last, a.0.after))
+                named (inr away) = q ∙ sym (rw is_last data_word_after (unnamed S B w.batches g.shared.start (logs_of S Lawful B w g) m.seq x a.0.after (omega (arith, a.0.upto, n_is)) away))
 
-            data_cells : DataCells S B vs w.batches
+            data_cells : DataCellsMatchState S B vs w.batches
             data_cells = record { each = λ x l. inl (rw current_same (cell_same x l ∙ each x l (g.shared.data_cells.each x l))) }
               where
-                each : (x : ℕ) → x < S.cells → (cell S w.words x ≡ at B w.batches (last w.words) x) ⊎ (Opened B w.words × (cell S w.words x ≡ at B w.batches (last w.words - 1) x)) → cell S w.words x ≡ at B w.batches (last w.words) x
+                each : (x : ℕ) → x < S.cells → (data_word S w.words x ≡ data_word_after B w.batches (committed_seq w.words) x) ⊎ (IsLastOpen B w.words × (data_word S w.words x ≡ data_word_after B w.batches (committed_seq w.words - 1) x)) → data_word S w.words x ≡ data_word_after B w.batches (committed_seq w.words) x
                 each x l (inl d) = d
-                each x l (inr d) = whole x (cell S w.words x) l (λ k u z. rw z at (a.0.done k u).0) d.1
+                each x l (inr d) = whole x (data_word S w.words x) l (λ k u z. rw z data_word_after (a.0.done k u).0) d.1
 
-            durable : Durable S B vs w.batches
+            durable : DurableWordsMatch S B vs w.batches
             durable = durable_of S Lawful B i w.words vs w.batches (touches i) g.shared (λ y l. rw (cell_same y l) (g.shared.durable.fresh y l)) (λ q. inl (sym d_is)) (λ y l. cells y l (g.shared.durable.cells y l)) (λ k l u p o q y v. elsewhere (log_at S p y) (omega (arith, owner_in)))
               where
-                cells : (y : ℕ) → y < S.cells → (durable_cell S w.words y ≡ at B w.batches (risen S w.words) y) ⊎ (Opened B w.words × (last w.words ≡ risen S w.words) × (durable_cell S w.words y ≡ at B w.batches (risen S w.words - 1) y))
-                    → (durable_cell S w.words y ≡ at B w.batches (risen S w.words) y) ⊎ (Opened B vs × (last w.words ≡ risen S w.words) × (durable_cell S w.words y ≡ at B w.batches (risen S w.words - 1) y))
+                cells : (y : ℕ) → y < S.cells → (durable_cell S w.words y ≡ data_word_after B w.batches (durable_seq S w.words) y) ⊎ (IsLastOpen B w.words × (committed_seq w.words ≡ durable_seq S w.words) × (durable_cell S w.words y ≡ data_word_after B w.batches (durable_seq S w.words - 1) y))
+                    → (durable_cell S w.words y ≡ data_word_after B w.batches (durable_seq S w.words) y) ⊎ (IsLastOpen B vs × (committed_seq w.words ≡ durable_seq S w.words) × (durable_cell S w.words y ≡ data_word_after B w.batches (durable_seq S w.words - 1) y))
                 cells y l (inl d) = inl d
-                cells y l (inr d) = inl (whole y (durable_cell S w.words y) l (λ k u z. rw z at (a.0.done k u).1) (d.2 ∙ ap (λ (k : ℕ). at B w.batches (k - 1) y) d_is) ∙ ap (λ (k : ℕ). at B w.batches k y) (sym d_is))
+                cells y l (inr d) = inl (whole y (durable_cell S w.words y) l (λ k u z. rw z data_word_after (a.0.done k u).1) (d.2 ∙ ap (λ (k : ℕ). data_word_after B w.batches (k - 1) y) d_is) ∙ ap (λ (k : ℕ). data_word_after B w.batches k y) (sym d_is))

@@ -1,22 +1,22 @@
 -- The invariant speaks of no word behind the table's own.
 use Rattle.std.proofs.Common.{◌≡◌, ℕ, ◌+◌, ◌*◌, ◌-◌, ◌<◌, ◌≤◌, ◌⊎◌, inl, inr, List, get_or, set, sym, ◌∙◌, ap, subst, arith, length-set}
 use Rattle.std.proofs.lemmas.List.{get_or-set_other}
-use Rattle.of_cell.specs.Words.{seq}
-use Rattle.of_core.specs.Table.{Setup, table_size, durable_at, log_at, script_at, current_word, request_of, cell, log_word, script_word, last, holder, risen}
-use Rattle.of_core.specs.World.{World, Start}
-use Rattle.of_core.specs.History.{at}
-use Rattle.of_core.specs.Shared.{Shared, Opened, DataCells, Durable, IsRequest}
-use Rattle.of_core.specs.Invariant.{Good, IsLoaded}
+use Rattle.of_cell.specs.Words.{seq_of}
+use Rattle.of_core.specs.Table.{Setup, words_before_members, durable_at, log_at, script_word_at, current_word, request_of, data_word, log_word_of, script_word, committed_seq, committed_owner, durable_seq}
+use Rattle.of_core.specs.World.{Moment, TableStart}
+use Rattle.of_core.specs.History.{data_word_after}
+use Rattle.of_core.specs.Shared.{WordsMatchHistory, IsLastOpen, DataCellsMatchState, DurableWordsMatch, IsRequest}
+use Rattle.of_core.specs.Invariant.{MeetsInvariant, IsLoaded}
 use Rattle.of_core.proofs.Logs.{room_for}
 use Rattle.of_core.proofs.Touches.{Touches, durable_of, kinds_same, moves_of, shared_of}
 use Rattle.of_core.proofs.Stability.{at_stable, heard_as, loaded_stable, log_in}
 use Rattle.of_core.proofs.Ordering.{order_same}
 
-module _ (S : Setup) (Lawful : List ℕ → Type 0) (B : Start) (w : World) (g : Good S Lawful B w) (c v : ℕ) (far : table_size S ≤ c) where
+module _ (S : Setup) (Lawful : List ℕ → Type 0) (B : TableStart) (w : Moment) (g : MeetsInvariant S Lawful B w) (c v : ℕ) (far : words_before_members S ≤ c) where
   abbrev vs : List ℕ
   vs = set w.words c v
 
-  below : (x : ℕ) → x < table_size S → get_or vs x 0 ≡ get_or w.words x 0
+  below : (x : ℕ) → x < words_before_members S → get_or vs x 0 ≡ get_or w.words x 0
   below x l = get_or-set_other w.words c x v 0 (omega arith)
 
   current_same : current_word vs ≡ current_word w.words
@@ -25,14 +25,14 @@ module _ (S : Setup) (Lawful : List ℕ → Type 0) (B : Start) (w : World) (g :
   req_same : (j : ℕ) → j < S.callers → request_of vs j ≡ request_of w.words j
   req_same j l = below (j + 1) (omega arith)
 
-  cell_same : (a : ℕ) → a < S.cells → cell S vs a ≡ cell S w.words a
+  cell_same : (a : ℕ) → a < S.cells → data_word S vs a ≡ data_word S w.words a
   cell_same a l = below (S.callers + 1 + a) (omega arith)
 
-  log_same : (j y : ℕ) → j < S.callers → y < 2 * S.cells + 1 → log_word S vs j y ≡ log_word S w.words j y
+  log_same : (j y : ℕ) → j < S.callers → y < 2 * S.cells + 1 → log_word_of S vs j y ≡ log_word_of S w.words j y
   log_same j y l u = below (log_at S j y) (omega (arith, log_in S j y l u))
 
   script_same : (j y : ℕ) → j < S.callers → y < S.instrs + 1 → script_word S vs j y ≡ script_word S w.words j y
-  script_same j y l u = below (script_at S j y) (let r : j * (S.instrs + 1) + (S.instrs + 1) ≤ S.callers * (S.instrs + 1) = room_for j S.callers (S.instrs + 1) l in omega arith)
+  script_same j y l u = below (script_word_at S j y) (let r : j * (S.instrs + 1) + (S.instrs + 1) ≤ S.callers * (S.instrs + 1) = room_for j S.callers (S.instrs + 1) l in omega arith)
 
   touches : (i : ℕ) → Touches S Lawful B i w.words vs w.batches
   touches i = record {
@@ -48,38 +48,38 @@ module _ (S : Setup) (Lawful : List ℕ → Type 0) (B : Start) (w : World) (g :
     announcements = λ j l. inl (script_same j S.instrs l (omega arith));
   }
 
-  open_same : Opened B w.words → Opened B vs
-  open_same o = record { any = rw current_same o.any; asks = rw current_same (req_same (holder w.words) g.core.shared.counted.owner_in ∙ o.asks) }
+  open_same : IsLastOpen B w.words → IsLastOpen B vs
+  open_same o = record { any = rw current_same o.any; asks = rw current_same (req_same (committed_owner w.words) g.core.shared.counted.owner_in ∙ o.asks) }
 
-  data_cells : DataCells S B vs w.batches
+  data_cells : DataCellsMatchState S B vs w.batches
   data_cells = record { each = λ y l. each y l (g.core.shared.data_cells.each y l) }
     where
-      each : (y : ℕ) → y < S.cells → (cell S w.words y ≡ at B w.batches (last w.words) y) ⊎ (Opened B w.words × (cell S w.words y ≡ at B w.batches (last w.words - 1) y))
-          → (cell S vs y ≡ at B w.batches (last vs) y) ⊎ (Opened B vs × (cell S vs y ≡ at B w.batches (last vs - 1) y))
+      each : (y : ℕ) → y < S.cells → (data_word S w.words y ≡ data_word_after B w.batches (committed_seq w.words) y) ⊎ (IsLastOpen B w.words × (data_word S w.words y ≡ data_word_after B w.batches (committed_seq w.words - 1) y))
+          → (data_word S vs y ≡ data_word_after B w.batches (committed_seq vs) y) ⊎ (IsLastOpen B vs × (data_word S vs y ≡ data_word_after B w.batches (committed_seq vs - 1) y))
       each y l (inl q) = inl (rw current_same (cell_same y l ∙ q))
       each y l (inr (o, q)) = inr (open_same o, rw current_same (cell_same y l ∙ q))
 
-  durable : Durable S B vs w.batches
+  durable : DurableWordsMatch S B vs w.batches
   durable = durable_of S Lawful B 0 w.words vs w.batches (touches 0) g.core.shared (λ y l. rw (cell_same y l) (g.core.shared.durable.fresh y l)) step (λ y l. cells (g.core.shared.durable.cells y l))
       (λ k l u j o q y v. log_same j y (rw (← o) (g.core.shared.counted.owners k l u)) v)
     where
-      step : (last w.words ≡ risen S w.words) ⊎ ((last w.words ≡ risen S w.words + 1) × Opened B w.words) → (last w.words ≡ risen S w.words) ⊎ ((last w.words ≡ risen S w.words + 1) × Opened B vs)
+      step : (committed_seq w.words ≡ durable_seq S w.words) ⊎ ((committed_seq w.words ≡ durable_seq S w.words + 1) × IsLastOpen B w.words) → (committed_seq w.words ≡ durable_seq S w.words) ⊎ ((committed_seq w.words ≡ durable_seq S w.words + 1) × IsLastOpen B vs)
       step (inl q) = inl q
       step (inr q) = inr (q.0, open_same q.1)
 
-      cells : {p q r : Type 0} → p ⊎ (Opened B w.words × q × r) → p ⊎ (Opened B vs × q × r)
+      cells : {p q r : Type 0} → p ⊎ (IsLastOpen B w.words × q × r) → p ⊎ (IsLastOpen B vs × q × r)
       cells (inl d) = inl d
       cells (inr d) = inr (open_same d.0, d.1, d.2)
 
-  shared : Shared S Lawful B vs w.batches
+  shared : WordsMatchHistory S Lawful B vs w.batches
   shared = shared_of S Lawful B 0 w.words vs w.batches (touches 0) g.core.shared data_cells durable
-      (heard_as S B w.words vs w.batches (λ j l. script_same j S.instrs l (omega arith)) (ap seq current_same) (λ j l. rw (log_same j 0 l (omega arith)) (g.core.shared.heard.counts j l)) g.core.shared.heard)
+      (heard_as S B w.words vs w.batches (λ j l. script_same j S.instrs l (omega arith)) (ap seq_of current_same) (λ j l. rw (log_same j 0 l (omega arith)) (g.core.shared.heard.counts j l)) g.core.shared.heard)
       (kinds_same S Lawful B 0 w.words vs w.batches (touches 0) g.core.shared (λ j l. subst (λ (y : ℕ). IsRequest B w.words w.batches j y) (sym (req_same j l)) (g.core.shared.kinds.requests j l)) log_same)
 
   pub beside_stays : (e : ℕ × ℕ) → IsLoaded S B w.words w.batches e → IsLoaded S B vs w.batches e
   beside_stays e l = loaded_stable S Lawful B 0 w.words w.batches vs w.batches (moves_of S Lawful B 0 w.words vs w.batches (touches 0) g.core.shared) g.core.shared shared.kinds e l
 
-  pub beside_kept : Good S Lawful B (record w { words = vs })
+  pub beside_kept : MeetsInvariant S Lawful B (record w { words = vs })
   beside_kept = record {
     core = record {
       shared = shared;
@@ -89,5 +89,5 @@ module _ (S : Setup) (Lawful : List ℕ → Type 0) (B : Start) (w : World) (g :
     };
     within = g.within;
     late = g.late;
-    order = order_same S B w vs g.order (ap seq current_same) (omega (arith, ap seq (below (durable_at S 0) (omega arith))));
+    order = order_same S B w vs g.order (ap seq_of current_same) (omega (arith, ap seq_of (below (durable_at S 0) (omega arith))));
   }

@@ -2,28 +2,28 @@
 use Rattle.std.proofs.Common.{◌≡◌, ℕ, ◌+◌, ◌<◌, ◌≤◌, ◌⊎◌, inl, inr, List, [], length, get_or, refl, ap, arith}
 use Rattle.of_core.specs.declared.place.Place.{Place}
 use Rattle.of_core.specs.declared.place.Place.TheVariants.{Idle, TryCurrent, TryRequest, TryCell, StoreScript, StoreAnnouncement, LoadCurrent, LoadRequest, CopyLog, LookAgain, LoadOwnTicket, LoadShape, LoadReply, LoadAnnouncement, LoadTicket, LoadScript, LoadCell, RaiseOld, StoreLog, RaiseLog, StoreRequest, RaiseRequest, ExchangeCurrent, RaiseCurrent, LoadTarget, ExchangeTarget, ReloadTarget, RaiseTarget, CloseRequest, RaiseClosed}
-use Rattle.of_core.specs.Table.{Setup, size, durable_at, log_at, ticket_cell}
-use Rattle.of_core.specs.Machine.{Data}
-use Rattle.of_core.specs.Steps.{want, want_at, word_of, took, took_at, counted_at}
-use Rattle.of_core.specs.World.{World, Start, added, commits_at}
-use Rattle.of_core.specs.Invariant.{At, Core}
+use Rattle.of_core.specs.Table.{Setup, cell_count, durable_at, log_at, ticket_cell}
+use Rattle.of_core.specs.Machine.{CallState}
+use Rattle.of_core.specs.Steps.{want, want_at, word_of, take_word, take_word_at, with_step_counted}
+use Rattle.of_core.specs.World.{Moment, TableStart, step_batches, step_batches_at}
+use Rattle.of_core.specs.Invariant.{HoldsAtPlace, MeetsCore}
 use Rattle.of_core.specs.Laws.{IsRaise, GoesBlindly}
 use Rattle.of_core.proofs.Logs.{length-log_words, room_for}
 use Rattle.of_core.proofs.Stability.{log_in}
 use Rattle.of_core.proofs.Durables.{owner_in, entry_in}
 
-module _ (S : Setup) (Lawful : List ℕ → Type 0) (B : Start) (w : World) (g : Core S Lawful B w) (i : ℕ) (m : Data) (h : i < S.callers) where
+module _ (S : Setup) (Lawful : List ℕ → Type 0) (B : TableStart) (w : Moment) (g : MeetsCore S Lawful B w) (i : ℕ) (m : CallState) (h : i < S.callers) where
   abbrev Off : Place → Type 0
-  Off p = (c : ℕ) → c < size S → word_of (want_at S m p) ≡ durable_at S c → ⊥
+  Off p = (c : ℕ) → c < cell_count S → word_of (want_at S m p) ≡ durable_at S c → ⊥
 
   abbrev BlindAt : Place → Type 0
-  BlindAt p = IsRaise (want_at S m p) × ((n k : ℕ) → took_at S (counted_at p m) n p ≡ took_at S (counted_at p m) k p) × ((ws : List ℕ) (n : ℕ) → commits_at S ws m n p ≡ [])
+  BlindAt p = IsRaise (want_at S m p) × ((n k : ℕ) → take_word_at S (with_step_counted p m) n p ≡ take_word_at S (with_step_counted p m) k p) × ((ws : List ℕ) (n : ℕ) → step_batches_at S ws m n p ≡ [])
 
   -- the cells of a caller's own row are data cells
   own_cells : (k : ℕ) → k < S.callers → ticket_cell S k + (S.instrs + 2) ≤ S.cells
   own_cells k l = omega (arith, room_for k S.callers (S.instrs + 2) l, g.shared.own_in)
 
-  blind : (p : Place) → At S B w.words w.batches i m p → Off p ⊎ BlindAt p
+  blind : (p : Place) → HoldsAtPlace S B w.words w.batches i m p → Off p ⊎ BlindAt p
   blind Idle a = inl (λ c l e. omega (arith, e))
   blind TryCurrent a = inl (λ c l e. omega (arith, e))
   blind LoadCurrent a = inl (λ c l e. omega (arith, e))
@@ -58,6 +58,6 @@ module _ (S : Setup) (Lawful : List ℕ → Type 0) (B : Start) (w : World) (g :
   blind (RaiseTarget x f) a = inr (tt, λ n k. refl, λ ws n. refl)
   blind RaiseClosed a = inr (tt, λ n k. refl, λ ws n. refl)
 
-  pub step_blind : get_or w.machines i m ≡ m → ((c : ℕ) → c < size S → word_of (want S m) ≡ durable_at S c → ⊥) ⊎ GoesBlindly S m
-  unfolding want took added
+  pub step_blind : get_or w.machines i m ≡ m → ((c : ℕ) → c < cell_count S → word_of (want S m) ≡ durable_at S c → ⊥) ⊎ GoesBlindly S m
+  unfolding want take_word step_batches
   step_blind own = blind m.place (g.each i m h own)

@@ -4,30 +4,30 @@ use Rattle.std.proofs.lemmas.Bool.{cases_order}
 use Rattle.of_mem.specs.declared.work.RawReply.{RawReply}
 use Rattle.of_core.specs.declared.place.Outcome.{Outcome}
 use Rattle.of_core.specs.declared.place.Outcome.TheVariants.{Answered, Spent}
-use Rattle.of_core.specs.Table.{Setup, risen}
+use Rattle.of_core.specs.Table.{Setup, durable_seq}
 use Rattle.of_core.specs.Machine.{Call, no_call}
-use Rattle.of_core.specs.World.{World, Start, Read}
-use Rattle.of_core.specs.History.{batch}
+use Rattle.of_core.specs.World.{Moment, TableStart, Read}
+use Rattle.of_core.specs.History.{batch_at}
 use Rattle.of_core.specs.Order.{no_read}
-use Rattle.of_core.specs.Invariant.{Good}
-use Rattle.of_core.specs.Calls.{seq_of, Stood}
+use Rattle.of_core.specs.Invariant.{MeetsInvariant}
+use Rattle.of_core.specs.Calls.{outcome_seq, OutcomeStands}
 use Rattle.of_core.proofs.Tickets.{tickets_rise}
 
-module _ (S : Setup) (Lawful : List ℕ → Type 0) (B : Start) (v : World) (g : Good S Lawful B v) (reach : risen S v.words ≤ B.seq + length v.batches) (i : ℕ) where
+module _ (S : Setup) (Lawful : List ℕ → Type 0) (B : TableStart) (v : Moment) (g : MeetsInvariant S Lawful B v) (reach : durable_seq S v.words ≤ B.seq + length v.batches) (i : ℕ) where
   -- the call y of batch k
   abbrev call : ℕ → ℕ → Call
-  call k y = get_or (batch B v.batches k).calls y no_call
+  call k y = get_or (batch_at B v.batches k).calls y no_call
 
   -- of two calls of one caller the older is in an older batch
-  apart : (j k y z : ℕ) → B.seq < j → j ≤ B.seq + length v.batches → B.seq < k → k ≤ B.seq + length v.batches → y < length (batch B v.batches j).calls → z < length (batch B v.batches k).calls
+  apart : (j k y z : ℕ) → B.seq < j → j ≤ B.seq + length v.batches → B.seq < k → k ≤ B.seq + length v.batches → y < length (batch_at B v.batches j).calls → z < length (batch_at B v.batches k).calls
       → (call j y).caller ≡ i → (call k z).caller ≡ i → (call j y).ticket < (call k z).ticket → j < k
   apart j k y z a b c d m n p q t = go (cases_order j k)
     where
       same : j ≡ k → j < k
       same e = within (cases_order y z)
         where
-          r : z < length (batch B v.batches j).calls
-          r = subst (λ (x : ℕ). z < length (batch B v.batches x).calls) (sym e) n
+          r : z < length (batch_at B v.batches j).calls
+          r = subst (λ (x : ℕ). z < length (batch_at B v.batches x).calls) (sym e) n
 
           one : (call j z).caller ≡ i
           one = ap (λ (x : ℕ). (call x z).caller) e ∙ q
@@ -46,7 +46,7 @@ module _ (S : Setup) (Lawful : List ℕ → Type 0) (B : Start) (v : World) (g :
       go (inr (inr l)) = absurd (omega (arith, tickets_rise S Lawful B v.batches g.core.shared.stands k j c l b z no_call n y no_call m (p ∙ sym q), t))
 
   -- and an older read is of an older state
-  behind_read : (k x y : ℕ) → B.seq < k → k ≤ B.seq + length v.batches → y < length (batch B v.batches k).calls → x < length v.reads → (call k y).caller ≡ i → (get_or v.reads x no_read).caller ≡ i → (get_or v.reads x no_read).ticket < (call k y).ticket
+  behind_read : (k x y : ℕ) → B.seq < k → k ≤ B.seq + length v.batches → y < length (batch_at B v.batches k).calls → x < length v.reads → (call k y).caller ≡ i → (get_or v.reads x no_read).caller ≡ i → (get_or v.reads x no_read).ticket < (call k y).ticket
       → (get_or v.reads x no_read).seq < k
   behind_read k x y a b m n p q t = go (g.order.ordered.apart k a b y no_call m x no_read n (p ∙ sym q))
     where
@@ -55,7 +55,7 @@ module _ (S : Setup) (Lawful : List ℕ → Type 0) (B : Start) (v : World) (g :
       go (inr c) = c.1
 
   -- so an announced answer comes behind the outcome of an older call
-  pub announced_beyond : (t u s steps : ℕ) (p q : List ℕ) (raw : RawReply) (o : Outcome) → t < u → Stood S B v i t p o → Stood S B v i u q (Answered s true raw steps) → seq_of o < s
+  pub announced_beyond : (t u s steps : ℕ) (p q : List ℕ) (raw : RawReply) (o : Outcome) → t < u → OutcomeStands S B v i t p o → OutcomeStands S B v i u q (Answered s true raw steps) → outcome_seq o < s
   announced_beyond t u s steps p q raw (Answered z true r n) l h k =
       apart z s h.2.place k.2.place h.0 (omega (arith, h.1, reach)) k.0 (omega (arith, k.1, reach)) h.2.among k.2.among h.2.caller k.2.caller (omega (arith, l, h.2.ticket, k.2.ticket))
   announced_beyond t u s steps p q raw (Answered z false r n) l h k =

@@ -8,15 +8,15 @@ use Rattle.of_core.specs.declared.place.Place.{Place}
 use Rattle.of_core.specs.declared.place.Place.TheVariants.{Idle}
 use Rattle.of_core.specs.declared.place.Outcome.{Outcome}
 use Rattle.of_core.specs.declared.place.Outcome.TheVariants.{Answered, Spent}
-use Rattle.of_core.specs.Table.{Setup, risen}
-use Rattle.of_core.specs.Machine.{Call, Data, IsOpen, is_idle, opened, first_place}
-use Rattle.of_core.specs.World.{World, Start, Batch, Read}
-use Rattle.of_core.specs.History.{batch}
+use Rattle.of_core.specs.Table.{Setup, durable_seq}
+use Rattle.of_core.specs.Machine.{Call, CallState, IsOpen, is_idle, begin, first_place}
+use Rattle.of_core.specs.World.{Moment, TableStart, Batch, Read}
+use Rattle.of_core.specs.History.{batch_at}
 use Rattle.of_core.specs.Order.{no_read}
-use Rattle.of_core.specs.Seen.{ended_at}
-use Rattle.of_core.specs.Events.{machine}
+use Rattle.of_core.specs.Seen.{ended_outcome_at}
+use Rattle.of_core.specs.Events.{machine_in}
 use Rattle.of_core.specs.Facts.{ReadsFrom}
-use Rattle.of_core.specs.Calls.{no_outcome, last_from, seq_of, Beyond, NotRun, Stood, IsOutcome, WasBegun, Calls}
+use Rattle.of_core.specs.Calls.{no_outcome, last_outcome_or, outcome_seq, IsNotBefore, HasNotRun, OutcomeStands, IsOutcome, WasBegun, HasCalls}
 use Rattle.of_core.proofs.Idle.{idle_reads}
 use Rattle.of_core.proofs.Ordering.{idle_is}
 use Rattle.of_core.proofs.StepTaken.{opened_reads}
@@ -35,60 +35,60 @@ pub all_one : {X : Type 0} (P : X → Type 0) (x : X) → P x → All P (x ∷ [
 all_one P x h zero d l = h
 all_one P x h (suc k) d l = absurd (omega arith)
 
-last_push : (os : List Outcome) (before : Option Outcome) (o : Outcome) → last_from before (os ++ o ∷ []) ≡ Some o
+last_push : (os : List Outcome) (before : Option Outcome) (o : Outcome) → last_outcome_or before (os ++ o ∷ []) ≡ Some o
 last_push [] before o = refl
 last_push (p ∷ os) before o = last_push os (Some p) o
 
 -- a machine in a call hasn't ended it
-pub none_ended : (d : Data) (p : Place) → IsOpen p → ended_at p d ≡ None
+pub none_ended : (d : CallState) (p : Place) → IsOpen p → ended_outcome_at p d ≡ None
 none_ended d Idle o = cc
 none_ended d p o = refl
 
-module _ (S : Setup) (B : Start) where
+module _ (S : Setup) (B : TableStart) where
   -- the history of the first moment stands in the second
-  pub record Grows (w v : World) : Type 0 where
-    pub reach : risen S w.words ≤ B.seq + length w.batches
-    pub rise : risen S w.words ≤ risen S v.words
-    pub limit : risen S v.words ≤ S.limit
+  pub record Grows (w v : Moment) : Type 0 where
+    pub reach : durable_seq S w.words ≤ B.seq + length w.batches
+    pub rise : durable_seq S w.words ≤ durable_seq S v.words
+    pub limit : durable_seq S v.words ≤ S.limit
     pub few : B.seq + length v.batches ≤ S.limit
-    pub batches : (k : ℕ) → B.seq < k → k ≤ B.seq + length w.batches → batch B v.batches k ≡ batch B w.batches k
+    pub batches : (k : ℕ) → B.seq < k → k ≤ B.seq + length w.batches → batch_at B v.batches k ≡ batch_at B w.batches k
     pub reads : Extends w.reads v.reads
 
   -- no more batches stand where the limit was reached
-  not_run_grows : (w v : World) → Grows w v → (i t : ℕ) → S.limit ≤ risen S w.words → NotRun B w i t → NotRun B v i t
+  not_run_grows : (w v : Moment) → Grows w v → (i t : ℕ) → S.limit ≤ durable_seq S w.words → HasNotRun B w i t → HasNotRun B v i t
   not_run_grows w v f i t l h k u n =
       let m : k ≤ B.seq + length w.batches = omega (arith, n, l, f.reach, f.few) in
       subst (λ (b : Batch). All (λ (c : Call). c.caller ≡ i → c.ticket < t) b.calls) (sym (f.batches k u m)) (h k u m)
 
-  pub stood_grows : (w v : World) → Grows w v → (i t : ℕ) (op : List ℕ) (o : Outcome) → Stood S B w i t op o → Stood S B v i t op o
+  pub stood_grows : (w v : Moment) → Grows w v → (i t : ℕ) (op : List ℕ) (o : Outcome) → OutcomeStands S B w i t op o → OutcomeStands S B v i t op o
   stood_grows w v f i t op (Answered s true raw steps) h = (h.0, omega (arith, h.1, f.rise), rw (f.batches s h.0 (omega (arith, h.1, f.reach))) h.2, h.3, h.4)
   stood_grows w v f i t op (Answered s false raw steps) h = (omega (arith, h.0, f.rise), (h.1.0, omega (arith, h.1.1, f.reads.0), f.reads.1 h.1.0 no_read h.1.1 ∙ h.1.2), h.2, h.3, h.4)
   stood_grows w v f i t op (Spent s) h = (h.0, omega (arith, h.0, h.1, f.rise, f.limit), not_run_grows w v f i t (omega (arith, h.0, h.1)) h.2)
 
   -- no outcome is above the durable sequence
-  pub stood_low : (w : World) (i t : ℕ) (op : List ℕ) (o : Outcome) → Stood S B w i t op o → seq_of o ≤ risen S w.words
+  pub stood_low : (w : Moment) (i t : ℕ) (op : List ℕ) (o : Outcome) → OutcomeStands S B w i t op o → outcome_seq o ≤ durable_seq S w.words
   stood_low w i t op (Answered s true raw steps) h = h.1
   stood_low w i t op (Answered s false raw steps) h = h.0
   stood_low w i t op (Spent s) h = omega (arith, h.1)
 
   -- what stays of the calls of caller i
-  module _ (before : ℕ) (w : World) (i : ℕ) (ops : List (List ℕ)) (outs : List Outcome) (c : Calls S B before w i ops outs) where
+  module _ (before : ℕ) (w : Moment) (i : ℕ) (ops : List (List ℕ)) (outs : List Outcome) (c : HasCalls S B before w i ops outs) where
     pub fewer_outs : length outs ≤ length ops
-    fewer_outs = go (is_idle (machine w i).place) refl
+    fewer_outs = go (is_idle (machine_in w i).place) refl
       where
-        go : (b : Bool) → is_idle (machine w i).place ≡ b → length outs ≤ length ops
-        go true e = omega (arith, c.idle (idle_is (machine w i).place e))
+        go : (b : Bool) → is_idle (machine_in w i).place ≡ b → length outs ≤ length ops
+        go true e = omega (arith, c.idle (idle_is (machine_in w i).place e))
         go false e = omega (arith, (c.open_call e).0)
 
     -- each outcome is of a batch that stands, or of the start
-    pub outcome_low : risen S w.words ≤ B.seq + length w.batches → (x : ℕ) → x < length outs → seq_of (get_or outs x no_outcome) ≤ B.seq + length w.batches
+    pub outcome_low : durable_seq S w.words ≤ B.seq + length w.batches → (x : ℕ) → x < length outs → outcome_seq (get_or outs x no_outcome) ≤ B.seq + length w.batches
     outcome_low f x l = let low = stood_low w i (before + x + 1) (get_or ops x []) (get_or outs x no_outcome) (c.each x l) in omega (arith, low, f)
 
-    module _ (v : World) (f : Grows w v) (now : List (List ℕ)) (ends : List Outcome) (a : Extends ops now) (b : Extends outs ends) where
-      each_stays : (x : ℕ) → x < length outs → Stood S B v i (before + x + 1) (get_or now x []) (get_or ends x no_outcome)
+    module _ (v : Moment) (f : Grows w v) (now : List (List ℕ)) (ends : List Outcome) (a : Extends ops now) (b : Extends outs ends) where
+      each_stays : (x : ℕ) → x < length outs → OutcomeStands S B v i (before + x + 1) (get_or now x []) (get_or ends x no_outcome)
       each_stays x l =
-          subst (λ (o : Outcome). Stood S B v i (before + x + 1) (get_or now x []) o) (sym (b.1 x no_outcome l))
-          (subst (λ (op : List ℕ). Stood S B v i (before + x + 1) op (get_or outs x no_outcome)) (sym (a.1 x [] (omega (arith, l, fewer_outs))))
+          subst (λ (o : Outcome). OutcomeStands S B v i (before + x + 1) (get_or now x []) o) (sym (b.1 x no_outcome l))
+          (subst (λ (op : List ℕ). OutcomeStands S B v i (before + x + 1) op (get_or outs x no_outcome)) (sym (a.1 x [] (omega (arith, l, fewer_outs))))
           (stood_grows w v f i (before + x + 1) (get_or ops x []) (get_or outs x no_outcome) (c.each x l)))
 
       among_stays : (r : Read) → IsOutcome before i ops outs r → IsOutcome before i now ends r
@@ -100,73 +100,73 @@ module _ (S : Setup) (B : Start) where
       words_stay : (x : Call) → WasBegun before i ops x → WasBegun before i now x
       words_stay x h q = let p = h q in (p.0, omega (arith, p.1, a.0), p.2 ∙ sym (a.1 (x.ticket - before - 1) [] (omega (arith, p.0, p.1))))
 
-      calls_stay : ((k : ℕ) → B.seq + length w.batches < k → k ≤ B.seq + length v.batches → All (WasBegun before i ops) (batch B v.batches k).calls) → (k : ℕ) → B.seq < k → k ≤ B.seq + length v.batches → All (WasBegun before i now) (batch B v.batches k).calls
-      calls_stay new k l u y d z = words_stay (get_or (batch B v.batches k).calls y d) (go (cases_lt (B.seq + length w.batches) k))
+      calls_stay : ((k : ℕ) → B.seq + length w.batches < k → k ≤ B.seq + length v.batches → All (WasBegun before i ops) (batch_at B v.batches k).calls) → (k : ℕ) → B.seq < k → k ≤ B.seq + length v.batches → All (WasBegun before i now) (batch_at B v.batches k).calls
+      calls_stay new k l u y d z = words_stay (get_or (batch_at B v.batches k).calls y d) (go (cases_lt (B.seq + length w.batches) k))
         where
-          go : (B.seq + length w.batches < k) ⊎ (k ≤ B.seq + length w.batches) → WasBegun before i ops (get_or (batch B v.batches k).calls y d)
+          go : (B.seq + length w.batches < k) ⊎ (k ≤ B.seq + length w.batches) → WasBegun before i ops (get_or (batch_at B v.batches k).calls y d)
           go (inl t) = new k t u y d z
           go (inr t) = (subst (λ (x : Batch). All (WasBegun before i ops) x.calls) (sym (f.batches k l t)) (c.calls k l t)) y d z
 
     -- where none of the caller's calls has begun or ended
-    pub stays : (v : World) → Grows w v → (rs : List Read) → v.reads ≡ w.reads ++ rs → All (IsOutcome before i ops outs) rs → ((k : ℕ) → B.seq + length w.batches < k → k ≤ B.seq + length v.batches → All (WasBegun before i ops) (batch B v.batches k).calls)
-        → (d : Data) → machine v i ≡ d → d.made ≡ (machine w i).made → (d.place ≡ Idle → ((machine w i).place ≡ Idle) × (d.answer ≡ (machine w i).answer)) → (IsOpen d.place → IsOpen (machine w i).place × (d.op ≡ (machine w i).op) × (d.answer ≡ (machine w i).answer))
-        → ((low : ℕ) → low ≤ B.seq + length w.batches → ReadsFrom low (machine w i) → ReadsFrom low d) → Calls S B before v i ops outs
+    pub stays : (v : Moment) → Grows w v → (rs : List Read) → v.reads ≡ w.reads ++ rs → All (IsOutcome before i ops outs) rs → ((k : ℕ) → B.seq + length w.batches < k → k ≤ B.seq + length v.batches → All (WasBegun before i ops) (batch_at B v.batches k).calls)
+        → (d : CallState) → machine_in v i ≡ d → d.made ≡ (machine_in w i).made → (d.place ≡ Idle → ((machine_in w i).place ≡ Idle) × (d.answer ≡ (machine_in w i).answer)) → (IsOpen d.place → IsOpen (machine_in w i).place × (d.op ≡ (machine_in w i).op) × (d.answer ≡ (machine_in w i).answer))
+        → ((low : ℕ) → low ≤ B.seq + length w.batches → ReadsFrom low (machine_in w i) → ReadsFrom low d) → HasCalls S B before v i ops outs
     stays v f rs e all new d x made idle live from = record {
-      made = ap (λ (n : Data). n.made) x ∙ made ∙ c.made;
-      idle = λ q. c.idle (idle (ap (λ (n : Data). n.place) (sym x) ∙ q)).0;
-      open_call = λ q. let o = live (subst (λ (n : Data). IsOpen n.place) x q) in ((c.open_call o.0).0, ap (λ (n : Data). n.op) x ∙ o.1 ∙ (c.open_call o.0).1);
-      unanswered = λ q. let o = live (subst (λ (n : Data). IsOpen n.place) x q) in ap (λ (n : Data). n.answer) x ∙ o.2 ∙ c.unanswered o.0;
-      last = λ q. let o = idle (ap (λ (n : Data). n.place) (sym x) ∙ q) in ap (λ (n : Data). n.answer) x ∙ o.1 ∙ c.last o.0;
+      made = ap (λ (n : CallState). n.made) x ∙ made ∙ c.made;
+      idle = λ q. c.idle (idle (ap (λ (n : CallState). n.place) (sym x) ∙ q)).0;
+      open_call = λ q. let o = live (subst (λ (n : CallState). IsOpen n.place) x q) in ((c.open_call o.0).0, ap (λ (n : CallState). n.op) x ∙ o.1 ∙ (c.open_call o.0).1);
+      unanswered = λ q. let o = live (subst (λ (n : CallState). IsOpen n.place) x q) in ap (λ (n : CallState). n.answer) x ∙ o.2 ∙ c.unanswered o.0;
+      last = λ q. let o = idle (ap (λ (n : CallState). n.place) (sym x) ∙ q) in ap (λ (n : CallState). n.answer) x ∙ o.1 ∙ c.last o.0;
       each = each_stays v f ops outs (extends_self ops) (extends_self outs);
       reads = reads_stay v f ops outs (extends_self ops) (extends_self outs) rs e all;
       calls = calls_stay v f ops outs (extends_self ops) (extends_self outs) new;
       rising = c.rising;
-      reads_from = λ y l. subst (ReadsFrom (seq_of (get_or outs y no_outcome))) (sym x) (from (seq_of (get_or outs y no_outcome)) (outcome_low f.reach y l) (c.reads_from y l));
+      reads_from = λ y l. subst (ReadsFrom (outcome_seq (get_or outs y no_outcome))) (sym x) (from (outcome_seq (get_or outs y no_outcome)) (outcome_low f.reach y l) (c.reads_from y l));
     }
 
     -- the caller begins a call, by the machine d with as many calls behind it
-    pub begins : (v : World) → Grows w v → v.reads ≡ w.reads → v.batches ≡ w.batches → (m : Data) (op : List ℕ) → machine w i ≡ m → m.place ≡ Idle → (d : Data) → d.made ≡ m.made → machine v i ≡ opened S d op → Calls S B before v i (ops ++ op ∷ []) outs
+    pub begins : (v : Moment) → Grows w v → v.reads ≡ w.reads → v.batches ≡ w.batches → (m : CallState) (op : List ℕ) → machine_in w i ≡ m → m.place ≡ Idle → (d : CallState) → d.made ≡ m.made → machine_in v i ≡ begin S d op → HasCalls S B before v i (ops ++ op ∷ []) outs
     begins v f e t m op own rest d as_many x = record {
-      made = ap (λ (n : Data). n.made) x ∙ omega (arith, as_many, sym (ap (λ (n : Data). n.made) own) ∙ c.made, length-append ops (op ∷ []));
-      idle = λ q. absurd (closed (S.meaning.reads_only op) (ap (λ (n : Data). n.place) (sym x) ∙ q));
-      open_call = λ q. (omega (arith, length-append ops (op ∷ []), all_ended), ap (λ (n : Data). n.op) x ∙ sym (get_or_push ops op [] (length outs) (sym all_ended)));
-      unanswered = λ q. ap (λ (n : Data). n.answer) x;
-      last = λ q. absurd (closed (S.meaning.reads_only op) (ap (λ (n : Data). n.place) (sym x) ∙ q));
+      made = ap (λ (n : CallState). n.made) x ∙ omega (arith, as_many, sym (ap (λ (n : CallState). n.made) own) ∙ c.made, length-append ops (op ∷ []));
+      idle = λ q. absurd (closed (S.meaning.reads_only op) (ap (λ (n : CallState). n.place) (sym x) ∙ q));
+      open_call = λ q. (omega (arith, length-append ops (op ∷ []), all_ended), ap (λ (n : CallState). n.op) x ∙ sym (get_or_push ops op [] (length outs) (sym all_ended)));
+      unanswered = λ q. ap (λ (n : CallState). n.answer) x;
+      last = λ q. absurd (closed (S.meaning.reads_only op) (ap (λ (n : CallState). n.place) (sym x) ∙ q));
       each = each_stays v f (ops ++ op ∷ []) outs (extends_push ops op) (extends_self outs);
       reads = reads_stay v f (ops ++ op ∷ []) outs (extends_push ops op) (extends_self outs) [] (e ∙ sym (append-nil w.reads)) (λ k d l. absurd (omega arith));
       calls = calls_stay v f (ops ++ op ∷ []) outs (extends_push ops op) (extends_self outs) (λ k l u. absurd (omega (arith, ap length t)));
       rising = c.rising;
-      reads_from = λ y l. subst (ReadsFrom (seq_of (get_or outs y no_outcome))) (sym x) (opened_reads S d op (seq_of (get_or outs y no_outcome)));
+      reads_from = λ y l. subst (ReadsFrom (outcome_seq (get_or outs y no_outcome))) (sym x) (opened_reads S d op (outcome_seq (get_or outs y no_outcome)));
     }
       where
         all_ended : length outs ≡ length ops
-        all_ended = c.idle (ap (λ (n : Data). n.place) own ∙ rest)
+        all_ended = c.idle (ap (λ (n : CallState). n.place) own ∙ rest)
 
         closed : (b : Bool) → first_place b ≡ Idle → ⊥
         closed true q = cc
         closed false q = cc
 
     -- a call of the caller ends
-    pub ends_one : (v : World) → Grows w v → (rs : List Read) → v.reads ≡ w.reads ++ rs → ((k : ℕ) → B.seq + length w.batches < k → k ≤ B.seq + length v.batches → All (WasBegun before i ops) (batch B v.batches k).calls)
-        → IsOpen (machine w i).place → (d : Data) → machine v i ≡ d → d.made ≡ (machine w i).made → d.op ≡ (machine w i).op → d.place ≡ Idle → (o : Outcome) → d.answer ≡ Some o → Stood S B v i d.made d.op o
-        → ((y : ℕ) → y < length outs → Beyond (seq_of (get_or outs y no_outcome)) o)
-        → All (λ (r : Read). (r.ticket ≡ d.made) × (r.op ≡ d.op) × ((steps : ℕ) × (o ≡ Answered r.seq false r.raw steps))) rs → Calls S B before v i ops (outs ++ o ∷ [])
+    pub ends_one : (v : Moment) → Grows w v → (rs : List Read) → v.reads ≡ w.reads ++ rs → ((k : ℕ) → B.seq + length w.batches < k → k ≤ B.seq + length v.batches → All (WasBegun before i ops) (batch_at B v.batches k).calls)
+        → IsOpen (machine_in w i).place → (d : CallState) → machine_in v i ≡ d → d.made ≡ (machine_in w i).made → d.op ≡ (machine_in w i).op → d.place ≡ Idle → (o : Outcome) → d.answer ≡ Some o → OutcomeStands S B v i d.made d.op o
+        → ((y : ℕ) → y < length outs → IsNotBefore (outcome_seq (get_or outs y no_outcome)) o)
+        → All (λ (r : Read). (r.ticket ≡ d.made) × (r.op ≡ d.op) × ((steps : ℕ) × (o ≡ Answered r.seq false r.raw steps))) rs → HasCalls S B before v i ops (outs ++ o ∷ [])
     ends_one v f rs e new live d x made op rest o answer stood beyond all = record {
-      made = ap (λ (n : Data). n.made) x ∙ made ∙ c.made;
+      made = ap (λ (n : CallState). n.made) x ∙ made ∙ c.made;
       idle = λ q. omega (arith, length-append outs (o ∷ []), (c.open_call live).0);
-      open_call = λ q. let z : true ≡ false = sym (ap is_idle (ap (λ (n : Data). n.place) x ∙ rest)) ∙ q in cc;
-      unanswered = λ q. let z : true ≡ false = sym (ap is_idle (ap (λ (n : Data). n.place) x ∙ rest)) ∙ q in cc;
-      last = λ q. ap (λ (n : Data). n.answer) x ∙ answer ∙ sym (last_push outs None o);
+      open_call = λ q. let z : true ≡ false = sym (ap is_idle (ap (λ (n : CallState). n.place) x ∙ rest)) ∙ q in cc;
+      unanswered = λ q. let z : true ≡ false = sym (ap is_idle (ap (λ (n : CallState). n.place) x ∙ rest)) ∙ q in cc;
+      last = λ q. ap (λ (n : CallState). n.answer) x ∙ answer ∙ sym (last_push outs None o);
       each = λ y l. at_each y l (cases_lt y (length outs));
       reads = reads_stay v f ops (outs ++ o ∷ []) (extends_self ops) (extends_push outs o) rs e (λ k r l q. let a = all k r l in
           (length outs, a.2.0, omega (arith, length-append outs (o ∷ [])), a.0 ∙ number, a.1 ∙ words, get_or_push outs o no_outcome (length outs) refl ∙ a.2.1));
       calls = calls_stay v f ops (outs ++ o ∷ []) (extends_self ops) (extends_push outs o) new;
       rising = λ y z u l. rises_at y z u l (cases_lt z (length outs));
-      reads_from = λ y l. subst (ReadsFrom (seq_of (get_or (outs ++ o ∷ []) y no_outcome))) (sym x) (idle_reads d rest (seq_of (get_or (outs ++ o ∷ []) y no_outcome)));
+      reads_from = λ y l. subst (ReadsFrom (outcome_seq (get_or (outs ++ o ∷ []) y no_outcome))) (sym x) (idle_reads d rest (outcome_seq (get_or (outs ++ o ∷ []) y no_outcome)));
     }
       where
         -- two outcomes from before, or one from before and the new one
-        rises_at : (y z : ℕ) → y < z → z < length (outs ++ o ∷ []) → (z < length outs) ⊎ (length outs ≤ z) → Beyond (seq_of (get_or (outs ++ o ∷ []) y no_outcome)) (get_or (outs ++ o ∷ []) z no_outcome)
+        rises_at : (y z : ℕ) → y < z → z < length (outs ++ o ∷ []) → (z < length outs) ⊎ (length outs ≤ z) → IsNotBefore (outcome_seq (get_or (outs ++ o ∷ []) y no_outcome)) (get_or (outs ++ o ∷ []) z no_outcome)
         rises_at y z u l (inl t) = rw (get_or_append_left outs (o ∷ []) no_outcome y (omega arith), get_or_append_left outs (o ∷ []) no_outcome z t) (c.rising y z u t)
         rises_at y z u l (inr t) =
             let n : z ≡ length outs = omega (arith, l, t, length-append outs (o ∷ [])) in
@@ -178,11 +178,11 @@ module _ (S : Setup) (B : Start) where
         words : d.op ≡ get_or ops (length outs) []
         words = op ∙ (c.open_call live).1
 
-        at_each : (y : ℕ) → y < length (outs ++ o ∷ []) → (y < length outs) ⊎ (length outs ≤ y) → Stood S B v i (before + y + 1) (get_or ops y []) (get_or (outs ++ o ∷ []) y no_outcome)
+        at_each : (y : ℕ) → y < length (outs ++ o ∷ []) → (y < length outs) ⊎ (length outs ≤ y) → OutcomeStands S B v i (before + y + 1) (get_or ops y []) (get_or (outs ++ o ∷ []) y no_outcome)
         at_each y l (inl u) = each_stays v f ops (outs ++ o ∷ []) (extends_self ops) (extends_push outs o) y u
         at_each y l (inr u) =
             let z : length outs ≡ y = omega (arith, l, u, length-append outs (o ∷ [])) in
-            subst (λ (n : ℕ). Stood S B v i (before + n + 1) (get_or ops n []) (get_or (outs ++ o ∷ []) n no_outcome)) z
-            (subst (λ (p : Outcome). Stood S B v i (before + length outs + 1) (get_or ops (length outs) []) p) (sym (get_or_push outs o no_outcome (length outs) refl))
-            (subst (λ (n : ℕ). Stood S B v i n (get_or ops (length outs) []) o) number
-            (subst (λ (p : List ℕ). Stood S B v i d.made p o) words stood)))
+            subst (λ (n : ℕ). OutcomeStands S B v i (before + n + 1) (get_or ops n []) (get_or (outs ++ o ∷ []) n no_outcome)) z
+            (subst (λ (p : Outcome). OutcomeStands S B v i (before + length outs + 1) (get_or ops (length outs) []) p) (sym (get_or_push outs o no_outcome (length outs) refl))
+            (subst (λ (n : ℕ). OutcomeStands S B v i n (get_or ops (length outs) []) o) number
+            (subst (λ (p : List ℕ). OutcomeStands S B v i d.made p o) words stood)))

@@ -3,24 +3,24 @@ use Rattle.std.proofs.Common.{◌≡◌, ℕ, ◌+◌, ◌-◌, ◌<◌, ◌≤�
 use Rattle.std.proofs.lemmas.Bool.{cases_lt}
 use Rattle.of_core.specs.Table.{Setup, ticket_cell}
 use Rattle.of_core.specs.Machine.{Call, no_call}
-use Rattle.of_core.specs.World.{World, Start}
-use Rattle.of_core.specs.Events.{Event, run, start_ticket}
-use Rattle.of_core.specs.Calls.{operations}
+use Rattle.of_core.specs.World.{Moment, TableStart}
+use Rattle.of_core.specs.Events.{Event, after_events, start_ticket}
+use Rattle.of_core.specs.Calls.{operations_begun}
 use Rattle.of_core.specs.Linear.{Linearizes, IsRecovered, recovered_number, FindsCall, last_ticket, last_operation, TookEffect, TookNoEffect, IsDetectable}
 
-module _ (S : Setup) (B : Start) (w : World) (es : List Event) (order : List Call) (l : Linearizes S B w es order) (r : IsRecovered S B (run S w es) order) (i : ℕ) (member : i < S.callers) where
+module _ (S : Setup) (B : TableStart) (w : Moment) (es : List Event) (order : List Call) (l : Linearizes S B w es order) (r : IsRecovered S B (after_events S w es) order) (i : ℕ) (member : i < S.callers) where
   abbrev ticket : ℕ
-  ticket = recovered_number S (run S w es) (ticket_cell S i)
+  ticket = recovered_number S (after_events S w es) (ticket_cell S i)
 
   abbrev Found : Type 0
-  Found = (ticket ≡ start_ticket S B i) ⊎ ((p : ℕ) × (p < length order) × ((get_or order p no_call).caller ≡ i) × FindsCall S (run S w es) (get_or order p no_call))
+  Found = (ticket ≡ start_ticket S B i) ⊎ ((p : ℕ) × (p < length order) × ((get_or order p no_call).caller ≡ i) × FindsCall S (after_events S w es) (get_or order p no_call))
 
   pub detectable : IsDetectable S B w es order i
   detectable some writes = go (r.own i member).last
     where
       -- of a call of the caller in the order: it was begun, and with these words
       upto : (p : ℕ) (d : Call) → p < length order → (get_or order p d).caller ≡ i → (get_or order p d).ticket ≤ last_ticket S B es i
-      upto p d u e = let b = (l.begun p d u).1 refl in omega (arith, b.1, ap (λ (k : ℕ). start_ticket S B k + length (operations es k)) e)
+      upto p d u e = let b = (l.begun p d u).1 refl in omega (arith, b.1, ap (λ (k : ℕ). start_ticket S B k + length (operations_begun es k)) e)
 
       -- the last call is in the order only if recovery finds it
       not_last : ticket < last_ticket S B es i → (p : ℕ) (d : Call) → p < length order → (get_or order p d).caller ≡ i → (get_or order p d).ticket ≡ last_ticket S B es i → ⊥
@@ -29,11 +29,11 @@ module _ (S : Setup) (B : Start) (w : World) (es : List Event) (order : List Cal
           c : Call
           c = get_or order p d
 
-          place : c.ticket - start_ticket S B c.caller - 1 ≡ length (operations es i) - 1
+          place : c.ticket - start_ticket S B c.caller - 1 ≡ length (operations_begun es i) - 1
           place = omega (arith, t, ap (start_ticket S B) e)
 
           op_is : c.op ≡ last_operation es i
-          op_is = ((l.begun p d u).1 refl).2 ∙ ap (λ (k : ℕ). get_or (operations es k) (c.ticket - start_ticket S B c.caller - 1) []) e ∙ ap (λ (k : ℕ). get_or (operations es i) k []) place
+          op_is = ((l.begun p d u).1 refl).2 ∙ ap (λ (k : ℕ). get_or (operations_begun es k) (c.ticket - start_ticket S B c.caller - 1) []) e ∙ ap (λ (k : ℕ). get_or (operations_begun es i) k []) place
 
       none : ticket < last_ticket S B es i → TookNoEffect S B w es order i
       none below = record { found = below; older = λ p d u e. older p d u e (cases_lt (get_or order p d).ticket (last_ticket S B es i)) }
@@ -47,7 +47,7 @@ module _ (S : Setup) (B : Start) (w : World) (es : List Event) (order : List Cal
       go (inr h) = at (cases_lt ticket (last_ticket S B es i))
         where
           same : ticket ≡ (get_or order h.0 no_call).ticket
-          same = ap (λ (k : ℕ). recovered_number S (run S w es) (ticket_cell S k)) (sym h.2) ∙ h.3.ticket
+          same = ap (λ (k : ℕ). recovered_number S (after_events S w es) (ticket_cell S k)) (sym h.2) ∙ h.3.ticket
 
           at : (ticket < last_ticket S B es i) ⊎ (last_ticket S B es i ≤ ticket) → TookEffect S B w es order i ⊎ TookNoEffect S B w es order i
           at (inl a) = inr (none a)

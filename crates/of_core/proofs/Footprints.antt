@@ -4,17 +4,17 @@ use Rattle.std.proofs.lemmas.Bool.{cases_eq}
 use Rattle.std.proofs.lemmas.Bool.Decides.{nat_tests}
 use Rattle.std.proofs.lemmas.List.{get_or-set_same, get_or-set_other}
 use Rattle.of_core.specs.declared.machine.trying.TheConstants.{MOST_TRIES}
-use Rattle.of_cell.specs.Words.{word, seq, pay}
-use Rattle.of_mem.specs.Meaning.{Walked, Needs, Gives, Sound}
-use Rattle.of_mem.specs.Pad.{over}
+use Rattle.of_cell.specs.Words.{pack, seq_of, payload_of}
+use Rattle.of_mem.specs.Meaning.{WalkEnd, Needs, Gives, IsSoundMeaning}
+use Rattle.of_mem.specs.Pad.{overlaid}
 use Rattle.of_core.specs.declared.place.Place.{Place}
 use Rattle.of_core.specs.declared.place.Place.TheVariants.{Idle, TryCurrent, TryRequest, TryCell, StoreScript, StoreAnnouncement, LoadCurrent, LoadRequest, CopyLog, LookAgain, LoadOwnTicket, LoadShape, LoadReply, LoadAnnouncement, LoadTicket, LoadScript, LoadCell, RaiseOld, StoreLog, RaiseLog, StoreRequest, RaiseRequest, ExchangeCurrent, RaiseCurrent, LoadTarget, ExchangeTarget, ReloadTarget, RaiseTarget, CloseRequest, RaiseClosed}
-use Rattle.of_core.specs.Table.{Setup, base, ticket_cell, shape_cell, reply_cell, cell}
-use Rattle.of_core.specs.Machine.{Data, IsOpen, is_idle, no_machine, unknown, learned, log_words, opened, first_place}
-use Rattle.of_core.specs.Steps.{read_on, read_ran, tried, resumed, after_try_request, over_try, after_try_cell, want, want_at, word_of, finds, took, took_at, counted_at, after_store_script, after_load_request, after_copy_log, after_look_again, after_own_ticket, after_load_shape, shape_read, after_load_reply, reply_read, asks_more, first_mark, after_announcement, weighed, after_load_ticket, after_load_script, script_more, ran, next_call, with_run, after_load_cell, after_raise_log, after_exchange, after_raise_current, after_load_target, next_entry, after_raise_closed, is_open, copy_more}
-use Rattle.of_core.specs.World.{World, Start}
-use Rattle.of_core.specs.Invariant.{At, Core, Good}
-use Rattle.of_core.specs.Events.{Event, Begins, Turns, Loads, Evicts, Raises, happens, MayHappen, machine, run, turns, one_turn, IsSchedule, StaysOpen}
+use Rattle.of_core.specs.Table.{Setup, first_operation_cell, ticket_cell, shape_cell, reply_cell, data_word}
+use Rattle.of_core.specs.Machine.{CallState, IsOpen, is_idle, no_machine, nothing_known, with_cell_known, log_words, begin, first_place}
+use Rattle.of_core.specs.Steps.{read_on, after_read_run, begin_reading, resume, after_try_request, end_try, after_try_cell, want, want_at, word_of, word_found, take_word, take_word_at, with_step_counted, after_store_script, after_load_request, after_copy_log, after_look_again, after_own_ticket, after_load_shape, with_shape, after_load_reply, with_reply, next_reply_place, first_marked_place, after_announcement, weigh, after_load_ticket, after_load_script, with_script_word, after_script_run, next_scanned_caller, with_call_run, after_load_cell, after_raise_log, after_exchange, after_raise_current, after_load_target, next_entry, after_raise_closed, is_request_open, with_log_word_copied}
+use Rattle.of_core.specs.World.{Moment, TableStart}
+use Rattle.of_core.specs.Invariant.{HoldsAtPlace, MeetsCore, MeetsInvariant}
+use Rattle.of_core.specs.Events.{Event, Begins, Turns, Loads, Evicts, Raises, after_event, MayHappen, machine_in, after_events, turn_count, turns_in_event, IsSchedule, StaysOpen}
 use Rattle.of_core.specs.Footprint.{knowns, next_load, Touches, TouchesOnly, apply_steps, help_steps, store_steps, try_steps, round_steps, footprint, HasFootprint}
 use Rattle.of_core.proofs.Logs.{room_for, length-log_words}
 use Rattle.of_core.proofs.Tests.{differ, mark_some, is_newer}
@@ -46,29 +46,29 @@ row_cost n s q l = let e : n - s - 1 ≡ n - (s + 1) - 1 + 1 = omega arith in rw
 -- What is left of a try or a round, and behind it.
 module _ (S : Setup) (W R : ℕ) where
   -- what the call may make, with the tries and rounds that it has begun
-  abbrev pub allowed : Data → ℕ
+  abbrev pub allowed : CallState → ℕ
   allowed m = footprint S m.op W R m.tries m.rounds
 
   -- behind a try: the announcement, and an apply of one's own
-  abbrev pub announced : Data → ℕ
+  abbrev pub announced : CallState → ℕ
   announced m = length m.op + 1 + apply_steps W
 
   abbrev pub behind_help : ℕ
   behind_help = R + S.callers * (S.instrs + 1) + store_steps W
 
-  abbrev pub helped : Data → (in_try : Bool) → ℕ
+  abbrev pub helped : CallState → (in_try : Bool) → ℕ
   helped m true = R + announced m
   helped m false = behind_help + apply_steps W
 
-  abbrev pub behind_apply : Data → Bool → ℕ
+  abbrev pub behind_apply : CallState → Bool → ℕ
   behind_apply m true = helped m (m.rounds == 0)
   behind_apply m false = 0
 
-  abbrev pub scan_left : Data → ℕ
+  abbrev pub scan_left : CallState → ℕ
   scan_left m = (S.callers - m.scan - 1) * (S.instrs + 1) + (R - knowns m.known) + store_steps W + apply_steps W
 
   -- what is left at a place, without further tries and rounds
-  abbrev pub left_at : Data → Place → ℕ
+  abbrev pub left_at : CallState → Place → ℕ
   left_at m Idle = 0
   left_at m TryCurrent = announced m
   left_at m TryRequest = 1 + help_steps W + R + announced m
@@ -101,7 +101,7 @@ module _ (S : Setup) (W R : ℕ) where
   left_at m RaiseClosed = 1 + behind_apply m m.helps
 
 -- the tries and rounds of a call
-abbrev Few : Setup → Data → Type 0
+abbrev Few : Setup → CallState → Type 0
 Few S m = (m.tries ≤ MOST_TRIES) × (m.rounds ≤ 3) × (S.meaning.reads_only m.op ≡ false → m.tries ≡ 0)
 
 -- a helper copies no more words than its log has
@@ -110,16 +110,16 @@ CopiesUpto W (CopyLog x) = x < 2 * W + 1
 CopiesUpto W p = Unit {0}
 
 -- the steps made and those left are at most what is allowed
-record Spares (S : Setup) (W R : ℕ) (m : Data) (p : Place) : Type 0 where
+record Spares (S : Setup) (W R : ℕ) (m : CallState) (p : Place) : Type 0 where
   pub steps : m.steps + left_at S W R m p ≤ allowed S W R m
   pub few : Few S m
   pub copies : CopiesUpto W p
 
 -- a call that opens
-opens_sparing : (S : Setup) (W R : ℕ) (m : Data) (op : List ℕ) → Spares S W R (opened S m op) (opened S m op).place
+opens_sparing : (S : Setup) (W R : ℕ) (m : CallState) (op : List ℕ) → Spares S W R (begin S m op) (begin S m op).place
 opens_sparing S W R m op = go (S.meaning.reads_only op)
   where
-    few : Few S (opened S m op)
+    few : Few S (begin S m op)
     few = (omega arith, omega arith, λ q. refl)
 
     first : (o a q r : ℕ) → 0 + (o + 1 + a) ≤ 0 * q + (o + 1) + (0 * r + a)
@@ -128,7 +128,7 @@ opens_sparing S W R m op = go (S.meaning.reads_only op)
     sum : (o a q r : ℕ) → 0 + (o - 0 + 1 + a) ≤ 0 * q + (o + 1) + (0 * r + a)
     sum o a q r = omega arith
 
-    go : (b : Bool) → Spares S W R (record (opened S m op) { place = first_place b }) (first_place b)
+    go : (b : Bool) → Spares S W R (record (begin S m op) { place = first_place b }) (first_place b)
     go true = record { copies = tt; few = few; steps = first (length op) (apply_steps W) (try_steps W R) (round_steps S W R) }
     go false = record { copies = tt; few = few; steps = sum (length op) (apply_steps W) (try_steps W R) (round_steps S W R) }
 
@@ -158,7 +158,7 @@ fewer s a b l h k = omega arith
 
 module _ (S : Setup) (W R : ℕ) where
   -- the scan goes on behind the caller that it has come to
-  next_sparing : (n : Data) → Few S n → n.scan < S.callers → n.steps + scan_left S W R n ≤ allowed S W R n → (b : Bool) → nat_lt (n.scan + 1) S.callers ≡ b → Spares S W R (next_call n b) (next_call n b).place
+  next_sparing : (n : CallState) → Few S n → n.scan < S.callers → n.steps + scan_left S W R n ≤ allowed S W R n → (b : Bool) → nat_lt (n.scan + 1) S.callers ≡ b → Spares S W R (next_scanned_caller n b) (next_scanned_caller n b).place
   next_sparing n f l h true e = record {
     copies = tt;
     few = f;
@@ -167,7 +167,7 @@ module _ (S : Setup) (W R : ℕ) where
   }
   next_sparing n f l h false e = record { copies = tt; few = f; steps = done_sum n.steps ((S.callers - n.scan - 1) * (S.instrs + 1)) (R - knowns n.known) (store_steps W) (apply_steps W) (allowed S W R n) h }
 
-  weighed_sparing : (n : Data) → Few S n → n.scan < S.callers → n.steps + (S.instrs + scan_left S W R n) ≤ allowed S W R n → (b : Bool) → Spares S W R (weighed S n b) (weighed S n b).place
+  weighed_sparing : (n : CallState) → Few S n → n.scan < S.callers → n.steps + (S.instrs + scan_left S W R n) ≤ allowed S W R n → (b : Bool) → Spares S W R (weigh S n b) (weigh S n b).place
   weighed_sparing n f l h true = record { copies = tt; few = f; steps = same n.steps S.instrs (scan_left S W R n) (allowed S W R n) h }
     where
       same : (s k x l : ℕ) → s + (k + x) ≤ l → s + (k - 0 + x) ≤ l
@@ -177,11 +177,11 @@ module _ (S : Setup) (W R : ℕ) where
       less : (s k x l : ℕ) → s + (k + x) ≤ l → s + x ≤ l
       less s k x l h = omega arith
 
-  ran_sparing : (n : Data) → Few S n → n.scan < S.callers → n.steps + scan_left S W R n ≤ allowed S W R n → (r : Walked) → Spares S W R (ran S n r) (ran S n r).place
+  ran_sparing : (n : CallState) → Few S n → n.scan < S.callers → n.steps + scan_left S W R n ≤ allowed S W R n → (r : WalkEnd) → Spares S W R (after_script_run S n r) (after_script_run S n r).place
   ran_sparing n f l h (Needs a) = record { copies = tt; few = f; steps = h }
-  ran_sparing n f l h (Gives es r) = next_sparing (with_run S n es r) f l h (nat_lt (n.scan + 1) S.callers) refl
+  ran_sparing n f l h (Gives es r) = next_sparing (with_call_run S n es r) f l h (nat_lt (n.scan + 1) S.callers) refl
 
-  asks_sparing : (n : Data) (x : ℕ) → Few S n → n.steps + (S.instrs - x) ≤ allowed S W R n → (r : Option ℕ) → ((k : ℕ) → r ≡ Some k → x ≤ k) → Spares S W R (asks_more n r) (asks_more n r).place
+  asks_sparing : (n : CallState) (x : ℕ) → Few S n → n.steps + (S.instrs - x) ≤ allowed S W R n → (r : Option ℕ) → ((k : ℕ) → r ≡ Some k → x ≤ k) → Spares S W R (next_reply_place n r) (next_reply_place n r).place
   asks_sparing n x f h None g = record { copies = tt; few = f; steps = none n.steps (S.instrs - x) (allowed S W R n) h }
     where
       none : (s y l : ℕ) → s + y ≤ l → 0 + 0 ≤ l
@@ -191,15 +191,15 @@ module _ (S : Setup) (W R : ℕ) where
       sum : (s i x k l : ℕ) → s + (i - x) ≤ l → x ≤ k → s + (i - k) ≤ l
       sum s i x k l h f = omega arith
 
-  reads_sparing : (n : Data) → Few S n → n.steps + (R - knowns n.known + announced S W R n) ≤ allowed S W R n → Spares S W R (read_on S n) (read_on S n).place
+  reads_sparing : (n : CallState) → Few S n → n.steps + (R - knowns n.known + announced S W R n) ≤ allowed S W R n → Spares S W R (read_on S n) (read_on S n).place
   reads_sparing n f h = go (S.meaning.walk n.known n.op)
     where
-      go : (r : Walked) → Spares S W R (read_ran n r) (read_ran n r).place
+      go : (r : WalkEnd) → Spares S W R (after_read_run n r) (after_read_run n r).place
       go (Needs a) = record { copies = tt; few = f; steps = h }
       go (Gives es r) = record { copies = tt; few = f; steps = omega arith }
 
-  tried_sparing : (n : Data) → Few S n → n.steps + (R + announced S W R n) ≤ allowed S W R n → Spares S W R (tried S n) (tried S n).place
-  tried_sparing n f h = reads_sparing (record n { known = unknown S; helps = false }) f (all n.steps R (knowns (unknown S)) (announced S W R n) (allowed S W R n) (knowns_none S.cells) h)
+  tried_sparing : (n : CallState) → Few S n → n.steps + (R + announced S W R n) ≤ allowed S W R n → Spares S W R (begin_reading S n) (begin_reading S n).place
+  tried_sparing n f h = reads_sparing (record n { known = nothing_known S; helps = false }) f (all n.steps R (knowns (nothing_known S)) (announced S W R n) (allowed S W R n) (knowns_none S.cells) h)
     where
       all : (s r k a l : ℕ) → k ≡ 0 → s + (r + a) ≤ l → s + (r - k + a) ≤ l
       all s r k a l e h = omega arith
@@ -207,13 +207,13 @@ module _ (S : Setup) (W R : ℕ) where
   entered_sum : (s x l : ℕ) → s + x ≤ l → s + x ≤ l
   entered_sum s x l h = h
 
-  resumed_sparing : (n : Data) (b : Bool) → Few S n → n.steps + helped S W R n b ≤ allowed S W R n → Spares S W R (resumed S n b) (resumed S n b).place
+  resumed_sparing : (n : CallState) (b : Bool) → Few S n → n.steps + helped S W R n b ≤ allowed S W R n → Spares S W R (resume S n b) (resume S n b).place
   resumed_sparing n true f h = tried_sparing n f h
   resumed_sparing n false f h = record { copies = tt; few = f; steps = h }
 
-  module _ (Lawful : List ℕ → Type 0) (B : Start) (w : World) (g : Core S Lawful B w) (i : ℕ) (m : Data) (h : i < S.callers) (u : Touches m W R) where
+  module _ (Lawful : List ℕ → Type 0) (B : TableStart) (w : Moment) (g : MeetsCore S Lawful B w) (i : ℕ) (m : CallState) (h : i < S.callers) (u : Touches m W R) where
     -- with the step counted
-    abbrev now : Data
+    abbrev now : CallState
     now = record m { steps = m.steps + 1 }
 
     words_row : S.instrs + 1 ≤ S.callers * (S.instrs + 1)
@@ -224,18 +224,18 @@ module _ (S : Setup) (W R : ℕ) where
     loads_upto p e = subst (λ (q : Place). knowns m.known + next_load q ≤ R) e u.cells
 
     -- a cell that is loaded leaves one less to load
-    learns : (p : Place) (a v : ℕ) → m.place ≡ p → next_load p ≡ 1 → a < length m.known → get_or m.known a None ≡ None → R - knowns (learned S m a v) + 1 ≡ R - knowns m.known
-    learns p a v e one l n = sum R (knowns m.known) (next_load p) (knowns (learned S m a v)) one (loads_upto p e) (knowns_set m.known a (pay v) l n)
+    learns : (p : Place) (a v : ℕ) → m.place ≡ p → next_load p ≡ 1 → a < length m.known → get_or m.known a None ≡ None → R - knowns (with_cell_known S m a v) + 1 ≡ R - knowns m.known
+    learns p a v e one l n = sum R (knowns m.known) (next_load p) (knowns (with_cell_known S m a v)) one (loads_upto p e) (knowns_set m.known a (payload_of v) l n)
       where
         sum : (r k o x : ℕ) → o ≡ 1 → k + o ≤ r → x ≡ k + 1 → r - x + 1 ≡ r - k
         sum r k o x q z y = omega arith
 
     -- the step from the place p, which leads to this machine
-    abbrev stepped_to : Place → Data
-    stepped_to p = took_at S (counted_at p m) (get_or w.words (word_of (want_at S m p)) 0) p
+    abbrev stepped_to : Place → CallState
+    stepped_to p = take_word_at S (with_step_counted p m) (get_or w.words (word_of (want_at S m p)) 0) p
 
     -- each step leaves one less
-    sparing : (p : Place) → IsOpen p → At S B w.words w.batches i m p → Spares S W R m p → m.place ≡ p → Touches (stepped_to p) W R → Spares S W R (stepped_to p) (stepped_to p).place
+    sparing : (p : Place) → IsOpen p → HoldsAtPlace S B w.words w.batches i m p → Spares S W R m p → m.place ≡ p → Touches (stepped_to p) W R → Spares S W R (stepped_to p) (stepped_to p).place
     sparing Idle o a t e v = cc
     sparing TryCurrent o a t e v = record {
       copies = tt;
@@ -246,7 +246,7 @@ module _ (S : Setup) (W R : ℕ) where
         sum : (s c r x y k q : ℕ) → y ≡ x + try_steps c r → s + (k + apply_steps c) ≤ x + k + (q + apply_steps c)
             → s + 1 + (1 + help_steps c + r + (k + apply_steps c)) ≤ y + k + (q + apply_steps c)
         sum s c r x y k q e h = omega arith
-    sparing TryRequest o a t e v = go (is_open m.seq (get_or w.words (m.owner + 1) 0))
+    sparing TryRequest o a t e v = go (is_request_open m.seq (get_or w.words (m.owner + 1) 0))
       where
         opens : (s c r x l : ℕ) → s + (1 + help_steps c + r + x) ≤ l → s + 1 + (2 * c + 1 - 0 + 1 + apply_steps c + (r + x)) ≤ l
         opens s c r x l h = omega arith
@@ -261,12 +261,12 @@ module _ (S : Setup) (W R : ℕ) where
         go : (b : Bool) → Spares S W R (after_try_request S now b) (after_try_request S now b).place
         go true = record { copies = omega arith; few = t.few; steps = trying (m.rounds == 0) refl }
         go false = tried_sparing now t.few (closed m.steps (help_steps W) R (announced S W R m) (allowed S W R m) t.steps)
-    sparing (TryCell x) o a t e v = go (nat_lt m.seq (seq found))
+    sparing (TryCell x) o a t e v = go (nat_lt m.seq (seq_of found))
       where
         found : ℕ
         found = get_or w.words (word_of (want_at S m (TryCell x))) 0
 
-        one : R - knowns (learned S m x found) + 1 ≡ R - knowns m.known
+        one : R - knowns (with_cell_known S m x found) + 1 ≡ R - knowns m.known
         one = learns (TryCell x) x found e refl (omega (arith, a.3.all, a.4)) a.5
 
         again : (s u v r l : ℕ) → v + 1 ≡ u → s + (u + r) ≤ l → s + 1 + r ≤ l
@@ -278,13 +278,13 @@ module _ (S : Setup) (W R : ℕ) where
         less : (s u v r l : ℕ) → v + 1 ≡ u → s + (u + r) ≤ l → s + 1 + (v + r) ≤ l
         less s u v r l e h = omega arith
 
-        over : (b : Bool) → Spares S W R (over_try now b) (over_try now b).place
-        over true = record { copies = tt; few = t.few; steps = again m.steps (R - knowns m.known) (R - knowns (learned S m x found)) (announced S W R m) (allowed S W R m) one t.steps }
-        over false = record { copies = tt; few = t.few; steps = aloud m.steps (R - knowns m.known) (R - knowns (learned S m x found)) (length m.op) (apply_steps W) (allowed S W R m) one t.steps }
+        over : (b : Bool) → Spares S W R (end_try now b) (end_try now b).place
+        overlaid true = record { copies = tt; few = t.few; steps = again m.steps (R - knowns m.known) (R - knowns (with_cell_known S m x found)) (announced S W R m) (allowed S W R m) one t.steps }
+        overlaid false = record { copies = tt; few = t.few; steps = aloud m.steps (R - knowns m.known) (R - knowns (with_cell_known S m x found)) (length m.op) (apply_steps W) (allowed S W R m) one t.steps }
 
         go : (b : Bool) → Spares S W R (after_try_cell S now x found b) (after_try_cell S now x found b).place
-        go true = over (nat_lt m.tries MOST_TRIES)
-        go false = reads_sparing (record now { known = learned S m x found }) t.few (less m.steps (R - knowns m.known) (R - knowns (learned S m x found)) (announced S W R m) (allowed S W R m) one t.steps)
+        go true = overlaid (nat_lt m.tries MOST_TRIES)
+        go false = reads_sparing (record now { known = with_cell_known S m x found }) t.few (less m.steps (R - knowns m.known) (R - knowns (with_cell_known S m x found)) (announced S W R m) (allowed S W R m) one t.steps)
     sparing (StoreScript j) o a t e v = go (nat_lt (j + 1) (length m.op))
       where
         more : (s i j x l : ℕ) → j < i → s + (i - j + 1 + x) ≤ l → s + 1 + (i - (j + 1) + 1 + x) ≤ l
@@ -306,7 +306,7 @@ module _ (S : Setup) (W R : ℕ) where
         sum : (s c r p k x y : ℕ) → y ≡ x + (2 + help_steps c + r + p + store_steps c) → s + apply_steps c ≤ k + (x + apply_steps c)
             → s + 1 + (1 + help_steps c + (r + p + store_steps c + apply_steps c)) ≤ k + (y + apply_steps c)
         sum s c r p k x y e h = omega arith
-    sparing LoadRequest o a t e v = go (is_open m.seq (get_or w.words (m.owner + 1) 0))
+    sparing LoadRequest o a t e v = go (is_request_open m.seq (get_or w.words (m.owner + 1) 0))
       where
         opens : (s c x l : ℕ) → s + (1 + help_steps c + x) ≤ l → s + 1 + (2 * c + 1 - 0 + 1 + apply_steps c + x) ≤ l
         opens s c x l h = omega arith
@@ -321,7 +321,7 @@ module _ (S : Setup) (W R : ℕ) where
         go : (b : Bool) → Spares S W R (after_load_request S now b) (after_load_request S now b).place
         go true = record { copies = omega arith; few = t.few; steps = round (m.rounds == 0) refl }
         go false = record { copies = tt; few = t.few; steps = closed m.steps (help_steps W) (behind_help S W R + apply_steps W) (allowed S W R m) t.steps }
-    sparing (CopyLog x) o a t e v = go (nat_lt (x + 1) (2 * get_or (copy_more m found) 0 0 + 1)) refl v
+    sparing (CopyLog x) o a t e v = go (nat_lt (x + 1) (2 * get_or (with_log_word_copied m found) 0 0 + 1)) refl v
       where
         found : ℕ
         found = get_or w.words (word_of (want_at S m (CopyLog x))) 0
@@ -335,14 +335,14 @@ module _ (S : Setup) (W R : ℕ) where
         under : (x n c : ℕ) → x < 2 * n + 1 → n ≤ c → x < 2 * c + 1
         under x n c l k = omega arith
 
-        go : (b : Bool) → nat_lt (x + 1) (2 * get_or (copy_more m found) 0 0 + 1) ≡ b → Touches (after_copy_log now x found b) W R → Spares S W R (after_copy_log now x found b) (after_copy_log now x found b).place
+        go : (b : Bool) → nat_lt (x + 1) (2 * get_or (with_log_word_copied m found) 0 0 + 1) ≡ b → Touches (after_copy_log now x found b) W R → Spares S W R (after_copy_log now x found b) (after_copy_log now x found b).place
         go true q v = record {
-          copies = under (x + 1) (get_or (copy_more m found) 0 0) W (is_newer (x + 1) (2 * get_or (copy_more m found) 0 0 + 1) q) v.copy;
+          copies = under (x + 1) (get_or (with_log_word_copied m found) 0 0) W (is_newer (x + 1) (2 * get_or (with_log_word_copied m found) 0 0 + 1) q) v.copy;
           few = t.few;
           steps = more m.steps (2 * W + 1) x (apply_steps W) (helped S W R m (m.rounds == 0)) (allowed S W R m) t.copies t.steps;
         }
         go false q v = record { copies = tt; few = t.few; steps = last m.steps (2 * W + 1) x (apply_steps W) (helped S W R m (m.rounds == 0)) (allowed S W R m) t.copies t.steps }
-    sparing LookAgain o a t e v = go (get_or w.words (m.owner + 1) 0 == word m.seq 0) (m.rounds == 0) t.steps
+    sparing LookAgain o a t e v = go (get_or w.words (m.owner + 1) 0 == pack m.seq 0) (m.rounds == 0) t.steps
       where
         opens : (s k r l : ℕ) → s + (1 + k + r) ≤ l → s + 1 + (k + r) ≤ l
         opens s k r l h = omega arith
@@ -357,7 +357,7 @@ module _ (S : Setup) (W R : ℕ) where
         go : (b d : Bool) → m.steps + (1 + apply_steps W + helped S W R m d) ≤ allowed S W R m → Spares S W R (after_look_again S now b d) (after_look_again S now b d).place
         go true d z = record { copies = tt; few = t.few; steps = helping m.helps a.0.helps }
         go false d z = resumed_sparing now d t.few (closed m.steps (apply_steps W) (helped S W R m d) (allowed S W R m) z)
-    sparing LoadOwnTicket o a t e v = go (nat_lt m.seq (seq found)) (pay found == m.made) (m.seq == S.limit)
+    sparing LoadOwnTicket o a t e v = go (nat_lt m.seq (seq_of found)) (payload_of found == m.made) (m.seq == S.limit)
       where
         found : ℕ
         found = get_or w.words (word_of (want_at S m LoadOwnTicket)) 0
@@ -386,10 +386,10 @@ module _ (S : Setup) (W R : ℕ) where
         none_of (suc n) zero = refl
         none_of (suc n) (suc y) = none_of n y
 
-        none_at : (ks : List (Option ℕ)) → ks ≡ unknown S → get_or ks (ticket_cell S m.caller) None ≡ None
+        none_at : (ks : List (Option ℕ)) → ks ≡ nothing_known S → get_or ks (ticket_cell S m.caller) None ≡ None
         none_at ks q = rw q (none_of S.cells (ticket_cell S m.caller))
 
-        known_one : R - knowns (learned S m (ticket_cell S m.caller) found) + 1 ≡ R
+        known_one : R - knowns (with_cell_known S m (ticket_cell S m.caller) found) + 1 ≡ R
         known_one = learns LoadOwnTicket (ticket_cell S m.caller) found e refl (omega (arith, a.0.all, cells_in)) (none_at m.known a.2) ∙ all (knowns m.known) (ap knowns a.2 ∙ knowns_none S.cells)
           where
             all : (k : ℕ) → k ≡ 0 → R - k ≡ R
@@ -402,37 +402,37 @@ module _ (S : Setup) (W R : ℕ) where
         go false false false = record {
           copies = tt;
           few = t.few;
-          steps = call m.steps (S.instrs + 1) R (S.callers * (S.instrs + 1)) (R - knowns (learned S m (ticket_cell S m.caller) found)) ((S.callers - m.scan - 1) * (S.instrs + 1)) (store_steps W) (apply_steps W) (allowed S W R m)
+          steps = call m.steps (S.instrs + 1) R (S.callers * (S.instrs + 1)) (R - knowns (with_cell_known S m (ticket_cell S m.caller) found)) ((S.callers - m.scan - 1) * (S.instrs + 1)) (store_steps W) (apply_steps W) (allowed S W R m)
               known_one (one_row S.callers m.scan (S.instrs + 1) a.5 (omega arith)) t.steps;
         }
-    sparing LoadShape o a t e v = go (nat_lt m.seq (seq found)) refl
+    sparing LoadShape o a t e v = go (nat_lt m.seq (seq_of found)) refl
       where
         found : ℕ
-        found = cell S w.words (shape_cell S m.caller)
+        found = data_word S w.words (shape_cell S m.caller)
 
         same : (s i l : ℕ) → s + (i + 1) ≤ l → s + 1 + (i - 0) ≤ l
         same s i l h = omega arith
 
-        fresh : seq (cell S w.words (shape_cell S m.caller)) ≤ m.seq
+        fresh : seq_of (data_word S w.words (shape_cell S m.caller)) ≤ m.seq
         fresh = rw a.0.round.begun.caller (own_row_old S Lawful B w g i m h m a.0 (done_now S Lawful B w g i m h m a.2) (shape_cell S i) (omega arith, omega arith))
 
-        go : (b : Bool) → nat_lt m.seq (seq found) ≡ b → Spares S W R (after_load_shape S now found b) (after_load_shape S now found b).place
-        go true q = let z : m.seq < seq found = is_newer m.seq (seq found) q in absurd (omega (arith, fresh))
-        go false q = asks_sparing (shape_read S now found) 0 t.few (same m.steps S.instrs (allowed S W R m) t.steps) (first_mark (pay found) 0 S.instrs) (λ k z. omega arith)
-    sparing (LoadReply j) o a t e v = go (nat_lt m.seq (seq found)) refl
+        go : (b : Bool) → nat_lt m.seq (seq_of found) ≡ b → Spares S W R (after_load_shape S now found b) (after_load_shape S now found b).place
+        go true q = let z : m.seq < seq_of found = is_newer m.seq (seq_of found) q in absurd (omega (arith, fresh))
+        go false q = asks_sparing (with_shape S now found) 0 t.few (same m.steps S.instrs (allowed S W R m) t.steps) (first_marked_place (payload_of found) 0 S.instrs) (λ k z. omega arith)
+    sparing (LoadReply j) o a t e v = go (nat_lt m.seq (seq_of found)) refl
       where
         found : ℕ
-        found = cell S w.words (reply_cell S m.caller j)
+        found = data_word S w.words (reply_cell S m.caller j)
 
-        fresh : seq (cell S w.words (reply_cell S m.caller j)) ≤ m.seq
+        fresh : seq_of (data_word S w.words (reply_cell S m.caller j)) ≤ m.seq
         fresh = rw a.0.round.begun.caller (own_row_old S Lawful B w g i m h m a.0 (done_now S Lawful B w g i m h m a.2) (reply_cell S i j) (omega arith, omega (arith, a.4)))
 
         less : (s i j l : ℕ) → j < i → s + (i - j) ≤ l → s + 1 + (i - (j + 1)) ≤ l
         less s i j l z h = omega arith
 
-        go : (b : Bool) → nat_lt m.seq (seq found) ≡ b → Spares S W R (after_load_reply S now j found b) (after_load_reply S now j found b).place
-        go true q = let z : m.seq < seq found = is_newer m.seq (seq found) q in absurd (omega (arith, fresh))
-        go false q = asks_sparing (reply_read now j found) (j + 1) t.few (less m.steps S.instrs j (allowed S W R m) a.4 t.steps) (first_mark m.raw.shape (j + 1) (S.instrs - j - 1)) (λ k z. (mark_some m.raw.shape (j + 1) (S.instrs - j - 1) k z).0)
+        go : (b : Bool) → nat_lt m.seq (seq_of found) ≡ b → Spares S W R (after_load_reply S now j found b) (after_load_reply S now j found b).place
+        go true q = let z : m.seq < seq_of found = is_newer m.seq (seq_of found) q in absurd (omega (arith, fresh))
+        go false q = asks_sparing (with_reply now j found) (j + 1) t.few (less m.steps S.instrs j (allowed S W R m) a.4 t.steps) (first_marked_place m.raw.shape (j + 1) (S.instrs - j - 1)) (λ k z. (mark_some m.raw.shape (j + 1) (S.instrs - j - 1) k z).0)
     sparing LoadAnnouncement o a t e v = go (get_or m.known (ticket_cell S m.scan) None)
       where
         found : ℕ
@@ -443,19 +443,19 @@ module _ (S : Setup) (W R : ℕ) where
 
         go : (r : Option ℕ) → Spares S W R (after_announcement S now found r) (after_announcement S now found r).place
         go None = record { copies = tt; few = t.few; steps = less m.steps S.instrs (scan_left S W R m) (allowed S W R m) t.steps }
-        go (Some x) = weighed_sparing (record now { heard = found }) t.few a.3 (less m.steps S.instrs (scan_left S W R m) (allowed S W R m) t.steps) (nat_lt x (seq found))
-    sparing LoadTicket o a t e v = go (nat_lt m.seq (seq found))
+        go (Some x) = weighed_sparing (record now { heard = found }) t.few a.3 (less m.steps S.instrs (scan_left S W R m) (allowed S W R m) t.steps) (nat_lt x (seq_of found))
+    sparing LoadTicket o a t e v = go (nat_lt m.seq (seq_of found))
       where
         found : ℕ
         found = get_or w.words (word_of (want_at S m LoadTicket)) 0
 
         go : (b : Bool) → Spares S W R (after_load_ticket S now found b) (after_load_ticket S now found b).place
         go true = record { copies = tt; few = t.few; steps = again_sum m.steps S.instrs ((S.callers - m.scan - 1) * (S.instrs + 1)) (R - knowns m.known) (store_steps W) (apply_steps W) (allowed S W R m) (omega arith) t.steps }
-        go false = weighed_sparing (record now { known = learned S m (ticket_cell S m.scan) found }) t.few a.3
-            (known_sum m.steps S.instrs ((S.callers - m.scan - 1) * (S.instrs + 1)) (R - knowns m.known) (R - knowns (learned S m (ticket_cell S m.scan) found)) (store_steps W) (apply_steps W) (allowed S W R m)
+        go false = weighed_sparing (record now { known = with_cell_known S m (ticket_cell S m.scan) found }) t.few a.3
+            (known_sum m.steps S.instrs ((S.callers - m.scan - 1) * (S.instrs + 1)) (R - knowns m.known) (R - knowns (with_cell_known S m (ticket_cell S m.scan) found)) (store_steps W) (apply_steps W) (allowed S W R m)
             (learns LoadTicket (ticket_cell S m.scan) found e refl (omega (arith, a.0.looks.all, ticket_in_cells S Lawful B w g i m h m.scan a.3)) a.5) t.steps)
-            (nat_lt (pay found) (seq m.heard))
-    sparing (LoadScript j) o a t e v = go (nat_lt (j + 1) (pay m.heard))
+            (nat_lt (payload_of found) (seq_of m.heard))
+    sparing (LoadScript j) o a t e v = go (nat_lt (j + 1) (payload_of m.heard))
       where
         found : ℕ
         found = get_or w.words (word_of (want_at S m (LoadScript j))) 0
@@ -471,18 +471,18 @@ module _ (S : Setup) (W R : ℕ) where
 
         go : (b : Bool) → Spares S W R (after_load_script S now j found b) (after_load_script S now j found b).place
         go true = record { copies = tt; few = t.few; steps = more m.steps S.instrs j (scan_left S W R m) (allowed S W R m) j_in t.steps }
-        go false = ran_sparing (record now { script = script_more m found }) t.few a.3 (last m.steps S.instrs j (scan_left S W R m) (allowed S W R m) j_in t.steps) (S.meaning.walk (over m.known m.log) (script_more m found))
-    sparing (LoadCell x) o a t e v = go (nat_lt m.seq (seq found))
+        go false = ran_sparing (record now { script = with_script_word m found }) t.few a.3 (last m.steps S.instrs j (scan_left S W R m) (allowed S W R m) j_in t.steps) (S.meaning.walk (overlaid m.known m.log) (with_script_word m found))
+    sparing (LoadCell x) o a t e v = go (nat_lt m.seq (seq_of found))
       where
         found : ℕ
         found = get_or w.words (word_of (want_at S m (LoadCell x))) 0
 
         go : (b : Bool) → Spares S W R (after_load_cell S now x found b) (after_load_cell S now x found b).place
         go true = record { copies = tt; few = t.few; steps = again_sum0 m.steps ((S.callers - m.scan - 1) * (S.instrs + 1)) (R - knowns m.known) (store_steps W) (apply_steps W) (allowed S W R m) (omega arith) t.steps }
-        go false = ran_sparing (record now { known = learned S m x found }) t.few a.3
-            (known_sum0 m.steps ((S.callers - m.scan - 1) * (S.instrs + 1)) (R - knowns m.known) (R - knowns (learned S m x found)) (store_steps W) (apply_steps W) (allowed S W R m)
+        go false = ran_sparing (record now { known = with_cell_known S m x found }) t.few a.3
+            (known_sum0 m.steps ((S.callers - m.scan - 1) * (S.instrs + 1)) (R - knowns m.known) (R - knowns (with_cell_known S m x found)) (store_steps W) (apply_steps W) (allowed S W R m)
             (learns (LoadCell x) x found e refl (omega (arith, a.0.looks.all, a.6)) a.7) t.steps)
-            (S.meaning.walk (over (learned S m x found) m.log) m.script)
+            (S.meaning.walk (overlaid (with_cell_known S m x found) m.log) m.script)
     sparing RaiseOld o a t e v = record { copies = tt; few = t.few; steps = sum m.steps W (apply_steps W) (allowed S W R m) t.steps }
       where
         sum : (s c r l : ℕ) → s + (store_steps c + r) ≤ l → s + 1 + (2 * (2 * c + 1 - 0) + 3 + r) ≤ l
@@ -510,7 +510,7 @@ module _ (S : Setup) (W R : ℕ) where
         go false = record { copies = tt; few = t.few; steps = last m.steps (2 * W + 1) x (apply_steps W) (allowed S W R m) x_in t.steps }
     sparing StoreRequest o a t e v = record { copies = tt; few = t.few; steps = fewer m.steps (3 + apply_steps W) (2 + apply_steps W) (allowed S W R m) t.steps (omega arith) }
     sparing RaiseRequest o a t e v = record { copies = tt; few = t.few; steps = fewer m.steps (2 + apply_steps W) (1 + apply_steps W) (allowed S W R m) t.steps (omega arith) }
-    sparing ExchangeCurrent o a t e v = go (get_or w.words 0 0 == word m.seq m.owner)
+    sparing ExchangeCurrent o a t e v = go (get_or w.words 0 0 == pack m.seq m.owner)
       where
         won : (s k l : ℕ) → s + (1 + k) ≤ l → s + 1 + (k + 0) ≤ l
         won s k l h = omega arith
@@ -529,7 +529,7 @@ module _ (S : Setup) (W R : ℕ) where
         go : (b : Bool) → Spares S W R (after_raise_current now b) (after_raise_current now b).place
         go true = record { copies = tt; few = t.few; steps = more m.steps W (behind_apply S W R m m.helps) (allowed S W R m) t.steps }
         go false = record { copies = tt; few = t.few; steps = none m.steps W (behind_apply S W R m m.helps) (allowed S W R m) t.steps }
-    sparing (LoadTarget j) o a t e v = go (nat_lt (seq found) m.seq)
+    sparing (LoadTarget j) o a t e v = go (nat_lt (seq_of found) m.seq)
       where
         found : ℕ
         found = get_or w.words (word_of (want_at S m (LoadTarget j))) 0
@@ -582,7 +582,7 @@ module _ (S : Setup) (W R : ℕ) where
         go false d q z = record { copies = tt; few = t.few; steps = none (allowed S W R m) }
 
     -- an open call has a step left
-    some_left : (p : Place) → IsOpen p → At S B w.words w.batches i m p → Spares S W R m p → (x : ℕ) → left_at S W R m p ≡ x → 1 ≤ x
+    some_left : (p : Place) → IsOpen p → HoldsAtPlace S B w.words w.batches i m p → Spares S W R m p → (x : ℕ) → left_at S W R m p ≡ x → 1 ≤ x
     some_left Idle o a t x e = cc
     some_left TryCurrent o a t x e = omega arith
     some_left TryRequest o a t x e = omega arith
@@ -614,46 +614,46 @@ module _ (S : Setup) (W R : ℕ) where
     some_left CloseRequest o a t x e = omega arith
     some_left RaiseClosed o a t x e = omega arith
 
-module _ (S : Setup) (Lawful : List ℕ → Type 0) (sound : Sound S.meaning Lawful (base S) S.cells) (B : Start) (i : ℕ) (h : i < S.callers) (W R : ℕ) where
-  abbrev Sparing : World → Type 0
-  Sparing w = Spares S W R (machine w i) (machine w i).place
+module _ (S : Setup) (Lawful : List ℕ → Type 0) (sound : IsSoundMeaning S.meaning Lawful (first_operation_cell S) S.cells) (B : TableStart) (i : ℕ) (h : i < S.callers) (W R : ℕ) where
+  abbrev Sparing : Moment → Type 0
+  Sparing w = Spares S W R (machine_in w i) (machine_in w i).place
 
-  own_turn : (w : World) → Good S Lawful B w → (m : Data) → get_or w.machines i m ≡ m → IsOpen m.place → Touches m W R
-      → Touches (took S m (finds S w.words m)) W R → Spares S W R m m.place → Spares S W R (took S m (finds S w.words m)) (took S m (finds S w.words m)).place
-  unfolding want took
+  own_turn : (w : Moment) → MeetsInvariant S Lawful B w → (m : CallState) → get_or w.machines i m ≡ m → IsOpen m.place → Touches m W R
+      → Touches (take_word S m (word_found S w.words m)) W R → Spares S W R m m.place → Spares S W R (take_word S m (word_found S w.words m)) (take_word S m (word_found S w.words m)).place
+  unfolding want take_word
   own_turn w g m e o u v t = sparing S W R Lawful B w g.core i m h u m.place o (g.core.each i m h e) t refl v
 
-  own_kept : (w : World) → Good S Lawful B w → IsOpen (machine w i).place → Touches (machine w i) W R
-      → Touches (machine (happens S w (Turns i)) i) W R → Sparing w → Sparing (happens S w (Turns i))
+  own_kept : (w : Moment) → MeetsInvariant S Lawful B w → IsOpen (machine_in w i).place → Touches (machine_in w i) W R
+      → Touches (machine_in (after_event S w (Turns i)) i) W R → Sparing w → Sparing (after_event S w (Turns i))
   own_kept w g o u v t =
-      let x : machine (happens S w (Turns i)) i ≡ took S (machine w i) (finds S w.words (machine w i)) = get_or-set_same w.machines i _ no_machine (omega (arith, g.core.members)) in
-      subst (λ (d : Data). Spares S W R d d.place) (sym x) (own_turn w g (machine w i) (of_machine S Lawful sound B i h w g) o u (subst (λ (d : Data). Touches d W R) x v) t)
+      let x : machine_in (after_event S w (Turns i)) i ≡ take_word S (machine_in w i) (word_found S w.words (machine_in w i)) = get_or-set_same w.machines i _ no_machine (omega (arith, g.core.members)) in
+      subst (λ (d : CallState). Spares S W R d d.place) (sym x) (own_turn w g (machine_in w i) (of_machine S Lawful sound B i h w g) o u (subst (λ (d : CallState). Touches d W R) x v) t)
 
   -- no event of a schedule lets the call make more
-  kept : (w : World) → Good S Lawful B w → (e : Event) → MayHappen S w e → IsOpen (machine w i).place → Touches (machine w i) W R
-      → Touches (machine (happens S w e) i) W R → Sparing w → Sparing (happens S w e)
+  kept : (w : Moment) → MeetsInvariant S Lawful B w → (e : Event) → MayHappen S w e → IsOpen (machine_in w i).place → Touches (machine_in w i) W R
+      → Touches (machine_in (after_event S w e) i) W R → Sparing w → Sparing (after_event S w e)
   kept w g (Loads c) may o u v t = t
   kept w g (Evicts k) may o u v t = t
   kept w g (Raises c) may o u v t = t
   kept w g (Begins j op) may o u v t = go (cases_eq j i)
     where
-      go : (j ≡ i) ⊎ (j ≡ i → ⊥) → Sparing (happens S w (Begins j op))
-      go (inl e) = let z : true ≡ false = sym (ap is_idle may.1) ∙ ap (λ (k : ℕ). is_idle (machine w k).place) e ∙ o in cc
-      go (inr n) = subst (λ (d : Data). Spares S W R d d.place) (sym (get_or-set_other w.machines j i _ no_machine (λ e. n (sym e)))) t
+      go : (j ≡ i) ⊎ (j ≡ i → ⊥) → Sparing (after_event S w (Begins j op))
+      go (inl e) = let z : true ≡ false = sym (ap is_idle may.1) ∙ ap (λ (k : ℕ). is_idle (machine_in w k).place) e ∙ o in cc
+      go (inr n) = subst (λ (d : CallState). Spares S W R d d.place) (sym (get_or-set_other w.machines j i _ no_machine (λ e. n (sym e)))) t
   kept w g (Turns j) may o u v t = go (cases_eq j i)
     where
-      go : (j ≡ i) ⊎ (j ≡ i → ⊥) → Sparing (happens S w (Turns j))
-      go (inl e) = subst (λ (k : ℕ). Sparing (happens S w (Turns k))) (sym e) (own_kept w g o u (subst (λ (k : ℕ). Touches (machine (happens S w (Turns k)) i) W R) e v) t)
-      go (inr n) = subst (λ (d : Data). Spares S W R d d.place) (sym (get_or-set_other w.machines j i _ no_machine (λ e. n (sym e)))) t
+      go : (j ≡ i) ⊎ (j ≡ i → ⊥) → Sparing (after_event S w (Turns j))
+      go (inl e) = subst (λ (k : ℕ). Sparing (after_event S w (Turns k))) (sym e) (own_kept w g o u (subst (λ (k : ℕ). Touches (machine_in (after_event S w (Turns k)) i) W R) e v) t)
+      go (inr n) = subst (λ (d : CallState). Spares S W R d d.place) (sym (get_or-set_other w.machines j i _ no_machine (λ e. n (sym e)))) t
 
-  touches_now : (w : World) (es : List Event) → TouchesOnly S w es i W R → Touches (machine w i) W R
+  touches_now : (w : Moment) (es : List Event) → TouchesOnly S w es i W R → Touches (machine_in w i) W R
   touches_now w [] u = u
   touches_now w (e ∷ es) u = u.0
 
   fewer_than : (s x y : ℕ) → s + x ≤ y → 1 ≤ x → s < y
   fewer_than s x y l u = omega arith
 
-  at_end : (w : World) → Good S Lawful B w → (m : Data) → get_or w.machines i m ≡ m → IsOpen m.place → Touches m W R → Spares S W R m m.place → HasFootprint S W R m m.steps
+  at_end : (w : Moment) → MeetsInvariant S Lawful B w → (m : CallState) → get_or w.machines i m ≡ m → IsOpen m.place → Touches m W R → Spares S W R m m.place → HasFootprint S W R m m.steps
   at_end w g m e o u t = record {
     within = fewer_than m.steps (left_at S W R m m.place) (allowed S W R m) t.steps (some_left S W R Lawful B w g.core i m h u m.place o (g.core.each i m h e) t (left_at S W R m m.place) refl);
     tries = t.few.0;
@@ -662,34 +662,34 @@ module _ (S : Setup) (Lawful : List ℕ → Type 0) (sound : Sound S.meaning Law
   }
 
   -- so it is at the end
-  at_last : (es : List Event) (w : World) → Good S Lawful B w → IsSchedule S w es → StaysOpen S w es i → TouchesOnly S w es i W R → Sparing w
-      → HasFootprint S W R (machine (run S w es) i) ((machine w i).steps + turns i es)
-  at_last [] w g s o u t = subst (HasFootprint S W R (machine w i)) (plus_none (machine w i).steps) (at_end w g (machine w i) (of_machine S Lawful sound B i h w g) o u t)
+  at_last : (es : List Event) (w : Moment) → MeetsInvariant S Lawful B w → IsSchedule S w es → StaysOpen S w es i → TouchesOnly S w es i W R → Sparing w
+      → HasFootprint S W R (machine_in (after_events S w es) i) ((machine_in w i).steps + turn_count i es)
+  at_last [] w g s o u t = subst (HasFootprint S W R (machine_in w i)) (plus_none (machine_in w i).steps) (at_end w g (machine_in w i) (of_machine S Lawful sound B i h w g) o u t)
     where
       plus_none : (x : ℕ) → x ≡ x + 0
       plus_none x = omega arith
   at_last (e ∷ es) w g s o u t =
-      let good : Good S Lawful B (happens S w e) = event_good S Lawful B w g sound e s.0 in
-      let still : IsOpen (machine (happens S w e) i).place = now_open S Lawful sound B i h (happens S w e) es o.1 in
-      let more : (machine (happens S w e) i).steps ≡ (machine w i).steps + one_turn i e = steps_rise S Lawful sound B i h w g e s.0 o.0 still in
-      subst (HasFootprint S W R (machine (run S (happens S w e) es) i)) (sum (machine w i).steps (one_turn i e) (turns i es) (machine (happens S w e) i).steps more)
-      (at_last es (happens S w e) good s.1 o.1 u.1 (kept w g e s.0 o.0 u.0 (touches_now (happens S w e) es u.1) t))
+      let good : MeetsInvariant S Lawful B (after_event S w e) = event_good S Lawful B w g sound e s.0 in
+      let still : IsOpen (machine_in (after_event S w e) i).place = now_open S Lawful sound B i h (after_event S w e) es o.1 in
+      let more : (machine_in (after_event S w e) i).steps ≡ (machine_in w i).steps + turns_in_event i e = steps_rise S Lawful sound B i h w g e s.0 o.0 still in
+      subst (HasFootprint S W R (machine_in (after_events S (after_event S w e) es) i)) (sum (machine_in w i).steps (turns_in_event i e) (turn_count i es) (machine_in (after_event S w e) i).steps more)
+      (at_last es (after_event S w e) good s.1 o.1 u.1 (kept w g e s.0 o.0 u.0 (touches_now (after_event S w e) es u.1) t))
     where
       sum : (x y z v : ℕ) → v ≡ x + y → v + z ≡ x + (y + z)
       sum x y z v e = omega arith
 
-pub by_footprint : (S : Setup) (Lawful : List ℕ → Type 0) → Sound S.meaning Lawful (base S) S.cells → (B : Start) (w : World) → Good S Lawful B w
-    → (i : ℕ) (op : List ℕ) → MayHappen S w (Begins i op) → (es : List Event) → IsSchedule S (happens S w (Begins i op)) es → StaysOpen S (happens S w (Begins i op)) es i
-    → (W R : ℕ) → TouchesOnly S (happens S w (Begins i op)) es i W R → HasFootprint S W R (machine (run S (happens S w (Begins i op)) es) i) (turns i es)
+pub by_footprint : (S : Setup) (Lawful : List ℕ → Type 0) → IsSoundMeaning S.meaning Lawful (first_operation_cell S) S.cells → (B : TableStart) (w : Moment) → MeetsInvariant S Lawful B w
+    → (i : ℕ) (op : List ℕ) → MayHappen S w (Begins i op) → (es : List Event) → IsSchedule S (after_event S w (Begins i op)) es → StaysOpen S (after_event S w (Begins i op)) es i
+    → (W R : ℕ) → TouchesOnly S (after_event S w (Begins i op)) es i W R → HasFootprint S W R (machine_in (after_events S (after_event S w (Begins i op)) es) i) (turn_count i es)
 by_footprint S Lawful sound B w g i op may es s o W R u =
-    subst (HasFootprint S W R (machine (run S v es) i)) (none (machine v i).steps (turns i es) (ap (λ (d : Data). d.steps) new))
-    (at_last S Lawful sound B i may.0 W R es v (event_good S Lawful B w g sound (Begins i op) may) s o u (subst (λ (d : Data). Spares S W R d d.place) (sym new) (opens_sparing S W R (machine w i) op)))
+    subst (HasFootprint S W R (machine_in (after_events S v es) i)) (none (machine_in v i).steps (turn_count i es) (ap (λ (d : CallState). d.steps) new))
+    (at_last S Lawful sound B i may.0 W R es v (event_good S Lawful B w g sound (Begins i op) may) s o u (subst (λ (d : CallState). Spares S W R d d.place) (sym new) (opens_sparing S W R (machine_in w i) op)))
   where
-    v : World
-    v = happens S w (Begins i op)
+    v : Moment
+    v = after_event S w (Begins i op)
 
-    new : machine v i ≡ opened S (machine w i) op
-    new = get_or-set_same w.machines i (opened S (machine w i) op) no_machine (omega (arith, g.core.members, may.0))
+    new : machine_in v i ≡ begin S (machine_in w i) op
+    new = get_or-set_same w.machines i (begin S (machine_in w i) op) no_machine (omega (arith, g.core.members, may.0))
 
     none : (x y : ℕ) → x ≡ 0 → x + y ≡ y
     none x y e = omega arith

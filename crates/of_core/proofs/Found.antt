@@ -3,20 +3,20 @@ use Rattle.std.proofs.Common.{◌≡◌, ℕ, List, ◌++◌, get_or, set, refl,
 use Rattle.of_core.specs.declared.place.Place.{Place}
 use Rattle.of_core.specs.declared.place.Place.TheVariants.{Idle, TryCurrent, TryRequest, TryCell, StoreScript, StoreAnnouncement, LoadCurrent, LoadRequest, CopyLog, LookAgain, LoadOwnTicket, LoadShape, LoadReply, LoadAnnouncement, LoadTicket, LoadScript, LoadCell, RaiseOld, StoreLog, RaiseLog, StoreRequest, RaiseRequest, ExchangeCurrent, RaiseCurrent, LoadTarget, ExchangeTarget, ReloadTarget, RaiseTarget, CloseRequest, RaiseClosed}
 use Rattle.of_core.specs.Table.{Setup}
-use Rattle.of_core.specs.Machine.{Data}
-use Rattle.of_core.specs.Steps.{want, want_at, word_of, took, took_at, counted_at, words_after, FoundBy, finds}
-use Rattle.of_core.specs.Events.{Turns, machine, happens}
-use Rattle.of_core.specs.World.{World, Batch, added, answered, answers_at, commits_at, stepped, stepped_at}
+use Rattle.of_core.specs.Machine.{CallState}
+use Rattle.of_core.specs.Steps.{want, want_at, word_of, take_word, take_word_at, with_step_counted, words_after, IsFoundBy, word_found}
+use Rattle.of_core.specs.Events.{Turns, machine_in, after_event}
+use Rattle.of_core.specs.World.{Moment, Batch, step_batches, step_reads, step_reads_at, step_batches_at, after_step, after_step_at}
 
-module _ (S : Setup) (ws : List ℕ) (m : Data) (n : ℕ) where
+module _ (S : Setup) (ws : List ℕ) (m : CallState) (n : ℕ) where
   -- what the step from the place p makes of the number n
   abbrev Same : Place → ℕ → Type 0
-  Same p k = (took_at S (counted_at p m) n p ≡ took_at S (counted_at p m) k p) × (commits_at S ws m n p ≡ commits_at S ws m k p)
+  Same p k = (take_word_at S (with_step_counted p m) n p ≡ take_word_at S (with_step_counted p m) k p) × (step_batches_at S ws m n p ≡ step_batches_at S ws m k p)
 
   same : (p : Place) (k : ℕ) → n ≡ k → Same p k
-  same p k e = (ap (λ (x : ℕ). took_at S (counted_at p m) x p) e, ap (λ (x : ℕ). commits_at S ws m x p) e)
+  same p k e = (ap (λ (x : ℕ). take_word_at S (with_step_counted p m) x p) e, ap (λ (x : ℕ). step_batches_at S ws m x p) e)
 
-  pub same_step : (p : Place) → FoundBy (want_at S m p) ws n → Same p (get_or ws (word_of (want_at S m p)) 0)
+  pub same_step : (p : Place) → IsFoundBy (want_at S m p) ws n → Same p (get_or ws (word_of (want_at S m p)) 0)
   same_step (StoreScript j) e = (refl, refl)
   same_step StoreAnnouncement e = (refl, refl)
   same_step (StoreLog x) e = (refl, refl)
@@ -49,7 +49,7 @@ module _ (S : Setup) (ws : List ℕ) (m : Data) (n : ℕ) where
   same_step RaiseClosed e = same RaiseClosed _ e
 
   -- the word that stands there is what the step finds
-  pub finds_now : (p : Place) → n ≡ get_or ws (word_of (want_at S m p)) 0 → FoundBy (want_at S m p) ws n
+  pub finds_now : (p : Place) → n ≡ get_or ws (word_of (want_at S m p)) 0 → IsFoundBy (want_at S m p) ws n
   finds_now (StoreScript j) e = tt
   finds_now StoreAnnouncement e = tt
   finds_now (StoreLog x) e = tt
@@ -81,22 +81,22 @@ module _ (S : Setup) (ws : List ℕ) (m : Data) (n : ℕ) where
   finds_now CloseRequest e = e
   finds_now RaiseClosed e = e
 
-pub found_now : (S : Setup) (ws : List ℕ) (m : Data) → FoundBy (want S m) ws (finds S ws m)
+pub found_now : (S : Setup) (ws : List ℕ) (m : CallState) → IsFoundBy (want S m) ws (word_found S ws m)
 unfolding want
-found_now S ws m = finds_now S ws m (finds S ws m) m.place refl
+found_now S ws m = finds_now S ws m (word_found S ws m) m.place refl
 
 -- the world after the step, where the machine is d and these batches are committed
-abbrev world_after : Setup → ℕ → Data → World → Data → List Batch → World
-world_after S i m w d bs = record { words = words_after (want_at S m m.place) w.words; machines = set w.machines i d; batches = w.batches ++ bs; reads = w.reads ++ answers_at d m.place; loaded = w.loaded }
+abbrev world_after : Setup → ℕ → CallState → Moment → CallState → List Batch → Moment
+world_after S i m w d bs = record { words = words_after (want_at S m m.place) w.words; machines = set w.machines i d; batches = w.batches ++ bs; reads = w.reads ++ step_reads_at d m.place; loaded = w.loaded }
 
-pub stepped_is : (S : Setup) (i : ℕ) (m : Data) (n : ℕ) (w : World) → FoundBy (want S m) w.words n → stepped S i m n w ≡ stepped_at S i m m.place w
-unfolding want took added answered
+pub stepped_is : (S : Setup) (i : ℕ) (m : CallState) (n : ℕ) (w : Moment) → IsFoundBy (want S m) w.words n → after_step S i m n w ≡ after_step_at S i m m.place w
+unfolding want take_word step_batches step_reads
 stepped_is S i m n w e =
     let r = same_step S w.words m n m.place e in
-    ap (λ (d : Data). world_after S i m w d (commits_at S w.words m n m.place)) r.0 ∙ ap (λ (bs : List Batch). world_after S i m w (took_at S (counted_at m.place m) (get_or w.words (word_of (want_at S m m.place)) 0) m.place) bs) r.1
+    ap (λ (d : CallState). world_after S i m w d (step_batches_at S w.words m n m.place)) r.0 ∙ ap (λ (bs : List Batch). world_after S i m w (take_word_at S (with_step_counted m.place m) (get_or w.words (word_of (want_at S m m.place)) 0) m.place) bs) r.1
 
 -- a turn is the step of its caller's machine, whatever number a store is said to find
-pub turn_is_step : (S : Setup) (w : World) (i n : ℕ) → FoundBy (want S (machine w i)) w.words n → happens S w (Turns i) ≡ stepped S i (machine w i) n w
+pub turn_is_step : (S : Setup) (w : Moment) (i n : ℕ) → IsFoundBy (want S (machine_in w i)) w.words n → after_event S w (Turns i) ≡ after_step S i (machine_in w i) n w
 turn_is_step S w i n f =
-    let m : Data = machine w i in
-    stepped_is S i m (finds S w.words m) w (found_now S w.words m) ∙ sym (stepped_is S i m n w f)
+    let m : CallState = machine_in w i in
+    stepped_is S i m (word_found S w.words m) w (found_now S w.words m) ∙ sym (stepped_is S i m n w f)

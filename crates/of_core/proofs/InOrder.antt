@@ -8,9 +8,9 @@ use Rattle.std.proofs.lemmas.List.Elements.{All-append}
 use Rattle.of_mem.specs.Meaning.{Meaning}
 use Rattle.of_core.specs.Machine.{Call, no_call}
 use Rattle.of_core.specs.World.{Batch, Read}
-use Rattle.of_core.specs.History.{no_batch, after_calls, Replies, replay, Legal}
+use Rattle.of_core.specs.History.{no_batch, numbers_after_calls, HaveReplies, numbers_after_batches, IsLegalHistory}
 use Rattle.of_core.specs.Order.{no_read}
-use Rattle.of_core.specs.Calls.{only}
+use Rattle.of_core.specs.Calls.{if_so}
 use Rattle.of_core.proofs.Tests.{same_number, other_number}
 
 -- a read as a call
@@ -20,7 +20,7 @@ call_of r = record { caller = r.caller; ticket = r.ticket; op = r.op; raw = r.ra
 -- the reads of the state s
 abbrev pub reads_of : (s : ℕ) → List Read → List Call
 reads_of s [] = []
-reads_of s (r ∷ rs) = only (r.seq == s) (call_of r ∷ []) ++ reads_of s rs
+reads_of s (r ∷ rs) = if_so (r.seq == s) (call_of r ∷ []) ++ reads_of s rs
 
 -- the calls of the batches from the state s on, and the reads
 abbrev pub serial_order : (s : ℕ) → List Batch → List Read → List Call
@@ -29,10 +29,10 @@ serial_order s (b ∷ bs) rs = reads_of s rs ++ (b.calls ++ serial_order (s + 1)
 
 -- a read of another state isn't there
 reads_skip : (s : ℕ) (r : Read) (rs : List Read) → (s ≡ r.seq → ⊥) → reads_of s (r ∷ rs) ≡ reads_of s rs
-reads_skip s r rs away = ap (λ (b : Bool). only b (call_of r ∷ []) ++ reads_of s rs) (other_number r.seq s away)
+reads_skip s r rs away = ap (λ (b : Bool). if_so b (call_of r ∷ []) ++ reads_of s rs) (other_number r.seq s away)
 
 reads_take : (s : ℕ) (r : Read) (rs : List Read) → s ≡ r.seq → reads_of s (r ∷ rs) ≡ call_of r ∷ reads_of s rs
-reads_take s r rs e = ap (λ (b : Bool). only b (call_of r ∷ []) ++ reads_of s rs) (ap (λ (x : ℕ). r.seq == x) e ∙ same_number r.seq)
+reads_take s r rs e = ap (λ (b : Bool). if_so b (call_of r ∷ []) ++ reads_of s rs) (ap (λ (x : ℕ). r.seq == x) e ∙ same_number r.seq)
 
 -- What holds of each call.
 module _ (P : Call → Type 0) where
@@ -182,11 +182,11 @@ module _ (R : Call → Call → Type 0) where
 
 -- Where the order leads.
 module _ (W : Meaning) where
-  pub after_append : (xs : List ℕ) (cs ds : List Call) → after_calls W xs (cs ++ ds) ≡ after_calls W (after_calls W xs cs) ds
+  pub after_append : (xs : List ℕ) (cs ds : List Call) → numbers_after_calls W xs (cs ++ ds) ≡ numbers_after_calls W (numbers_after_calls W xs cs) ds
   after_append xs [] ds = refl
   after_append xs (c ∷ cs) ds = after_append (W.cells xs c.op) cs ds
 
-  pub replies_append : (xs : List ℕ) (cs ds : List Call) → Replies W xs cs → Replies W (after_calls W xs cs) ds → Replies W xs (cs ++ ds)
+  pub replies_append : (xs : List ℕ) (cs ds : List Call) → HaveReplies W xs cs → HaveReplies W (numbers_after_calls W xs cs) ds → HaveReplies W xs (cs ++ ds)
   replies_append xs [] ds h t = t
   replies_append xs (c ∷ cs) ds h t = (h.0, replies_append (W.cells xs c.op) cs ds h.1 t)
 
@@ -196,7 +196,7 @@ module _ (W : Meaning) where
 
   -- the calls run, and lead from these numbers to those
   abbrev Leads : List ℕ → List Call → List ℕ → Type 0
-  Leads xs cs ys = Replies W xs cs × (after_calls W xs cs ≡ ys)
+  Leads xs cs ys = HaveReplies W xs cs × (numbers_after_calls W xs cs ≡ ys)
 
   reads_lead : (xs : List ℕ) (s : ℕ) (rs : List Read) → ((a : ℕ) → a < length rs → s ≡ (get_or rs a no_read).seq → Reads xs (get_or rs a no_read)) → Leads xs (reads_of s rs) xs
   reads_lead xs s [] h = (tt, refl)
@@ -210,11 +210,11 @@ module _ (W : Meaning) where
           subst (λ (cs : List Call). Leads xs cs xs) (sym (reads_take s r rs e)) ((one.0, there.0), there.1)
 
   -- it has the replies that it meets, and leads where the batches lead
-  pub order_leads : (bs : List Batch) (s : ℕ) (rs : List Read) (xs : List ℕ) → Legal W xs bs
-      → ((d a : ℕ) → d ≤ length bs → a < length rs → s + d ≡ (get_or rs a no_read).seq → Reads (replay W xs (take d bs)) (get_or rs a no_read))
-      → Leads xs (serial_order s bs rs) (replay W xs bs)
+  pub order_leads : (bs : List Batch) (s : ℕ) (rs : List Read) (xs : List ℕ) → IsLegalHistory W xs bs
+      → ((d a : ℕ) → d ≤ length bs → a < length rs → s + d ≡ (get_or rs a no_read).seq → Reads (numbers_after_batches W xs (take d bs)) (get_or rs a no_read))
+      → Leads xs (serial_order s bs rs) (numbers_after_batches W xs bs)
   order_leads [] s rs xs l h = reads_lead xs s rs (λ a u e. h 0 a (omega arith) u (omega (arith, e)))
-  order_leads (b ∷ bs) s rs xs l h = join (order_leads bs (s + 1) rs (after_calls W xs b.calls) l.1 (λ d a u v e. h (suc d) a (omega arith) v (omega (arith, e))))
+  order_leads (b ∷ bs) s rs xs l h = join (order_leads bs (s + 1) rs (numbers_after_calls W xs b.calls) l.1 (λ d a u v e. h (suc d) a (omega arith) v (omega (arith, e))))
     where
       later : List Call
       later = serial_order (s + 1) bs rs
@@ -222,8 +222,8 @@ module _ (W : Meaning) where
       first : Leads xs (reads_of s rs) xs
       first = reads_lead xs s rs (λ a u e. h 0 a (omega arith) u (omega (arith, e)))
 
-      join : Leads (after_calls W xs b.calls) later (replay W (after_calls W xs b.calls) bs) → Leads xs (serial_order s (b ∷ bs) rs) (replay W xs (b ∷ bs))
+      join : Leads (numbers_after_calls W xs b.calls) later (numbers_after_batches W (numbers_after_calls W xs b.calls) bs) → Leads xs (serial_order s (b ∷ bs) rs) (numbers_after_batches W xs (b ∷ bs))
       join rest = (
-        replies_append xs (reads_of s rs) (b.calls ++ later) first.0 (subst (λ (ys : List ℕ). Replies W ys (b.calls ++ later)) (sym first.1) (replies_append xs b.calls later l.0 rest.0)),
-        after_append xs (reads_of s rs) (b.calls ++ later) ∙ ap (λ (ys : List ℕ). after_calls W ys (b.calls ++ later)) first.1 ∙ after_append xs b.calls later ∙ rest.1,
+        replies_append xs (reads_of s rs) (b.calls ++ later) first.0 (subst (λ (ys : List ℕ). HaveReplies W ys (b.calls ++ later)) (sym first.1) (replies_append xs b.calls later l.0 rest.0)),
+        after_append xs (reads_of s rs) (b.calls ++ later) ∙ ap (λ (ys : List ℕ). numbers_after_calls W ys (b.calls ++ later)) first.1 ∙ after_append xs b.calls later ∙ rest.1,
       )

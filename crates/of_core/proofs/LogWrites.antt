@@ -3,30 +3,30 @@ use Rattle.std.proofs.Common.{◌≡◌, ℕ, ◌+◌, ◌*◌, ◌-◌, ◌<◌
 use Rattle.std.proofs.lemmas.Bool.{cases_eq}
 use Rattle.std.proofs.lemmas.List.{append-nil, get_or-set_same, get_or-set_other}
 use Rattle.of_cell.specs.declared.word.TheConstants.{PAYLOADS}
-use Rattle.of_cell.specs.Words.{word, seq, pay}
+use Rattle.of_cell.specs.Words.{pack, seq_of, payload_of}
 use Rattle.of_cell.proofs.Order.{seq_less, seq_word, pay_word, seq_from, word_above}
 use Rattle.of_core.specs.declared.place.Place.TheVariants.{StoreLog, StoreRequest}
-use Rattle.of_core.specs.Table.{Setup, script_at, size, durable_at, request_at, log_at, script_word, current_word, request_of, cell, log_word, durable_word, durable_request, last, holder, risen}
-use Rattle.of_core.specs.Machine.{Data, entry, log_words}
-use Rattle.of_core.specs.Steps.{took_at}
-use Rattle.of_core.specs.World.{World, Start, stepped_on}
-use Rattle.of_core.specs.History.{batch, at}
-use Rattle.of_core.specs.Shared.{Kinds, IsRequest, IsLogWord, Opened, DataCells, Durable}
-use Rattle.of_core.specs.Transaction.{Stored}
-use Rattle.of_core.specs.Invariant.{At, Core}
-use Rattle.of_core.specs.Moves.{Goes}
+use Rattle.of_core.specs.Table.{Setup, script_word_at, cell_count, durable_at, request_at, log_at, script_word, current_word, request_of, data_word, log_word_of, durable_word, durable_request, committed_seq, committed_owner, durable_seq}
+use Rattle.of_core.specs.Machine.{CallState, log_entry, log_words}
+use Rattle.of_core.specs.Steps.{take_word_at}
+use Rattle.of_core.specs.World.{Moment, TableStart, after_counted_step}
+use Rattle.of_core.specs.History.{batch_at, data_word_after}
+use Rattle.of_core.specs.Shared.{WordsHaveTheirKind, IsRequest, IsLogWord, IsLastOpen, DataCellsMatchState, DurableWordsMatch}
+use Rattle.of_core.specs.Transaction.{HasStoredLog}
+use Rattle.of_core.specs.Invariant.{HoldsAtPlace, MeetsCore}
+use Rattle.of_core.specs.Moves.{KeepsGuarantee}
 use Rattle.of_core.proofs.Logs.{words_at, length-log_words}
 use Rattle.of_core.proofs.Assembling.{assemble, small_words}
 use Rattle.of_core.proofs.Stability.{log_in, same_row}
 use Rattle.of_core.proofs.Touches.{Touches, durable_of, heard_of, kinds_of, kinds_same, moves_of, over_of, past_of, request_same, shared_of}
 
-module _ (S : Setup) (Lawful : List ℕ → Type 0) (B : Start) where
-  module _ (w : World) (g : Core S Lawful B w) (i : ℕ) (m : Data) (h : i < S.callers) where
+module _ (S : Setup) (Lawful : List ℕ → Type 0) (B : TableStart) where
+  module _ (w : Moment) (g : MeetsCore S Lawful B w) (i : ℕ) (m : CallState) (h : i < S.callers) where
     -- the machine stores a word of its log
-    pub store_log_kept : (x : ℕ) → At S B w.words w.batches i m (StoreLog x) → Goes S Lawful B i w (stepped_on S i m (StoreLog x) w)
+    pub store_log_kept : (x : ℕ) → HoldsAtPlace S B w.words w.batches i m (StoreLog x) → KeepsGuarantee S Lawful B i w (after_counted_step S i m (StoreLog x) w)
     store_log_kept x a =
         rw (append-nil w.batches)
-        (assemble S Lawful B w g i h vs w.batches (took_at S m (log_word S w.words m.caller x) (StoreLog x)) (moves_of S Lawful B i w.words vs w.batches touches g.shared)
+        (assemble S Lawful B w g i h vs w.batches (take_word_at S m (log_word_of S w.words m.caller x) (StoreLog x)) (moves_of S Lawful B i w.words vs w.batches touches g.shared)
         (shared_of S Lawful B i w.words vs w.batches touches g.shared data_cells durable (heard_of S Lawful B i w.words vs w.batches touches g.shared behind counts) kinds) (
           record {
             stored = record {
@@ -38,16 +38,16 @@ module _ (S : Setup) (Lawful : List ℕ → Type 0) (B : Start) where
             };
             own = rw (req_same i h) a.0.own;
             level = dur_same (request_at i) (omega arith) ∙ a.0.level ∙ sym (req_same i h);
-            shut = λ k l u o. rw (req_same i h) (a.0.shut k l (rw current_same at u) o);
+            shut = λ k l u o. rw (req_same i h) (a.0.shut k l (rw current_same data_word_after u) o);
           },
           a.1,
         ))
       where
-        st : Stored S B w.words w.batches i m x x
+        st : HasStoredLog S B w.words w.batches i m x x
         st = a.0.stored
 
         new : ℕ
-        new = word (m.seq + 1) (get_or (log_words m.log) x 0)
+        new = pack (m.seq + 1) (get_or (log_words m.log) x 0)
 
         vs : List ℕ
         vs = set w.words (log_at S m.caller x) new
@@ -61,30 +61,30 @@ module _ (S : Setup) (Lawful : List ℕ → Type 0) (B : Start) where
         fits : log_at S i x < length w.words
         fits = omega (arith, log_in S i x h x_in, g.shared.room)
 
-        here : log_word S vs i x ≡ new
+        here : log_word_of S vs i x ≡ new
         here = rw ci (get_or-set_same w.words (log_at S i x) new 0 fits)
 
         elsewhere : (d : ℕ) → (d ≡ log_at S i x → ⊥) → get_or vs d 0 ≡ get_or w.words d 0
         elsewhere d q = rw ci (get_or-set_other w.words (log_at S i x) d new 0 q)
 
-        up_here : log_word S w.words i x ≤ new
-        up_here = omega (arith, seq_less (log_word S w.words i x) new (omega (arith, st.rest x (omega arith) x_in, seq_from (m.seq + 1) (get_or (log_words m.log) x 0) new (omega arith))))
+        up_here : log_word_of S w.words i x ≤ new
+        up_here = omega (arith, seq_less (log_word_of S w.words i x) new (omega (arith, st.rest x (omega arith) x_in, seq_from (m.seq + 1) (get_or (log_words m.log) x 0) new (omega arith))))
 
         behind : (j y : ℕ) → script_word S vs j y ≡ script_word S w.words j y
-        behind j y = elsewhere (script_at S j y) (omega (arith, log_in S i x h x_in))
+        behind j y = elsewhere (script_word_at S j y) (omega (arith, log_in S i x h x_in))
 
-        counts : (j : ℕ) → j < S.callers → pay (log_word S vs j 0) ≤ S.cells
+        counts : (j : ℕ) → j < S.callers → payload_of (log_word_of S vs j 0) ≤ S.cells
         counts j l = count (cases_eq (log_at S j 0) (log_at S i x))
           where
-            count : (log_at S j 0 ≡ log_at S i x) ⊎ (log_at S j 0 ≡ log_at S i x → ⊥) → pay (log_word S vs j 0) ≤ S.cells
+            count : (log_at S j 0 ≡ log_at S i x) ⊎ (log_at S j 0 ≡ log_at S i x → ⊥) → payload_of (log_word_of S vs j 0) ≤ S.cells
             count (inr q) = rw (elsewhere (log_at S j 0) q) (g.shared.heard.counts j l)
             count (inl q) =
                 let e : j ≡ i = same_row j i (2 * S.cells + 1) 0 x (omega arith) x_in (omega arith) in
                 let z : x ≡ 0 = omega (arith, ap (λ (k : ℕ). k * (2 * S.cells + 1)) e) in
-                let v : new ≡ word (m.seq + 1) (length m.log) = ap (λ (k : ℕ). word (m.seq + 1) (get_or (log_words m.log) k 0)) z in
+                let v : new ≡ pack (m.seq + 1) (length m.log) = ap (λ (k : ℕ). pack (m.seq + 1) (get_or (log_words m.log) k 0)) z in
                 rw (q, here, v, pay_word (m.seq + 1) (length m.log) (omega (arith, st.over.over.is_log.few, g.shared.little))) st.over.over.is_log.few
 
-        cell_same : (y : ℕ) → y < S.cells → cell S vs y ≡ cell S w.words y
+        cell_same : (y : ℕ) → y < S.cells → data_word S vs y ≡ data_word S w.words y
         cell_same y l = elsewhere (S.callers + 1 + y) (omega arith)
 
         current_same : current_word vs ≡ current_word w.words
@@ -93,20 +93,20 @@ module _ (S : Setup) (Lawful : List ℕ → Type 0) (B : Start) where
         req_same : (j : ℕ) → j < S.callers → request_of vs j ≡ request_of w.words j
         req_same j l = elsewhere (j + 1) (omega arith)
 
-        log_other : (j y : ℕ) → y < 2 * S.cells + 1 → (j ≡ i → ⊥) → log_word S vs j y ≡ log_word S w.words j y
+        log_other : (j y : ℕ) → y < 2 * S.cells + 1 → (j ≡ i → ⊥) → log_word_of S vs j y ≡ log_word_of S w.words j y
         log_other j y l q = elsewhere (log_at S j y) (λ e. q (same_row j i (2 * S.cells + 1) y x l x_in (omega arith)))
 
-        log_row : (y : ℕ) → y < 2 * S.cells + 1 → (y ≡ x → ⊥) → log_word S vs i y ≡ log_word S w.words i y
+        log_row : (y : ℕ) → y < 2 * S.cells + 1 → (y ≡ x → ⊥) → log_word_of S vs i y ≡ log_word_of S w.words i y
         log_row y l q = elsewhere (log_at S i y) (omega arith)
 
-        dur_same : (c : ℕ) → c < size S → durable_word S vs c ≡ durable_word S w.words c
+        dur_same : (c : ℕ) → c < cell_count S → durable_word S vs c ≡ durable_word S w.words c
         dur_same c l = elsewhere (durable_at S c) (omega (arith, log_in S i x h x_in))
 
         rises : (c : ℕ) → (c ≡ log_at S i x) ⊎ (c ≡ log_at S i x → ⊥) → get_or w.words c 0 ≤ get_or vs c 0
         rises c (inl q) = rw q (omega (arith, here, up_here))
         rises c (inr q) = omega (arith, elsewhere c q)
 
-        log_how : (j y : ℕ) → j < S.callers → y < 2 * S.cells + 1 → (j ≡ i) ⊎ (j ≡ i → ⊥) → (y ≡ x) ⊎ (y ≡ x → ⊥) → (log_word S vs j y ≡ log_word S w.words j y) ⊎ (seq (log_word S w.words j y) < seq (log_word S vs j y))
+        log_how : (j y : ℕ) → j < S.callers → y < 2 * S.cells + 1 → (j ≡ i) ⊎ (j ≡ i → ⊥) → (y ≡ x) ⊎ (y ≡ x → ⊥) → (log_word_of S vs j y ≡ log_word_of S w.words j y) ⊎ (seq_of (log_word_of S w.words j y) < seq_of (log_word_of S vs j y))
         log_how j y l u (inr q) r = inl (log_other j y u q)
         log_how j y l u (inl q) (inr r) = inl (rw q (log_row y u r))
         log_how j y l u (inl q) (inl r) = inr (rw (q, r, here) (omega (arith, st.rest x (omega arith) x_in, seq_from (m.seq + 1) (get_or (log_words m.log) x 0) new (omega arith))))
@@ -128,62 +128,62 @@ module _ (S : Setup) (Lawful : List ℕ → Type 0) (B : Start) where
           announcements = λ j l. inl (behind j S.instrs);
         }
 
-        kinds : Kinds S B vs w.batches
+        kinds : WordsHaveTheirKind S B vs w.batches
         kinds = kinds_of S Lawful B i w.words vs w.batches touches g.shared (λ j l. request_same S Lawful B i w.words vs w.batches touches g.shared j l (req_same j l)) (λ j y l u. is_log_word j y l u (cases_eq j i) (cases_eq y x)) (λ j y l u. sized j y l u (cases_eq j i) (cases_eq (2 * y + 1) x))
           where
-            is_log_word : (j y : ℕ) → j < S.callers → y < 2 * S.cells + 1 → (j ≡ i) ⊎ (j ≡ i → ⊥) → (y ≡ x) ⊎ (y ≡ x → ⊥) → IsLogWord B w.words w.batches j y (log_word S vs j y)
+            is_log_word : (j y : ℕ) → j < S.callers → y < 2 * S.cells + 1 → (j ≡ i) ⊎ (j ≡ i → ⊥) → (y ≡ x) ⊎ (y ≡ x → ⊥) → IsLogWord B w.words w.batches j y (log_word_of S vs j y)
             is_log_word j y l u (inr q) r = subst (λ (v : ℕ). IsLogWord B w.words w.batches j y v) (sym (log_other j y u q)) (g.shared.kinds.logs j y l u)
-            is_log_word j y l u (inl q) (inr r) = subst (λ (v : ℕ). IsLogWord B w.words w.batches j y v) (sym (ap (λ (k : ℕ). log_word S vs k y) q ∙ log_row y u r ∙ ap (λ (k : ℕ). log_word S w.words k y) (sym q))) (g.shared.kinds.logs j y l u)
+            is_log_word j y l u (inl q) (inr r) = subst (λ (v : ℕ). IsLogWord B w.words w.batches j y v) (sym (ap (λ (k : ℕ). log_word_of S vs k y) q ∙ log_row y u r ∙ ap (λ (k : ℕ). log_word_of S w.words k y) (sym q))) (g.shared.kinds.logs j y l u)
             is_log_word j y l u (inl q) (inl r) = λ a b o.
-                let e : log_word S vs j y ≡ new = ap (λ (k : ℕ). log_word S vs k y) q ∙ ap (log_word S vs i) r ∙ here in
-                let f : seq (log_word S vs j y) ≡ m.seq + 1 = ap seq e ∙ seq_word (m.seq + 1) (get_or (log_words m.log) x 0) (fits_word x) in
-                absurd (st.past.looks.round.unowned (seq (log_word S vs j y)) (omega (arith, f)) b (o ∙ q))
+                let e : log_word_of S vs j y ≡ new = ap (λ (k : ℕ). log_word_of S vs k y) q ∙ ap (log_word_of S vs i) r ∙ here in
+                let f : seq_of (log_word_of S vs j y) ≡ m.seq + 1 = ap seq_of e ∙ seq_word (m.seq + 1) (get_or (log_words m.log) x 0) (fits_word x) in
+                absurd (st.past.looks.round.unowned (seq_of (log_word_of S vs j y)) (omega (arith, f)) b (o ∙ q))
 
-            sized : (j y : ℕ) → j < S.callers → y < S.cells → (j ≡ i) ⊎ (j ≡ i → ⊥) → (2 * y + 1 ≡ x) ⊎ (2 * y + 1 ≡ x → ⊥) → pay (log_word S vs j (2 * y + 1)) < S.cells
+            sized : (j y : ℕ) → j < S.callers → y < S.cells → (j ≡ i) ⊎ (j ≡ i → ⊥) → (2 * y + 1 ≡ x) ⊎ (2 * y + 1 ≡ x → ⊥) → payload_of (log_word_of S vs j (2 * y + 1)) < S.cells
             sized j y l u (inr q) r = rw (log_other j (2 * y + 1) (omega arith) q) (g.shared.kinds.sized j y l u)
             sized j y l u (inl q) (inr r) = rw (q, log_row (2 * y + 1) (omega arith) r) (g.shared.kinds.sized i y h u)
             sized j y l u (inl q) (inl r) =
                 let in_log : y < length m.log = omega (arith, a.1, length-log_words m.log) in
-                let e : log_word S vs j (2 * y + 1) ≡ new = ap (λ (k : ℕ). log_word S vs k (2 * y + 1)) q ∙ ap (log_word S vs i) r ∙ here in
-                let p : pay new ≡ get_or (log_words m.log) x 0 = pay_word (m.seq + 1) (get_or (log_words m.log) x 0) (fits_word x) in
-                let n : get_or (log_words m.log) x 0 ≡ (entry m y).0 = ap (λ (k : ℕ). get_or (log_words m.log) k 0) (sym r) ∙ (words_at m.log y in_log).0 in
-                omega (arith, ap pay e, p, n, (st.over.over.is_log.entries y (0, 0) in_log).0)
+                let e : log_word_of S vs j (2 * y + 1) ≡ new = ap (λ (k : ℕ). log_word_of S vs k (2 * y + 1)) q ∙ ap (log_word_of S vs i) r ∙ here in
+                let p : payload_of new ≡ get_or (log_words m.log) x 0 = pay_word (m.seq + 1) (get_or (log_words m.log) x 0) (fits_word x) in
+                let n : get_or (log_words m.log) x 0 ≡ (log_entry m y).0 = ap (λ (k : ℕ). get_or (log_words m.log) k 0) (sym r) ∙ (words_at m.log y in_log).0 in
+                omega (arith, ap payload_of e, p, n, (st.over.over.is_log.entries y (0, 0) in_log).0)
 
-        open_same : Opened B w.words → Opened B vs
-        open_same o = record { any = rw current_same o.any; asks = rw current_same (req_same (holder w.words) g.shared.counted.owner_in ∙ o.asks) }
+        open_same : IsLastOpen B w.words → IsLastOpen B vs
+        open_same o = record { any = rw current_same o.any; asks = rw current_same (req_same (committed_owner w.words) g.shared.counted.owner_in ∙ o.asks) }
 
-        data_cells : DataCells S B vs w.batches
+        data_cells : DataCellsMatchState S B vs w.batches
         data_cells = record { each = λ y l. each y l (g.shared.data_cells.each y l) }
           where
-            each : (y : ℕ) → y < S.cells → (cell S w.words y ≡ at B w.batches (last w.words) y) ⊎ (Opened B w.words × (cell S w.words y ≡ at B w.batches (last w.words - 1) y))
-                → (cell S vs y ≡ at B w.batches (last vs) y) ⊎ (Opened B vs × (cell S vs y ≡ at B w.batches (last vs - 1) y))
+            each : (y : ℕ) → y < S.cells → (data_word S w.words y ≡ data_word_after B w.batches (committed_seq w.words) y) ⊎ (IsLastOpen B w.words × (data_word S w.words y ≡ data_word_after B w.batches (committed_seq w.words - 1) y))
+                → (data_word S vs y ≡ data_word_after B w.batches (committed_seq vs) y) ⊎ (IsLastOpen B vs × (data_word S vs y ≡ data_word_after B w.batches (committed_seq vs - 1) y))
             each y l (inl q) = inl (rw current_same (cell_same y l ∙ q))
             each y l (inr (o, q)) = inr (open_same o, rw current_same (cell_same y l ∙ q))
 
-        durable : Durable S B vs w.batches
+        durable : DurableWordsMatch S B vs w.batches
         durable = durable_of S Lawful B i w.words vs w.batches touches g.shared (λ y l. rw (cell_same y l) (g.shared.durable.fresh y l)) step (λ y l. cells (g.shared.durable.cells y l)) logs
           where
-            step : (last w.words ≡ risen S w.words) ⊎ ((last w.words ≡ risen S w.words + 1) × Opened B w.words) → (last w.words ≡ risen S w.words) ⊎ ((last w.words ≡ risen S w.words + 1) × Opened B vs)
+            step : (committed_seq w.words ≡ durable_seq S w.words) ⊎ ((committed_seq w.words ≡ durable_seq S w.words + 1) × IsLastOpen B w.words) → (committed_seq w.words ≡ durable_seq S w.words) ⊎ ((committed_seq w.words ≡ durable_seq S w.words + 1) × IsLastOpen B vs)
             step (inl q) = inl q
             step (inr q) = inr (q.0, open_same q.1)
 
-            cells : {p q r : Type 0} → p ⊎ (Opened B w.words × q × r) → p ⊎ (Opened B vs × q × r)
+            cells : {p q r : Type 0} → p ⊎ (IsLastOpen B w.words × q × r) → p ⊎ (IsLastOpen B vs × q × r)
             cells (inl d) = inl d
             cells (inr d) = inr (open_same d.0, d.1, d.2)
 
             -- an owner whose durable request is its batch's stores no log
-            logs : (k : ℕ) → B.seq < k → k ≤ last w.words → (j : ℕ) → (batch B w.batches k).owner ≡ j → durable_request S w.words j ≡ word k 0 → (y : ℕ) → y < 2 * S.cells + 1 → log_word S vs j y ≡ log_word S w.words j y
-            logs k l u j o q y v = log_other j y v (λ e. let z : word k 0 < request_of w.words i = a.0.shut k l u (o ∙ e) in let r : durable_request S w.words i ≡ word k 0 = rw e at q in omega (arith, a.0.level))
+            logs : (k : ℕ) → B.seq < k → k ≤ committed_seq w.words → (j : ℕ) → (batch_at B w.batches k).owner ≡ j → durable_request S w.words j ≡ pack k 0 → (y : ℕ) → y < 2 * S.cells + 1 → log_word_of S vs j y ≡ log_word_of S w.words j y
+            logs k l u j o q y v = log_other j y v (λ e. let z : pack k 0 < request_of w.words i = a.0.shut k l u (o ∙ e) in let r : durable_request S w.words i ≡ pack k 0 = rw e data_word_after q in omega (arith, a.0.level))
 
-        stored : (y : ℕ) → y < x + 1 → (y ≡ x) ⊎ (y ≡ x → ⊥) → log_word S vs i y ≡ word (m.seq + 1) (get_or (log_words m.log) y 0)
+        stored : (y : ℕ) → y < x + 1 → (y ≡ x) ⊎ (y ≡ x → ⊥) → log_word_of S vs i y ≡ pack (m.seq + 1) (get_or (log_words m.log) y 0)
         stored y l (inl q) = rw q here
         stored y l (inr q) = log_row y (omega (arith, x_in)) q ∙ st.each y (omega arith)
 
     -- the machine stores its request
-    pub store_request_kept : At S B w.words w.batches i m StoreRequest → Goes S Lawful B i w (stepped_on S i m StoreRequest w)
+    pub store_request_kept : HoldsAtPlace S B w.words w.batches i m StoreRequest → KeepsGuarantee S Lawful B i w (after_counted_step S i m StoreRequest w)
     store_request_kept a =
         rw (append-nil w.batches)
-        (assemble S Lawful B w g i h vs w.batches (took_at S m (request_of w.words m.caller) StoreRequest) (moves_of S Lawful B i w.words vs w.batches touches g.shared)
+        (assemble S Lawful B w g i h vs w.batches (take_word_at S m (request_of w.words m.caller) StoreRequest) (moves_of S Lawful B i w.words vs w.batches touches g.shared)
         (shared_of S Lawful B i w.words vs w.batches touches g.shared data_cells durable (heard_of S Lawful B i w.words vs w.batches touches g.shared behind (λ j l. rw (log_same j 0) (g.shared.heard.counts j l))) (kinds_same S Lawful B i w.words vs w.batches touches g.shared (λ j l. request j l (cases_eq j i)) (λ j y l u. log_same j y))) (
           record {
             past = past_of S Lawful B i w.words vs w.batches touches g.shared behind m h st.past _ refl refl refl refl refl refl refl refl refl;
@@ -193,14 +193,14 @@ module _ (S : Setup) (Lawful : List ℕ → Type 0) (B : Start) where
             rest = λ y l u. rw (log_same i y) (st.rest y l u);
           },
           here,
-          λ k l u o. rw (dur_same (request_at i) (omega arith)) (let z = a.shut k l (rw current_same at u) o in omega (arith, z, a.level)),
+          λ k l u o. rw (dur_same (request_at i) (omega arith)) (let z = a.shut k l (rw current_same data_word_after u) o in omega (arith, z, a.level)),
         ))
       where
-        st : Stored S B w.words w.batches i m (length (log_words m.log)) (length (log_words m.log))
+        st : HasStoredLog S B w.words w.batches i m (length (log_words m.log)) (length (log_words m.log))
         st = a.stored
 
         new : ℕ
-        new = word (m.seq + 1) 0
+        new = pack (m.seq + 1) 0
 
         vs : List ℕ
         vs = set w.words (m.caller + 1) new
@@ -208,7 +208,7 @@ module _ (S : Setup) (Lawful : List ℕ → Type 0) (B : Start) where
         ci : m.caller ≡ i
         ci = st.past.looks.round.begun.caller
 
-        here : request_of vs i ≡ word (m.seq + 1) 0
+        here : request_of vs i ≡ pack (m.seq + 1) 0
         here = rw ci (get_or-set_same w.words (i + 1) new 0 (omega (arith, g.shared.room)))
 
         up_here : request_of w.words i < new
@@ -217,7 +217,7 @@ module _ (S : Setup) (Lawful : List ℕ → Type 0) (B : Start) where
         elsewhere : (c : ℕ) → (c ≡ i + 1 → ⊥) → get_or vs c 0 ≡ get_or w.words c 0
         elsewhere c q = rw ci (get_or-set_other w.words (i + 1) c new 0 q)
 
-        cell_same : (x : ℕ) → x < S.cells → cell S vs x ≡ cell S w.words x
+        cell_same : (x : ℕ) → x < S.cells → data_word S vs x ≡ data_word S w.words x
         cell_same x l = elsewhere (S.callers + 1 + x) (omega arith)
 
         current_same : current_word vs ≡ current_word w.words
@@ -226,13 +226,13 @@ module _ (S : Setup) (Lawful : List ℕ → Type 0) (B : Start) where
         req_same : (j : ℕ) → (j ≡ i → ⊥) → request_of vs j ≡ request_of w.words j
         req_same j q = elsewhere (j + 1) (omega arith)
 
-        log_same : (j x : ℕ) → log_word S vs j x ≡ log_word S w.words j x
+        log_same : (j x : ℕ) → log_word_of S vs j x ≡ log_word_of S w.words j x
         log_same j x = elsewhere (log_at S j x) (omega arith)
 
         behind : (j y : ℕ) → script_word S vs j y ≡ script_word S w.words j y
-        behind j y = elsewhere (script_at S j y) (omega arith)
+        behind j y = elsewhere (script_word_at S j y) (omega arith)
 
-        dur_same : (c : ℕ) → c < size S → durable_word S vs c ≡ durable_word S w.words c
+        dur_same : (c : ℕ) → c < cell_count S → durable_word S vs c ≡ durable_word S w.words c
         dur_same c l = elsewhere (durable_at S c) (omega arith)
 
         rises : (c : ℕ) → (c ≡ i + 1) ⊎ (c ≡ i + 1 → ⊥) → get_or w.words c 0 ≤ get_or vs c 0
@@ -255,34 +255,34 @@ module _ (S : Setup) (Lawful : List ℕ → Type 0) (B : Start) where
 
         request : (j : ℕ) → j < S.callers → (j ≡ i) ⊎ (j ≡ i → ⊥) → IsRequest B w.words w.batches j (request_of vs j)
         request j l (inr q) = request_same S Lawful B i w.words vs w.batches touches g.shared j l (req_same j q)
-        request j l (inl q) = λ a. inl (ap pay (ap (request_of vs) q ∙ here) ∙ pay_word (m.seq + 1) 0 (omega arith))
+        request j l (inl q) = λ a. inl (ap payload_of (ap (request_of vs) q ∙ here) ∙ pay_word (m.seq + 1) 0 (omega arith))
 
         -- the open transaction isn't this caller's
-        open_same : Opened B w.words → Opened B vs
-        open_same o = go (cases_eq (holder w.words) i)
+        open_same : IsLastOpen B w.words → IsLastOpen B vs
+        open_same o = go (cases_eq (committed_owner w.words) i)
           where
-            go : (holder w.words ≡ i) ⊎ (holder w.words ≡ i → ⊥) → Opened B vs
+            go : (committed_owner w.words ≡ i) ⊎ (committed_owner w.words ≡ i → ⊥) → IsLastOpen B vs
             go (inl q) =
-                let z : word (last w.words) 0 < request_of w.words i = a.shut (last w.words) o.any (omega arith) (sym (g.shared.counted.owner o.any) ∙ q) in
-                let r : request_of w.words i ≡ word (last w.words) 0 = rw q at o.asks in
+                let z : pack (committed_seq w.words) 0 < request_of w.words i = a.shut (committed_seq w.words) o.any (omega arith) (sym (g.shared.counted.owner o.any) ∙ q) in
+                let r : request_of w.words i ≡ pack (committed_seq w.words) 0 = rw q data_word_after o.asks in
                 absurd (omega arith)
-            go (inr q) = record { any = rw current_same o.any; asks = rw current_same (req_same (holder w.words) q ∙ o.asks) }
+            go (inr q) = record { any = rw current_same o.any; asks = rw current_same (req_same (committed_owner w.words) q ∙ o.asks) }
 
-        data_cells : DataCells S B vs w.batches
+        data_cells : DataCellsMatchState S B vs w.batches
         data_cells = record { each = λ x l. go x l (g.shared.data_cells.each x l) }
           where
-            go : (x : ℕ) → x < S.cells → (cell S w.words x ≡ at B w.batches (last w.words) x) ⊎ (Opened B w.words × (cell S w.words x ≡ at B w.batches (last w.words - 1) x))
-                → (cell S vs x ≡ at B w.batches (last vs) x) ⊎ (Opened B vs × (cell S vs x ≡ at B w.batches (last vs - 1) x))
+            go : (x : ℕ) → x < S.cells → (data_word S w.words x ≡ data_word_after B w.batches (committed_seq w.words) x) ⊎ (IsLastOpen B w.words × (data_word S w.words x ≡ data_word_after B w.batches (committed_seq w.words - 1) x))
+                → (data_word S vs x ≡ data_word_after B w.batches (committed_seq vs) x) ⊎ (IsLastOpen B vs × (data_word S vs x ≡ data_word_after B w.batches (committed_seq vs - 1) x))
             go x l (inl q) = inl (rw current_same (cell_same x l ∙ q))
             go x l (inr (o, q)) = inr (open_same o, rw current_same (cell_same x l ∙ q))
 
-        durable : Durable S B vs w.batches
+        durable : DurableWordsMatch S B vs w.batches
         durable = durable_of S Lawful B i w.words vs w.batches touches g.shared (λ y l. rw (cell_same y l) (g.shared.durable.fresh y l)) step (λ y l. cells (g.shared.durable.cells y l)) (λ k l u j o q x v. log_same j x)
           where
-            step : (last w.words ≡ risen S w.words) ⊎ ((last w.words ≡ risen S w.words + 1) × Opened B w.words) → (last w.words ≡ risen S w.words) ⊎ ((last w.words ≡ risen S w.words + 1) × Opened B vs)
+            step : (committed_seq w.words ≡ durable_seq S w.words) ⊎ ((committed_seq w.words ≡ durable_seq S w.words + 1) × IsLastOpen B w.words) → (committed_seq w.words ≡ durable_seq S w.words) ⊎ ((committed_seq w.words ≡ durable_seq S w.words + 1) × IsLastOpen B vs)
             step (inl q) = inl q
             step (inr q) = inr (q.0, open_same q.1)
 
-            cells : {p q r : Type 0} → p ⊎ (Opened B w.words × q × r) → p ⊎ (Opened B vs × q × r)
+            cells : {p q r : Type 0} → p ⊎ (IsLastOpen B w.words × q × r) → p ⊎ (IsLastOpen B vs × q × r)
             cells (inl d) = inl d
             cells (inr d) = inr (open_same d.0, d.1, d.2)

@@ -4,27 +4,27 @@ use Rattle.std.specs.List.{All}
 use Rattle.std.proofs.lemmas.Bool.{cases_eq, cases_lt}
 use Rattle.std.proofs.lemmas.Bool.Decides.{nat_tests}
 use Rattle.std.proofs.lemmas.List.{append_assoc, append-nil, length-append, get_or_append_left, get_or-append_right, get_or-set_same, get_or-set_other}
-use Rattle.of_cell.specs.Words.{seq, pay}
-use Rattle.of_mem.specs.Meaning.{Sound}
+use Rattle.of_cell.specs.Words.{seq_of, payload_of}
+use Rattle.of_mem.specs.Meaning.{IsSoundMeaning}
 use Rattle.of_core.specs.declared.machine.trying.TheConstants.{MOST_TRIES}
 use Rattle.of_core.specs.declared.place.Place.{Place}
 use Rattle.of_core.specs.declared.place.Place.TheVariants.{Idle, TryCurrent, TryRequest, LoadCurrent, LoadRequest}
 use Rattle.of_core.specs.declared.place.Outcome.{Outcome}
 use Rattle.of_core.specs.declared.place.Outcome.TheVariants.{Answered, Spent}
-use Rattle.of_core.specs.Table.{Setup, base, ticket_cell}
-use Rattle.of_core.specs.Machine.{Data, no_call, IsOpen, is_idle, no_machine, opened, first_place}
-use Rattle.of_core.specs.Steps.{want, took, finds, first_of, FoundBy}
-use Rattle.of_core.specs.World.{World, Start, Batch, added, stepped}
-use Rattle.of_core.specs.History.{ticket_in}
-use Rattle.of_core.specs.Order.{IsTrying}
-use Rattle.of_core.specs.Facts.{Step, Tells, ReadsFrom, loads, loads_at}
-use Rattle.of_core.specs.Shared.{Stands}
-use Rattle.of_core.specs.Rounds.{Trying}
-use Rattle.of_core.specs.Invariant.{At, Good, Rests, Told}
-use Rattle.of_core.specs.Seen.{ended_at}
-use Rattle.of_core.specs.Events.{Event, Begins, Turns, Loads, Evicts, Raises, happens, machine, run, MayHappen, IsSchedule}
+use Rattle.of_core.specs.Table.{Setup, first_operation_cell, ticket_cell}
+use Rattle.of_core.specs.Machine.{CallState, no_call, IsOpen, is_idle, no_machine, begin, first_place}
+use Rattle.of_core.specs.Steps.{want, take_word, word_found, first_round_seq, IsFoundBy}
+use Rattle.of_core.specs.World.{Moment, TableStart, Batch, step_batches, after_step}
+use Rattle.of_core.specs.History.{last_ticket_by}
+use Rattle.of_core.specs.Order.{HasBegunTry}
+use Rattle.of_core.specs.Facts.{IsStep, TellsOutcome, ReadsFrom, loads_current, loads_current_at}
+use Rattle.of_core.specs.Shared.{StatesFollowBatches}
+use Rattle.of_core.specs.Rounds.{IsInTry}
+use Rattle.of_core.specs.Invariant.{HoldsAtPlace, MeetsInvariant, IsAtRest, LastOutcomeStands}
+use Rattle.of_core.specs.Seen.{ended_outcome_at}
+use Rattle.of_core.specs.Events.{Event, Begins, Turns, Loads, Evicts, Raises, after_event, machine_in, after_events, MayHappen, IsSchedule}
 use Rattle.of_core.specs.Turn.{IsIdle}
-use Rattle.of_core.specs.Calls.{only, begun_by, ended_by, ended_in, operations, outcomes, no_outcome, Calls}
+use Rattle.of_core.specs.Calls.{if_so, operation_begun, outcome_of_event, outcome_of_step, operations_begun, outcomes, no_outcome, HasCalls}
 use Rattle.of_core.specs.Commits.{begins_at, announces_at, HasLost}
 use Rattle.of_core.proofs.States.{state_same}
 use Rattle.of_core.proofs.Tickets.{tickets_grow}
@@ -43,17 +43,17 @@ use Rattle.of_core.proofs.Parts.{goes_on, no_fewer}
 use Rattle.of_core.proofs.GivenUp.{given_up}
 use Rattle.of_core.proofs.Losing.{IsReadAnswer, Tries, Leaves, losing}
 
-module _ (S : Setup) (B : Start) (low i : ℕ) where
+module _ (S : Setup) (B : TableStart) (low i : ℕ) where
   -- the call has lost the most tries, and no batch up to then has run it
-  abbrev pub HasTried : List Batch → Data → Type 0
-  HasTried bs m = (low + MOST_TRIES ≤ B.seq + length bs) × (ticket_in S B bs (low + MOST_TRIES) i < m.made)
+  abbrev pub HasTried : List Batch → CallState → Type 0
+  HasTried bs m = (low + MOST_TRIES ≤ B.seq + length bs) × (last_ticket_by S B bs (low + MOST_TRIES) i < m.made)
 
   -- a read begins a try, or is in a try, or has tried
-  abbrev pub Stage : List Batch → Data → Type 0
-  Stage bs m = ((m.place ≡ TryCurrent) × (low + m.tries ≤ B.seq + length bs)) ⊎ ((IsTrying m m.place × (low + m.tries ≤ m.seq + 1)) ⊎ HasTried bs m)
+  abbrev pub Stage : List Batch → CallState → Type 0
+  Stage bs m = ((m.place ≡ TryCurrent) × (low + m.tries ≤ B.seq + length bs)) ⊎ ((HasBegunTry m m.place × (low + m.tries ≤ m.seq + 1)) ⊎ HasTried bs m)
 
   -- what a call that has begun since batch low has lost
-  pub record Lost (bs : List Batch) (m : Data) : Type 0 where
+  pub record Lost (bs : List Batch) (m : CallState) : Type 0 where
     pub from : low ≤ B.seq + length bs
     pub tries : low + m.tries ≤ B.seq + length bs + 1
     pub rounds : low + m.rounds ≤ B.seq + length bs + 1
@@ -62,11 +62,11 @@ module _ (S : Setup) (B : Start) (low i : ℕ) where
     -- and a try of it reads no older state
     pub reads_from : ReadsFrom low m
 
-  same_ticket : (bs cs : List Batch) (k : ℕ) → k ≤ B.seq + length bs → ticket_in S B (bs ++ cs) k i ≡ ticket_in S B bs k i
-  same_ticket bs cs k u = ap (λ (st : List ℕ). pay (get_or st (ticket_cell S i) 0)) (state_same B bs cs k u)
+  same_ticket : (bs cs : List Batch) (k : ℕ) → k ≤ B.seq + length bs → last_ticket_by S B (bs ++ cs) k i ≡ last_ticket_by S B bs k i
+  same_ticket bs cs k u = ap (λ (st : List ℕ). payload_of (get_or st (ticket_cell S i) 0)) (state_same B bs cs k u)
 
   -- it stays so when more is committed
-  pub lost_grows : (bs cs : List Batch) (m : Data) → Lost bs m → Lost (bs ++ cs) m
+  pub lost_grows : (bs cs : List Batch) (m : CallState) → Lost bs m → Lost (bs ++ cs) m
   lost_grows bs cs m l = record {
     from = omega (arith, l.from, length-append bs cs);
     tries = omega (arith, l.tries, length-append bs cs);
@@ -100,35 +100,35 @@ EndsLate S low op (Answered s false raw steps) = low ≤ s
 EndsLate S low op (Spent s) = S.meaning.reads_only op ≡ true → low + MOST_TRIES ≤ s
 
 -- The turn of the caller's own machine, with a call open.
-module _ (S : Setup) (Lawful : List ℕ → Type 0) (sound : Sound S.meaning Lawful (base S) S.cells) (B : Start) (w : World) (g : Good S Lawful B w) (j : ℕ) (h : j < S.callers) (n : ℕ) (found : FoundBy (want S (machine w j)) w.words n)
-    (live : IsOpen (machine w j).place) (low : ℕ) (start : B.seq ≤ low) (l : Lost S B low j w.batches (machine w j)) where
-  abbrev m : Data
-  m = machine w j
+module _ (S : Setup) (Lawful : List ℕ → Type 0) (sound : IsSoundMeaning S.meaning Lawful (first_operation_cell S) S.cells) (B : TableStart) (w : Moment) (g : MeetsInvariant S Lawful B w) (j : ℕ) (h : j < S.callers) (n : ℕ) (found : IsFoundBy (want S (machine_in w j)) w.words n)
+    (live : IsOpen (machine_in w j).place) (low : ℕ) (start : B.seq ≤ low) (l : Lost S B low j w.batches (machine_in w j)) where
+  abbrev m : CallState
+  m = machine_in w j
 
-  abbrev d : Data
-  d = took S m n
+  abbrev d : CallState
+  d = take_word S m n
 
-  abbrev v : World
-  v = stepped S j m n w
+  abbrev v : Moment
+  v = after_step S j m n w
 
-  here : At S B w.words w.batches j m m.place
+  here : HoldsAtPlace S B w.words w.batches j m m.place
   here = g.core.each j m h (own S Lawful B w g j h)
 
-  step : Step S B w m n d (added S w.words m n)
+  step : IsStep S B w m n d (step_batches S w.words m n)
   step = taken S Lawful sound B w g j h n found live
 
-  finds_last : loads_at m.place ≡ true → seq n ≡ B.seq + length w.batches
-  unfolding loads
+  finds_last : loads_current_at m.place ≡ true → seq_of n ≡ B.seq + length w.batches
+  unfolding loads_current
   finds_last e = (step.finds_last e).0
 
   leads : Leaves S B w j m n m.place d
-  unfolding took
+  unfolding take_word
   leads = losing S B w j m n m.place here
 
-  not_both : loads_at m.place ≡ false → loads_at m.place ≡ true → ⊥
+  not_both : loads_current_at m.place ≡ false → loads_current_at m.place ≡ true → ⊥
   not_both a b = let z : false ≡ true = sym a ∙ b in cc
 
-  trying : IsTrying m m.place → Trying S B w.words w.batches j m
+  trying : HasBegunTry m m.place → IsInTry S B w.words w.batches j m
   trying t = (tries_at S Lawful B w.words w.batches g.core.shared j m m.place here t).0
 
   lost_taken : IsOpen d.place → Lost S B low j w.batches d
@@ -138,46 +138,46 @@ module _ (S : Setup) (Lawful : List ℕ → Type 0) (sound : Sound S.meaning Law
       go (inl q) = record {
         from = l.from;
         tries = omega (arith, tries, below (l.stage reads));
-        rounds = omega (arith, l.rounds, ap (λ (x : Data). x.rounds) q.1);
-        first = λ u. omega (arith, l.first (omega (arith, u, ap (λ (x : Data). x.rounds) q.1)), ap (λ (x : Data). x.first) q.1);
-        stage = λ r. inr (inl (subst (IsTrying d) (sym (ap (λ (x : Data). x.place) q.1)) tt, omega (arith, tries, below (l.stage reads), ap (λ (x : Data). x.seq) q.1, finds_last (ap loads_at q.0))));
+        rounds = omega (arith, l.rounds, ap (λ (x : CallState). x.rounds) q.1);
+        first = λ u. omega (arith, l.first (omega (arith, u, ap (λ (x : CallState). x.rounds) q.1)), ap (λ (x : CallState). x.first) q.1);
+        stage = λ r. inr (inl (subst (HasBegunTry d) (sym (ap (λ (x : CallState). x.place) q.1)) tt, omega (arith, tries, below (l.stage reads), ap (λ (x : CallState). x.seq) q.1, finds_last (ap loads_current_at q.0))));
         reads_from = step.reads_from low l.from l.reads_from;
       }
         where
-          there : At S B w.words w.batches j m TryCurrent
-          there = subst (λ (p : Place). At S B w.words w.batches j m p) q.0 here
+          there : HoldsAtPlace S B w.words w.batches j m TryCurrent
+          there = subst (λ (p : Place). HoldsAtPlace S B w.words w.batches j m p) q.0 here
 
           reads : S.meaning.reads_only m.op ≡ true
           reads = there.2
 
           tries : d.tries ≡ m.tries + 1
-          tries = ap (λ (x : Data). x.tries) q.1
+          tries = ap (λ (x : CallState). x.tries) q.1
 
           below : Stage S B low j w.batches m → low + m.tries ≤ B.seq + length w.batches
           below (inl a) = a.1
-          below (inr (inl a)) = absurd (subst (IsTrying m) q.0 a.0)
+          below (inr (inl a)) = absurd (subst (HasBegunTry m) q.0 a.0)
           below (inr (inr a)) = omega (arith, a.0, there.3)
       go (inr (inl q)) = record {
         from = l.from;
-        tries = omega (arith, l.tries, ap (λ (x : Data). x.tries) q.1);
+        tries = omega (arith, l.tries, ap (λ (x : CallState). x.tries) q.1);
         rounds = rounds (cases_lt 0 m.rounds);
-        first = λ u. rw (ap (λ (x : Data). x.first) q.1) (first (m.rounds == 0) refl);
+        first = λ u. rw (ap (λ (x : CallState). x.first) q.1) (first (m.rounds == 0) refl);
         stage = λ r. stage (l.stage (ap S.meaning.reads_only (sym step.op) ∙ r));
         reads_from = step.reads_from low l.from l.reads_from;
       }
         where
-          there : At S B w.words w.batches j m LoadCurrent
-          there = subst (λ (p : Place). At S B w.words w.batches j m p) q.0 here
+          there : HoldsAtPlace S B w.words w.batches j m LoadCurrent
+          there = subst (λ (p : Place). HoldsAtPlace S B w.words w.batches j m p) q.0 here
 
           one_more : d.rounds ≡ m.rounds + 1
-          one_more = ap (λ (x : Data). x.rounds) q.1
+          one_more = ap (λ (x : CallState). x.rounds) q.1
 
           rounds : (0 < m.rounds) ⊎ (m.rounds ≤ 0) → low + d.rounds ≤ B.seq + length w.batches + 1
           rounds (inl a) = omega (arith, one_more, l.first a, there.2.later a, last_is S Lawful B w g)
           rounds (inr a) = omega (arith, one_more, a, l.from)
 
-          first : (b : Bool) → (m.rounds == 0) ≡ b → low ≤ first_of m (seq n) b
-          first true e = omega (arith, l.from, finds_last (ap loads_at q.0))
+          first : (b : Bool) → (m.rounds == 0) ≡ b → low ≤ first_round_seq m (seq_of n) b
+          first true e = omega (arith, l.from, finds_last (ap loads_current_at q.0))
           first false e = l.first (some e)
             where
               some : (m.rounds == 0) ≡ false → 1 ≤ m.rounds
@@ -189,7 +189,7 @@ module _ (S : Setup) (Lawful : List ℕ → Type 0) (sound : Sound S.meaning Law
 
           stage : Stage S B low j w.batches m → Stage S B low j w.batches d
           stage (inl a) = absurd (let z : TryCurrent ≡ LoadCurrent = sym a.0 ∙ q.0 in cc)
-          stage (inr (inl a)) = absurd (subst (IsTrying m) q.0 a.0)
+          stage (inr (inl a)) = absurd (subst (HasBegunTry m) q.0 a.0)
           stage (inr (inr a)) = inr (inr (a.0, omega (arith, a.1, step.made)))
       go (inr (inr q)) = record {
         from = l.from;
@@ -201,7 +201,7 @@ module _ (S : Setup) (Lawful : List ℕ → Type 0) (sound : Sound S.meaning Law
       }
         where
           stage : Stage S B low j w.batches m → Stage S B low j w.batches d
-          stage (inl a) = absurd (not_both q.loads (ap loads_at a.0))
+          stage (inl a) = absurd (not_both q.loads (ap loads_current_at a.0))
           stage (inr (inr a)) = inr (inr (a.0, omega (arith, a.1, step.made)))
           stage (inr (inl a)) = tried t.1
             where
@@ -226,7 +226,7 @@ module _ (S : Setup) (Lawful : List ℕ → Type 0) (sound : Sound S.meaning Law
                           arith,
                           (trying a.0).fresh.above,
                           step.made,
-                          ap (λ (k : ℕ). ticket_in S B w.batches k j) (last_is S Lawful B w g),
+                          ap (λ (k : ℕ). last_ticket_by S B w.batches k j) (last_is S Lawful B w g),
                           tickets_grow S Lawful B w.batches g.core.shared.stands (low + MOST_TRIES) (B.seq + length w.batches) j (omega (arith, start)) u (omega arith) h,
                         ),
                       ))
@@ -235,28 +235,28 @@ module _ (S : Setup) (Lawful : List ℕ → Type 0) (sound : Sound S.meaning Law
   is_late : d.place ≡ Idle → (o : Outcome) → d.answer ≡ Some o → S.meaning.reads_only m.op ≡ true → IsLate low o
   is_late rest o told reads = go leads
     where
-      good_v : Good S Lawful B v
+      good_v : MeetsInvariant S Lawful B v
       good_v = step_kept S Lawful sound B w g j m h (own S Lawful B w g j h) n found
 
-      rests : Rests S B v.words v.batches j d
-      rests = subst (λ (p : Place). At S B v.words v.batches j d p) rest (good_v.core.each j d h (get_or-set_same w.machines j d d (omega (arith, g.core.members, h))))
+      rests : IsAtRest S B v.words v.batches j d
+      rests = subst (λ (p : Place). HoldsAtPlace S B v.words v.batches j d p) rest (good_v.core.each j d h (get_or-set_same w.machines j d d (omega (arith, g.core.members, h))))
 
-      tells : Told S B v.words v.batches j d (Some o)
-      tells = subst (Told S B v.words v.batches j d) told rests.told
+      tells : LastOutcomeStands S B v.words v.batches j d (Some o)
+      tells = subst (LastOutcomeStands S B v.words v.batches j d) told rests.told
 
-      by_outcome : HasTried S B low j w.batches m → (x : Outcome) → Told S B v.words v.batches j d (Some x) → IsLate low x
+      by_outcome : HasTried S B low j w.batches m → (x : Outcome) → LastOutcomeStands S B v.words v.batches j d (Some x) → IsLate low x
       by_outcome a (Answered s false raw steps) t = tt
       by_outcome a (Spent s) t = omega (arith, a.0, t.1, few S Lawful B w g)
       by_outcome a (Answered s true raw steps) t = at (cases_lt (low + MOST_TRIES) s)
         where
-          stands : Stands S Lawful B v.batches
+          stands : StatesFollowBatches S Lawful B v.batches
           stands = good_v.core.shared.stands
 
           upto : s ≤ B.seq + length v.batches
           upto = omega (arith, t.2, last_is S Lawful B v good_v)
 
-          ticket : ticket_in S B v.batches s j ≡ d.made
-          ticket = ap (ticket_in S B v.batches s) (sym t.3.caller) ∙ (stands.now s t.0 upto t.3.place no_call t.3.among).1 ∙ t.3.ticket
+          ticket : last_ticket_by S B v.batches s j ≡ d.made
+          ticket = ap (last_ticket_by S B v.batches s) (sym t.3.caller) ∙ (stands.now s t.0 upto t.3.place no_call t.3.among).1 ∙ t.3.ticket
 
           at : (low + MOST_TRIES < s) ⊎ (s ≤ low + MOST_TRIES) → low + MOST_TRIES < s
           at (inl c) = c
@@ -265,58 +265,58 @@ module _ (S : Setup) (Lawful : List ℕ → Type 0) (sound : Sound S.meaning Law
             ticket,
             step.made,
             a.1,
-            same_ticket S B low j w.batches (added S w.words m n) (low + MOST_TRIES) a.0,
-            tickets_grow S Lawful B v.batches stands s (low + MOST_TRIES) j (omega (arith, t.0)) c (omega (arith, a.0, length-append w.batches (added S w.words m n))) h,
+            same_ticket S B low j w.batches (step_batches S w.words m n) (low + MOST_TRIES) a.0,
+            tickets_grow S Lawful B v.batches stands s (low + MOST_TRIES) j (omega (arith, t.0)) c (omega (arith, a.0, length-append w.batches (step_batches S w.words m n))) h,
           ))
 
       go : Leaves S B w j m n m.place d → IsLate low o
-      go (inl q) = absurd (let z : TryRequest ≡ Idle = sym (ap (λ (x : Data). x.place) q.1) ∙ rest in cc)
-      go (inr (inl q)) = absurd (let z : LoadRequest ≡ Idle = sym (ap (λ (x : Data). x.place) q.1) ∙ rest in cc)
+      go (inl q) = absurd (let z : TryRequest ≡ Idle = sym (ap (λ (x : CallState). x.place) q.1) ∙ rest in cc)
+      go (inr (inl q)) = absurd (let z : LoadRequest ≡ Idle = sym (ap (λ (x : CallState). x.place) q.1) ∙ rest in cc)
       go (inr (inr q)) = stage (l.stage reads)
         where
           stage : Stage S B low j w.batches m → IsLate low o
-          stage (inl a) = absurd (not_both q.loads (ap loads_at a.0))
+          stage (inl a) = absurd (not_both q.loads (ap loads_current_at a.0))
           stage (inr (inr a)) = by_outcome a o tells
           stage (inr (inl a)) = tried (q.tried (trying a.0).fresh.rounds a.0).1
             where
               tried : Tries S B w j m n d → IsLate low o
               tried (inl c) = late_if_read low o (subst IsReadAnswer told c.0)
-              tried (inr (inl c)) = absurd (subst (IsTrying d) rest c.0)
+              tried (inr (inl c)) = absurd (subst (HasBegunTry d) rest c.0)
               tried (inr (inr c)) = absurd (let z : false ≡ true = sym (ap begins_at rest) ∙ c.0 in cc)
 
-  ends_late : d.place ≡ Idle → (o : Outcome) → d.answer ≡ Some o → Tells S m d o → EndsLate S low m.op o
+  ends_late : d.place ≡ Idle → (o : Outcome) → d.answer ≡ Some o → TellsOutcome S m d o → EndsLate S low m.op o
   ends_late rest (Answered s true raw steps) told t = is_late rest (Answered s true raw steps) told
   ends_late rest (Answered s false raw steps) told t = t.3 low l.reads_from
   ends_late rest (Spent s) told t = is_late rest (Spent s) told
 
 -- Events. The caller j is idle, or its open call has lost no more than this.
-module _ (S : Setup) (Lawful : List ℕ → Type 0) (sound : Sound S.meaning Lawful (base S) S.cells) (B : Start) (j : ℕ) (member : j < S.callers) (low : ℕ) (start : B.seq ≤ low) where
-  abbrev pub LostAt : World → Type 0
-  LostAt w = IsOpen (machine w j).place → Lost S B low j w.batches (machine w j)
+module _ (S : Setup) (Lawful : List ℕ → Type 0) (sound : IsSoundMeaning S.meaning Lawful (first_operation_cell S) S.cells) (B : TableStart) (j : ℕ) (member : j < S.callers) (low : ℕ) (start : B.seq ≤ low) where
+  abbrev pub LostAt : Moment → Type 0
+  LostAt w = IsOpen (machine_in w j).place → Lost S B low j w.batches (machine_in w j)
 
   -- an event leads from one world to the other, begins these calls of the caller and ends these
-  record Leads (w v : World) (more : List (List ℕ)) (os : List Outcome) : Type 0 where
+  record Leads (w v : Moment) (more : List (List ℕ)) (os : List Outcome) : Type 0 where
     pub few : length os ≤ 1
-    pub open_before : 0 < length os → IsOpen (machine w j).place
+    pub open_before : 0 < length os → IsOpen (machine_in w j).place
     pub keeps : LostAt w → LostAt v
     pub begins : 0 < length more → LostAt v
-    pub late : LostAt w → All (EndsLate S low (machine w j).op) os
+    pub late : LostAt w → All (EndsLate S low (machine_in w j).op) os
 
   none_late : (op : List ℕ) → All (EndsLate S low op) []
   none_late op k d l = absurd (omega arith)
 
   -- the caller's machine stays
-  quiet : (w v : World) → machine v j ≡ machine w j → (more : List Batch) → v.batches ≡ w.batches ++ more → Leads w v [] []
+  quiet : (w v : Moment) → machine_in v j ≡ machine_in w j → (more : List Batch) → v.batches ≡ w.batches ++ more → Leads w v [] []
   quiet w v e more f = record {
     few = omega arith;
     open_before = λ u. absurd (omega arith);
-    keeps = λ l o. rw (e, f) (lost_grows S B low j w.batches more (machine w j) (l (subst (λ (x : Data). IsOpen x.place) e o)));
+    keeps = λ l o. rw (e, f) (lost_grows S B low j w.batches more (machine_in w j) (l (subst (λ (x : CallState). IsOpen x.place) e o)));
     begins = λ u. absurd (omega arith);
-    late = λ l. none_late (machine w j).op;
+    late = λ l. none_late (machine_in w j).op;
   }
 
   -- a call that begins has lost nothing
-  fresh : (bs : List Batch) (m : Data) (op : List ℕ) → low ≤ B.seq + length bs → Lost S B low j bs (opened S m op)
+  fresh : (bs : List Batch) (m : CallState) (op : List ℕ) → low ≤ B.seq + length bs → Lost S B low j bs (begin S m op)
   fresh bs m op l = record {
     from = l;
     tries = omega (arith, l);
@@ -327,177 +327,177 @@ module _ (S : Setup) (Lawful : List ℕ → Type 0) (sound : Sound S.meaning Law
   }
 
   -- a turn of the caller
-  turn : (w : World) → Good S Lawful B w → (n : ℕ) → FoundBy (want S (machine w j)) w.words n
-      → Leads w (stepped S j (machine w j) n w) [] (ended_in (machine w j) (took S (machine w j) n))
+  turn : (w : Moment) → MeetsInvariant S Lawful B w → (n : ℕ) → IsFoundBy (want S (machine_in w j)) w.words n
+      → Leads w (after_step S j (machine_in w j) n w) [] (outcome_of_step (machine_in w j) (take_word S (machine_in w j) n))
   turn w g n found = go (idle_or_open m.place)
     where
-      m : Data
-      m = machine w j
+      m : CallState
+      m = machine_in w j
 
-      d : Data
-      d = took S m n
+      d : CallState
+      d = take_word S m n
 
-      v : World
-      v = stepped S j m n w
+      v : Moment
+      v = after_step S j m n w
 
-      is_d : machine v j ≡ d
+      is_d : machine_in v j ≡ d
       is_d = now S Lawful sound B w g j member n found
 
-      go : (m.place ≡ Idle) ⊎ IsOpen m.place → Leads w v [] (ended_in m d)
-      go (inl q) = subst (Leads w v []) (sym (says_idle S Lawful sound B w g j member n found q)) (quiet w v (is_d ∙ same_idle S Lawful sound B w g j member n found q) (added S w.words m n) refl)
+      go : (m.place ≡ Idle) ⊎ IsOpen m.place → Leads w v [] (outcome_of_step m d)
+      go (inl q) = subst (Leads w v []) (sym (says_idle S Lawful sound B w g j member n found q)) (quiet w v (is_d ∙ same_idle S Lawful sound B w g j member n found q) (step_batches S w.words m n) refl)
       go (inr live) = end (is_idle d.place) refl
         where
-          end : (b : Bool) → is_idle d.place ≡ b → Leads w v [] (ended_in m d)
+          end : (b : Bool) → is_idle d.place ≡ b → Leads w v [] (outcome_of_step m d)
           end false e = subst (Leads w v []) (sym (says_ended S Lawful sound B w g j member n found live None (none_ended d d.place e))) (record {
             few = omega arith;
             open_before = λ u. live;
-            keeps = λ l o. subst (Lost S B low j v.batches) (sym is_d) (lost_grows S B low j w.batches (added S w.words m n) d (lost_taken S Lawful sound B w g j member n found live low start (l live) e));
+            keeps = λ l o. subst (Lost S B low j v.batches) (sym is_d) (lost_grows S B low j w.batches (step_batches S w.words m n) d (lost_taken S Lawful sound B w g j member n found live low start (l live) e));
             begins = λ u. absurd (omega arith);
             late = λ l. none_late m.op;
           })
           end true e =
               let rest = idle_is d.place e in
               let t = (taken S Lawful sound B w g j member n found live).ends rest in
-              subst (Leads w v []) (sym (says_ended S Lawful sound B w g j member n found live (Some t.0) (ap (λ (p : Place). ended_at p d) rest ∙ t.1))) (record {
+              subst (Leads w v []) (sym (says_ended S Lawful sound B w g j member n found live (Some t.0) (ap (λ (p : Place). ended_outcome_at p d) rest ∙ t.1))) (record {
                 few = omega arith;
                 open_before = λ u. live;
-                keeps = λ l o. absurd (let z : true ≡ false = sym e ∙ ap (λ (x : Data). is_idle x.place) (sym is_d) ∙ o in cc);
+                keeps = λ l o. absurd (let z : true ≡ false = sym e ∙ ap (λ (x : CallState). is_idle x.place) (sym is_d) ∙ o in cc);
                 begins = λ u. absurd (omega arith);
                 late = λ l. all_one (EndsLate S low m.op) t.0 (ends_late S Lawful sound B w g j member n found live low start (l live) rest t.0 t.1 t.2);
               })
 
-  leads_on : (w : World) → Good S Lawful B w → low ≤ B.seq + length w.batches → (e : Event) → MayHappen S w e → Leads w (happens S w e) (begun_by e j) (ended_by S w e j)
-  leads_on w g u (Loads c) may = quiet w (happens S w (Loads c)) refl [] (sym (append-nil w.batches))
-  leads_on w g u (Evicts k) may = quiet w (happens S w (Evicts k)) refl [] (sym (append-nil w.batches))
-  leads_on w g u (Raises c) may = quiet w (happens S w (Raises c)) refl [] (sym (append-nil w.batches))
+  leads_on : (w : Moment) → MeetsInvariant S Lawful B w → low ≤ B.seq + length w.batches → (e : Event) → MayHappen S w e → Leads w (after_event S w e) (operation_begun e j) (outcome_of_event S w e j)
+  leads_on w g u (Loads c) may = quiet w (after_event S w (Loads c)) refl [] (sym (append-nil w.batches))
+  leads_on w g u (Evicts k) may = quiet w (after_event S w (Evicts k)) refl [] (sym (append-nil w.batches))
+  leads_on w g u (Raises c) may = quiet w (after_event S w (Raises c)) refl [] (sym (append-nil w.batches))
   leads_on w g u (Begins i op) may = go (cases_eq i j)
     where
-      v : World
-      v = happens S w (Begins i op)
+      v : Moment
+      v = after_event S w (Begins i op)
 
-      go : (i ≡ j) ⊎ (i ≡ j → ⊥) → Leads w v (only (j == i) (op ∷ [])) []
+      go : (i ≡ j) ⊎ (i ≡ j → ⊥) → Leads w v (if_so (j == i) (op ∷ [])) []
       go (inr away) =
-          subst (λ (b : Bool). Leads w v (only b (op ∷ [])) []) (sym (other_number j i away))
-          (quiet w v (get_or-set_other w.machines i j (opened S (machine w i) op) no_machine (λ e. away (sym e))) [] (sym (append-nil w.batches)))
+          subst (λ (b : Bool). Leads w v (if_so b (op ∷ [])) []) (sym (other_number j i away))
+          (quiet w v (get_or-set_other w.machines i j (begin S (machine_in w i) op) no_machine (λ e. away (sym e))) [] (sym (append-nil w.batches)))
       go (inl same) =
-          let here : machine v j ≡ opened S (machine w i) op = ap (λ (x : ℕ). machine v x) (sym same) ∙ get_or-set_same w.machines i (opened S (machine w i) op) no_machine (omega (arith, g.core.members, may.0)) in
-          let none : LostAt v = λ o. subst (Lost S B low j w.batches) (sym here) (fresh w.batches (machine w i) op u) in
+          let here : machine_in v j ≡ begin S (machine_in w i) op = ap (λ (x : ℕ). machine_in v x) (sym same) ∙ get_or-set_same w.machines i (begin S (machine_in w i) op) no_machine (omega (arith, g.core.members, may.0)) in
+          let none : LostAt v = λ o. subst (Lost S B low j w.batches) (sym here) (fresh w.batches (machine_in w i) op u) in
           record {
             few = omega arith;
             open_before = λ z. absurd (omega arith);
             keeps = λ l. none;
             begins = λ z. none;
-            late = λ l. none_late (machine w j).op;
+            late = λ l. none_late (machine_in w j).op;
           }
   leads_on w g u (Turns i) may = go (cases_eq i j)
     where
-      v : World
-      v = happens S w (Turns i)
+      v : Moment
+      v = after_event S w (Turns i)
 
       n : ℕ
-      n = finds S w.words (machine w i)
+      n = word_found S w.words (machine_in w i)
 
-      go : (i ≡ j) ⊎ (i ≡ j → ⊥) → Leads w v [] (only (j == i) (ended_in (machine w i) (machine v i)))
+      go : (i ≡ j) ⊎ (i ≡ j → ⊥) → Leads w v [] (if_so (j == i) (outcome_of_step (machine_in w i) (machine_in v i)))
       go (inr away) =
-          subst (λ (b : Bool). Leads w v [] (only b (ended_in (machine w i) (machine v i)))) (sym (other_number j i away))
-          (quiet w v (not_now S Lawful sound B w g i may n (found_now S w.words (machine w i)) j away) (added S w.words (machine w i) n) refl)
+          subst (λ (b : Bool). Leads w v [] (if_so b (outcome_of_step (machine_in w i) (machine_in v i)))) (sym (other_number j i away))
+          (quiet w v (not_now S Lawful sound B w g i may n (found_now S w.words (machine_in w i)) j away) (step_batches S w.words (machine_in w i) n) refl)
       go (inl same) =
-          let f : FoundBy (want S (machine w j)) w.words (finds S w.words (machine w j)) = found_now S w.words (machine w j) in
-          let at_j : Leads w (happens S w (Turns j)) [] (only (j == j) (ended_in (machine w j) (machine (happens S w (Turns j)) j))) =
-          subst (λ (b : Bool). Leads w (happens S w (Turns j)) [] (only b (ended_in (machine w j) (machine (happens S w (Turns j)) j)))) (sym (same_number j))
-          (subst (λ (x : Data). Leads w (happens S w (Turns j)) [] (ended_in (machine w j) x)) (sym (now S Lawful sound B w g j member (finds S w.words (machine w j)) f)) (turn w g (finds S w.words (machine w j)) f)) in
-          subst (λ (x : ℕ). Leads w (happens S w (Turns x)) [] (only (j == x) (ended_in (machine w x) (machine (happens S w (Turns x)) x)))) (sym same) at_j
+          let f : IsFoundBy (want S (machine_in w j)) w.words (word_found S w.words (machine_in w j)) = found_now S w.words (machine_in w j) in
+          let at_j : Leads w (after_event S w (Turns j)) [] (if_so (j == j) (outcome_of_step (machine_in w j) (machine_in (after_event S w (Turns j)) j))) =
+          subst (λ (b : Bool). Leads w (after_event S w (Turns j)) [] (if_so b (outcome_of_step (machine_in w j) (machine_in (after_event S w (Turns j)) j)))) (sym (same_number j))
+          (subst (λ (x : CallState). Leads w (after_event S w (Turns j)) [] (outcome_of_step (machine_in w j) x)) (sym (now S Lawful sound B w g j member (word_found S w.words (machine_in w j)) f)) (turn w g (word_found S w.words (machine_in w j)) f)) in
+          subst (λ (x : ℕ). Leads w (after_event S w (Turns x)) [] (if_so (j == x) (outcome_of_step (machine_in w x) (machine_in (after_event S w (Turns x)) x)))) (sym same) at_j
 
-  later : (w : World) (e : Event) → low ≤ B.seq + length w.batches → low ≤ B.seq + length (happens S w e).batches
-  later w e l = omega (arith, l, (no_fewer w (happens S w e) (goes_on S w (e ∷ []))).0)
+  later : (w : Moment) (e : Event) → low ≤ B.seq + length w.batches → low ≤ B.seq + length (after_event S w e).batches
+  later w e l = omega (arith, l, (no_fewer w (after_event S w e) (goes_on S w (e ∷ []))).0)
 
   -- so it is at the end of each schedule
-  lost_run : (es : List Event) (w : World) → Good S Lawful B w → IsSchedule S w es → low ≤ B.seq + length w.batches → LostAt w → LostAt (run S w es)
+  lost_run : (es : List Event) (w : Moment) → MeetsInvariant S Lawful B w → IsSchedule S w es → low ≤ B.seq + length w.batches → LostAt w → LostAt (after_events S w es)
   lost_run [] w g s u l = l
-  lost_run (e ∷ es) w g s u l = lost_run es (happens S w e) (event_good S Lawful B w g sound e s.0) s.1 (later w e u) ((leads_on w g u e s.0).keeps l)
+  lost_run (e ∷ es) w g s u l = lost_run es (after_event S w e) (event_good S Lawful B w g sound e s.0) s.1 (later w e u) ((leads_on w g u e s.0).keeps l)
 
   -- and each call from the n-th on ends late, if the n-th has lost no more
-  pub ends_late_run : (es : List Event) (w : World) → Good S Lawful B w → IsSchedule S w es → low ≤ B.seq + length w.batches
-      → (before : ℕ) (ops : List (List ℕ)) (outs : List Outcome) → Calls S B before w j ops outs
+  pub ends_late_run : (es : List Event) (w : Moment) → MeetsInvariant S Lawful B w → IsSchedule S w es → low ≤ B.seq + length w.batches
+      → (before : ℕ) (ops : List (List ℕ)) (outs : List Outcome) → HasCalls S B before w j ops outs
       → (n : ℕ) → (n < length ops → LostAt w)
-      → (y : ℕ) → n ≤ length outs + y → y < length (outcomes S w es j) → EndsLate S low (get_or (ops ++ operations es j) (length outs + y) []) (get_or (outcomes S w es j) y no_outcome)
+      → (y : ℕ) → n ≤ length outs + y → y < length (outcomes S w es j) → EndsLate S low (get_or (ops ++ operations_begun es j) (length outs + y) []) (get_or (outcomes S w es j) y no_outcome)
   ends_late_run [] w g s u before ops outs c n l y a b = absurd (omega (arith, b))
   ends_late_run (e ∷ es) w g s u before ops outs c n l y a b = go (cases_lt y (length now_ended))
-      (λ p q. ends_late_run es (happens S w e) (event_good S Lawful B w g sound e s.0) s.1 (later w e u) before (ops ++ begun_by e j) (outs ++ now_ended) next n lost_next (y - length now_ended) p q)
+      (λ p q. ends_late_run es (after_event S w e) (event_good S Lawful B w g sound e s.0) s.1 (later w e u) before (ops ++ operation_begun e j) (outs ++ now_ended) next n lost_next (y - length now_ended) p q)
     where
       now_ended : List Outcome
-      now_ended = ended_by S w e j
+      now_ended = outcome_of_event S w e j
 
       rest : List Outcome
-      rest = outcomes S (happens S w e) es j
+      rest = outcomes S (after_event S w e) es j
 
-      led : Leads w (happens S w e) (begun_by e j) now_ended
+      led : Leads w (after_event S w e) (operation_begun e j) now_ended
       led = leads_on w g u e s.0
 
-      next : Calls S B before (happens S w e) j (ops ++ begun_by e j) (outs ++ now_ended)
+      next : HasCalls S B before (after_event S w e) j (ops ++ operation_begun e j) (outs ++ now_ended)
       next = calls_kept S Lawful sound B w g before j member ops outs c e s.0
 
-      lost_next : n < length (ops ++ begun_by e j) → LostAt (happens S w e)
+      lost_next : n < length (ops ++ operation_begun e j) → LostAt (after_event S w e)
       lost_next m = at (cases_lt n (length ops))
         where
-          at : (n < length ops) ⊎ (length ops ≤ n) → LostAt (happens S w e)
+          at : (n < length ops) ⊎ (length ops ≤ n) → LostAt (after_event S w e)
           at (inl k) = led.keeps (l k)
-          at (inr k) = led.begins (omega (arith, m, k, length-append ops (begun_by e j)))
+          at (inr k) = led.begins (omega (arith, m, k, length-append ops (operation_begun e j)))
 
       all_ops : List (List ℕ)
-      all_ops = ops ++ (begun_by e j ++ operations es j)
+      all_ops = ops ++ (operation_begun e j ++ operations_begun es j)
 
       -- the operation of call y, and how it ends
       Ends : Outcome → Type 0
       Ends o = EndsLate S low (get_or all_ops (length outs + y) []) o
 
       go : (y < length now_ended) ⊎ (length now_ended ≤ y)
-          → (n ≤ length (outs ++ now_ended) + (y - length now_ended) → y - length now_ended < length rest → EndsLate S low (get_or ((ops ++ begun_by e j) ++ operations es j) (length (outs ++ now_ended) + (y - length now_ended)) []) (get_or rest (y - length now_ended) no_outcome))
+          → (n ≤ length (outs ++ now_ended) + (y - length now_ended) → y - length now_ended < length rest → EndsLate S low (get_or ((ops ++ operation_begun e j) ++ operations_begun es j) (length (outs ++ now_ended) + (y - length now_ended)) []) (get_or rest (y - length now_ended) no_outcome))
           → Ends (get_or (now_ended ++ rest) y no_outcome)
       go (inl m) f =
           let o = c.open_call (led.open_before (omega (arith, m))) in
           let this : length outs ≡ length outs + y = omega (arith, m, led.few) in
-          let op : (machine w j).op ≡ get_or all_ops (length outs + y) [] =
-          o.1 ∙ sym (get_or_append_left ops (begun_by e j ++ operations es j) [] (length outs) (omega (arith, o.0))) ∙ ap (λ (x : ℕ). get_or all_ops x []) this in
+          let op : (machine_in w j).op ≡ get_or all_ops (length outs + y) [] =
+          o.1 ∙ sym (get_or_append_left ops (operation_begun e j ++ operations_begun es j) [] (length outs) (omega (arith, o.0))) ∙ ap (λ (x : ℕ). get_or all_ops x []) this in
           subst Ends (sym (get_or_append_left now_ended rest no_outcome y m))
           (subst (λ (p : List ℕ). EndsLate S low p (get_or now_ended y no_outcome)) op (led.late (l (omega (arith, o.0, a, m, led.few))) y no_outcome m))
       go (inr m) f =
           let t = length-append now_ended rest in
           let k : length (outs ++ now_ended) + (y - length now_ended) ≡ length outs + y = omega (arith, m, length-append outs now_ended) in
-          let op : get_or ((ops ++ begun_by e j) ++ operations es j) (length (outs ++ now_ended) + (y - length now_ended)) [] ≡ get_or all_ops (length outs + y) [] =
-          ap (λ (xs : List (List ℕ)). get_or xs (length (outs ++ now_ended) + (y - length now_ended)) []) (append_assoc ops (begun_by e j) (operations es j)) ∙ ap (λ (x : ℕ). get_or all_ops x []) k in
+          let op : get_or ((ops ++ operation_begun e j) ++ operations_begun es j) (length (outs ++ now_ended) + (y - length now_ended)) [] ≡ get_or all_ops (length outs + y) [] =
+          ap (λ (xs : List (List ℕ)). get_or xs (length (outs ++ now_ended) + (y - length now_ended)) []) (append_assoc ops (operation_begun e j) (operations_begun es j)) ∙ ap (λ (x : ℕ). get_or all_ops x []) k in
           subst Ends (sym (get_or-append_right now_ended rest (length now_ended) y no_outcome refl m))
           (subst (λ (p : List ℕ). EndsLate S low p (get_or rest (y - length now_ended) no_outcome)) op (f (omega (arith, a, m, length-append outs now_ended)) (omega (arith, b, m, t))))
 
 -- What an open call has lost since a moment at which its caller was idle.
-pub has_lost : (S : Setup) (Lawful : List ℕ → Type 0) → Sound S.meaning Lawful (base S) S.cells → (B : Start) (w : World) → Good S Lawful B w → (es : List Event) → IsSchedule S w es
-    → (i : ℕ) → i < S.callers → IsIdle (machine w i) → IsOpen (machine (run S w es) i).place
-    → HasLost S (machine (run S w es) i) (B.seq + length (run S w es).batches - (B.seq + length w.batches))
+pub has_lost : (S : Setup) (Lawful : List ℕ → Type 0) → IsSoundMeaning S.meaning Lawful (first_operation_cell S) S.cells → (B : TableStart) (w : Moment) → MeetsInvariant S Lawful B w → (es : List Event) → IsSchedule S w es
+    → (i : ℕ) → i < S.callers → IsIdle (machine_in w i) → IsOpen (machine_in (after_events S w es) i).place
+    → HasLost S (machine_in (after_events S w es) i) (B.seq + length (after_events S w es).batches - (B.seq + length w.batches))
 has_lost S Lawful sound B w g es s i member rest live = record {
   tries = omega (arith, l.tries);
   rounds = omega (arith, l.rounds);
   tried = λ r u. tried u (l.stage r);
 }
   where
-    v : World
-    v = run S w es
+    v : Moment
+    v = after_events S w es
 
-    m : Data
-    m = machine v i
+    m : CallState
+    m = machine_in v i
 
     low : ℕ
     low = B.seq + length w.batches
 
-    good : Good S Lawful B v
+    good : MeetsInvariant S Lawful B v
     good = run_good S Lawful sound B es w g s
 
-    here : At S B v.words v.batches i m m.place
+    here : HoldsAtPlace S B v.words v.batches i m m.place
     here = good.core.each i m member (own S Lawful B v good i member)
 
     l : Lost S B low i v.batches m
     l = lost_run S Lawful sound B i member low (omega arith) es w g s (omega arith) (λ o. absurd (let z : true ≡ false = sym (ap is_idle rest) ∙ o in cc)) live
 
     tried : 1 ≤ m.rounds → Stage S B low i v.batches m → MOST_TRIES ≤ B.seq + length v.batches - low
-    tried u (inl a) = absurd (omega (arith, u, (subst (λ (p : Place). At S B v.words v.batches i m p) a.0 here).0.rounds))
+    tried u (inl a) = absurd (omega (arith, u, (subst (λ (p : Place). HoldsAtPlace S B v.words v.batches i m p) a.0 here).0.rounds))
     tried u (inr (inl a)) = absurd (omega (arith, u, (tries_at S Lawful B v.words v.batches good.core.shared i m m.place here a.0).0.fresh.rounds))
     tried u (inr (inr a)) = omega (arith, a.0)

@@ -2,24 +2,24 @@
 use Rattle.std.proofs.Common.{ℕ, ◌+◌, ◌*◌, ◌<◌, ◌≤◌, List, [], ◌∷◌}
 use Rattle.of_mem.specs.declared.work.TheConstants.{MOST_INSTRS}
 use Rattle.of_cell.specs.declared.word.TheConstants.{PAYLOADS}
-use Rattle.of_mem.specs.Meaning.{Sound}
-use Rattle.of_core.specs.Table.{Setup, base, size}
-use Rattle.of_core.specs.World.{World, Start}
+use Rattle.of_mem.specs.Meaning.{IsSoundMeaning}
+use Rattle.of_core.specs.Table.{Setup, first_operation_cell, cell_count}
+use Rattle.of_core.specs.World.{Moment, TableStart}
 use Rattle.of_core.specs.Shared.{MayStart}
-use Rattle.of_core.specs.Invariant.{Good}
-use Rattle.of_core.specs.Events.{Event, happens, run, IsSchedule, opening}
+use Rattle.of_core.specs.Invariant.{MeetsInvariant}
+use Rattle.of_core.specs.Events.{Event, after_event, after_events, IsSchedule, opening_moment}
 use Rattle.of_core.specs.Claim.{IsSound}
 use Rattle.of_core.proofs.Claims.{is_sound}
 use Rattle.of_core.proofs.Happenings.{event_good}
 use Rattle.of_core.proofs.Openings.{start_good}
 
-module _ (S : Setup) (Lawful : List ℕ → Type 0) (sound : Sound S.meaning Lawful (base S) S.cells) (B : Start) where
-  pub run_good : (es : List Event) (w : World) → Good S Lawful B w → IsSchedule S w es → Good S Lawful B (run S w es)
+module _ (S : Setup) (Lawful : List ℕ → Type 0) (sound : IsSoundMeaning S.meaning Lawful (first_operation_cell S) S.cells) (B : TableStart) where
+  pub run_good : (es : List Event) (w : Moment) → MeetsInvariant S Lawful B w → IsSchedule S w es → MeetsInvariant S Lawful B (after_events S w es)
   run_good [] w g s = g
-  run_good (e ∷ es) w g s = run_good es (happens S w e) (event_good S Lawful B w g sound e s.0) s.1
+  run_good (e ∷ es) w g s = run_good es (after_event S w e) (event_good S Lawful B w g sound e s.0) s.1
 
-  pub every_moment : MayStart S Lawful B → 0 < S.callers → S.callers < PAYLOADS → base S ≤ S.cells → (total : ℕ) → size S + size S + S.callers * (S.instrs + 1) ≤ total → S.instrs ≤ MOST_INSTRS → S.cells < PAYLOADS
-      → (es : List Event) → IsSchedule S (opening S B total) es → IsSound S B (run S (opening S B total) es)
+  pub every_moment : MayStart S Lawful B → 0 < S.callers → S.callers < PAYLOADS → first_operation_cell S ≤ S.cells → (total : ℕ) → cell_count S + cell_count S + S.callers * (S.instrs + 1) ≤ total → S.instrs ≤ MOST_INSTRS → S.cells < PAYLOADS
+      → (es : List Event) → IsSchedule S (opening_moment S B total) es → IsSound S B (after_events S (opening_moment S B total) es)
   every_moment may_start some few own_in total room narrow little es s =
-      let g = run_good es (opening S B total) (start_good S Lawful sound B may_start some few own_in total room narrow little) s in
-      is_sound S Lawful sound B (run S (opening S B total) es) g.core g.within g.late g.order
+      let g = run_good es (opening_moment S B total) (start_good S Lawful sound B may_start some few own_in total room narrow little) s in
+      is_sound S Lawful sound B (after_events S (opening_moment S B total) es) g.core g.within g.late g.order

@@ -2,36 +2,36 @@
 use Rattle.std.proofs.Common.{◌≡◌, ℕ, ◌+◌, ◌<◌, ◌≤◌, ◌⊎◌, inl, inr, List, length, get_or, Bool, true, false, refl, sym, ◌∙◌, ap, subst, arith}
 use Rattle.std.proofs.lemmas.Bool.{cases_order}
 use Rattle.std.proofs.lemmas.List.{get_or_default}
-use Rattle.of_cell.specs.Words.{word}
+use Rattle.of_cell.specs.Words.{pack}
 use Rattle.of_core.specs.declared.place.Place.{Place}
 use Rattle.of_core.specs.declared.place.Place.TheVariants.{Idle, TryCurrent, TryRequest, TryCell, StoreScript, StoreAnnouncement, LoadCurrent, LoadRequest, CopyLog, LookAgain, LoadOwnTicket, LoadShape, LoadReply, LoadAnnouncement, LoadTicket, LoadScript, LoadCell, RaiseOld, StoreLog, RaiseLog, StoreRequest, RaiseRequest, ExchangeCurrent, RaiseCurrent, LoadTarget, ExchangeTarget, ReloadTarget, RaiseTarget, CloseRequest, RaiseClosed}
-use Rattle.of_core.specs.Table.{Setup, announcement_of, script_of, last}
-use Rattle.of_core.specs.Machine.{Data, Call, IsOpen, is_idle, no_call}
-use Rattle.of_core.specs.World.{World, Start}
-use Rattle.of_core.specs.History.{batch, ticket_in}
-use Rattle.of_core.specs.Rounds.{Fresh, Begun, Helper, Mine, Quieted}
-use Rattle.of_core.specs.Transaction.{Applies, Mode, Owns}
-use Rattle.of_core.specs.Invariant.{At, Core}
+use Rattle.of_core.specs.Table.{Setup, announcement_of, script_words_of, committed_seq}
+use Rattle.of_core.specs.Machine.{CallState, Call, IsOpen, is_idle, no_call}
+use Rattle.of_core.specs.World.{Moment, TableStart}
+use Rattle.of_core.specs.History.{batch_at, last_ticket_by}
+use Rattle.of_core.specs.Rounds.{IsUnannounced, IsAnnounced, MayHelp, HasOneOperation, AnnouncesNothingNew}
+use Rattle.of_core.specs.Transaction.{IsApplying, AppliesAs, OwnsTransaction}
+use Rattle.of_core.specs.Invariant.{HoldsAtPlace, MeetsCore}
 use Rattle.of_core.proofs.Tickets.{ticket_upto, tickets_rise}
 use Rattle.of_core.proofs.Ordering.{idle_is}
 
-module _ (S : Setup) (Lawful : List ℕ → Type 0) (B : Start) (w : World) (g : Core S Lawful B w) (i : ℕ) (m : Data) (h : i < S.callers) where
+module _ (S : Setup) (Lawful : List ℕ → Type 0) (B : TableStart) (w : Moment) (g : MeetsCore S Lawful B w) (i : ℕ) (m : CallState) (h : i < S.callers) where
   -- an open call isn't announced yet, or is announced, or its own batch is applied
   abbrev Holds : Type 0
-  Holds = Fresh S B w.words w.batches i m ⊎ (Begun S B w.words w.batches i m ⊎ (Owns S B w.words w.batches i m × (B.seq < m.seq) × (m.seq ≤ last w.words)))
+  Holds = IsUnannounced S B w.words w.batches i m ⊎ (IsAnnounced S B w.words w.batches i m ⊎ (OwnsTransaction S B w.words w.batches i m × (B.seq < m.seq) × (m.seq ≤ committed_seq w.words)))
 
-  helping : Helper S B w.words w.batches i m → Holds
+  helping : MayHelp S B w.words w.batches i m → Holds
   helping (inl r) = inr (inl r.begun)
   helping (inr t) = inl t.fresh
 
-  applying : (j : ℕ) → Applies S B w.words w.batches i m j → Holds
+  applying : (j : ℕ) → IsApplying S B w.words w.batches i m j → Holds
   applying j a = go m.helps a.mode
     where
-      go : (b : Bool) → Mode S B w.words w.batches i m b → Holds
+      go : (b : Bool) → AppliesAs S B w.words w.batches i m b → Holds
       go true d = helping d.0
       go false d = inr (inr (d, a.after, a.upto))
 
-  open_holds : (p : Place) → IsOpen p → At S B w.words w.batches i m p → Holds
+  open_holds : (p : Place) → IsOpen p → HoldsAtPlace S B w.words w.batches i m p → Holds
   open_holds Idle o a = cc
   open_holds TryCurrent o a = inl a.0
   open_holds TryRequest o a = inl a.0.fresh
@@ -64,54 +64,54 @@ module _ (S : Setup) (Lawful : List ℕ → Type 0) (B : Start) (w : World) (g :
   open_holds RaiseClosed o a = applying (length m.log) a.0
 
   -- no call of the caller that is newer than its last one was run
-  pub upto_at : (p : Place) → At S B w.words w.batches i m p → ticket_in S B w.batches (last w.words) i ≤ m.made
+  pub upto_at : (p : Place) → HoldsAtPlace S B w.words w.batches i m p → last_ticket_by S B w.batches (committed_seq w.words) i ≤ m.made
   upto_at p a = go (is_idle p) refl
     where
-      held : Holds → ticket_in S B w.batches (last w.words) i ≤ m.made
+      held : Holds → last_ticket_by S B w.batches (committed_seq w.words) i ≤ m.made
       held (inl f) = omega (arith, f.above)
       held (inr (inl b)) = b.upto
       held (inr (inr o)) = o.0.upto
 
-      go : (b : Bool) → is_idle p ≡ b → ticket_in S B w.batches (last w.words) i ≤ m.made
-      go true e = (subst (λ (q : Place). At S B w.words w.batches i m q) (idle_is p e) a).upto
+      go : (b : Bool) → is_idle p ≡ b → last_ticket_by S B w.batches (committed_seq w.words) i ≤ m.made
+      go true e = (subst (λ (q : Place). HoldsAtPlace S B w.words w.batches i m q) (idle_is p e) a).upto
       go false e = held (open_holds p e a)
 
   -- two calls of a caller with one ticket are one
-  one_call : (k s y z : ℕ) (d : Call) → B.seq < k → k ≤ last w.words → B.seq < s → s ≤ last w.words → y < length (batch B w.batches k).calls → z < length (batch B w.batches s).calls
-      → (get_or (batch B w.batches k).calls y d).caller ≡ (get_or (batch B w.batches s).calls z no_call).caller → (get_or (batch B w.batches k).calls y d).ticket ≡ (get_or (batch B w.batches s).calls z no_call).ticket
-      → (get_or (batch B w.batches k).calls y d).op ≡ (get_or (batch B w.batches s).calls z no_call).op
+  one_call : (k s y z : ℕ) (d : Call) → B.seq < k → k ≤ committed_seq w.words → B.seq < s → s ≤ committed_seq w.words → y < length (batch_at B w.batches k).calls → z < length (batch_at B w.batches s).calls
+      → (get_or (batch_at B w.batches k).calls y d).caller ≡ (get_or (batch_at B w.batches s).calls z no_call).caller → (get_or (batch_at B w.batches k).calls y d).ticket ≡ (get_or (batch_at B w.batches s).calls z no_call).ticket
+      → (get_or (batch_at B w.batches k).calls y d).op ≡ (get_or (batch_at B w.batches s).calls z no_call).op
   one_call k s y z d l u f t v x c q = go (cases_order k s)
     where
-      count : last w.words ≡ B.seq + length w.batches
+      count : committed_seq w.words ≡ B.seq + length w.batches
       count = g.shared.counted.count
 
-      apart : k ≡ s → (a b : ℕ) → a < b → b < length (batch B w.batches k).calls → (get_or (batch B w.batches k).calls a no_call).caller ≡ (get_or (batch B w.batches k).calls b no_call).caller → ⊥
+      apart : k ≡ s → (a b : ℕ) → a < b → b < length (batch_at B w.batches k).calls → (get_or (batch_at B w.batches k).calls a no_call).caller ≡ (get_or (batch_at B w.batches k).calls b no_call).caller → ⊥
       apart e a b r t q = omega (arith, g.shared.stands.ordered k l (omega (arith, count)) a b r t)
 
-      here : k ≡ s → (get_or (batch B w.batches k).calls y no_call).caller ≡ (get_or (batch B w.batches k).calls y d).caller
-      here e = ap (λ (a : Call). a.caller) (get_or_default (batch B w.batches k).calls y no_call d v)
+      here : k ≡ s → (get_or (batch_at B w.batches k).calls y no_call).caller ≡ (get_or (batch_at B w.batches k).calls y d).caller
+      here e = ap (λ (a : Call). a.caller) (get_or_default (batch_at B w.batches k).calls y no_call d v)
 
-      same : k ≡ s → (y ≡ z) ⊎ ((y < z) ⊎ (z < y)) → (get_or (batch B w.batches k).calls y d).op ≡ (get_or (batch B w.batches s).calls z no_call).op
-      same e (inl r) = ap (λ (n : ℕ). (get_or (batch B w.batches k).calls n d).op) r ∙ ap (λ (a : Call). a.op) (get_or_default (batch B w.batches k).calls z d no_call (rw e x)) ∙ ap (λ (n : ℕ). (get_or (batch B w.batches n).calls z no_call).op) e
-      same e (inr (inl r)) = absurd (apart e y z r (rw e x) (here e ∙ c ∙ ap (λ (n : ℕ). (get_or (batch B w.batches n).calls z no_call).caller) (sym e)))
-      same e (inr (inr r)) = absurd (apart e z y r v (ap (λ (n : ℕ). (get_or (batch B w.batches n).calls z no_call).caller) e ∙ sym c ∙ sym (here e)))
+      same : k ≡ s → (y ≡ z) ⊎ ((y < z) ⊎ (z < y)) → (get_or (batch_at B w.batches k).calls y d).op ≡ (get_or (batch_at B w.batches s).calls z no_call).op
+      same e (inl r) = ap (λ (n : ℕ). (get_or (batch_at B w.batches k).calls n d).op) r ∙ ap (λ (a : Call). a.op) (get_or_default (batch_at B w.batches k).calls z d no_call (rw e x)) ∙ ap (λ (n : ℕ). (get_or (batch_at B w.batches n).calls z no_call).op) e
+      same e (inr (inl r)) = absurd (apart e y z r (rw e x) (here e ∙ c ∙ ap (λ (n : ℕ). (get_or (batch_at B w.batches n).calls z no_call).caller) (sym e)))
+      same e (inr (inr r)) = absurd (apart e z y r v (ap (λ (n : ℕ). (get_or (batch_at B w.batches n).calls z no_call).caller) e ∙ sym c ∙ sym (here e)))
 
-      go : (k ≡ s) ⊎ ((k < s) ⊎ (s < k)) → (get_or (batch B w.batches k).calls y d).op ≡ (get_or (batch B w.batches s).calls z no_call).op
+      go : (k ≡ s) ⊎ ((k < s) ⊎ (s < k)) → (get_or (batch_at B w.batches k).calls y d).op ≡ (get_or (batch_at B w.batches s).calls z no_call).op
       go (inl e) = same e (cases_order y z)
       go (inr (inl e)) = absurd (omega (arith, tickets_rise S Lawful B w.batches g.shared.stands k s l e (omega (arith, count)) y d v z no_call x (sym c)))
       go (inr (inr e)) = absurd (omega (arith, tickets_rise S Lawful B w.batches g.shared.stands s k f e (omega (arith, count)) z no_call x y d v c))
 
   -- a call in a batch with the ticket of the open one is it
-  pub mine_at : (p : Place) → IsOpen p → At S B w.words w.batches i m p → Mine B w.words w.batches i m.made m.op
+  pub mine_at : (p : Place) → IsOpen p → HoldsAtPlace S B w.words w.batches i m p → HasOneOperation B w.words w.batches i m.made m.op
   mine_at p o a k l u y d v c t = held (open_holds p o a)
     where
-      held : Holds → (get_or (batch B w.batches k).calls y d).op ≡ m.op
-      held (inl f) = absurd (omega (arith, f.above, ticket_upto S Lawful B w.batches g.shared.stands k (last w.words) l u (omega (arith, g.shared.counted.count)) y d v, ap (ticket_in S B w.batches (last w.words)) c, t))
+      held : Holds → (get_or (batch_at B w.batches k).calls y d).op ≡ m.op
+      held (inl f) = absurd (omega (arith, f.above, ticket_upto S Lawful B w.batches g.shared.stands k (committed_seq w.words) l u (omega (arith, g.shared.counted.count)) y d v, ap (last_ticket_by S B w.batches (committed_seq w.words)) c, t))
       held (inr (inl b)) = b.mine k l u y d v c t
       held (inr (inr x)) = let n = x.0.call in one_call k m.seq y n.place d l u x.1 x.2 v n.among (c ∙ sym n.caller) (t ∙ sym n.ticket) ∙ n.same
 
   -- the machine is its caller's
-  pub caller_at : (p : Place) → At S B w.words w.batches i m p → m.caller ≡ i
+  pub caller_at : (p : Place) → HoldsAtPlace S B w.words w.batches i m p → m.caller ≡ i
   caller_at p a = go (is_idle p) refl
     where
       held : Holds → m.caller ≡ i
@@ -120,23 +120,23 @@ module _ (S : Setup) (Lawful : List ℕ → Type 0) (B : Start) (w : World) (g :
       held (inr (inr o)) = o.0.caller
 
       go : (b : Bool) → is_idle p ≡ b → m.caller ≡ i
-      go true e = (subst (λ (q : Place). At S B w.words w.batches i m q) (idle_is p e) a).caller
+      go true e = (subst (λ (q : Place). HoldsAtPlace S B w.words w.batches i m q) (idle_is p e) a).caller
       go false e = held (open_holds p e a)
 
   -- the open call is announced
   abbrev Said : Place → Type 0
-  Said p = IsOpen p × (announcement_of S w.words i ≡ word m.made (length m.op)) × (script_of S w.words i (length m.op) ≡ m.op) × (length m.op ≤ S.instrs)
+  Said p = IsOpen p × (announcement_of S w.words i ≡ pack m.made (length m.op)) × (script_words_of S w.words i (length m.op) ≡ m.op) × (length m.op ≤ S.instrs)
 
   -- the caller announces nothing that is to be run, or it announces its open call
-  pub quiet_or_said : (p : Place) → At S B w.words w.batches i m p
-      → Quieted S B w.words w.batches i ⊎ Said p
+  pub quiet_or_said : (p : Place) → HoldsAtPlace S B w.words w.batches i m p
+      → AnnouncesNothingNew S B w.words w.batches i ⊎ Said p
   quiet_or_said p a = go (is_idle p) refl
     where
-      held : IsOpen p → Holds → Quieted S B w.words w.batches i ⊎ Said p
+      held : IsOpen p → Holds → AnnouncesNothingNew S B w.words w.batches i ⊎ Said p
       held o (inl f) = inl f.quieted
       held o (inr (inl b)) = inr (o, b.says, b.script, b.words)
       held o (inr (inr x)) = inl (inl (omega (arith, x.0.says, x.0.reached)))
 
-      go : (b : Bool) → is_idle p ≡ b → Quieted S B w.words w.batches i ⊎ Said p
-      go true e = inl (subst (λ (q : Place). At S B w.words w.batches i m q) (idle_is p e) a).quieted
+      go : (b : Bool) → is_idle p ≡ b → AnnouncesNothingNew S B w.words w.batches i ⊎ Said p
+      go true e = inl (subst (λ (q : Place). HoldsAtPlace S B w.words w.batches i m q) (idle_is p e) a).quieted
       go false e = held e (open_holds p e a)

@@ -4,48 +4,48 @@ use Rattle.std.proofs.lemmas.Bool.{cases_eq, cases_lt}
 use Rattle.std.proofs.lemmas.Bool.Decides.{nat_tests}
 use Rattle.std.proofs.lemmas.List.{length-replicate, get_or-set_same, get_or-set_other}
 use Rattle.of_cell.specs.declared.word.TheConstants.{PAYLOADS}
-use Rattle.of_cell.specs.Words.{word, seq, pay}
+use Rattle.of_cell.specs.Words.{pack, seq_of, payload_of}
 use Rattle.of_cell.proofs.Order.{pay_small, seq_word, pay_word}
-use Rattle.of_mem.specs.Meaning.{marked}
+use Rattle.of_mem.specs.Meaning.{is_marked}
 use Rattle.of_mem.specs.declared.work.RawReply.{RawReply}
 use Rattle.of_core.specs.declared.place.Place.TheVariants.{Idle, LoadOwnTicket, LoadShape, LoadReply}
-use Rattle.of_core.specs.Table.{Setup, data_at, ticket_cell, shape_cell, reply_cell, cell, last}
-use Rattle.of_core.specs.Machine.{Data, Call, learned, no_call}
-use Rattle.of_core.specs.Steps.{took_at, told, asks_more, after_own_ticket, shape_read, after_load_shape, reply_read, after_load_reply, first_mark}
-use Rattle.of_core.specs.World.{World, Start, stepped_on}
-use Rattle.of_core.specs.History.{state, batch, at, HasCall, Last, LastCall, InRow, ticket_in}
-use Rattle.of_core.specs.Rounds.{Looks, Finds, ReadUpto, Calm}
-use Rattle.of_core.specs.Scan.{Over}
-use Rattle.of_core.specs.Invariant.{At, Core}
-use Rattle.of_core.specs.Moves.{Goes}
+use Rattle.of_core.specs.Table.{Setup, data_at, ticket_cell, shape_cell, reply_cell, data_word, committed_seq}
+use Rattle.of_core.specs.Machine.{CallState, Call, with_cell_known, no_call}
+use Rattle.of_core.specs.Steps.{take_word_at, end_from_own_cells, next_reply_place, after_own_ticket, with_shape, after_load_shape, with_reply, after_load_reply, first_marked_place}
+use Rattle.of_core.specs.World.{Moment, TableStart, after_counted_step}
+use Rattle.of_core.specs.History.{state_after, batch_at, data_word_after, HasCall, OwnCellsShowLast, IsNewestCall, IsCellOfCaller, last_ticket_by}
+use Rattle.of_core.specs.Rounds.{IsPastRequest, FindsOwnTicket, HasReadReplyUpTo, HasNothingUnderWay}
+use Rattle.of_core.specs.Scan.{HasScannedUpTo}
+use Rattle.of_core.specs.Invariant.{HoldsAtPlace, MeetsCore}
+use Rattle.of_core.specs.Moves.{KeepsGuarantee}
 use Rattle.of_core.proofs.Alike.{calm_more, looks_as}
 use Rattle.of_core.proofs.Assembling.{assemble_read, same_batches, same_words}
 use Rattle.of_core.proofs.Rounds.{again, at_risen, cell_of, grows_to, learn, own_row_old, own_seq, round_risen, row_in, third_done}
 use Rattle.of_core.proofs.Tests.{differ, mark_none, mark_some, not_newer}
 
-module _ (S : Setup) (Lawful : List ℕ → Type 0) (B : Start) where
+module _ (S : Setup) (Lawful : List ℕ → Type 0) (B : TableStart) where
   -- the machine m of caller i, at its place
-  module _ (w : World) (g : Core S Lawful B w) (i : ℕ) (m : Data) (h : i < S.callers) where
+  module _ (w : Moment) (g : MeetsCore S Lawful B w) (i : ℕ) (m : CallState) (h : i < S.callers) where
     -- the last call up to the round is the open one, where one's own ticket cell has its ticket
-    found_call : (n : Data) → Looks S B w.words w.batches i n → Finds S (state B w.batches n.seq) i n → LastCall S B w.batches n.seq i
+    found_call : (n : CallState) → IsPastRequest S B w.words w.batches i n → FindsOwnTicket S (state_after B w.batches n.seq) i n → IsNewestCall S B w.batches n.seq i
     found_call n p f = go (g.shared.stands.last n.seq i p.round.from (at_risen S Lawful B w g i m h n p) h)
       where
-        go : Last S B w.batches n.seq i → LastCall S B w.batches n.seq i
+        go : OwnCellsShowLast S B w.batches n.seq i → IsNewestCall S B w.batches n.seq i
         go (inl q) =
-            let t : ticket_in S B w.batches n.seq i ≡ ticket_in S B w.batches B.seq i = ap pay (q.1 (ticket_cell S i) (omega arith, omega arith)) in
-            absurd (omega (arith, t, p.round.begun.beyond, ap pay f.heard, f.there))
+            let t : last_ticket_by S B w.batches n.seq i ≡ last_ticket_by S B w.batches B.seq i = ap payload_of (q.1 (ticket_cell S i) (omega arith, omega arith)) in
+            absurd (omega (arith, t, p.round.begun.beyond, ap payload_of f.heard, f.there))
         go (inr c) = c
 
-    pub done_now : (n : Data) → Finds S (state B w.batches n.seq) i n → n.made ≤ ticket_in S B w.batches n.seq i
-    done_now n f = omega (arith, ap pay f.heard, f.there)
+    pub done_now : (n : CallState) → FindsOwnTicket S (state_after B w.batches n.seq) i n → n.made ≤ last_ticket_by S B w.batches n.seq i
+    done_now n f = omega (arith, ap payload_of f.heard, f.there)
 
     -- the call is answered from the history, its replies read
-    told_at : (n : Data) → Looks S B w.words w.batches i n → Calm S B w.words w.batches i n.seq → Finds S (state B w.batches n.seq) i n
-        → n.raw.shape ≡ pay (at B w.batches n.seq (shape_cell S i)) → ((y : ℕ) → y < S.instrs → marked n.raw.shape y ≡ true → get_or n.raw.values y 0 ≡ pay (at B w.batches n.seq (reply_cell S i y)))
-        → At S B w.words w.batches i (told n) Idle
+    told_at : (n : CallState) → IsPastRequest S B w.words w.batches i n → HasNothingUnderWay S B w.words w.batches i n.seq → FindsOwnTicket S (state_after B w.batches n.seq) i n
+        → n.raw.shape ≡ payload_of (data_word_after B w.batches n.seq (shape_cell S i)) → ((y : ℕ) → y < S.instrs → is_marked n.raw.shape y ≡ true → get_or n.raw.values y 0 ≡ payload_of (data_word_after B w.batches n.seq (reply_cell S i y)))
+        → HoldsAtPlace S B w.words w.batches i (end_from_own_cells n) Idle
     told_at n p o f shape replies = record {
       caller = p.round.begun.caller;
-      calm = calm_more S Lawful B w g i m h n.seq (last w.words) p.round.upto o;
+      calm = calm_more S Lawful B w g i m h n.seq (committed_seq w.words) p.round.upto o;
       kept = p.round.begun.kept;
       quieted = inl (omega (arith, own_seq S Lawful B w g i m h n p.round.begun, done_now n f, grows_to S Lawful B w g i m h n.seq p.round.from p.round.upto));
       upto = p.round.begun.upto;
@@ -53,46 +53,46 @@ module _ (S : Setup) (Lawful : List ℕ → Type 0) (B : Start) where
       told = (rw number c.from, rw number (omega (arith, c.upto, round_risen S Lawful B w g i m h n p)), rw number (omega (arith, c.upto, p.round.upto)), rw number has);
     }
       where
-        c : LastCall S B w.batches n.seq i
+        c : IsNewestCall S B w.batches n.seq i
         c = found_call n p f
 
         d : Call
-        d = get_or (batch B w.batches c.number).calls c.place no_call
+        d = get_or (batch_at B w.batches c.number).calls c.place no_call
 
-        is_in : (d.caller < S.callers) × (ticket_in S B w.batches c.number d.caller ≡ d.ticket)
+        is_in : (d.caller < S.callers) × (last_ticket_by S B w.batches c.number d.caller ≡ d.ticket)
         is_in = g.shared.stands.now c.number c.from (omega (arith, c.upto, at_risen S Lawful B w g i m h n p)) c.place no_call c.among
 
         small : d.ticket < PAYLOADS
-        small = rw (← is_in.1) (pay_small (at B w.batches c.number (ticket_cell S d.caller)))
+        small = rw (← is_in.1) (pay_small (data_word_after B w.batches c.number (ticket_cell S d.caller)))
 
-        word_is : n.heard ≡ word c.number d.ticket
-        word_is = f.heard ∙ ap (λ (x : ℕ). at B w.batches n.seq (ticket_cell S x)) (sym c.caller) ∙ c.shows.ticket
+        word_is : n.heard ≡ pack c.number d.ticket
+        word_is = f.heard ∙ ap (λ (x : ℕ). data_word_after B w.batches n.seq (ticket_cell S x)) (sym c.caller) ∙ c.shows.ticket
 
-        number : seq n.heard ≡ c.number
-        number = ap seq word_is ∙ seq_word c.number d.ticket small
+        number : seq_of n.heard ≡ c.number
+        number = ap seq_of word_is ∙ seq_word c.number d.ticket small
 
         ticket : d.ticket ≡ n.made
-        ticket = sym (ap pay word_is ∙ pay_word c.number d.ticket small) ∙ f.there
+        ticket = sym (ap payload_of word_is ∙ pay_word c.number d.ticket small) ∙ f.there
 
         same_shape : n.raw.shape ≡ d.raw.shape
-        same_shape = shape ∙ ap (λ (x : ℕ). pay (at B w.batches n.seq (shape_cell S x))) (sym c.caller) ∙ c.shows.shape
+        same_shape = shape ∙ ap (λ (x : ℕ). payload_of (data_word_after B w.batches n.seq (shape_cell S x))) (sym c.caller) ∙ c.shows.shape
 
-        has : HasCall S (batch B w.batches c.number).calls i n.made n.op n.raw
+        has : HasCall S (batch_at B w.batches c.number).calls i n.made n.op n.raw
         has = record {
           place = c.place;
           among = c.among;
           caller = c.caller;
           ticket = ticket;
           same = p.round.begun.mine c.number c.from (omega (arith, c.upto, p.round.upto)) c.place no_call c.among c.caller ticket;
-          reply = (same_shape, λ y l k. replies y l k ∙ ap (λ (x : ℕ). pay (at B w.batches n.seq (reply_cell S x y))) (sym c.caller) ∙ c.shows.replies y l (sym (ap (λ (x : ℕ). marked x y) same_shape) ∙ k));
+          reply = (same_shape, λ y l k. replies y l k ∙ ap (λ (x : ℕ). payload_of (data_word_after B w.batches n.seq (reply_cell S x y))) (sym c.caller) ∙ c.shows.replies y l (sym (ap (λ (x : ℕ). is_marked x y) same_shape) ∙ k));
         }
 
     -- the shape and the marked replies below j are read, and on it goes
-    asks_at : (n : Data) (j : ℕ) → j ≤ S.instrs → Looks S B w.words w.batches i n → Calm S B w.words w.batches i n.seq → Finds S (state B w.batches n.seq) i n → ReadUpto S (state B w.batches n.seq) i n j
-        → (r : Option ℕ) → first_mark n.raw.shape j (S.instrs - j) ≡ r → At S B w.words w.batches i (asks_more n r) (asks_more n r).place
+    asks_at : (n : CallState) (j : ℕ) → j ≤ S.instrs → IsPastRequest S B w.words w.batches i n → HasNothingUnderWay S B w.words w.batches i n.seq → FindsOwnTicket S (state_after B w.batches n.seq) i n → HasReadReplyUpTo S (state_after B w.batches n.seq) i n j
+        → (r : Option ℕ) → first_marked_place n.raw.shape j (S.instrs - j) ≡ r → HoldsAtPlace S B w.words w.batches i (next_reply_place n r) (next_reply_place n r).place
     asks_at n j l p o f u None e = told_at n p o f u.shape (λ y v k. go y v k (cases_lt y j))
       where
-        go : (y : ℕ) → y < S.instrs → marked n.raw.shape y ≡ true → (y < j) ⊎ (j ≤ y) → get_or n.raw.values y 0 ≡ pay (at B w.batches n.seq (reply_cell S i y))
+        go : (y : ℕ) → y < S.instrs → is_marked n.raw.shape y ≡ true → (y < j) ⊎ (j ≤ y) → get_or n.raw.values y 0 ≡ payload_of (data_word_after B w.batches n.seq (reply_cell S i y))
         go y v k (inl z) = u.replies y z k
         go y v k (inr z) = absurd (mark_none n.raw.shape j (S.instrs - j) e y z (omega arith) k)
     asks_at n j l p o f u (Some x) e =
@@ -104,16 +104,16 @@ module _ (S : Setup) (Lawful : List ℕ → Type 0) (B : Start) where
           omega (arith, s.1),
         )
       where
-        go : (y : ℕ) → y < x → marked n.raw.shape y ≡ true → (y < j) ⊎ (j ≤ y) → ((y : ℕ) → j ≤ y → y < x → marked n.raw.shape y ≡ true → ⊥) → get_or n.raw.values y 0 ≡ pay (at B w.batches n.seq (reply_cell S i y))
+        go : (y : ℕ) → y < x → is_marked n.raw.shape y ≡ true → (y < j) ⊎ (j ≤ y) → ((y : ℕ) → j ≤ y → y < x → is_marked n.raw.shape y ≡ true → ⊥) → get_or n.raw.values y 0 ≡ payload_of (data_word_after B w.batches n.seq (reply_cell S i y))
         go y v k (inl z) t = u.replies y z k
         go y v k (inr z) t = absurd (t y z v k)
 
-    pub load_shape_kept : At S B w.words w.batches i m LoadShape → Goes S Lawful B i w (stepped_on S i m LoadShape w)
-    load_shape_kept a = assemble_read S Lawful B w g i h _ _ (took_at S m (cell S w.words (shape_cell S m.caller)) LoadShape) (same_words S Lawful B w g i m h (data_at S (shape_cell S m.caller))) (same_batches S Lawful B w g i m h) (
-        go (nat_lt m.seq (seq found)) refl)
+    pub load_shape_kept : HoldsAtPlace S B w.words w.batches i m LoadShape → KeepsGuarantee S Lawful B i w (after_counted_step S i m LoadShape w)
+    load_shape_kept a = assemble_read S Lawful B w g i h _ _ (take_word_at S m (data_word S w.words (shape_cell S m.caller)) LoadShape) (same_words S Lawful B w g i m h (data_at S (shape_cell S m.caller))) (same_batches S Lawful B w g i m h) (
+        go (nat_lt m.seq (seq_of found)) refl)
       where
         found : ℕ
-        found = cell S w.words (shape_cell S m.caller)
+        found = data_word S w.words (shape_cell S m.caller)
 
         ci : m.caller ≡ i
         ci = a.0.round.begun.caller
@@ -121,49 +121,49 @@ module _ (S : Setup) (Lawful : List ℕ → Type 0) (B : Start) where
         x_in : shape_cell S i < S.cells
         x_in = row_in S Lawful B w g i m h (shape_cell S i) (omega arith, omega arith)
 
-        fresh : seq (cell S w.words (shape_cell S m.caller)) ≤ m.seq
+        fresh : seq_of (data_word S w.words (shape_cell S m.caller)) ≤ m.seq
         fresh = rw ci (own_row_old S Lawful B w g i m h m a.0 (done_now m a.2) (shape_cell S i) (omega arith, omega arith))
 
-        is : cell S w.words (shape_cell S m.caller) ≡ at B w.batches m.seq (shape_cell S i)
-        is = rw ci (cell_of S Lawful B w g i m h m a.0 (shape_cell S i) x_in (rw ci at fresh))
+        is : data_word S w.words (shape_cell S m.caller) ≡ data_word_after B w.batches m.seq (shape_cell S i)
+        is = rw ci (cell_of S Lawful B w g i m h m a.0 (shape_cell S i) x_in (rw ci data_word_after fresh))
 
-        go : (b : Bool) → nat_lt m.seq (seq found) ≡ b → At S B w.words w.batches i (after_load_shape S m found b) (after_load_shape S m found b).place
-        go true e = let z : m.seq < seq found = grind (arith, nat_tests) in absurd (omega (arith, fresh))
+        go : (b : Bool) → nat_lt m.seq (seq_of found) ≡ b → HoldsAtPlace S B w.words w.batches i (after_load_shape S m found b) (after_load_shape S m found b).place
+        go true e = let z : m.seq < seq_of found = grind (arith, nat_tests) in absurd (omega (arith, fresh))
         go false e =
-            asks_at (shape_read S m found) 0 (omega arith) (looks_as S Lawful B w g i m h m _ a.0 refl refl refl refl refl refl refl refl refl) a.1 (record { heard = a.2.heard; there = a.2.there })
-            (record { shape = ap pay is; replies = λ y l. absurd (omega arith); many = length-replicate S.instrs 0 }) (first_mark (pay found) 0 S.instrs) (ap (first_mark (pay found) 0) (omega arith))
+            asks_at (with_shape S m found) 0 (omega arith) (looks_as S Lawful B w g i m h m _ a.0 refl refl refl refl refl refl refl refl refl) a.1 (record { heard = a.2.heard; there = a.2.there })
+            (record { shape = ap payload_of is; replies = λ y l. absurd (omega arith); many = length-replicate S.instrs 0 }) (first_marked_place (payload_of found) 0 S.instrs) (ap (first_marked_place (payload_of found) 0) (omega arith))
 
-    pub load_reply_kept : (j : ℕ) → At S B w.words w.batches i m (LoadReply j) → Goes S Lawful B i w (stepped_on S i m (LoadReply j) w)
-    load_reply_kept j a = assemble_read S Lawful B w g i h _ _ (took_at S m (cell S w.words (reply_cell S m.caller j)) (LoadReply j)) (same_words S Lawful B w g i m h (data_at S (reply_cell S m.caller j))) (same_batches S Lawful B w g i m h) (
-        go (nat_lt m.seq (seq found)) refl)
+    pub load_reply_kept : (j : ℕ) → HoldsAtPlace S B w.words w.batches i m (LoadReply j) → KeepsGuarantee S Lawful B i w (after_counted_step S i m (LoadReply j) w)
+    load_reply_kept j a = assemble_read S Lawful B w g i h _ _ (take_word_at S m (data_word S w.words (reply_cell S m.caller j)) (LoadReply j)) (same_words S Lawful B w g i m h (data_at S (reply_cell S m.caller j))) (same_batches S Lawful B w g i m h) (
+        go (nat_lt m.seq (seq_of found)) refl)
       where
         found : ℕ
-        found = cell S w.words (reply_cell S m.caller j)
+        found = data_word S w.words (reply_cell S m.caller j)
 
         ci : m.caller ≡ i
         ci = a.0.round.begun.caller
 
-        in_row : InRow S i (reply_cell S i j)
+        in_row : IsCellOfCaller S i (reply_cell S i j)
         in_row = (omega arith, omega (arith, a.4))
 
-        fresh : seq (cell S w.words (reply_cell S m.caller j)) ≤ m.seq
+        fresh : seq_of (data_word S w.words (reply_cell S m.caller j)) ≤ m.seq
         fresh = rw ci (own_row_old S Lawful B w g i m h m a.0 (done_now m a.2) (reply_cell S i j) in_row)
 
-        is : cell S w.words (reply_cell S m.caller j) ≡ at B w.batches m.seq (reply_cell S i j)
-        is = rw ci (cell_of S Lawful B w g i m h m a.0 (reply_cell S i j) (row_in S Lawful B w g i m h (reply_cell S i j) in_row) (rw ci at fresh))
+        is : data_word S w.words (reply_cell S m.caller j) ≡ data_word_after B w.batches m.seq (reply_cell S i j)
+        is = rw ci (cell_of S Lawful B w g i m h m a.0 (reply_cell S i j) (row_in S Lawful B w g i m h (reply_cell S i j) in_row) (rw ci data_word_after fresh))
 
-        go : (b : Bool) → nat_lt m.seq (seq found) ≡ b → At S B w.words w.batches i (after_load_reply S m j found b) (after_load_reply S m j found b).place
-        go true e = let z : m.seq < seq found = grind (arith, nat_tests) in absurd (omega (arith, fresh))
+        go : (b : Bool) → nat_lt m.seq (seq_of found) ≡ b → HoldsAtPlace S B w.words w.batches i (after_load_reply S m j found b) (after_load_reply S m j found b).place
+        go true e = let z : m.seq < seq_of found = grind (arith, nat_tests) in absurd (omega (arith, fresh))
         go false e =
-            asks_at (reply_read m j found) (j + 1) (omega (arith, a.4)) (looks_as S Lawful B w g i m h m _ a.0 refl refl refl refl refl refl refl refl refl) a.1 (record { heard = a.2.heard; there = a.2.there })
-            (record { shape = a.3.shape; replies = λ y l k. read y l k (cases_eq y j); many = length-set m.raw.values j (pay found) ∙ a.3.many }) (first_mark m.raw.shape (j + 1) (S.instrs - j - 1)) (ap (first_mark m.raw.shape (j + 1)) (omega arith))
+            asks_at (with_reply m j found) (j + 1) (omega (arith, a.4)) (looks_as S Lawful B w g i m h m _ a.0 refl refl refl refl refl refl refl refl refl) a.1 (record { heard = a.2.heard; there = a.2.there })
+            (record { shape = a.3.shape; replies = λ y l k. read y l k (cases_eq y j); many = length-set m.raw.values j (payload_of found) ∙ a.3.many }) (first_marked_place m.raw.shape (j + 1) (S.instrs - j - 1)) (ap (first_marked_place m.raw.shape (j + 1)) (omega arith))
           where
-            read : (y : ℕ) → y < j + 1 → marked m.raw.shape y ≡ true → (y ≡ j) ⊎ (y ≡ j → ⊥) → get_or (set m.raw.values j (pay found)) y 0 ≡ pay (at B w.batches m.seq (reply_cell S i y))
-            read y l k (inl q) = rw q (get_or-set_same m.raw.values j (pay found) 0 (omega (arith, a.3.many, a.4)) ∙ ap pay is)
-            read y l k (inr q) = get_or-set_other m.raw.values j y (pay found) 0 q ∙ a.3.replies y (omega arith) k
+            read : (y : ℕ) → y < j + 1 → is_marked m.raw.shape y ≡ true → (y ≡ j) ⊎ (y ≡ j → ⊥) → get_or (set m.raw.values j (payload_of found)) y 0 ≡ payload_of (data_word_after B w.batches m.seq (reply_cell S i y))
+            read y l k (inl q) = rw q (get_or-set_same m.raw.values j (payload_of found) 0 (omega (arith, a.3.many, a.4)) ∙ ap payload_of is)
+            read y l k (inr q) = get_or-set_other m.raw.values j y (payload_of found) 0 q ∙ a.3.replies y (omega arith) k
 
     -- nothing is scanned yet
-    over_none : (made : ℕ) (op : List ℕ) (raw : RawReply) (s : ℕ) (cs : List Call) (es : List (ℕ × ℕ)) (n : ℕ) → cs ≡ [] → es ≡ [] → n ≡ 0 → Over S B w.words w.batches i s made op raw cs es n
+    over_none : (made : ℕ) (op : List ℕ) (raw : RawReply) (s : ℕ) (cs : List Call) (es : List (ℕ × ℕ)) (n : ℕ) → cs ≡ [] → es ≡ [] → n ≡ 0 → HasScannedUpTo S B w.words w.batches i s made op raw cs es n
     over_none made op raw s cs es n e f z = rw (e, f, z) (record {
       over = record { is_log = record { entries = λ k d l. absurd (omega arith); once = λ j k l. absurd (omega arith); few = omega arith }; effect = refl; replies = tt; own = λ k d l. absurd (omega arith); rows = λ j l. absurd (omega arith) };
       taken = λ k d l. absurd (omega arith);
@@ -174,48 +174,48 @@ module _ (S : Setup) (Lawful : List ℕ → Type 0) (B : Start) where
       met = λ l c u. absurd (omega arith);
     })
 
-    pub own_ticket_kept : At S B w.words w.batches i m LoadOwnTicket → Goes S Lawful B i w (stepped_on S i m LoadOwnTicket w)
-    own_ticket_kept a = assemble_read S Lawful B w g i h _ _ (took_at S m (cell S w.words (ticket_cell S m.caller)) LoadOwnTicket) (same_words S Lawful B w g i m h (data_at S (ticket_cell S m.caller))) (same_batches S Lawful B w g i m h) (
-        go (nat_lt m.seq (seq found)) (pay found == m.made) (m.seq == S.limit) refl refl refl)
+    pub own_ticket_kept : HoldsAtPlace S B w.words w.batches i m LoadOwnTicket → KeepsGuarantee S Lawful B i w (after_counted_step S i m LoadOwnTicket w)
+    own_ticket_kept a = assemble_read S Lawful B w g i h _ _ (take_word_at S m (data_word S w.words (ticket_cell S m.caller)) LoadOwnTicket) (same_words S Lawful B w g i m h (data_at S (ticket_cell S m.caller))) (same_batches S Lawful B w g i m h) (
+        go (nat_lt m.seq (seq_of found)) (payload_of found == m.made) (m.seq == S.limit) refl refl refl)
       where
         found : ℕ
-        found = cell S w.words (ticket_cell S m.caller)
+        found = data_word S w.words (ticket_cell S m.caller)
 
         ci : m.caller ≡ i
         ci = a.0.round.begun.caller
 
-        in_row : InRow S i (ticket_cell S i)
+        in_row : IsCellOfCaller S i (ticket_cell S i)
         in_row = (omega arith, omega arith)
 
         x_in : ticket_cell S i < S.cells
         x_in = row_in S Lawful B w g i m h (ticket_cell S i) in_row
 
-        is : seq (cell S w.words (ticket_cell S m.caller)) ≤ m.seq → cell S w.words (ticket_cell S m.caller) ≡ at B w.batches m.seq (ticket_cell S i)
-        is l = rw ci (cell_of S Lawful B w g i m h m a.0 (ticket_cell S i) x_in (rw ci at l))
+        is : seq_of (data_word S w.words (ticket_cell S m.caller)) ≤ m.seq → data_word S w.words (ticket_cell S m.caller) ≡ data_word_after B w.batches m.seq (ticket_cell S i)
+        is l = rw ci (cell_of S Lawful B w g i m h m a.0 (ticket_cell S i) x_in (rw ci data_word_after l))
 
-        go : (b c d : Bool) → nat_lt m.seq (seq found) ≡ b → (pay found == m.made) ≡ c → (m.seq == S.limit) ≡ d → At S B w.words w.batches i (after_own_ticket S m found b c d) (after_own_ticket S m found b c d).place
+        go : (b c d : Bool) → nat_lt m.seq (seq_of found) ≡ b → (payload_of found == m.made) ≡ c → (m.seq == S.limit) ≡ d → HoldsAtPlace S B w.words w.batches i (after_own_ticket S m found b c d) (after_own_ticket S m found b c d).place
         go true c d eb ec ed =
-            let z : m.seq < seq found = grind (arith, nat_tests) in
-            let z' : m.seq < seq (cell S w.words (ticket_cell S i)) = rw ci at z in
+            let z : m.seq < seq_of found = grind (arith, nat_tests) in
+            let z' : m.seq < seq_of (data_word S w.words (ticket_cell S i)) = rw ci data_word_after z in
             again S Lawful B w g i m h m a.0.round a.1 (few z' (cases_eq m.rounds 3)) (ticket_cell S i) x_in z'
           where
-            few : m.seq < seq (cell S w.words (ticket_cell S i)) → (m.rounds ≡ 3) ⊎ (m.rounds ≡ 3 → ⊥) → m.rounds ≤ 2
+            few : m.seq < seq_of (data_word S w.words (ticket_cell S i)) → (m.rounds ≡ 3) ⊎ (m.rounds ≡ 3 → ⊥) → m.rounds ≤ 2
             few z (inl q) = absurd (omega (arith, z, own_row_old S Lawful B w g i m h m a.0 (third_done S Lawful B w g i m h m a.0.round q) (ticket_cell S i) in_row))
             few z (inr q) = omega (arith, a.0.round.few)
         go false true d eb ec ed =
-            let fresh : seq found ≤ m.seq = grind (arith, nat_tests) in
-            (looks_as S Lawful B w g i m h m _ a.0 refl refl refl refl refl refl refl refl refl, a.1, record { heard = is fresh; there = equal (pay found) m.made ec })
+            let fresh : seq_of found ≤ m.seq = grind (arith, nat_tests) in
+            (looks_as S Lawful B w g i m h m _ a.0 refl refl refl refl refl refl refl refl refl, a.1, record { heard = is fresh; there = equal (payload_of found) m.made ec })
           where
             equal : (x y : ℕ) → (x == y) ≡ true → x ≡ y
             equal x y e = grind (arith, nat_tests)
         go false false true eb ec ed = record {
           caller = ci;
-          calm = calm_more S Lawful B w g i m h m.seq (last w.words) a.0.round.upto a.1;
+          calm = calm_more S Lawful B w g i m h m.seq (committed_seq w.words) a.0.round.upto a.1;
           kept = a.0.round.begun.kept;
           quieted = inr (omega (arith, at_limit, a.0.round.upto, g.shared.counted.limit));
           upto = a.0.round.begun.upto;
           older = omega (arith, own_seq S Lawful B w g i m h m a.0.round.begun);
-          told = (omega (arith, differ (pay found) m.made ec, ap pay (is (not_newer m.seq (seq found) eb)), ap (λ (k : ℕ). ticket_in S B w.batches k i) at_last, a.0.round.begun.upto), at_limit, sym at_last, round_risen S Lawful B w g i m h m a.0);
+          told = (omega (arith, differ (payload_of found) m.made ec, ap payload_of (is (not_newer m.seq (seq_of found) eb)), ap (λ (k : ℕ). last_ticket_by S B w.batches k i) at_last, a.0.round.begun.upto), at_limit, sym at_last, round_risen S Lawful B w g i m h m a.0);
         }
           where
             at_limit : m.seq ≡ S.limit
@@ -224,18 +224,18 @@ module _ (S : Setup) (Lawful : List ℕ → Type 0) (B : Start) where
                 equal : (x y : ℕ) → (x == y) ≡ true → x ≡ y
                 equal x y e = grind (arith, nat_tests)
 
-            at_last : m.seq ≡ last w.words
+            at_last : m.seq ≡ committed_seq w.words
             at_last = omega (arith, at_limit, a.0.round.upto, g.shared.counted.limit)
         go false false false eb ec ed = (
           record {
-            looks = looks_as S Lawful B w g i m h (record m { known = learned S m (ticket_cell S m.caller) found }) _ (learn S Lawful B w g i m h m a.0 (ticket_cell S m.caller) (rw ci x_in) fresh) refl refl refl refl refl refl refl refl refl;
+            looks = looks_as S Lawful B w g i m h (record m { known = with_cell_known S m (ticket_cell S m.caller) found }) _ (learn S Lawful B w g i m h m a.0 (ticket_cell S m.caller) (rw ci x_in) fresh) refl refl refl refl refl refl refl refl refl;
             under = omega (arith, differ m.seq S.limit ed, a.0.round.upto, g.shared.counted.limit);
-            left = omega (arith, differ (pay found) m.made ec, ap pay (is fresh), a.0.round.begun.upto, grows_to S Lawful B w g i m h m.seq a.0.round.from a.0.round.upto);
+            left = omega (arith, differ (payload_of found) m.made ec, ap payload_of (is fresh), a.0.round.begun.upto, grows_to S Lawful B w g i m h m.seq a.0.round.from a.0.round.upto);
           },
           a.1,
           over_none m.made m.op m.raw m.seq m.calls m.log m.scan a.4 a.3 a.5,
           rw a.5 (omega (arith, h)),
         )
           where
-            fresh : seq (cell S w.words (ticket_cell S m.caller)) ≤ m.seq
-            fresh = not_newer m.seq (seq found) eb
+            fresh : seq_of (data_word S w.words (ticket_cell S m.caller)) ≤ m.seq
+            fresh = not_newer m.seq (seq_of found) eb

@@ -5,15 +5,15 @@ use Rattle.std.proofs.lemmas.Bool.{cases_lt}
 use Rattle.std.proofs.lemmas.Bool.Decides.{nat_tests}
 use Rattle.of_wset.specs.Pairs as wset
 use Rattle.of_cell.specs.declared.word.TheConstants.{PAYLOADS}
-use Rattle.of_mem.specs.Pairs.{value_at, put, put_all}
-use Rattle.of_mem.specs.Pad.{Pad, newest, wrote}
-use Rattle.of_mem.specs.Meaning.{Meaning, Sound, Agrees, Once, Fits, Walked, Needs, Gives, marked}
-use Rattle.of_core.specs.Table.{Setup, base, ticket_cell}
+use Rattle.of_mem.specs.Pairs.{value_for, put_pair, put_all}
+use Rattle.of_mem.specs.Pad.{Part, newest_at, write}
+use Rattle.of_mem.specs.Meaning.{Meaning, IsSoundMeaning, Agrees, HasDistinctCells, WalkFits, WalkEnd, Needs, Gives, is_marked}
+use Rattle.of_core.specs.Table.{Setup, first_operation_cell, ticket_cell}
 use Rattle.of_mem.specs.declared.work.TheConstants.{MOST_INSTRS}
 use Rattle.of_mem.specs.declared.work.RawReply.{RawReply}
 use Rattle.of_core.specs.declared.place.Place.{Place}
-use Rattle.of_core.specs.Machine.{Data, flat, log_words, pairs, log_of, own_cells, listed, turned}
-use Rattle.of_core.specs.Steps.{read_ran, first_mark}
+use Rattle.of_core.specs.Machine.{CallState, flat_entries, log_words, entries_of_words, log_of, own_cells, cells_from, rotated}
+use Rattle.of_core.specs.Steps.{after_read_run, first_marked_place}
 use Rattle.of_core.proofs.Logs.{whole_log, once_append}
 
 same_test : (a b : ℕ) → a ≡ b → (a == b) ≡ true
@@ -23,27 +23,27 @@ other_test : (a b : ℕ) → (a ≡ b → ⊥) → (a == b) ≡ false
 other_test a b e = grind (arith, nat_tests)
 
 -- a write-set's put
-pub wset_put : (ds : List (ℕ × ℕ)) (a v : ℕ) → wset.put ds a v ≡ put ds a v
+pub wset_put : (ds : List (ℕ × ℕ)) (a v : ℕ) → wset.put ds a v ≡ put_pair ds a v
 wset_put [] a v = refl
 wset_put (d ∷ ds) a v = ap (λ (xs : List (ℕ × ℕ)). if d.0 == a then (a, v) ∷ ds else d ∷ xs) (wset_put ds a v)
 
 pub put_all_append : (ds es fs : List (ℕ × ℕ)) → put_all ds (es ++ fs) ≡ put_all (put_all ds es) fs
 put_all_append ds [] fs = refl
-put_all_append ds (e ∷ es) fs = put_all_append (put ds e.0 e.1) es fs
+put_all_append ds (e ∷ es) fs = put_all_append (put_pair ds e.0 e.1) es fs
 
 -- one entry more
-pub put_all_take : (ds es : List (ℕ × ℕ)) (i : ℕ) (d : ℕ × ℕ) → i < length es → put_all ds (take (i + 1) es) ≡ put (put_all ds (take i es)) (get_or es i d).0 (get_or es i d).1
+pub put_all_take : (ds es : List (ℕ × ℕ)) (i : ℕ) (d : ℕ × ℕ) → i < length es → put_all ds (take (i + 1) es) ≡ put_pair (put_all ds (take i es)) (get_or es i d).0 (get_or es i d).1
 put_all_take ds es i d l = ap (put_all ds) (take_more es i d l) ∙ put_all_append ds (take i es) (get_or es i d ∷ [])
 
 -- an entry of a cell that isn't there comes last
-put_absent : (e : ℕ × ℕ) (ds : List (ℕ × ℕ)) → ((k : ℕ) → k < length ds → (get_or ds k (0, 0)).0 ≡ e.0 → ⊥) → put ds e.0 e.1 ≡ ds ++ e ∷ []
+put_absent : (e : ℕ × ℕ) (ds : List (ℕ × ℕ)) → ((k : ℕ) → k < length ds → (get_or ds k (0, 0)).0 ≡ e.0 → ⊥) → put_pair ds e.0 e.1 ≡ ds ++ e ∷ []
 put_absent e [] n = refl
 put_absent e (d ∷ ds) n = rw (other_test d.0 e.0 (n 0 (omega arith))) (ap (λ (xs : List (ℕ × ℕ)). d ∷ xs) (put_absent e ds (λ k l q. n (suc k) (omega arith) q)))
 
-pub put_all_apart : (es ds : List (ℕ × ℕ)) → Once (es ++ ds) → put_all es ds ≡ es ++ ds
+pub put_all_apart : (es ds : List (ℕ × ℕ)) → HasDistinctCells (es ++ ds) → put_all es ds ≡ es ++ ds
 put_all_apart es [] o = sym (append-nil es)
 put_all_apart es (d ∷ ds) o =
-    rw (put_absent d es absent) (put_all_apart (es ++ d ∷ []) ds (subst Once (sym regroup) o) ∙ regroup)
+    rw (put_absent d es absent) (put_all_apart (es ++ d ∷ []) ds (subst HasDistinctCells (sym regroup) o) ∙ regroup)
   where
     regroup : (es ++ d ∷ []) ++ ds ≡ es ++ d ∷ ds
     regroup = append_assoc es (d ∷ []) ds
@@ -56,18 +56,18 @@ put_all_apart es (d ∷ ds) o =
         let s : k ≡ length es = o k (length es) (omega arith) (omega arith) (ap (λ (e : ℕ × ℕ). e.0) old ∙ q ∙ sym (ap (λ (e : ℕ × ℕ). e.0) new)) in
         omega arith
 
-pub put_all_once : (ds : List (ℕ × ℕ)) → Once ds → put_all [] ds ≡ ds
+pub put_all_once : (ds : List (ℕ × ℕ)) → HasDistinctCells ds → put_all [] ds ≡ ds
 put_all_once ds o = put_all_apart [] ds o
 
 pub log_of_words : (es : List (ℕ × ℕ)) → log_of (log_words es) ≡ es
 log_of_words es = go es
   where
-    go : (es : List (ℕ × ℕ)) → pairs (flat es) ≡ es
+    go : (es : List (ℕ × ℕ)) → entries_of_words (flat_entries es) ≡ es
     go [] = refl
     go (e ∷ es) = ap (λ (xs : List (ℕ × ℕ)). e ∷ xs) (go es)
 
 -- a list of zeros is lawful, and agrees with nothing known
-pub zeros_agree : (M : Meaning) (Lawful : List ℕ → Type 0) (b n : ℕ) → Sound M Lawful b n → (k : ℕ) → (xs : List ℕ) × (length xs ≡ n) × Lawful xs × Agrees (replicate k None) xs
+pub zeros_agree : (M : Meaning) (Lawful : List ℕ → Type 0) (b n : ℕ) → IsSoundMeaning M Lawful b n → (k : ℕ) → (xs : List ℕ) × (length xs ≡ n) × Lawful xs × Agrees (replicate k None) xs
 zeros_agree M Lawful b n s k = (replicate n 0, length-replicate n 0, s.zeros (replicate n 0) (length-replicate n 0) zero_at, λ a v e. absurd (none_at a v e (cases_lt a k)))
   where
     zero_at : (a : ℕ) → get_or {A = ℕ} (replicate n 0) a 0 ≡ 0
@@ -82,69 +82,69 @@ zeros_agree M Lawful b n s k = (replicate n 0, length-replicate n 0, s.zeros (re
     none_at a v e (inr l) = let n : get_or {A = Option ℕ} (replicate k None) a None ≡ None = get_or_past (replicate k None) a None (rw length-replicate l) in cc
 
 -- a work's rules for the setup of its machines
-pub sound_at : (S : Setup) (M : Meaning) (Lawful : List ℕ → Type 0) (many size : ℕ) → many ≡ S.callers → size ≡ S.cells → S.instrs ≡ MOST_INSTRS → Sound M Lawful (many * (MOST_INSTRS + 2)) size → Sound M Lawful (base S) S.cells
+pub sound_at : (S : Setup) (M : Meaning) (Lawful : List ℕ → Type 0) (many size : ℕ) → many ≡ S.callers → size ≡ S.cells → S.instrs ≡ MOST_INSTRS → IsSoundMeaning M Lawful (many * (MOST_INSTRS + 2)) size → IsSoundMeaning M Lawful (first_operation_cell S) S.cells
 sound_at S M Lawful many size p q r s =
-    let b : many * (MOST_INSTRS + 2) ≡ base S = rw (p, r) refl in
-    subst (λ (n : ℕ). Sound M Lawful (base S) n) q (subst (λ (n : ℕ). Sound M Lawful n size) b s)
+    let b : many * (MOST_INSTRS + 2) ≡ first_operation_cell S = rw (p, r) refl in
+    subst (λ (n : ℕ). IsSoundMeaning M Lawful (first_operation_cell S) n) q (subst (λ (n : ℕ). IsSoundMeaning M Lawful n size) b s)
 
-module _ (S : Setup) (Lawful : List ℕ → Type 0) (sound : Sound S.meaning Lawful (base S) S.cells) (known : List (Option ℕ)) (op xs : List ℕ) (size : length xs ≡ S.cells) (lawful : Lawful xs) (agrees : Agrees known xs) where
-  walk_fits : (r : Walked) → S.meaning.walk known op ≡ r → Fits S.meaning (base S) S.cells known xs op r
-  walk_fits r e = subst (λ (r : Walked). Fits S.meaning (base S) S.cells known xs op r) e (sound.walks known xs op size lawful agrees)
+module _ (S : Setup) (Lawful : List ℕ → Type 0) (sound : IsSoundMeaning S.meaning Lawful (first_operation_cell S) S.cells) (known : List (Option ℕ)) (op xs : List ℕ) (size : length xs ≡ S.cells) (lawful : Lawful xs) (agrees : Agrees known xs) where
+  walk_fits : (r : WalkEnd) → S.meaning.walk known op ≡ r → WalkFits S.meaning (first_operation_cell S) S.cells known xs op r
+  walk_fits r e = subst (λ (r : WalkEnd). WalkFits S.meaning (first_operation_cell S) S.cells known xs op r) e (sound.walks known xs op size lawful agrees)
 
   -- a run that needs a cell
   pub needs_cell : (a : ℕ) → S.meaning.walk known op ≡ Needs a → a < S.cells
   needs_cell a e = (walk_fits (Needs a) e).1
 
   -- a run that is over: the own cells come behind what it wrote
-  pub own_behind : (i ticket : ℕ) (es : List (ℕ × ℕ)) (r : RawReply) → i < S.callers → length op ≤ S.instrs → ticket < PAYLOADS → base S ≤ S.cells → S.meaning.walk known op ≡ Gives es r
+  pub own_behind : (i ticket : ℕ) (es : List (ℕ × ℕ)) (r : RawReply) → i < S.callers → length op ≤ S.instrs → ticket < PAYLOADS → first_operation_cell S ≤ S.cells → S.meaning.walk known op ≡ Gives es r
       → put_all es (own_cells (ticket_cell S i) ticket (length op) r) ≡ es ++ own_cells (ticket_cell S i) ticket (length op) r
   own_behind i ticket es r h c t b e = put_all_apart es (own_cells (ticket_cell S i) ticket (length op) r) (whole_log S i ticket (length op) xs op es r h c t b (walk_fits (Gives es r) e)).once
 
 -- where a run needs a cell the place before doesn't matter
-pub read_anywhere : (m : Data) (p : Place) (r : Walked) → read_ran (record m { place = p }) r ≡ read_ran m r
+pub read_anywhere : (m : CallState) (p : Place) (r : WalkEnd) → after_read_run (record m { place = p }) r ≡ after_read_run m r
 read_anywhere m p (Needs a) = refl
 read_anywhere m p (Gives es r) = refl
 
 -- places that a shape marks
-pub mark_true : (shape j : ℕ) → shape / 2 ^ j % 2 ≡ 1 → marked shape j ≡ true
-unfolding marked
+pub mark_true : (shape j : ℕ) → shape / 2 ^ j % 2 ≡ 1 → is_marked shape j ≡ true
+unfolding is_marked
 mark_true shape j e = same_test (shape / 2 ^ j % 2) 1 e
 
-pub mark_false : (shape j : ℕ) → (shape / 2 ^ j % 2 ≡ 1 → ⊥) → marked shape j ≡ false
-unfolding marked
+pub mark_false : (shape j : ℕ) → (shape / 2 ^ j % 2 ≡ 1 → ⊥) → is_marked shape j ≡ false
+unfolding is_marked
 mark_false shape j e = other_test (shape / 2 ^ j % 2) 1 e
 
-pub mark_here : (shape j n : ℕ) → 0 < n → marked shape j ≡ true → first_mark shape j n ≡ Some j
+pub mark_here : (shape j n : ℕ) → 0 < n → is_marked shape j ≡ true → first_marked_place shape j n ≡ Some j
 mark_here shape j zero l e = absurd (omega arith)
 mark_here shape j (suc n) l e = rw e refl
 
-pub mark_later : (shape j n k : ℕ) → n ≡ k + 1 → marked shape j ≡ false → first_mark shape j n ≡ first_mark shape (j + 1) k
+pub mark_later : (shape j n k : ℕ) → n ≡ k + 1 → is_marked shape j ≡ false → first_marked_place shape j n ≡ first_marked_place shape (j + 1) k
 mark_later shape j zero k l e = absurd (omega arith)
 mark_later shape j (suc n) k l e = let q : n ≡ k = omega arith in rw (e, q) refl
 
 -- what a script of partial memory writes
-pub wrote_script : (p : Pad) (a v : ℕ) → (wrote p a v).script ≡ put p.script a v
-unfolding wrote
+pub wrote_script : (p : Part) (a v : ℕ) → (write p a v).script ≡ put_pair p.script a v
+unfolding write
 wrote_script p a v = refl
 
 -- a cell that neither script nor batch wrote
-pub newest_known : (p : Pad) (a : ℕ) → p.script ≡ [] → value_at p.batch a ≡ None → newest p a ≡ get_or p.known a None
-unfolding newest
+pub newest_known : (p : Part) (a : ℕ) → p.script ≡ [] → value_for p.batch a ≡ None → newest_at p a ≡ get_or p.known a None
+unfolding newest_at
 newest_known p a e n = rw (e, n) refl
 
 -- one number more of a reply
-pub put_listed : (ds : List (ℕ × ℕ)) (a : ℕ) (vs : List ℕ) (j : ℕ) → j < length vs → put_all ds (listed a (take (j + 1) vs)) ≡ put (put_all ds (listed a (take j vs))) (a + j) (get_or vs j 0)
-put_listed ds a vs j l = ap (λ (k : ℕ). put_all ds (listed a (take k vs))) (let z : j + 1 ≡ suc j = omega arith in z) ∙ ap (put_all ds) (more a vs j l) ∙ put_all_append ds (listed a (take j vs)) ((a + j, get_or vs j 0) ∷ [])
+pub put_listed : (ds : List (ℕ × ℕ)) (a : ℕ) (vs : List ℕ) (j : ℕ) → j < length vs → put_all ds (cells_from a (take (j + 1) vs)) ≡ put_pair (put_all ds (cells_from a (take j vs))) (a + j) (get_or vs j 0)
+put_listed ds a vs j l = ap (λ (k : ℕ). put_all ds (cells_from a (take k vs))) (let z : j + 1 ≡ suc j = omega arith in z) ∙ ap (put_all ds) (more a vs j l) ∙ put_all_append ds (cells_from a (take j vs)) ((a + j, get_or vs j 0) ∷ [])
   where
-    more : (a : ℕ) (vs : List ℕ) (j : ℕ) → j < length vs → listed a (take (suc j) vs) ≡ listed a (take j vs) ++ (a + j, get_or vs j 0) ∷ []
+    more : (a : ℕ) (vs : List ℕ) (j : ℕ) → j < length vs → cells_from a (take (suc j) vs) ≡ cells_from a (take j vs) ++ (a + j, get_or vs j 0) ∷ []
     more a [] j l = absurd (omega arith)
     more a (v ∷ vs) zero l = let z : a ≡ a + 0 = omega arith in ap (λ (k : ℕ). (k, v) ∷ []) z
     more a (v ∷ vs) (suc j) l =
         let z : a + 1 + j ≡ a + suc j = omega arith in
-        ap (λ (xs : List (ℕ × ℕ)). (a, v) ∷ xs) (more (a + 1) vs j (omega arith) ∙ ap (λ (k : ℕ). listed (a + 1) (take j vs) ++ (k, get_or vs j 0) ∷ []) z)
+        ap (λ (xs : List (ℕ × ℕ)). (a, v) ∷ xs) (more (a + 1) vs j (omega arith) ∙ ap (λ (k : ℕ). cells_from (a + 1) (take j vs) ++ (k, get_or vs j 0) ∷ []) z)
 
 -- one entry more of a part of a log
-pub put_part : (ds es : List (ℕ × ℕ)) (from j : ℕ) → from ≤ j → j < length es → put_all ds (drop from (take (j + 1) es)) ≡ put (put_all ds (drop from (take j es))) (get_or es j (0, 0)).0 (get_or es j (0, 0)).1
+pub put_part : (ds es : List (ℕ × ℕ)) (from j : ℕ) → from ≤ j → j < length es → put_all ds (drop from (take (j + 1) es)) ≡ put_pair (put_all ds (drop from (take j es))) (get_or es j (0, 0)).0 (get_or es j (0, 0)).1
 put_part ds es from j p l =
     let size : length (take j es) ≡ j = length-take-le j es (omega arith) in
     ap (λ (xs : List (ℕ × ℕ)). put_all ds (drop from xs)) (take_more es j (0, 0) l)
@@ -155,10 +155,10 @@ pub put_no_part : (ds es : List (ℕ × ℕ)) (from : ℕ) → put_all ds (drop 
 put_no_part ds es from = ap (put_all ds) (drop_all from (take from es) (omega (arith, length-take from es)))
 
 -- the parts of a log, going round
-pub put_round : (ds es : List (ℕ × ℕ)) (f n : ℕ) → length es ≡ n → put_all (put_all ds (drop f (take n es))) (drop 0 (take f es)) ≡ put_all ds (turned f es)
+pub put_round : (ds es : List (ℕ × ℕ)) (f n : ℕ) → length es ≡ n → put_all (put_all ds (drop f (take n es))) (drop 0 (take f es)) ≡ put_all ds (rotated f es)
 put_round ds es f n e = ap (λ (xs : List (ℕ × ℕ)). put_all (put_all ds (drop f xs)) (take f es)) (take_all n es (omega arith)) ∙ sym (put_all_append ds (drop f es) (take f es))
 
-pub turned_none : (es : List (ℕ × ℕ)) (f : ℕ) → length es ≡ 0 → turned f es ≡ []
+pub turned_none : (es : List (ℕ × ℕ)) (f : ℕ) → length es ≡ 0 → rotated f es ≡ []
 turned_none es f e = ap (λ (xs : List (ℕ × ℕ)). xs ++ take f es) (drop_all f es (omega arith)) ∙ none (take f es) (omega (arith, length-take f es))
   where
     none : (xs : List (ℕ × ℕ)) → length xs ≡ 0 → xs ≡ []
@@ -166,18 +166,18 @@ turned_none es f e = ap (λ (xs : List (ℕ × ℕ)). xs ++ take f es) (drop_all
     none (x ∷ xs) q = absurd (omega arith)
 
 -- going round names no cell twice either
-pub once_turned : (es : List (ℕ × ℕ)) (f : ℕ) → Once es → Once (turned f es)
+pub once_turned : (es : List (ℕ × ℕ)) (f : ℕ) → HasDistinctCells es → HasDistinctCells (rotated f es)
 once_turned es f o = once_append (drop f es) (take f es) behind before apart
   where
     size : length (drop f es) ≡ length es - f
     size = length-drop f es
 
-    behind : Once (drop f es)
+    behind : HasDistinctCells (drop f es)
     behind j k l u q =
         let z : f + j ≡ f + k = o (f + j) (f + k) (omega (arith, size)) (omega (arith, size)) (ap (λ (e : ℕ × ℕ). e.0) (sym (get_or-drop f es j (0, 0))) ∙ q ∙ ap (λ (e : ℕ × ℕ). e.0) (get_or-drop f es k (0, 0))) in
         omega (arith, size)
 
-    before : Once (take f es)
+    before : HasDistinctCells (take f es)
     before j k l u q =
         let s = length-take f es in
         o j k (omega (arith, s)) (omega (arith, s)) (ap (λ (e : ℕ × ℕ). e.0) (sym (get_or-take f es j (0, 0) (omega (arith, s)))) ∙ q ∙ ap (λ (e : ℕ × ℕ). e.0) (get_or-take f es k (0, 0) (omega (arith, s))))

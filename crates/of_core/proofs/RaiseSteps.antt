@@ -4,21 +4,21 @@ use Rattle.std.proofs.lemmas.Bool.{cases_eq, cases_lt, cases_order}
 use Rattle.std.proofs.lemmas.Bool.Decides.{nat_tests}
 use Rattle.std.proofs.lemmas.List.{append-nil}
 use Rattle.of_cell.specs.declared.word.TheConstants.{PAYLOADS}
-use Rattle.of_cell.specs.Words.{word, seq, pay}
+use Rattle.of_cell.specs.Words.{pack, seq_of, payload_of}
 use Rattle.of_cell.proofs.Order.{seq_word, pay_word, seq_mono, word_later, word_next, word_eta}
-use Rattle.of_mem.specs.Meaning.{Sound}
+use Rattle.of_mem.specs.Meaning.{IsSoundMeaning}
 use Rattle.of_core.specs.declared.place.Place.{Place}
 use Rattle.of_core.specs.declared.place.Place.TheVariants.{RaiseOld, StoreLog, RaiseLog, RaiseRequest, ExchangeCurrent, RaiseCurrent, RaiseTarget, RaiseClosed}
-use Rattle.of_core.specs.Table.{Setup, request_at, data_at, log_at, base, durable_at, current_word, request_of, cell, log_word, durable_word, durable_request, durable_cell, durable_log, last, holder, risen}
-use Rattle.of_core.specs.Machine.{Data, entry, log_words}
-use Rattle.of_core.specs.Steps.{after_raise_log, next_entry, after_raise_current, after_raise_closed, took_at}
-use Rattle.of_core.specs.World.{Read, World, Batch, Start, stepped_on}
-use Rattle.of_core.specs.History.{batch}
-use Rattle.of_core.specs.Shared.{IsRequest, IsLogWord, Shared, Held}
-use Rattle.of_core.specs.Rounds.{Helper, Keeps, Begun, Round, Past, Calm}
-use Rattle.of_core.specs.Transaction.{Applies, Mode, Logs}
-use Rattle.of_core.specs.Invariant.{At, Core, IsLoaded}
-use Rattle.of_core.specs.Moves.{Goes, Moves}
+use Rattle.of_core.specs.Table.{Setup, request_at, data_at, log_at, first_operation_cell, durable_at, current_word, request_of, data_word, log_word_of, durable_word, durable_request, durable_cell, durable_log, committed_seq, committed_owner, durable_seq}
+use Rattle.of_core.specs.Machine.{CallState, log_entry, log_words}
+use Rattle.of_core.specs.Steps.{after_raise_log, next_entry, after_raise_current, after_raise_closed, take_word_at}
+use Rattle.of_core.specs.World.{Read, Moment, Batch, TableStart, after_counted_step}
+use Rattle.of_core.specs.History.{batch_at}
+use Rattle.of_core.specs.Shared.{IsRequest, IsLogWord, WordsMatchHistory, WasHeldByCell}
+use Rattle.of_core.specs.Rounds.{MayHelp, KnowsOwnRequest, IsAnnounced, IsInRound, IsPastOwnTicket, HasNothingUnderWay}
+use Rattle.of_core.specs.Transaction.{IsApplying, AppliesAs, IsStoringLog}
+use Rattle.of_core.specs.Invariant.{HoldsAtPlace, MeetsCore, IsLoaded}
+use Rattle.of_core.specs.Moves.{KeepsGuarantee, Guarantees}
 use Rattle.of_core.proofs.Logs.{length-log_words}
 use Rattle.of_core.proofs.Raises.{vs, behind, table, here, rises, low, current_same, req_same, cell_same, log_same, raise_shared}
 use Rattle.of_core.proofs.Assembling.{assemble_read}
@@ -26,38 +26,38 @@ use Rattle.of_core.proofs.Tries.{resumed_at}
 use Rattle.of_core.proofs.Rounds.{quiet_from}
 use Rattle.of_core.proofs.Stability.{at_stable, loaded_stable, log_in, same_row}
 
-module _ (S : Setup) (Lawful : List ℕ → Type 0) (B : Start) where
+module _ (S : Setup) (Lawful : List ℕ → Type 0) (B : TableStart) where
   -- a raise is no machine's, so it leaves what is true of each
-  moves_raise : (ws : List ℕ) (bs : List Batch) (g : Shared S Lawful B ws bs) (c v : ℕ) (e : IsLoaded S B ws bs (c, v)) (i : ℕ) → Moves S B i ws bs (vs S Lawful B ws bs g c v e) bs
+  moves_raise : (ws : List ℕ) (bs : List Batch) (g : WordsMatchHistory S Lawful B ws bs) (c v : ℕ) (e : IsLoaded S B ws bs (c, v)) (i : ℕ) → Guarantees S B i ws bs (vs S Lawful B ws bs g c v e) bs
   moves_raise ws bs g c v e i = record {
-    same = λ q. ap pay (current_same S Lawful B ws bs g c v e);
+    same = λ q. ap payload_of (current_same S Lawful B ws bs g c v e);
     states = λ k l m. refl;
     batches = λ k l m. refl;
     limit = rw (current_same S Lawful B ws bs g c v e) g.counted.limit;
-    newer = λ k l m. absurd (omega (arith, ap seq (current_same S Lawful B ws bs g c v e)));
-    tickets = λ k j l m. absurd (omega (arith, ap seq (current_same S Lawful B ws bs g c v e)));
-    snapshot = λ k j l m. absurd (omega (arith, ap seq (current_same S Lawful B ws bs g c v e)));
+    newer = λ k l m. absurd (omega (arith, ap seq_of (current_same S Lawful B ws bs g c v e)));
+    tickets = λ k j l m. absurd (omega (arith, ap seq_of (current_same S Lawful B ws bs g c v e)));
+    snapshot = λ k j l m. absurd (omega (arith, ap seq_of (current_same S Lawful B ws bs g c v e)));
     script_of = λ j x l u. inl (behind S Lawful B ws bs g c v e j x);
     announcements = λ j l. inl (behind S Lawful B ws bs g c v e j S.instrs);
-    newer_owner = λ k l m. absurd (omega (arith, ap seq (current_same S Lawful B ws bs g c v e)));
+    newer_owner = λ k l m. absurd (omega (arith, ap seq_of (current_same S Lawful B ws bs g c v e)));
     requests = λ j l n. inl (req_same S Lawful B ws bs g c v e j l);
     changes = λ a l. inl (cell_same S Lawful B ws bs g c v e a l);
     logs = λ j l n x u. log_same S Lawful B ws bs g c v e j x l u;
     log_how = λ j x l u. inl (log_same S Lawful B ws bs g c v e j x l u);
-    newer_logs = λ k x l m. absurd (omega (arith, ap seq (current_same S Lawful B ws bs g c v e)));
+    newer_logs = λ k x l m. absurd (omega (arith, ap seq_of (current_same S Lawful B ws bs g c v e)));
     rise = λ x l. omega (arith, table S Lawful B ws bs g c v e x l);
     durs = λ x l. rises S Lawful B ws bs g c v e x;
     low = low S Lawful B ws bs g c v e;
   }
 
   -- what a raise to a word that the cell has held leaves
-  abbrev pub raised : World → ℕ → ℕ → World
+  abbrev pub raised : Moment → ℕ → ℕ → Moment
   raised w c v = record { words = set w.words (durable_at S c) (max (durable_word S w.words c) v); machines = w.machines; batches = w.batches; reads = w.reads; loaded = w.loaded }
 
-  pub loaded_raise : (w : World) → (g : Core S Lawful B w) → (c v : ℕ) → (e : IsLoaded S B w.words w.batches (c, v)) → (d : ℕ × ℕ) → IsLoaded S B w.words w.batches d → IsLoaded S B (raised w c v).words w.batches d
+  pub loaded_raise : (w : Moment) → (g : MeetsCore S Lawful B w) → (c v : ℕ) → (e : IsLoaded S B w.words w.batches (c, v)) → (d : ℕ × ℕ) → IsLoaded S B w.words w.batches d → IsLoaded S B (raised w c v).words w.batches d
   loaded_raise w g c v e d l = loaded_stable S Lawful B 0 w.words w.batches (vs S Lawful B w.words w.batches g.shared c v e) w.batches (moves_raise w.words w.batches g.shared c v e 0) g.shared (raise_shared S Lawful B w.words w.batches g.shared c v e).kinds d l
 
-  pub raise_kept : (w : World) → Core S Lawful B w → (c v : ℕ) → IsLoaded S B w.words w.batches (c, v) → Core S Lawful B (raised w c v)
+  pub raise_kept : (w : Moment) → MeetsCore S Lawful B w → (c v : ℕ) → IsLoaded S B w.words w.batches (c, v) → MeetsCore S Lawful B (raised w c v)
   raise_kept w g c v e = record {
     shared = raise_shared S Lawful B w.words w.batches g.shared c v e;
     members = g.members;
@@ -66,13 +66,13 @@ module _ (S : Setup) (Lawful : List ℕ → Type 0) (B : Start) where
   }
 
   -- the machine m of caller i raises
-  module _ (w : World) (g : Core S Lawful B w) (i : ℕ) (m : Data) (h : i < S.callers) where
+  module _ (w : Moment) (g : MeetsCore S Lawful B w) (i : ℕ) (m : CallState) (h : i < S.callers) where
     -- what its place says stays behind the raise
-    stays : (p : Place) → At S B w.words w.batches i m p → (c v : ℕ) (e : IsLoaded S B w.words w.batches (c, v)) → At S B (raised w c v).words w.batches i m p
+    stays : (p : Place) → HoldsAtPlace S B w.words w.batches i m p → (c v : ℕ) (e : IsLoaded S B w.words w.batches (c, v)) → HoldsAtPlace S B (raised w c v).words w.batches i m p
     stays p a c v e = at_stable S Lawful B (i + 1) w.words w.batches (vs S Lawful B w.words w.batches g.shared c v e) w.batches (moves_raise w.words w.batches g.shared c v e (i + 1)) g.shared i h (λ z. omega arith) m p a
 
     -- a word of one's request
-    req_loaded : (j v : ℕ) → j < S.callers → Keeps B w.words w.batches j v → IsLoaded S B w.words w.batches (request_at j, v)
+    req_loaded : (j v : ℕ) → j < S.callers → KnowsOwnRequest B w.words w.batches j v → IsLoaded S B w.words w.batches (request_at j, v)
     req_loaded j v l u = record {
       place = omega arith;
       low = u.0;
@@ -83,16 +83,16 @@ module _ (S : Setup) (Lawful : List ℕ → Type 0) (B : Start) where
     }
 
     -- behind the raise it goes on as n
-    goes_on : {rs : List Read} → (p : Place) → At S B w.words w.batches i m p → (c v : ℕ) (e : IsLoaded S B w.words w.batches (c, v)) (n : Data)
-        → (At S B (raised w c v).words w.batches i m p → v ≤ durable_word S (raised w c v).words c → (durable_word S (raised w c v).words c ≤ get_or (raised w c v).words c 0) → At S B (raised w c v).words w.batches i n n.place)
-        → Goes S Lawful B i w (record { words = set w.words (durable_at S c) (max (durable_word S w.words c) v); machines = set w.machines i n; batches = w.batches ++ []; reads = rs; loaded = w.loaded })
+    goes_on : {rs : List Read} → (p : Place) → HoldsAtPlace S B w.words w.batches i m p → (c v : ℕ) (e : IsLoaded S B w.words w.batches (c, v)) (n : CallState)
+        → (HoldsAtPlace S B (raised w c v).words w.batches i m p → v ≤ durable_word S (raised w c v).words c → (durable_word S (raised w c v).words c ≤ get_or (raised w c v).words c 0) → HoldsAtPlace S B (raised w c v).words w.batches i n n.place)
+        → KeepsGuarantee S Lawful B i w (record { words = set w.words (durable_at S c) (max (durable_word S w.words c) v); machines = set w.machines i n; batches = w.batches ++ []; reads = rs; loaded = w.loaded })
     goes_on p a c v e n f = record {
       core = (assemble_read S Lawful B (raised w c v) (raise_kept w g c v e) i h _ _ n refl (append-nil w.batches)
           (f (stays p a c v e) (omega (arith, here S Lawful B w.words w.batches g.shared c v e)) (low S Lawful B w.words w.batches g.shared c v e c e.place))).core;
       moves = rw (append-nil w.batches) (moves_raise w.words w.batches g.shared c v e i);
     }
 
-    begun_to : (xs : List ℕ) (n : Data) → Begun S B xs w.batches i m → n.caller ≡ m.caller → n.made ≡ m.made → n.op ≡ m.op → n.rounds ≡ m.rounds → n.first ≡ m.first → Keeps B xs w.batches i n.kept → Begun S B xs w.batches i n
+    begun_to : (xs : List ℕ) (n : CallState) → IsAnnounced S B xs w.batches i m → n.caller ≡ m.caller → n.made ≡ m.made → n.op ≡ m.op → n.rounds ≡ m.rounds → n.first ≡ m.first → KnowsOwnRequest B xs w.batches i n.kept → IsAnnounced S B xs w.batches i n
     begun_to xs n p a b o r f k = record {
       caller = a ∙ p.caller;
       ticket = rw b p.ticket;
@@ -107,7 +107,7 @@ module _ (S : Setup) (Lawful : List ℕ → Type 0) (B : Start) where
       known = rw (r, f) p.known;
     }
 
-    round_to : (xs : List ℕ) (n : Data) → Round S B xs w.batches i m → n.caller ≡ m.caller → n.made ≡ m.made → n.op ≡ m.op → n.seq ≡ m.seq → n.owner ≡ m.owner → n.rounds ≡ m.rounds → n.first ≡ m.first → Keeps B xs w.batches i n.kept → Round S B xs w.batches i n
+    round_to : (xs : List ℕ) (n : CallState) → IsInRound S B xs w.batches i m → n.caller ≡ m.caller → n.made ≡ m.made → n.op ≡ m.op → n.seq ≡ m.seq → n.owner ≡ m.owner → n.rounds ≡ m.rounds → n.first ≡ m.first → KnowsOwnRequest B xs w.batches i n.kept → IsInRound S B xs w.batches i n
     round_to xs n p a b o c d r f k = record {
       begun = begun_to xs n p.begun a b o r f k;
       from = rw c p.from;
@@ -122,7 +122,7 @@ module _ (S : Setup) (Lawful : List ℕ → Type 0) (B : Start) where
       few = rw r p.few;
     }
 
-    past_to : (xs : List ℕ) (n : Data) → Past S B xs w.batches i m → n.caller ≡ m.caller → n.made ≡ m.made → n.op ≡ m.op → n.seq ≡ m.seq → n.owner ≡ m.owner → n.rounds ≡ m.rounds → n.first ≡ m.first → n.known ≡ m.known → Keeps B xs w.batches i n.kept → Past S B xs w.batches i n
+    past_to : (xs : List ℕ) (n : CallState) → IsPastOwnTicket S B xs w.batches i m → n.caller ≡ m.caller → n.made ≡ m.made → n.op ≡ m.op → n.seq ≡ m.seq → n.owner ≡ m.owner → n.rounds ≡ m.rounds → n.first ≡ m.first → n.known ≡ m.known → KnowsOwnRequest B xs w.batches i n.kept → IsPastOwnTicket S B xs w.batches i n
     past_to xs n p a b o c d r f e k = record {
       looks = record {
         round = round_to xs n p.looks.round a b o c d r f k;
@@ -134,12 +134,12 @@ module _ (S : Setup) (Lawful : List ℕ → Type 0) (B : Start) where
       left = rw (b, c) p.left;
     }
 
-    pub raise_old_kept : At S B w.words w.batches i m RaiseOld → Goes S Lawful B i w (stepped_on S i m RaiseOld w)
+    pub raise_old_kept : HoldsAtPlace S B w.words w.batches i m RaiseOld → KeepsGuarantee S Lawful B i w (after_counted_step S i m RaiseOld w)
     raise_old_kept a =
         goes_on RaiseOld a (request_at m.caller) m.kept (subst (λ (j : ℕ). IsLoaded S B w.words w.batches (request_at j, m.kept)) (sym a.0.looks.round.begun.caller) (req_loaded i m.kept h a.0.looks.round.begun.kept))
-        (took_at S m (durable_request S w.words m.caller) RaiseOld) (λ b u t. to _ b)
+        (take_word_at S m (durable_request S w.words m.caller) RaiseOld) (λ b u t. to _ b)
       where
-        to : (xs : List ℕ) → At S B xs w.batches i m RaiseOld → At S B xs w.batches i (took_at S m (durable_request S w.words m.caller) RaiseOld) (StoreLog 0)
+        to : (xs : List ℕ) → HoldsAtPlace S B xs w.batches i m RaiseOld → HoldsAtPlace S B xs w.batches i (take_word_at S m (durable_request S w.words m.caller) RaiseOld) (StoreLog 0)
         to xs b = (
           record {
             stored = record {
@@ -156,13 +156,13 @@ module _ (S : Setup) (Lawful : List ℕ → Type 0) (B : Start) where
           omega arith,
         )
 
-    pub raise_log_kept : (x : ℕ) → At S B w.words w.batches i m (RaiseLog x) → Goes S Lawful B i w (stepped_on S i m (RaiseLog x) w)
+    pub raise_log_kept : (x : ℕ) → HoldsAtPlace S B w.words w.batches i m (RaiseLog x) → KeepsGuarantee S Lawful B i w (after_counted_step S i m (RaiseLog x) w)
     raise_log_kept x a =
         goes_on (RaiseLog x) a (log_at S m.caller x) new loads
-        (took_at S m (durable_log S w.words m.caller x) (RaiseLog x)) (λ b u t. to (raised w (log_at S m.caller x) new).words (nat_lt (x + 1) (length (log_words m.log))) refl b u t)
+        (take_word_at S m (durable_log S w.words m.caller x) (RaiseLog x)) (λ b u t. to (raised w (log_at S m.caller x) new).words (nat_lt (x + 1) (length (log_words m.log))) refl b u t)
       where
         new : ℕ
-        new = word (m.seq + 1) (get_or (log_words m.log) x 0)
+        new = pack (m.seq + 1) (get_or (log_words m.log) x 0)
 
         ci : m.caller ≡ i
         ci = a.0.stored.past.looks.round.begun.caller
@@ -174,32 +174,32 @@ module _ (S : Setup) (Lawful : List ℕ → Type 0) (B : Start) where
         loads = subst (λ (j : ℕ). IsLoaded S B w.words w.batches (log_at S j x, new)) (sym ci)
             (record { place = log_in S i x h x_in; low = omega (arith, a.0.stored.each x (omega arith)); was_cur = λ q. absurd (omega arith); held = λ y l q. absurd (omega arith); request = λ y l q. absurd (omega arith); log = λ y z l u q. word_at y z (same_place y z u q) })
           where
-            now : log_word S w.words i x ≡ new
+            now : log_word_of S w.words i x ≡ new
             now = a.0.stored.each x (omega arith)
 
             same_place : (y z : ℕ) → z < 2 * S.cells + 1 → log_at S i x ≡ log_at S y z → (i ≡ y) × (x ≡ z)
             same_place y z u q = let r : i ≡ y = same_row i y (2 * S.cells + 1) x z x_in u (omega arith) in (r, omega (arith, ap (λ (k : ℕ). k * (2 * S.cells + 1)) r))
 
-            word_at : (y z : ℕ) → (i ≡ y) × (x ≡ z) → IsLogWord B w.words w.batches y z new × (seq new ≡ seq (log_word S w.words y z) → new ≡ log_word S w.words y z)
-            word_at y z r = subst (λ (k : ℕ). IsLogWord B w.words w.batches k z new × (seq new ≡ seq (log_word S w.words k z) → new ≡ log_word S w.words k z)) r.0
-                (subst (λ (k : ℕ). IsLogWord B w.words w.batches i k new × (seq new ≡ seq (log_word S w.words i k) → new ≡ log_word S w.words i k)) r.1
+            word_at : (y z : ℕ) → (i ≡ y) × (x ≡ z) → IsLogWord B w.words w.batches y z new × (seq_of new ≡ seq_of (log_word_of S w.words y z) → new ≡ log_word_of S w.words y z)
+            word_at y z r = subst (λ (k : ℕ). IsLogWord B w.words w.batches k z new × (seq_of new ≡ seq_of (log_word_of S w.words k z) → new ≡ log_word_of S w.words k z)) r.0
+                (subst (λ (k : ℕ). IsLogWord B w.words w.batches i k new × (seq_of new ≡ seq_of (log_word_of S w.words i k) → new ≡ log_word_of S w.words i k)) r.1
                 (subst (λ (k : ℕ). IsLogWord B w.words w.batches i x k) now (g.shared.kinds.logs i x h x_in), λ q. sym now))
 
-        to : (xs : List ℕ) (b : Bool) → nat_lt (x + 1) (length (log_words m.log)) ≡ b → At S B xs w.batches i m (RaiseLog x) → new ≤ durable_word S xs (log_at S m.caller x) → durable_word S xs (log_at S m.caller x) ≤ get_or xs (log_at S m.caller x) 0
-            → At S B xs w.batches i (after_raise_log m x b) (after_raise_log m x b).place
+        to : (xs : List ℕ) (b : Bool) → nat_lt (x + 1) (length (log_words m.log)) ≡ b → HoldsAtPlace S B xs w.batches i m (RaiseLog x) → new ≤ durable_word S xs (log_at S m.caller x) → durable_word S xs (log_at S m.caller x) ≤ get_or xs (log_at S m.caller x) 0
+            → HoldsAtPlace S B xs w.batches i (after_raise_log m x b) (after_raise_log m x b).place
         to xs b e k u t = by b e
           where
             now : durable_log S xs i x ≡ new
-            now = let z : log_word S xs i x ≡ new = k.0.stored.each x (omega arith) in
+            now = let z : log_word_of S xs i x ≡ new = k.0.stored.each x (omega arith) in
                 let u' : new ≤ durable_log S xs i x = rw ci at u in
-                let t' : durable_log S xs i x ≤ log_word S xs i x = rw ci at t in
+                let t' : durable_log S xs i x ≤ log_word_of S xs i x = rw ci at t in
                 omega (arith, z, u', t')
 
-            upto : (y : ℕ) → y < x + 1 → (y ≡ x) ⊎ (y ≡ x → ⊥) → durable_log S xs i y ≡ word (m.seq + 1) (get_or (log_words m.log) y 0)
+            upto : (y : ℕ) → y < x + 1 → (y ≡ x) ⊎ (y ≡ x → ⊥) → durable_log S xs i y ≡ pack (m.seq + 1) (get_or (log_words m.log) y 0)
             upto y l (inl q) = rw q now
             upto y l (inr q) = k.0.stored.durable y (omega arith)
 
-            logs : (n : Data) (z : ℕ) → z ≡ x + 1 → n.caller ≡ m.caller → n.made ≡ m.made → n.op ≡ m.op → n.seq ≡ m.seq → n.owner ≡ m.owner → n.known ≡ m.known → n.kept ≡ m.kept → n.log ≡ m.log → n.raw ≡ m.raw → n.rounds ≡ m.rounds → n.first ≡ m.first → n.calls ≡ m.calls → Logs S B xs w.batches i n z z
+            logs : (n : CallState) (z : ℕ) → z ≡ x + 1 → n.caller ≡ m.caller → n.made ≡ m.made → n.op ≡ m.op → n.seq ≡ m.seq → n.owner ≡ m.owner → n.known ≡ m.known → n.kept ≡ m.kept → n.log ≡ m.log → n.raw ≡ m.raw → n.rounds ≡ m.rounds → n.first ≡ m.first → n.calls ≡ m.calls → IsStoringLog S B xs w.batches i n z z
             logs n z zx a1 b1 c1 d1 e1 f1 k1 g1 h1 r1 s1 t1 = record {
               stored = record {
                 past = past_to xs n k.0.stored.past a1 b1 c1 d1 e1 r1 s1 f1 (rw k1 k.0.stored.past.looks.round.begun.kept);
@@ -213,23 +213,23 @@ module _ (S : Setup) (Lawful : List ℕ → Type 0) (B : Start) where
               shut = k.0.shut;
             }
               where
-                same_word : (y : ℕ) → word (n.seq + 1) (get_or (log_words n.log) y 0) ≡ word (m.seq + 1) (get_or (log_words m.log) y 0)
-                same_word y = ap (λ (q : ℕ). word (q + 1) (get_or (log_words n.log) y 0)) d1 ∙ ap (λ (es : List (ℕ × ℕ)). word (m.seq + 1) (get_or (log_words es) y 0)) g1
+                same_word : (y : ℕ) → pack (n.seq + 1) (get_or (log_words n.log) y 0) ≡ pack (m.seq + 1) (get_or (log_words m.log) y 0)
+                same_word y = ap (λ (q : ℕ). pack (q + 1) (get_or (log_words n.log) y 0)) d1 ∙ ap (λ (es : List (ℕ × ℕ)). pack (m.seq + 1) (get_or (log_words es) y 0)) g1
 
-            by : (b : Bool) → nat_lt (x + 1) (length (log_words m.log)) ≡ b → At S B xs w.batches i (after_raise_log m x b) (after_raise_log m x b).place
+            by : (b : Bool) → nat_lt (x + 1) (length (log_words m.log)) ≡ b → HoldsAtPlace S B xs w.batches i (after_raise_log m x b) (after_raise_log m x b).place
             by true e = (logs (after_raise_log m x true) (x + 1) refl refl refl refl refl refl refl refl refl refl refl refl refl, let z : x + 1 < length (log_words m.log) = grind (arith, nat_tests) in z)
             by false e = logs (after_raise_log m x false) (length (log_words m.log)) (whole (let z : length (log_words m.log) ≤ x + 1 = grind (arith, nat_tests) in z)) refl refl refl refl refl refl refl refl refl refl refl refl
               where
                 whole : length (log_words m.log) ≤ x + 1 → length (log_words m.log) ≡ x + 1
                 whole v = omega (arith, k.1)
 
-    pub raise_request_kept : At S B w.words w.batches i m RaiseRequest → Goes S Lawful B i w (stepped_on S i m RaiseRequest w)
+    pub raise_request_kept : HoldsAtPlace S B w.words w.batches i m RaiseRequest → KeepsGuarantee S Lawful B i w (after_counted_step S i m RaiseRequest w)
     raise_request_kept a =
         goes_on RaiseRequest a (request_at m.caller) new (subst (λ (j : ℕ). IsLoaded S B w.words w.batches (request_at j, new)) (sym ci) (req_loaded i new h (omega (arith, a.1), is_open_word)))
-        (took_at S m (durable_request S w.words m.caller) RaiseRequest) (λ b u t. to (raised w (request_at m.caller) new).words b u t)
+        (take_word_at S m (durable_request S w.words m.caller) RaiseRequest) (λ b u t. to (raised w (request_at m.caller) new).words b u t)
       where
         new : ℕ
-        new = word (m.seq + 1) 0
+        new = pack (m.seq + 1) 0
 
         ci : m.caller ≡ i
         ci = a.0.past.looks.round.begun.caller
@@ -237,7 +237,7 @@ module _ (S : Setup) (Lawful : List ℕ → Type 0) (B : Start) where
         is_open_word : IsRequest B w.words w.batches i new
         is_open_word l = inl (pay_word (m.seq + 1) 0 (omega arith))
 
-        to : (xs : List ℕ) → At S B xs w.batches i m RaiseRequest → new ≤ durable_word S xs (request_at m.caller) → durable_word S xs (request_at m.caller) ≤ get_or xs (request_at m.caller) 0 → At S B xs w.batches i (took_at S m (durable_request S w.words m.caller) RaiseRequest) ExchangeCurrent
+        to : (xs : List ℕ) → HoldsAtPlace S B xs w.batches i m RaiseRequest → new ≤ durable_word S xs (request_at m.caller) → durable_word S xs (request_at m.caller) ≤ get_or xs (request_at m.caller) 0 → HoldsAtPlace S B xs w.batches i (take_word_at S m (durable_request S w.words m.caller) RaiseRequest) ExchangeCurrent
         to xs b u t =
             let u' : new ≤ durable_request S xs i = rw ci at u in
             let t' : durable_request S xs i ≤ request_of xs i = rw ci at t in (
@@ -253,9 +253,9 @@ module _ (S : Setup) (Lawful : List ℕ → Type 0) (B : Start) where
             )
 
     -- what is applied doesn't speak of the place
-    applies_to : (xs : List ℕ) (j k : ℕ) → Applies S B xs w.batches i m j → (n : Data)
+    applies_to : (xs : List ℕ) (j k : ℕ) → IsApplying S B xs w.batches i m j → (n : CallState)
         → n.caller ≡ m.caller → n.made ≡ m.made → n.op ≡ m.op → n.seq ≡ m.seq → n.owner ≡ m.owner → n.log ≡ m.log → n.raw ≡ m.raw → n.helps ≡ m.helps → n.kept ≡ m.kept → n.rounds ≡ m.rounds → n.first ≡ m.first → n.tries ≡ m.tries
-        → ((y : ℕ) → y < k → (m.seq ≤ seq (cell S xs (entry m y).0)) × (m.seq ≤ seq (durable_cell S xs (entry m y).0))) → Applies S B xs w.batches i n k
+        → ((y : ℕ) → y < k → (m.seq ≤ seq_of (data_word S xs (log_entry m y).0)) × (m.seq ≤ seq_of (durable_cell S xs (log_entry m y).0))) → IsApplying S B xs w.batches i n k
     applies_to xs j k p n a b c d e f r hh kk rr ff tt1 done = record {
       mode = mode_of m.helps n.helps hh p.mode;
       after = rw d p.after;
@@ -265,7 +265,7 @@ module _ (S : Setup) (Lawful : List ℕ → Type 0) (B : Start) where
       done = rw (d, f) done;
     }
       where
-        helper : Helper S B xs w.batches i m → Helper S B xs w.batches i n
+        helper : MayHelp S B xs w.batches i m → MayHelp S B xs w.batches i n
         helper (inl q) = inl (round_to xs n q a b c d e rr ff (rw kk q.begun.kept))
         helper (inr q) = inr (record {
           fresh = record { caller = a ∙ q.fresh.caller; ticket = rw b q.fresh.ticket; words = rw c q.fresh.words; some = rw c q.fresh.some; kept = rw kk q.fresh.kept; above = rw b q.fresh.above; quieted = q.fresh.quieted; newer = rw b q.fresh.newer; rounds = rr ∙ q.fresh.rounds };
@@ -273,58 +273,58 @@ module _ (S : Setup) (Lawful : List ℕ → Type 0) (B : Start) where
           few = rw tt1 q.few;
         })
 
-        mode_of : (x y : Bool) → y ≡ x → Mode S B xs w.batches i m x → Mode S B xs w.batches i n y
+        mode_of : (x y : Bool) → y ≡ x → AppliesAs S B xs w.batches i m x → AppliesAs S B xs w.batches i n y
         mode_of true true z q = (helper q.0, rw (d, e) q.1, rw d q.2)
         mode_of false false z q = record { caller = a ∙ q.caller; owner = e ∙ q.owner; says = rw b q.says; upto = rw b q.upto; reached = rw b q.reached; call = rw (b, c, d, r) q.call; asks = rw d q.asks; unowned = rw d q.unowned; logs = rw d q.logs }
         mode_of true false z q = cc
         mode_of false true z q = cc
 
-    pub raise_current_kept : At S B w.words w.batches i m RaiseCurrent → Goes S Lawful B i w (stepped_on S i m RaiseCurrent w)
+    pub raise_current_kept : HoldsAtPlace S B w.words w.batches i m RaiseCurrent → KeepsGuarantee S Lawful B i w (after_counted_step S i m RaiseCurrent w)
     raise_current_kept a =
-        goes_on RaiseCurrent a 0 new loads (took_at S m (durable_word S w.words 0) RaiseCurrent) (λ b u t. to (raised w 0 new).words (nat_lt 0 (length m.log)) refl b u)
+        goes_on RaiseCurrent a 0 new loads (take_word_at S m (durable_word S w.words 0) RaiseCurrent) (λ b u t. to (raised w 0 new).words (nat_lt 0 (length m.log)) refl b u)
       where
         new : ℕ
-        new = word m.seq m.owner
+        new = pack m.seq m.owner
 
         owner_in : m.owner < S.callers
         owner_in = rw (← a.committed) (g.shared.counted.owners m.seq a.after a.upto)
 
-        new_seq : seq new ≡ m.seq
+        new_seq : seq_of new ≡ m.seq
         new_seq = seq_word m.seq m.owner (omega (arith, owner_in, g.shared.few))
 
-        new_pay : pay new ≡ m.owner
+        new_pay : payload_of new ≡ m.owner
         new_pay = pay_word m.seq m.owner (omega (arith, owner_in, g.shared.few))
 
-        under : (m.seq < last w.words) ⊎ (last w.words ≤ m.seq) → new ≤ current_word w.words
+        under : (m.seq < committed_seq w.words) ⊎ (committed_seq w.words ≤ m.seq) → new ≤ current_word w.words
         under (inl l) = omega (arith, word_later m.seq m.owner (current_word w.words) (omega (arith, owner_in, g.shared.few)) l)
         under (inr l) =
-            let e : m.seq ≡ last w.words = omega (arith, a.upto) in
-            let o : m.owner ≡ holder w.words = sym (g.shared.counted.owner (omega (arith, a.after, e)) ∙ subst (λ (k : ℕ). (batch B w.batches k).owner ≡ m.owner) e a.committed) in
-            let z : new ≡ current_word w.words = ap (λ (k : ℕ). word k m.owner) e ∙ ap (word (last w.words)) o ∙ word_eta (current_word w.words) in
+            let e : m.seq ≡ committed_seq w.words = omega (arith, a.upto) in
+            let o : m.owner ≡ committed_owner w.words = sym (g.shared.counted.owner (omega (arith, a.after, e)) ∙ subst (λ (k : ℕ). (batch_at B w.batches k).owner ≡ m.owner) e a.committed) in
+            let z : new ≡ current_word w.words = ap (λ (k : ℕ). pack k m.owner) e ∙ ap (pack (committed_seq w.words)) o ∙ word_eta (current_word w.words) in
             omega arith
 
         loads : IsLoaded S B w.words w.batches (0, new)
         loads = record {
           place = omega arith;
-          low = under (cases_lt m.seq (last w.words));
-          was_cur = λ q. (omega (arith, new_seq, a.after), λ l. new_pay ∙ sym a.committed ∙ ap (λ (k : ℕ). (batch B w.batches k).owner) (sym new_seq), λ q. absurd (omega (arith, new_seq, a.after)));
+          low = under (cases_lt m.seq (committed_seq w.words));
+          was_cur = λ q. (omega (arith, new_seq, a.after), λ l. new_pay ∙ sym a.committed ∙ ap (λ (k : ℕ). (batch_at B w.batches k).owner) (sym new_seq), λ q. absurd (omega (arith, new_seq, a.after)));
           held = λ y l q. absurd (omega arith);
           request = λ y l q. absurd (omega arith);
           log = λ y z l u q. absurd (omega arith);
         }
 
-        to : (xs : List ℕ) (b : Bool) → nat_lt 0 (length m.log) ≡ b → Applies S B xs w.batches i m 0 → new ≤ durable_word S xs 0 → At S B xs w.batches i (after_raise_current m b) (after_raise_current m b).place
+        to : (xs : List ℕ) (b : Bool) → nat_lt 0 (length m.log) ≡ b → IsApplying S B xs w.batches i m 0 → new ≤ durable_word S xs 0 → HoldsAtPlace S B xs w.batches i (after_raise_current m b) (after_raise_current m b).place
         to xs true e k u = (applies_to xs 0 0 k _ refl refl refl refl refl refl refl refl refl refl refl refl k.done, (let z : 0 < length m.log = grind (arith, nat_tests) in z), omega (arith, new_seq, seq_mono new (durable_word S xs 0) u))
         to xs false e k u =
             let z : length m.log ≡ 0 = grind (arith, nat_tests) in
             (applies_to xs 0 (length m.log) k _ refl refl refl refl refl refl refl refl refl refl refl refl (λ y l. absurd (omega arith)), omega (arith, new_seq, seq_mono new (durable_word S xs 0) u))
 
-    pub raise_target_kept : (j f : ℕ) → At S B w.words w.batches i m (RaiseTarget j f) → Goes S Lawful B i w (stepped_on S i m (RaiseTarget j f) w)
+    pub raise_target_kept : (j f : ℕ) → HoldsAtPlace S B w.words w.batches i m (RaiseTarget j f) → KeepsGuarantee S Lawful B i w (after_counted_step S i m (RaiseTarget j f) w)
     raise_target_kept j f a =
-        goes_on (RaiseTarget j f) a (data_at S x) f loads (took_at S m (durable_cell S w.words x) (RaiseTarget j f)) (λ b u t. to (raised w (data_at S x) f).words (nat_lt (j + 1) (length m.log)) refl b u)
+        goes_on (RaiseTarget j f) a (data_at S x) f loads (take_word_at S m (durable_cell S w.words x) (RaiseTarget j f)) (λ b u t. to (raised w (data_at S x) f).words (nat_lt (j + 1) (length m.log)) refl b u)
       where
         x : ℕ
-        x = (entry m j).0
+        x = (log_entry m j).0
 
         x_in : x < S.cells
         x_in = let t = a.0.log.each j a.1 in (subst (λ (e : ℕ × ℕ). (e.0 < S.cells) × (e.1 < PAYLOADS)) t.2 ((g.shared.counted.logs m.seq a.0.after a.0.upto).entries t.0 (0, 0) t.1)).0
@@ -334,19 +334,19 @@ module _ (S : Setup) (Lawful : List ℕ → Type 0) (B : Start) where
           place = omega (arith, x_in);
           low = a.4;
           was_cur = λ q. absurd (omega arith);
-          held = λ y l q. let e : x ≡ y = omega arith in subst (λ (k : ℕ). Held B w.words w.batches k f) e a.5;
+          held = λ y l q. let e : x ≡ y = omega arith in subst (λ (k : ℕ). WasHeldByCell B w.words w.batches k f) e a.5;
           request = λ y l q. absurd (omega arith);
           log = λ y z l u q. absurd (omega (arith, x_in));
         }
 
-        to : (xs : List ℕ) (b : Bool) → nat_lt (j + 1) (length m.log) ≡ b → At S B xs w.batches i m (RaiseTarget j f) → f ≤ durable_word S xs (data_at S x) → At S B xs w.batches i (next_entry m j b) (next_entry m j b).place
+        to : (xs : List ℕ) (b : Bool) → nat_lt (j + 1) (length m.log) ≡ b → HoldsAtPlace S B xs w.batches i m (RaiseTarget j f) → f ≤ durable_word S xs (data_at S x) → HoldsAtPlace S B xs w.batches i (next_entry m j b) (next_entry m j b).place
         to xs b e k u = by b e
           where
-            done : (y : ℕ) → y < j + 1 → (y ≡ j) ⊎ (y ≡ j → ⊥) → (m.seq ≤ seq (cell S xs (entry m y).0)) × (m.seq ≤ seq (durable_cell S xs (entry m y).0))
-            done y l (inl q) = rw q (omega (arith, k.3, seq_mono f (cell S xs x) k.4), omega (arith, k.3, seq_mono f (durable_cell S xs x) u))
+            done : (y : ℕ) → y < j + 1 → (y ≡ j) ⊎ (y ≡ j → ⊥) → (m.seq ≤ seq_of (data_word S xs (log_entry m y).0)) × (m.seq ≤ seq_of (durable_cell S xs (log_entry m y).0))
+            done y l (inl q) = rw q (omega (arith, k.3, seq_mono f (data_word S xs x) k.4), omega (arith, k.3, seq_mono f (durable_cell S xs x) u))
             done y l (inr q) = k.0.done y (omega arith)
 
-            by : (b : Bool) → nat_lt (j + 1) (length m.log) ≡ b → At S B xs w.batches i (next_entry m j b) (next_entry m j b).place
+            by : (b : Bool) → nat_lt (j + 1) (length m.log) ≡ b → HoldsAtPlace S B xs w.batches i (next_entry m j b) (next_entry m j b).place
             by true e = (applies_to xs j (j + 1) k.0 _ refl refl refl refl refl refl refl refl refl refl refl refl (λ y l. done y l (cases_eq y j)), (let z : j + 1 < length m.log = grind (arith, nat_tests) in z), k.2)
             by false e = let z : length m.log ≡ j + 1 = whole (let z : length m.log ≤ j + 1 = grind (arith, nat_tests) in z) in
                 (applies_to xs j (length m.log) k.0 _ refl refl refl refl refl refl refl refl refl refl refl refl (λ y l. done y (omega arith) (cases_eq y j)), k.2)
@@ -355,11 +355,11 @@ module _ (S : Setup) (Lawful : List ℕ → Type 0) (B : Start) where
                 whole v = omega (arith, k.1)
 
   -- behind the last raise of an apply a helper goes on with its round, and an owner's call is answered
-  left_close : (w : World) (g : Core S Lawful B w) (i : ℕ) (m : Data) (h : i < S.callers) → Sound S.meaning Lawful (base S) S.cells → Applies S B w.words w.batches i m (length m.log) → m.seq ≤ risen S w.words → word m.seq 0 < request_of w.words m.owner → word m.seq 1 ≤ durable_request S w.words m.owner
-      → (b d : Bool) → m.helps ≡ b → (m.rounds == 0) ≡ d → At S B w.words w.batches i (after_raise_closed S m b d) (after_raise_closed S m b d).place
-  left_close w g i m h sound a top above high b d eb ed = go b eb (subst (λ (x : Bool). Mode S B w.words w.batches i m x) eb a.mode)
+  left_close : (w : Moment) (g : MeetsCore S Lawful B w) (i : ℕ) (m : CallState) (h : i < S.callers) → IsSoundMeaning S.meaning Lawful (first_operation_cell S) S.cells → IsApplying S B w.words w.batches i m (length m.log) → m.seq ≤ durable_seq S w.words → pack m.seq 0 < request_of w.words m.owner → pack m.seq 1 ≤ durable_request S w.words m.owner
+      → (b d : Bool) → m.helps ≡ b → (m.rounds == 0) ≡ d → HoldsAtPlace S B w.words w.batches i (after_raise_closed S m b d) (after_raise_closed S m b d).place
+  left_close w g i m h sound a top above high b d eb ed = go b eb (subst (λ (x : Bool). AppliesAs S B w.words w.batches i m x) eb a.mode)
     where
-      go : (b : Bool) → m.helps ≡ b → Mode S B w.words w.batches i m b → At S B w.words w.batches i (after_raise_closed S m b d) (after_raise_closed S m b d).place
+      go : (b : Bool) → m.helps ≡ b → AppliesAs S B w.words w.batches i m b → HoldsAtPlace S B w.words w.batches i (after_raise_closed S m b d) (after_raise_closed S m b d).place
       go true e q = resumed_at S Lawful B w g i m h m sound q.0 q.1 q.2 (quiet_from S Lawful B w g i m h m.seq m.owner q.1 (λ l z. omega arith)) d ed
       go false e q = record {
         caller = q.caller;
@@ -371,36 +371,36 @@ module _ (S : Setup) (Lawful : List ℕ → Type 0) (B : Start) where
         told = (a.after, top, a.upto, q.call);
       }
         where
-          above' : word m.seq 0 < request_of w.words i
+          above' : pack m.seq 0 < request_of w.words i
           above' = rw q.owner at above
 
-          closed : request_of w.words i ≡ word m.seq 1
+          closed : request_of w.words i ≡ pack m.seq 1
           closed = which q.asks
             where
-              which : (request_of w.words i ≡ word m.seq 0) ⊎ (request_of w.words i ≡ word m.seq 1) → request_of w.words i ≡ word m.seq 1
+              which : (request_of w.words i ≡ pack m.seq 0) ⊎ (request_of w.words i ≡ pack m.seq 1) → request_of w.words i ≡ pack m.seq 1
               which (inl z) = absurd (omega (arith, above'))
               which (inr z) = z
 
           level : durable_request S w.words i ≡ request_of w.words i
-          level = let t : durable_request S w.words i ≤ request_of w.words i = g.shared.durable.low (request_at i) (omega arith) in let u : word m.seq 1 ≤ durable_request S w.words i = rw q.owner at high in omega (arith, closed)
+          level = let t : durable_request S w.words i ≤ request_of w.words i = g.shared.durable.low (request_at i) (omega arith) in let u : pack m.seq 1 ≤ durable_request S w.words i = rw q.owner at high in omega (arith, closed)
 
-          calm : Calm S B w.words w.batches i (last w.words)
+          calm : HasNothingUnderWay S B w.words w.batches i (committed_seq w.words)
           calm = record {
-            own = omega (arith, ap seq closed, seq_word m.seq 1 (omega arith), a.upto);
+            own = omega (arith, ap seq_of closed, seq_word m.seq 1 (omega arith), a.upto);
             level = level;
             shut = λ k l u o. shut k l u o (cases_order k m.seq);
             logs = λ y u. omega (arith, q.logs y u, a.upto);
           }
             where
-              shut : (k : ℕ) → B.seq < k → k ≤ last w.words → (batch B w.batches k).owner ≡ i → (k ≡ m.seq) ⊎ ((k < m.seq) ⊎ (m.seq < k)) → word k 0 < request_of w.words i
+              shut : (k : ℕ) → B.seq < k → k ≤ committed_seq w.words → (batch_at B w.batches k).owner ≡ i → (k ≡ m.seq) ⊎ ((k < m.seq) ⊎ (m.seq < k)) → pack k 0 < request_of w.words i
               shut k l u o (inl z) = rw z above'
-              shut k l u o (inr (inl z)) = omega (arith, closed, word_later k 0 (word m.seq 1) (omega arith) (omega (arith, seq_word m.seq 1 (omega arith))))
+              shut k l u o (inr (inl z)) = omega (arith, closed, word_later k 0 (pack m.seq 1) (omega arith) (omega (arith, seq_word m.seq 1 (omega arith))))
               shut k l u o (inr (inr z)) = absurd (q.unowned k z u o)
 
-  pub raise_closed_kept : (w : World) (g : Core S Lawful B w) (i : ℕ) (m : Data) (h : i < S.callers) → Sound S.meaning Lawful (base S) S.cells → At S B w.words w.batches i m RaiseClosed → Goes S Lawful B i w (stepped_on S i m RaiseClosed w)
+  pub raise_closed_kept : (w : Moment) (g : MeetsCore S Lawful B w) (i : ℕ) (m : CallState) (h : i < S.callers) → IsSoundMeaning S.meaning Lawful (first_operation_cell S) S.cells → HoldsAtPlace S B w.words w.batches i m RaiseClosed → KeepsGuarantee S Lawful B i w (after_counted_step S i m RaiseClosed w)
   raise_closed_kept w g i m h sound a =
-      let g1 : Core S Lawful B (raised w (request_at m.owner) new) = raise_kept w g (request_at m.owner) new loads in
-      let b : At S B (raised w (request_at m.owner) new).words w.batches i m RaiseClosed = stays w g i m h RaiseClosed a (request_at m.owner) new loads in
+      let g1 : MeetsCore S Lawful B (raised w (request_at m.owner) new) = raise_kept w g (request_at m.owner) new loads in
+      let b : HoldsAtPlace S B (raised w (request_at m.owner) new).words w.batches i m RaiseClosed = stays w g i m h RaiseClosed a (request_at m.owner) new loads in
       record {
         core = (assemble_read S Lawful B (raised w (request_at m.owner) new) g1 i h _ _ (after_raise_closed S m m.helps (m.rounds == 0)) refl (append-nil w.batches)
             (left_close (raised w (request_at m.owner) new) g1 i m h sound b.0 b.1 b.2 (omega (arith, here S Lawful B w.words w.batches g.shared (request_at m.owner) new loads)) m.helps (m.rounds == 0) refl refl)).core;
@@ -408,7 +408,7 @@ module _ (S : Setup) (Lawful : List ℕ → Type 0) (B : Start) where
       }
     where
       new : ℕ
-      new = word m.seq 1
+      new = pack m.seq 1
 
       owner_in : m.owner < S.callers
       owner_in = rw (← a.0.committed) (g.shared.counted.owners m.seq a.0.after a.0.upto)

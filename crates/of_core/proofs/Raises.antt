@@ -2,27 +2,27 @@
 use Rattle.std.proofs.Common.{◌≡◌, ℕ, ◌+◌, ◌-◌, ◌*◌, ◌<◌, ◌≤◌, ◌⊎◌, inl, inr, List, length, get_or, set, max, sym, ◌∙◌, ap, subst, arith, length-set}
 use Rattle.std.proofs.lemmas.Bool.{cases_eq, cases_lt}
 use Rattle.std.proofs.lemmas.List.{get_or-set_same, get_or-set_other}
-use Rattle.of_cell.specs.Words.{word, seq, pay}
+use Rattle.of_cell.specs.Words.{pack, seq_of, payload_of}
 use Rattle.of_cell.proofs.Order.{word_eta, seq_mono, seq_less}
-use Rattle.of_core.specs.Table.{Setup, size, durable_at, script_at, request_at, log_at, script_word, current_word, request_of, cell, log_word, durable_word, durable_request, durable_cell, durable_log, last, holder, risen}
+use Rattle.of_core.specs.Table.{Setup, cell_count, durable_at, script_word_at, request_at, log_at, script_word, current_word, request_of, data_word, log_word_of, durable_word, durable_request, durable_cell, durable_log, committed_seq, committed_owner, durable_seq}
 use Rattle.of_core.specs.Machine.{log_words}
-use Rattle.of_core.specs.World.{Batch, Start}
-use Rattle.of_core.specs.History.{batch, at}
-use Rattle.of_core.specs.Shared.{Kinds, IsRequest, IsLogWord, Shared, Opened, Durable, Held, IsLog}
-use Rattle.of_core.specs.Invariant.{HeldAsCurrent, IsLoaded}
+use Rattle.of_core.specs.World.{Batch, TableStart}
+use Rattle.of_core.specs.History.{batch_at, data_word_after}
+use Rattle.of_core.specs.Shared.{WordsHaveTheirKind, IsRequest, IsLogWord, WordsMatchHistory, IsLastOpen, DurableWordsMatch, WasHeldByCell, IsLog}
+use Rattle.of_core.specs.Invariant.{WasHeldByCurrent, IsLoaded}
 use Rattle.of_core.proofs.States.{later, old}
 use Rattle.of_core.proofs.Logs.{room_for, length-log_words}
 use Rattle.of_core.proofs.Stability.{heard_as}
 
-module _ (S : Setup) (Lawful : List ℕ → Type 0) (B : Start) (ws : List ℕ) (bs : List Batch) (g : Shared S Lawful B ws bs) (c w : ℕ) (e : IsLoaded S B ws bs (c, w)) where
+module _ (S : Setup) (Lawful : List ℕ → Type 0) (B : TableStart) (ws : List ℕ) (bs : List Batch) (g : WordsMatchHistory S Lawful B ws bs) (c w : ℕ) (e : IsLoaded S B ws bs (c, w)) where
   abbrev pub vs : List ℕ
   vs = set ws (durable_at S c) (max (durable_word S ws c) w)
 
-  pub table : (x : ℕ) → x < size S → get_or vs x 0 ≡ get_or ws x 0
+  pub table : (x : ℕ) → x < cell_count S → get_or vs x 0 ≡ get_or ws x 0
   table x l = get_or-set_other ws (durable_at S c) x (max (durable_word S ws c) w) 0 (omega arith)
 
   pub behind : (j x : ℕ) → script_word S vs j x ≡ script_word S ws j x
-  behind j x = get_or-set_other ws (durable_at S c) (script_at S j x) (max (durable_word S ws c) w) 0 (omega (arith, e.place))
+  behind j x = get_or-set_other ws (durable_at S c) (script_word_at S j x) (max (durable_word S ws c) w) 0 (omega (arith, e.place))
 
   pub here : durable_word S vs c ≡ max (durable_word S ws c) w
   here = get_or-set_same ws (durable_at S c) (max (durable_word S ws c) w) 0 (omega (arith, g.room, e.place))
@@ -39,13 +39,13 @@ module _ (S : Setup) (Lawful : List ℕ → Type 0) (B : Start) (ws : List ℕ) 
   pub req_same : (j : ℕ) → j < S.callers → request_of vs j ≡ request_of ws j
   req_same j l = table (j + 1) (omega arith)
 
-  pub cell_same : (a : ℕ) → a < S.cells → cell S vs a ≡ cell S ws a
+  pub cell_same : (a : ℕ) → a < S.cells → data_word S vs a ≡ data_word S ws a
   cell_same a l = table (S.callers + 1 + a) (omega arith)
 
-  log_in : (j x : ℕ) → j < S.callers → x < 2 * S.cells + 1 → log_at S j x < size S
+  log_in : (j x : ℕ) → j < S.callers → x < 2 * S.cells + 1 → log_at S j x < cell_count S
   log_in j x l u = let r : j * (2 * S.cells + 1) + (2 * S.cells + 1) ≤ S.callers * (2 * S.cells + 1) = room_for j S.callers (2 * S.cells + 1) l in omega arith
 
-  pub log_same : (j x : ℕ) → j < S.callers → x < 2 * S.cells + 1 → log_word S vs j x ≡ log_word S ws j x
+  pub log_same : (j x : ℕ) → j < S.callers → x < 2 * S.cells + 1 → log_word_of S vs j x ≡ log_word_of S ws j x
   log_same j x l u = table (log_at S j x) (log_in j x l u)
 
   -- a durable word rises
@@ -56,103 +56,103 @@ module _ (S : Setup) (Lawful : List ℕ → Type 0) (B : Start) (ws : List ℕ) 
       go (inl q) = rw q (omega (arith, here))
       go (inr q) = omega (arith, other x q)
 
-  pub low : (x : ℕ) → x < size S → durable_word S vs x ≤ get_or vs x 0
+  pub low : (x : ℕ) → x < cell_count S → durable_word S vs x ≤ get_or vs x 0
   low x l = go (cases_eq x c)
     where
       go : (x ≡ c) ⊎ (x ≡ c → ⊥) → durable_word S vs x ≤ get_or vs x 0
       go (inl q) = rw (table x l, q) (omega (arith, here, g.durable.low c e.place, e.low))
       go (inr q) = rw (table x l) (omega (arith, other x q, g.durable.low x l))
 
-  opened : Opened B ws → Opened B vs
-  opened o = record { any = rw current_same o.any; asks = rw current_same (req_same (holder ws) g.counted.owner_in ∙ o.asks) }
+  opened : IsLastOpen B ws → IsLastOpen B vs
+  opened o = record { any = rw current_same o.any; asks = rw current_same (req_same (committed_owner ws) g.counted.owner_in ∙ o.asks) }
 
-  was_opened : Opened B vs → Opened B ws
-  was_opened o = record { any = rw current_same at o.any; asks = sym (req_same (holder ws) g.counted.owner_in) ∙ (rw current_same at o.asks) }
+  was_opened : IsLastOpen B vs → IsLastOpen B ws
+  was_opened o = record { any = rw current_same data_word_after o.any; asks = sym (req_same (committed_owner ws) g.counted.owner_in) ∙ (rw current_same data_word_after o.asks) }
 
   -- the durable word of CUR stays, or rises from the batch before the last to the last
-  risen_how : (durable_word S vs 0 ≡ durable_word S ws 0) ⊎ ((c ≡ 0) × (last ws ≡ risen S ws + 1) × Opened B ws × (durable_word S vs 0 ≡ w) × (seq w ≡ last ws) × HeldAsCurrent B ws bs w)
+  risen_how : (durable_word S vs 0 ≡ durable_word S ws 0) ⊎ ((c ≡ 0) × (committed_seq ws ≡ durable_seq S ws + 1) × IsLastOpen B ws × (durable_word S vs 0 ≡ w) × (seq_of w ≡ committed_seq ws) × WasHeldByCurrent B ws bs w)
   risen_how = go (cases_eq c 0) (cases_lt (durable_word S ws 0) w)
     where
-      go : (c ≡ 0) ⊎ (c ≡ 0 → ⊥) → (durable_word S ws 0 < w) ⊎ (w ≤ durable_word S ws 0) → (durable_word S vs 0 ≡ durable_word S ws 0) ⊎ ((c ≡ 0) × (last ws ≡ risen S ws + 1) × Opened B ws × (durable_word S vs 0 ≡ w) × (seq w ≡ last ws) × HeldAsCurrent B ws bs w)
+      go : (c ≡ 0) ⊎ (c ≡ 0 → ⊥) → (durable_word S ws 0 < w) ⊎ (w ≤ durable_word S ws 0) → (durable_word S vs 0 ≡ durable_word S ws 0) ⊎ ((c ≡ 0) × (committed_seq ws ≡ durable_seq S ws + 1) × IsLastOpen B ws × (durable_word S vs 0 ≡ w) × (seq_of w ≡ committed_seq ws) × WasHeldByCurrent B ws bs w)
       go (inr n) l = inl (other 0 (λ q. n (sym q)))
       go (inl z) (inr l) = inl (let r : durable_word S vs 0 ≡ max (durable_word S ws 0) w = here_at 0 (sym z) in omega arith)
       go (inl z) (inl l) =
           let r : durable_word S vs 0 ≡ max (durable_word S ws 0) w = here_at 0 (sym z) in
           let was = e.was_cur z in
-          let u : w ≤ current_word ws = rw z at e.low in
-          let top : seq w ≤ last ws = seq_mono w (current_word ws) u in
-          let more : risen S ws ≤ seq w = seq_mono (durable_word S ws 0) w (omega arith) in
-          step_by was r top more (cases_eq (seq w) (risen S ws)) (cases_eq (risen S ws) B.seq) g.durable.step
+          let u : w ≤ current_word ws = rw z data_word_after e.low in
+          let top : seq_of w ≤ committed_seq ws = seq_mono w (current_word ws) u in
+          let more : durable_seq S ws ≤ seq_of w = seq_mono (durable_word S ws 0) w (omega arith) in
+          step_by was r top more (cases_eq (seq_of w) (durable_seq S ws)) (cases_eq (durable_seq S ws) B.seq) g.durable.step
         where
-          step_by : HeldAsCurrent B ws bs w → durable_word S vs 0 ≡ max (durable_word S ws 0) w → seq w ≤ last ws → risen S ws ≤ seq w → (seq w ≡ risen S ws) ⊎ (seq w ≡ risen S ws → ⊥) → (risen S ws ≡ B.seq) ⊎ (risen S ws ≡ B.seq → ⊥)
-              → (last ws ≡ risen S ws) ⊎ ((last ws ≡ risen S ws + 1) × Opened B ws) → (durable_word S vs 0 ≡ durable_word S ws 0) ⊎ ((c ≡ 0) × (last ws ≡ risen S ws + 1) × Opened B ws × (durable_word S vs 0 ≡ w) × (seq w ≡ last ws) × HeldAsCurrent B ws bs w)
+          step_by : WasHeldByCurrent B ws bs w → durable_word S vs 0 ≡ max (durable_word S ws 0) w → seq_of w ≤ committed_seq ws → durable_seq S ws ≤ seq_of w → (seq_of w ≡ durable_seq S ws) ⊎ (seq_of w ≡ durable_seq S ws → ⊥) → (durable_seq S ws ≡ B.seq) ⊎ (durable_seq S ws ≡ B.seq → ⊥)
+              → (committed_seq ws ≡ durable_seq S ws) ⊎ ((committed_seq ws ≡ durable_seq S ws + 1) × IsLastOpen B ws) → (durable_word S vs 0 ≡ durable_word S ws 0) ⊎ ((c ≡ 0) × (committed_seq ws ≡ durable_seq S ws + 1) × IsLastOpen B ws × (durable_word S vs 0 ≡ w) × (seq_of w ≡ committed_seq ws) × WasHeldByCurrent B ws bs w)
           step_by was r top more (inl q) (inl s) st =
-              let p : pay w ≡ pay (durable_word S ws 0) = was.2 (q ∙ s) ∙ sym (g.durable.first s) in
-              let same : w ≡ durable_word S ws 0 = sym (word_eta w) ∙ ap (λ (k : ℕ). word k (pay w)) q ∙ ap (word (risen S ws)) p ∙ word_eta (durable_word S ws 0) in
+              let p : payload_of w ≡ payload_of (durable_word S ws 0) = was.2 (q ∙ s) ∙ sym (g.durable.first s) in
+              let same : w ≡ durable_word S ws 0 = sym (word_eta w) ∙ ap (λ (k : ℕ). pack k (payload_of w)) q ∙ ap (pack (durable_seq S ws)) p ∙ word_eta (durable_word S ws 0) in
               absurd (omega arith)
           step_by was r top more (inl q) (inr s) st =
               let from = g.durable.from in
-              let p : pay w ≡ pay (durable_word S ws 0) = was.1 (omega arith) ∙ ap (λ (k : ℕ). (batch B bs k).owner) q ∙ sym (g.durable.owner (omega arith)) in
-              let same : w ≡ durable_word S ws 0 = sym (word_eta w) ∙ ap (λ (k : ℕ). word k (pay w)) q ∙ ap (word (risen S ws)) p ∙ word_eta (durable_word S ws 0) in
+              let p : payload_of w ≡ payload_of (durable_word S ws 0) = was.1 (omega arith) ∙ ap (λ (k : ℕ). (batch_at B bs k).owner) q ∙ sym (g.durable.owner (omega arith)) in
+              let same : w ≡ durable_word S ws 0 = sym (word_eta w) ∙ ap (λ (k : ℕ). pack k (payload_of w)) q ∙ ap (pack (durable_seq S ws)) p ∙ word_eta (durable_word S ws 0) in
               absurd (omega arith)
           step_by was r top more (inr n) s (inl st) = absurd (omega arith)
           step_by was r top more (inr n) s (inr st) = inr (z, st.0, st.1, omega arith, omega (arith, st.0), was)
 
   -- a data cell's durable word
-  pub data_how : (a : ℕ) → a < S.cells → (durable_cell S vs a ≡ durable_cell S ws a) ⊎ (durable_cell S vs a ≡ at B bs (risen S ws) a)
+  pub data_how : (a : ℕ) → a < S.cells → (durable_cell S vs a ≡ durable_cell S ws a) ⊎ (durable_cell S vs a ≡ data_word_after B bs (durable_seq S ws) a)
   data_how a l = go (cases_eq (S.callers + 1 + a) c) (cases_lt (durable_cell S ws a) w)
     where
-      go : (S.callers + 1 + a ≡ c) ⊎ (S.callers + 1 + a ≡ c → ⊥) → (durable_cell S ws a < w) ⊎ (w ≤ durable_cell S ws a) → (durable_cell S vs a ≡ durable_cell S ws a) ⊎ (durable_cell S vs a ≡ at B bs (risen S ws) a)
+      go : (S.callers + 1 + a ≡ c) ⊎ (S.callers + 1 + a ≡ c → ⊥) → (durable_cell S ws a < w) ⊎ (w ≤ durable_cell S ws a) → (durable_cell S vs a ≡ durable_cell S ws a) ⊎ (durable_cell S vs a ≡ data_word_after B bs (durable_seq S ws) a)
       go (inr n) u = inl (other (S.callers + 1 + a) n)
       go (inl q) (inr u) = inl (let r : durable_cell S vs a ≡ max (durable_cell S ws a) w = here_at (S.callers + 1 + a) q in omega arith)
       go (inl q) (inl u) =
           let r : durable_cell S vs a ≡ max (durable_cell S ws a) w = here_at (S.callers + 1 + a) q in
           let held = e.held a l (sym q) in
-          let under : w ≤ cell S ws a = rw (← q) at e.low in
-          let new : seq w ≤ risen S ws = omega (arith, seq_mono w (cell S ws a) under, g.durable.fresh a l) in
+          let under : w ≤ data_word S ws a = rw (← q) data_word_after e.low in
+          let new : seq_of w ≤ durable_seq S ws = omega (arith, seq_mono w (data_word S ws a) under, g.durable.fresh a l) in
           inr (omega (arith, which held new u (g.durable.cells a l)))
         where
-          logs : (k : ℕ) → B.seq < k → k ≤ B.seq + length bs → IsLog S (batch B bs k).log
+          logs : (k : ℕ) → B.seq < k → k ≤ B.seq + length bs → IsLog S (batch_at B bs k).log
           logs k v t = g.counted.logs k v (omega (arith, g.counted.count))
 
-          n_is : last ws ≡ B.seq + length bs
+          n_is : committed_seq ws ≡ B.seq + length bs
           n_is = g.counted.count
 
-          d_in : risen S ws ≤ last ws
+          d_in : durable_seq S ws ≤ committed_seq ws
           d_in = d_of g.durable.step
             where
-              d_of : (last ws ≡ risen S ws) ⊎ ((last ws ≡ risen S ws + 1) × Opened B ws) → risen S ws ≤ last ws
+              d_of : (committed_seq ws ≡ durable_seq S ws) ⊎ ((committed_seq ws ≡ durable_seq S ws + 1) × IsLastOpen B ws) → durable_seq S ws ≤ committed_seq ws
               d_of (inl t) = omega arith
               d_of (inr t) = omega (arith, t.0)
 
-          which : Held B ws bs a w → seq w ≤ risen S ws → durable_cell S ws a < w → (durable_cell S ws a ≡ at B bs (risen S ws) a) ⊎ (Opened B ws × (last ws ≡ risen S ws) × (durable_cell S ws a ≡ at B bs (risen S ws - 1) a)) → w ≡ at B bs (risen S ws) a
-          which held new u d = by (cases_lt (risen S ws) held.0) d
+          which : WasHeldByCell B ws bs a w → seq_of w ≤ durable_seq S ws → durable_cell S ws a < w → (durable_cell S ws a ≡ data_word_after B bs (durable_seq S ws) a) ⊎ (IsLastOpen B ws × (committed_seq ws ≡ durable_seq S ws) × (durable_cell S ws a ≡ data_word_after B bs (durable_seq S ws - 1) a)) → w ≡ data_word_after B bs (durable_seq S ws) a
+          which held new u d = by (cases_lt (durable_seq S ws) held.0) d
             where
               k : ℕ
               k = held.0
 
-              is_w : w ≡ at B bs k a
+              is_w : w ≡ data_word_after B bs k a
               is_w = held.3
 
               -- the words of the states rise
-              state_up : (x y : ℕ) → B.seq ≤ x → x ≤ y → y ≤ last ws → at B bs x a ≤ at B bs y a
-              state_up x y f t v = up_by (cases_lt x (seq (at B bs y a)))
+              state_up : (x y : ℕ) → B.seq ≤ x → x ≤ y → y ≤ committed_seq ws → data_word_after B bs x a ≤ data_word_after B bs y a
+              state_up x y f t v = up_by (cases_lt x (seq_of (data_word_after B bs y a)))
                 where
-                  up_by : (x < seq (at B bs y a)) ⊎ (seq (at B bs y a) ≤ x) → at B bs x a ≤ at B bs y a
-                  up_by (inl m) = let o : seq (at B bs x a) ≤ x = old S B bs g.start logs x a f (omega (arith, n_is)) l in omega (arith, seq_less (at B bs x a) (at B bs y a) (omega arith))
-                  up_by (inr m) = let s : at B bs y a ≡ at B bs x a = later S B bs g.start logs x y a f t (omega (arith, n_is)) l m in omega arith
+                  up_by : (x < seq_of (data_word_after B bs y a)) ⊎ (seq_of (data_word_after B bs y a) ≤ x) → data_word_after B bs x a ≤ data_word_after B bs y a
+                  up_by (inl m) = let o : seq_of (data_word_after B bs x a) ≤ x = old S B bs g.start logs x a f (omega (arith, n_is)) l in omega (arith, seq_less (data_word_after B bs x a) (data_word_after B bs y a) (omega arith))
+                  up_by (inr m) = let s : data_word_after B bs y a ≡ data_word_after B bs x a = later S B bs g.start logs x y a f t (omega (arith, n_is)) l m in omega arith
 
-              by : (risen S ws < k) ⊎ (k ≤ risen S ws) → (durable_cell S ws a ≡ at B bs (risen S ws) a) ⊎ (Opened B ws × (last ws ≡ risen S ws) × (durable_cell S ws a ≡ at B bs (risen S ws - 1) a)) → w ≡ at B bs (risen S ws) a
-              by (inl m) d = is_w ∙ later S B bs g.start logs (risen S ws) k a g.durable.from (omega (arith, m)) (omega (arith, n_is, held.2)) l (rw (← is_w) new)
-              by (inr m) (inl d) = absurd (omega (arith, is_w, d, u, state_up k (risen S ws) held.1 m d_in))
-              by (inr m) (inr d) = before (cases_eq k (risen S ws))
+              by : (durable_seq S ws < k) ⊎ (k ≤ durable_seq S ws) → (durable_cell S ws a ≡ data_word_after B bs (durable_seq S ws) a) ⊎ (IsLastOpen B ws × (committed_seq ws ≡ durable_seq S ws) × (durable_cell S ws a ≡ data_word_after B bs (durable_seq S ws - 1) a)) → w ≡ data_word_after B bs (durable_seq S ws) a
+              by (inl m) d = is_w ∙ later S B bs g.start logs (durable_seq S ws) k a g.durable.from (omega (arith, m)) (omega (arith, n_is, held.2)) l (rw (← is_w) new)
+              by (inr m) (inl d) = absurd (omega (arith, is_w, d, u, state_up k (durable_seq S ws) held.1 m d_in))
+              by (inr m) (inr d) = before (cases_eq k (durable_seq S ws))
                 where
-                  before : (k ≡ risen S ws) ⊎ (k ≡ risen S ws → ⊥) → w ≡ at B bs (risen S ws) a
-                  before (inl s) = is_w ∙ ap (λ (x : ℕ). at B bs x a) s
-                  before (inr s) = absurd (omega (arith, is_w, d.2, u, state_up k (risen S ws - 1) held.1 (omega arith) (omega (arith, d_in))))
+                  before : (k ≡ durable_seq S ws) ⊎ (k ≡ durable_seq S ws → ⊥) → w ≡ data_word_after B bs (durable_seq S ws) a
+                  before (inl s) = is_w ∙ ap (λ (x : ℕ). data_word_after B bs x a) s
+                  before (inr s) = absurd (omega (arith, is_w, d.2, u, state_up k (durable_seq S ws - 1) held.1 (omega arith) (omega (arith, d_in))))
 
   -- the durable facts after the raise
-  pub raise_durable : Durable S B vs bs
+  pub raise_durable : DurableWordsMatch S B vs bs
   raise_durable = record {
     low = low;
     from = from_of risen_how;
@@ -162,53 +162,53 @@ module _ (S : Setup) (Lawful : List ℕ → Type 0) (B : Start) (ws : List ℕ) 
     fresh = λ a l. rw (cell_same a l) (omega (arith, g.durable.fresh a l, seq_mono (durable_word S ws 0) (durable_word S vs 0) (rises 0)));
     cells = λ a l. cells_of a l risen_how (data_how a l) (g.durable.cells a l);
     begun = λ l. omega (arith, g.durable.begun l, rises (request_at B.owner));
-    floor = λ k l u. omega (arith, g.durable.floor k l (rw current_same at u), rises (request_at (batch B bs k).owner));
-    logs = λ k l u i o q x v m z. logs_of k l (rw current_same at u) i o q x v m z;
+    floor = λ k l u. omega (arith, g.durable.floor k l (rw current_same data_word_after u), rises (request_at (batch_at B bs k).owner));
+    logs = λ k l u i o q x v m z. logs_of k l (rw current_same data_word_after u) i o q x v m z;
   }
     where
-      from_of : (durable_word S vs 0 ≡ durable_word S ws 0) ⊎ ((c ≡ 0) × (last ws ≡ risen S ws + 1) × Opened B ws × (durable_word S vs 0 ≡ w) × (seq w ≡ last ws) × HeldAsCurrent B ws bs w) → B.seq ≤ risen S vs
+      from_of : (durable_word S vs 0 ≡ durable_word S ws 0) ⊎ ((c ≡ 0) × (committed_seq ws ≡ durable_seq S ws + 1) × IsLastOpen B ws × (durable_word S vs 0 ≡ w) × (seq_of w ≡ committed_seq ws) × WasHeldByCurrent B ws bs w) → B.seq ≤ durable_seq S vs
       from_of h = omega (arith, g.durable.from, seq_mono (durable_word S ws 0) (durable_word S vs 0) (rises 0))
 
-      owner_of : (durable_word S vs 0 ≡ durable_word S ws 0) ⊎ ((c ≡ 0) × (last ws ≡ risen S ws + 1) × Opened B ws × (durable_word S vs 0 ≡ w) × (seq w ≡ last ws) × HeldAsCurrent B ws bs w) → B.seq < risen S vs → pay (durable_word S vs 0) ≡ (batch B bs (risen S vs)).owner
-      owner_of (inl q) = subst (λ (x : ℕ). B.seq < seq x → pay x ≡ (batch B bs (seq x)).owner) (sym q) g.durable.owner
-      owner_of (inr q) = subst (λ (x : ℕ). B.seq < seq x → pay x ≡ (batch B bs (seq x)).owner) (sym q.3) q.5.1
+      owner_of : (durable_word S vs 0 ≡ durable_word S ws 0) ⊎ ((c ≡ 0) × (committed_seq ws ≡ durable_seq S ws + 1) × IsLastOpen B ws × (durable_word S vs 0 ≡ w) × (seq_of w ≡ committed_seq ws) × WasHeldByCurrent B ws bs w) → B.seq < durable_seq S vs → payload_of (durable_word S vs 0) ≡ (batch_at B bs (durable_seq S vs)).owner
+      owner_of (inl q) = subst (λ (x : ℕ). B.seq < seq_of x → payload_of x ≡ (batch_at B bs (seq_of x)).owner) (sym q) g.durable.owner
+      owner_of (inr q) = subst (λ (x : ℕ). B.seq < seq_of x → payload_of x ≡ (batch_at B bs (seq_of x)).owner) (sym q.3) q.5.1
 
-      first_of_ : (durable_word S vs 0 ≡ durable_word S ws 0) ⊎ ((c ≡ 0) × (last ws ≡ risen S ws + 1) × Opened B ws × (durable_word S vs 0 ≡ w) × (seq w ≡ last ws) × HeldAsCurrent B ws bs w) → risen S vs ≡ B.seq → pay (durable_word S vs 0) ≡ B.owner
-      first_of_ (inl q) = subst (λ (x : ℕ). seq x ≡ B.seq → pay x ≡ B.owner) (sym q) g.durable.first
-      first_of_ (inr q) = subst (λ (x : ℕ). seq x ≡ B.seq → pay x ≡ B.owner) (sym q.3) q.5.2
+      first_of_ : (durable_word S vs 0 ≡ durable_word S ws 0) ⊎ ((c ≡ 0) × (committed_seq ws ≡ durable_seq S ws + 1) × IsLastOpen B ws × (durable_word S vs 0 ≡ w) × (seq_of w ≡ committed_seq ws) × WasHeldByCurrent B ws bs w) → durable_seq S vs ≡ B.seq → payload_of (durable_word S vs 0) ≡ B.owner
+      first_of_ (inl q) = subst (λ (x : ℕ). seq_of x ≡ B.seq → payload_of x ≡ B.owner) (sym q) g.durable.first
+      first_of_ (inr q) = subst (λ (x : ℕ). seq_of x ≡ B.seq → payload_of x ≡ B.owner) (sym q.3) q.5.2
 
-      step_of : (durable_word S vs 0 ≡ durable_word S ws 0) ⊎ ((c ≡ 0) × (last ws ≡ risen S ws + 1) × Opened B ws × (durable_word S vs 0 ≡ w) × (seq w ≡ last ws) × HeldAsCurrent B ws bs w) → (last ws ≡ risen S ws) ⊎ ((last ws ≡ risen S ws + 1) × Opened B ws)
-          → (last vs ≡ risen S vs) ⊎ ((last vs ≡ risen S vs + 1) × Opened B vs)
-      step_of (inl q) (inl t) = inl (ap seq current_same ∙ t ∙ ap seq (sym q))
-      step_of (inl q) (inr t) = inr (ap seq current_same ∙ t.0 ∙ ap (λ (x : ℕ). seq x + 1) (sym q), opened t.1)
-      step_of (inr q) t = inl (ap seq current_same ∙ sym q.4 ∙ ap seq (sym q.3))
+      step_of : (durable_word S vs 0 ≡ durable_word S ws 0) ⊎ ((c ≡ 0) × (committed_seq ws ≡ durable_seq S ws + 1) × IsLastOpen B ws × (durable_word S vs 0 ≡ w) × (seq_of w ≡ committed_seq ws) × WasHeldByCurrent B ws bs w) → (committed_seq ws ≡ durable_seq S ws) ⊎ ((committed_seq ws ≡ durable_seq S ws + 1) × IsLastOpen B ws)
+          → (committed_seq vs ≡ durable_seq S vs) ⊎ ((committed_seq vs ≡ durable_seq S vs + 1) × IsLastOpen B vs)
+      step_of (inl q) (inl t) = inl (ap seq_of current_same ∙ t ∙ ap seq_of (sym q))
+      step_of (inl q) (inr t) = inr (ap seq_of current_same ∙ t.0 ∙ ap (λ (x : ℕ). seq_of x + 1) (sym q), opened t.1)
+      step_of (inr q) t = inl (ap seq_of current_same ∙ sym q.4 ∙ ap seq_of (sym q.3))
 
-      cells_of : (a : ℕ) → a < S.cells → (durable_word S vs 0 ≡ durable_word S ws 0) ⊎ ((c ≡ 0) × (last ws ≡ risen S ws + 1) × Opened B ws × (durable_word S vs 0 ≡ w) × (seq w ≡ last ws) × HeldAsCurrent B ws bs w)
-          → (durable_cell S vs a ≡ durable_cell S ws a) ⊎ (durable_cell S vs a ≡ at B bs (risen S ws) a)
-          → (durable_cell S ws a ≡ at B bs (risen S ws) a) ⊎ (Opened B ws × (last ws ≡ risen S ws) × (durable_cell S ws a ≡ at B bs (risen S ws - 1) a))
-          → (durable_cell S vs a ≡ at B bs (risen S vs) a) ⊎ (Opened B vs × (last vs ≡ risen S vs) × (durable_cell S vs a ≡ at B bs (risen S vs - 1) a))
-      cells_of a l (inl q) (inr d) old = inl (d ∙ ap (λ (x : ℕ). at B bs (seq x) a) (sym q))
-      cells_of a l (inl q) (inl d) (inl old) = inl (d ∙ old ∙ ap (λ (x : ℕ). at B bs (seq x) a) (sym q))
-      cells_of a l (inl q) (inl d) (inr old) = inr (opened old.0, ap seq current_same ∙ old.1 ∙ ap seq (sym q), d ∙ old.2 ∙ ap (λ (x : ℕ). at B bs (seq x - 1) a) (sym q))
+      cells_of : (a : ℕ) → a < S.cells → (durable_word S vs 0 ≡ durable_word S ws 0) ⊎ ((c ≡ 0) × (committed_seq ws ≡ durable_seq S ws + 1) × IsLastOpen B ws × (durable_word S vs 0 ≡ w) × (seq_of w ≡ committed_seq ws) × WasHeldByCurrent B ws bs w)
+          → (durable_cell S vs a ≡ durable_cell S ws a) ⊎ (durable_cell S vs a ≡ data_word_after B bs (durable_seq S ws) a)
+          → (durable_cell S ws a ≡ data_word_after B bs (durable_seq S ws) a) ⊎ (IsLastOpen B ws × (committed_seq ws ≡ durable_seq S ws) × (durable_cell S ws a ≡ data_word_after B bs (durable_seq S ws - 1) a))
+          → (durable_cell S vs a ≡ data_word_after B bs (durable_seq S vs) a) ⊎ (IsLastOpen B vs × (committed_seq vs ≡ durable_seq S vs) × (durable_cell S vs a ≡ data_word_after B bs (durable_seq S vs - 1) a))
+      cells_of a l (inl q) (inr d) old = inl (d ∙ ap (λ (x : ℕ). data_word_after B bs (seq_of x) a) (sym q))
+      cells_of a l (inl q) (inl d) (inl old) = inl (d ∙ old ∙ ap (λ (x : ℕ). data_word_after B bs (seq_of x) a) (sym q))
+      cells_of a l (inl q) (inl d) (inr old) = inr (opened old.0, ap seq_of current_same ∙ old.1 ∙ ap seq_of (sym q), d ∙ old.2 ∙ ap (λ (x : ℕ). data_word_after B bs (seq_of x - 1) a) (sym q))
       cells_of a l (inr q) d (inr old) = absurd (omega (arith, old.1, q.1))
       cells_of a l (inr q) d (inl old) =
-          let r : risen S vs ≡ last ws = ap seq q.3 ∙ q.4 in
-          let b : risen S vs - 1 ≡ risen S ws = omega (arith, q.1) in
-          inr (opened q.2, ap seq current_same ∙ sym r, same d ∙ ap (λ (x : ℕ). at B bs x a) (sym b))
+          let r : durable_seq S vs ≡ committed_seq ws = ap seq_of q.3 ∙ q.4 in
+          let b : durable_seq S vs - 1 ≡ durable_seq S ws = omega (arith, q.1) in
+          inr (opened q.2, ap seq_of current_same ∙ sym r, same d ∙ ap (λ (x : ℕ). data_word_after B bs x a) (sym b))
         where
-          same : (durable_cell S vs a ≡ durable_cell S ws a) ⊎ (durable_cell S vs a ≡ at B bs (risen S ws) a) → durable_cell S vs a ≡ at B bs (risen S ws) a
+          same : (durable_cell S vs a ≡ durable_cell S ws a) ⊎ (durable_cell S vs a ≡ data_word_after B bs (durable_seq S ws) a) → durable_cell S vs a ≡ data_word_after B bs (durable_seq S ws) a
           same (inl d) = d ∙ old
           same (inr d) = d
 
-      logs_of : (k : ℕ) → B.seq < k → k ≤ last ws → (i : ℕ) → (batch B bs k).owner ≡ i → durable_request S vs i ≡ word k 0 → (x v : ℕ) → x < length (log_words (batch B bs k).log) → get_or (log_words (batch B bs k).log) x 0 ≡ v
-          → (log_word S vs i x ≡ word k v) × (durable_log S vs i x ≡ word k v)
+      logs_of : (k : ℕ) → B.seq < k → k ≤ committed_seq ws → (i : ℕ) → (batch_at B bs k).owner ≡ i → durable_request S vs i ≡ pack k 0 → (x v : ℕ) → x < length (log_words (batch_at B bs k).log) → get_or (log_words (batch_at B bs k).log) x 0 ≡ v
+          → (log_word_of S vs i x ≡ pack k v) × (durable_log S vs i x ≡ pack k v)
       logs_of k l u i o q x v m z =
           let i_in : i < S.callers = rw (← o) (g.counted.owners k l u) in
-          let f : word k 0 ≤ durable_request S ws i = rw o at (g.durable.floor k l u) in
-          let was : durable_request S ws i ≡ word k 0 = omega (arith, rises (request_at i)) in
+          let f : pack k 0 ≤ durable_request S ws i = rw o data_word_after (g.durable.floor k l u) in
+          let was : durable_request S ws i ≡ pack k 0 = omega (arith, rises (request_at i)) in
           let p = g.durable.logs k l u i o was x v m z in
-          let x_in : x < 2 * S.cells + 1 = omega (arith, length-log_words (batch B bs k).log, (g.counted.logs k l u).few) in
-          let top : durable_log S vs i x ≤ log_word S ws i x = rw (log_same i x i_in x_in) at (low (log_at S i x) (log_in i x i_in x_in)) in
+          let x_in : x < 2 * S.cells + 1 = omega (arith, length-log_words (batch_at B bs k).log, (g.counted.logs k l u).few) in
+          let top : durable_log S vs i x ≤ log_word_of S ws i x = rw (log_same i x i_in x_in) data_word_after (low (log_at S i x) (log_in i x i_in x_in)) in
           (log_same i x i_in x_in ∙ p.0, omega (arith, p.0, p.1, top, rises (log_at S i x)))
 
   -- what is so of a durable word and of the word that it is raised to
@@ -220,11 +220,11 @@ module _ (S : Setup) (Lawful : List ℕ → Type 0) (B : Start) (ws : List ℕ) 
       go (inl z) (inr l) = let e : durable_word S vs x ≡ durable_word S ws x = omega (arith, here_at x z) in rw e p
       go (inl z) (inl l) = let e : durable_word S vs x ≡ w = omega (arith, here_at x z) in rw e (q z)
 
-  raise_kinds : Kinds S B vs bs
+  raise_kinds : WordsHaveTheirKind S B vs bs
   raise_kinds = record {
     requests = λ j l. request_as j (request_of vs j) (subst (λ (y : ℕ). IsRequest B ws bs j y) (sym (req_same j l)) (g.kinds.requests j l));
     dur_requests = λ j l. request_as j (durable_request S vs j) (dur_is (λ (y : ℕ). IsRequest B ws bs j y) (request_at j) (g.kinds.dur_requests j l) (λ q. e.request j l (sym q)));
-    logs = λ j x l u. log_as j x (log_word S vs j x) (subst (λ (y : ℕ). IsLogWord B ws bs j x y) (sym (log_same j x l u)) (g.kinds.logs j x l u));
+    logs = λ j x l u. log_as j x (log_word_of S vs j x) (subst (λ (y : ℕ). IsLogWord B ws bs j x y) (sym (log_same j x l u)) (g.kinds.logs j x l u));
     dur_logs = λ j x l u. log_as j x (durable_log S vs j x) (dur_is (λ (y : ℕ). IsLogWord B ws bs j x y) (log_at S j x) (g.kinds.dur_logs j x l u) (λ q. (e.log j x l u (sym q)).0));
     sized = λ j y l u. rw (log_same j (2 * y + 1) l (omega arith)) (g.kinds.sized j y l u);
   }
@@ -233,9 +233,9 @@ module _ (S : Setup) (Lawful : List ℕ → Type 0) (B : Start) (ws : List ℕ) 
       request_as j v h l = rw current_same (h l)
 
       log_as : (j x v : ℕ) → IsLogWord B ws bs j x v → IsLogWord B vs bs j x v
-      log_as j x v h a u o = h a (rw current_same at u) o
+      log_as j x v h a u o = h a (rw current_same data_word_after u) o
 
-  pub raise_shared : Shared S Lawful B vs bs
+  pub raise_shared : WordsMatchHistory S Lawful B vs bs
   raise_shared = record {
     start = g.start;
     few = g.few;
@@ -254,16 +254,16 @@ module _ (S : Setup) (Lawful : List ℕ → Type 0) (B : Start) (ws : List ℕ) 
     };
     data_cells = record { each = λ a l. data_of a l (g.data_cells.each a l) };
     requests = record {
-      closed = λ k l u. let z : k < last ws = rw current_same at u in rw (req_same (batch B bs k).owner (g.counted.owners k l (omega arith))) (g.requests.closed k l z);
-      latest = λ l. let z : word (last ws) 0 ≤ request_of ws (holder ws) = g.requests.latest (rw current_same at l) in rw (current_same, req_same (holder ws) g.counted.owner_in) z;
+      closed = λ k l u. let z : k < committed_seq ws = rw current_same data_word_after u in rw (req_same (batch_at B bs k).owner (g.counted.owners k l (omega arith))) (g.requests.closed k l z);
+      latest = λ l. let z : pack (committed_seq ws) 0 ≤ request_of ws (committed_owner ws) = g.requests.latest (rw current_same data_word_after l) in rw (current_same, req_same (committed_owner ws) g.counted.owner_in) z;
       floor = λ l. rw (req_same B.owner g.start.owner_in) (g.requests.floor l);
     };
     durable = raise_durable;
     stands = g.stands;
     kinds = raise_kinds;
-    heard = heard_as S B ws vs bs (λ i l. behind i S.instrs) (ap seq current_same) (λ i l. rw (log_same i 0 l (omega arith)) (g.heard.counts i l)) g.heard;
+    heard = heard_as S B ws vs bs (λ i l. behind i S.instrs) (ap seq_of current_same) (λ i l. rw (log_same i 0 l (omega arith)) (g.heard.counts i l)) g.heard;
   }
     where
-      data_of : (a : ℕ) → a < S.cells → (cell S ws a ≡ at B bs (last ws) a) ⊎ (Opened B ws × (cell S ws a ≡ at B bs (last ws - 1) a)) → (cell S vs a ≡ at B bs (last vs) a) ⊎ (Opened B vs × (cell S vs a ≡ at B bs (last vs - 1) a))
+      data_of : (a : ℕ) → a < S.cells → (data_word S ws a ≡ data_word_after B bs (committed_seq ws) a) ⊎ (IsLastOpen B ws × (data_word S ws a ≡ data_word_after B bs (committed_seq ws - 1) a)) → (data_word S vs a ≡ data_word_after B bs (committed_seq vs) a) ⊎ (IsLastOpen B vs × (data_word S vs a ≡ data_word_after B bs (committed_seq vs - 1) a))
       data_of a l (inl q) = inl (rw current_same (cell_same a l ∙ q))
       data_of a l (inr q) = inr (opened q.0, rw current_same (cell_same a l ∙ q.1))

@@ -3,18 +3,18 @@ use Rattle.std.proofs.Common.{◌≡◌, ℕ, ◌+◌, ◌-◌, ◌<◌, ◌≤�
 use Rattle.std.proofs.lemmas.Bool.{cases_eq, cases_lt}
 use Rattle.std.proofs.lemmas.Bool.Decides.{nat_tests}
 use Rattle.std.proofs.lemmas.List.{length-replicate, get_or-replicate, get_or_past, get_or-set_same, get_or-set_other}
-use Rattle.of_cell.specs.Words.{word, seq, pay}
+use Rattle.of_cell.specs.Words.{pack, seq_of, payload_of}
 use Rattle.of_cell.proofs.Order.{seq_word}
 use Rattle.of_core.specs.declared.place.Place.TheVariants.{Idle, LoadCurrent, LoadRequest, LoadOwnTicket}
-use Rattle.of_core.specs.Table.{Setup, announcement_of, current_word, request_of, cell, last, holder, risen}
-use Rattle.of_core.specs.Machine.{Data, unknown, learned}
-use Rattle.of_core.specs.Steps.{after_load_request, entered, is_open, took_at, next_round, first_of}
-use Rattle.of_core.specs.World.{World, Start, stepped_on}
-use Rattle.of_core.specs.History.{batch, at, InRow, ticket_in, numbers}
-use Rattle.of_core.specs.Shared.{Opened}
-use Rattle.of_core.specs.Rounds.{WasCurrent, Begun, Round, Looks, Past, Calm}
-use Rattle.of_core.specs.Invariant.{At, Core}
-use Rattle.of_core.specs.Moves.{Goes}
+use Rattle.of_core.specs.Table.{Setup, announcement_of, current_word, request_of, data_word, committed_seq, committed_owner, durable_seq}
+use Rattle.of_core.specs.Machine.{CallState, nothing_known, with_cell_known}
+use Rattle.of_core.specs.Steps.{after_load_request, enter, is_request_open, take_word_at, next_round, first_round_seq}
+use Rattle.of_core.specs.World.{Moment, TableStart, after_counted_step}
+use Rattle.of_core.specs.History.{batch_at, data_word_after, IsCellOfCaller, last_ticket_by, numbers_after}
+use Rattle.of_core.specs.Shared.{IsLastOpen}
+use Rattle.of_core.specs.Rounds.{WasCurrent, IsAnnounced, IsInRound, IsPastRequest, IsPastOwnTicket, HasNothingUnderWay}
+use Rattle.of_core.specs.Invariant.{HoldsAtPlace, MeetsCore}
+use Rattle.of_core.specs.Moves.{KeepsGuarantee}
 use Rattle.of_core.proofs.States.{later, old}
 use Rattle.of_core.proofs.Logs.{room_for}
 use Rattle.of_core.proofs.Tickets.{tickets_grow, row_old}
@@ -22,16 +22,16 @@ use Rattle.of_core.proofs.Stability.{floor_of}
 use Rattle.of_core.proofs.Alike.{begun_as, calm_more, round_as}
 use Rattle.of_core.proofs.Assembling.{assemble_read, logs_of, number_at, same_batches, same_words}
 
-module _ (S : Setup) (Lawful : List ℕ → Type 0) (B : Start) where
+module _ (S : Setup) (Lawful : List ℕ → Type 0) (B : TableStart) where
   -- the machine m of caller i, at its place
-  module _ (w : World) (g : Core S Lawful B w) (i : ℕ) (m : Data) (h : i < S.callers) where
-    pub idle_kept : At S B w.words w.batches i m m.place → Goes S Lawful B i w (stepped_on S i m Idle w)
+  module _ (w : Moment) (g : MeetsCore S Lawful B w) (i : ℕ) (m : CallState) (h : i < S.callers) where
+    pub idle_kept : HoldsAtPlace S B w.words w.batches i m m.place → KeepsGuarantee S Lawful B i w (after_counted_step S i m Idle w)
     idle_kept a = assemble_read S Lawful B w g i h _ _ m (same_words S Lawful B w g i m h 0) (same_batches S Lawful B w g i m h) a
 
-    pub load_current_kept : At S B w.words w.batches i m LoadCurrent → Goes S Lawful B i w (stepped_on S i m LoadCurrent w)
-    load_current_kept a = assemble_read S Lawful B w g i h _ _ (took_at S m (current_word w.words) LoadCurrent) (same_words S Lawful B w g i m h 0) (same_batches S Lawful B w g i m h) (go (m.rounds == 0) refl, a.1)
+    pub load_current_kept : HoldsAtPlace S B w.words w.batches i m LoadCurrent → KeepsGuarantee S Lawful B i w (after_counted_step S i m LoadCurrent w)
+    load_current_kept a = assemble_read S Lawful B w g i h _ _ (take_word_at S m (current_word w.words) LoadCurrent) (same_words S Lawful B w g i m h 0) (same_batches S Lawful B w g i m h) (go (m.rounds == 0) refl, a.1)
       where
-        go : (b : Bool) → (m.rounds == 0) ≡ b → Round S B w.words w.batches i (record m { place = LoadRequest; seq = last w.words; owner = holder w.words; rounds = m.rounds + 1; first = first_of m (last w.words) b })
+        go : (b : Bool) → (m.rounds == 0) ≡ b → IsInRound S B w.words w.batches i (record m { place = LoadRequest; seq = committed_seq w.words; owner = committed_owner w.words; rounds = m.rounds + 1; first = first_round_seq m (committed_seq w.words) b })
         go b e = record {
           begun = record {
             caller = a.0.caller;
@@ -58,32 +58,32 @@ module _ (S : Setup) (Lawful : List ℕ → Type 0) (B : Start) where
           few = omega (arith, a.2.few);
         }
           where
-            known : (b : Bool) → (m.rounds == 0) ≡ b → (B.seq ≤ first_of m (last w.words) b) × ((k : ℕ) → first_of m (last w.words) b < k → k ≤ last w.words → (batch B w.batches k).announcements i ≡ announcement_of S w.words i)
+            known : (b : Bool) → (m.rounds == 0) ≡ b → (B.seq ≤ first_round_seq m (committed_seq w.words) b) × ((k : ℕ) → first_round_seq m (committed_seq w.words) b < k → k ≤ committed_seq w.words → (batch_at B w.batches k).announcements i ≡ announcement_of S w.words i)
             known true e = (omega (arith, g.shared.counted.count), λ k l u. absurd (omega arith))
             known false e = let z : 1 ≤ m.rounds = grind (arith, nat_tests) in a.0.known z
 
-            from : (b : Bool) → (m.rounds == 0) ≡ b → first_of m (last w.words) b + (m.rounds + 1) ≤ last w.words + 1
+            from : (b : Bool) → (m.rounds == 0) ≡ b → first_round_seq m (committed_seq w.words) b + (m.rounds + 1) ≤ committed_seq w.words + 1
             from true e = let z : m.rounds ≡ 0 = grind (arith, nat_tests) in omega arith
             from false e = let z : 1 ≤ m.rounds = grind (arith, nat_tests) in omega (arith, a.2.later z)
 
-    pub n_is : last w.words ≡ B.seq + length w.batches
+    pub n_is : committed_seq w.words ≡ B.seq + length w.batches
     n_is = g.shared.counted.count
 
-    pub own_seq : (n : Data) → Begun S B w.words w.batches i n → seq (announcement_of S w.words i) ≡ n.made
-    own_seq n p = ap seq p.says ∙ seq_word n.made (length n.op) (omega (arith, p.words, g.shared.narrow))
+    pub own_seq : (n : CallState) → IsAnnounced S B w.words w.batches i n → seq_of (announcement_of S w.words i) ≡ n.made
+    own_seq n p = ap seq_of p.says ∙ seq_word n.made (length n.op) (omega (arith, p.words, g.shared.narrow))
 
-    pub grows_to : (s : ℕ) → B.seq ≤ s → s ≤ last w.words → ticket_in S B w.batches s i ≤ ticket_in S B w.batches (last w.words) i
-    grows_to s l u = tickets_grow S Lawful B w.batches g.shared.stands s (last w.words) i l u (omega (arith, n_is)) h
+    pub grows_to : (s : ℕ) → B.seq ≤ s → s ≤ committed_seq w.words → last_ticket_by S B w.batches s i ≤ last_ticket_by S B w.batches (committed_seq w.words) i
+    grows_to s l u = tickets_grow S Lawful B w.batches g.shared.stands s (committed_seq w.words) i l u (omega (arith, n_is)) h
 
     -- a third round meets the call in the history
-    pub third_done : (n : Data) → Round S B w.words w.batches i n → n.rounds ≡ 3 → n.made ≤ ticket_in S B w.batches n.seq i
+    pub third_done : (n : CallState) → IsInRound S B w.words w.batches i n → n.rounds ≡ 3 → n.made ≤ last_ticket_by S B w.batches n.seq i
     third_done n p q =
         let from : B.seq ≤ n.first = (p.begun.known p.begun_one).0 in
-        let met : seq (announcement_of S w.words i) ≤ ticket_in S B w.batches (n.first + 1 + 1) i =
+        let met : seq_of (announcement_of S w.words i) ≤ last_ticket_by S B w.batches (n.first + 1 + 1) i =
         g.shared.heard.met (n.first + 1) i (omega arith) (omega (arith, p.later, p.upto)) h ((p.begun.known p.begun_one).1 (n.first + 1) (omega arith) (omega (arith, p.later, p.upto))) in
         omega (arith, own_seq n p.begun, met, tickets_grow S Lawful B w.batches g.shared.stands (n.first + 1 + 1) n.seq i (omega arith) (omega (arith, p.later)) (omega (arith, p.upto, n_is)) h)
 
-    pub two_rounds : (n : Data) → Past S B w.words w.batches i n → n.rounds ≤ 2
+    pub two_rounds : (n : CallState) → IsPastOwnTicket S B w.words w.batches i n → n.rounds ≤ 2
     two_rounds n p = go (cases_eq n.rounds 3)
       where
         go : (n.rounds ≡ 3) ⊎ (n.rounds ≡ 3 → ⊥) → n.rounds ≤ 2
@@ -91,37 +91,37 @@ module _ (S : Setup) (Lawful : List ℕ → Type 0) (B : Start) where
         go (inr q) = omega (arith, p.looks.round.few)
 
     -- a data cell is no newer than the last batch
-    pub cell_upto : (x : ℕ) → x < S.cells → seq (cell S w.words x) ≤ last w.words
+    pub cell_upto : (x : ℕ) → x < S.cells → seq_of (data_word S w.words x) ≤ committed_seq w.words
     cell_upto x l = go (g.shared.data_cells.each x l)
       where
-        go : (cell S w.words x ≡ at B w.batches (last w.words) x) ⊎ (Opened B w.words × (cell S w.words x ≡ at B w.batches (last w.words - 1) x)) → seq (cell S w.words x) ≤ last w.words
-        go (inl q) = rw q (old S B w.batches g.shared.start (logs_of S Lawful B w g) (last w.words) x (omega (arith, n_is)) (omega (arith, n_is)) l)
-        go (inr q) = rw q.1 (omega (arith, old S B w.batches g.shared.start (logs_of S Lawful B w g) (last w.words - 1) x (omega (arith, q.0.any)) (omega (arith, n_is)) l))
+        go : (data_word S w.words x ≡ data_word_after B w.batches (committed_seq w.words) x) ⊎ (IsLastOpen B w.words × (data_word S w.words x ≡ data_word_after B w.batches (committed_seq w.words - 1) x)) → seq_of (data_word S w.words x) ≤ committed_seq w.words
+        go (inl q) = rw q (old S B w.batches g.shared.start (logs_of S Lawful B w g) (committed_seq w.words) x (omega (arith, n_is)) (omega (arith, n_is)) l)
+        go (inr q) = rw q.1 (omega (arith, old S B w.batches g.shared.start (logs_of S Lawful B w g) (committed_seq w.words - 1) x (omega (arith, q.0.any)) (omega (arith, n_is)) l))
 
-    pub row_in : (a : ℕ) → InRow S i a → a < S.cells
+    pub row_in : (a : ℕ) → IsCellOfCaller S i a → a < S.cells
     row_in a r = omega (arith, r, room_for i S.callers (S.instrs + 2) h, g.shared.own_in)
 
     -- where the call is in the history up to the round, its own cells are no newer than the round
-    pub own_row_old : (n : Data) → Looks S B w.words w.batches i n → n.made ≤ ticket_in S B w.batches n.seq i → (a : ℕ) → InRow S i a → seq (cell S w.words a) ≤ n.seq
+    pub own_row_old : (n : CallState) → IsPastRequest S B w.words w.batches i n → n.made ≤ last_ticket_by S B w.batches n.seq i → (a : ℕ) → IsCellOfCaller S i a → seq_of (data_word S w.words a) ≤ n.seq
     own_row_old n p t a r = go (g.shared.data_cells.each a (row_in a r))
       where
-        at_k : (k : ℕ) → n.seq ≤ k → k ≤ last w.words → seq (at B w.batches k a) ≤ n.seq
+        at_k : (k : ℕ) → n.seq ≤ k → k ≤ committed_seq w.words → seq_of (data_word_after B w.batches k a) ≤ n.seq
         at_k k l u = row_old S Lawful B w.batches g.shared.stands g.shared.start (logs_of S Lawful B w g) g.shared.own_in n.seq k i a p.round.from l (omega (arith, n_is)) h
-            (omega (arith, t, p.round.begun.upto, tickets_grow S Lawful B w.batches g.shared.stands k (last w.words) i (omega (arith, p.round.from)) u (omega (arith, n_is)) h)) r
+            (omega (arith, t, p.round.begun.upto, tickets_grow S Lawful B w.batches g.shared.stands k (committed_seq w.words) i (omega (arith, p.round.from)) u (omega (arith, n_is)) h)) r
 
-        go : (cell S w.words a ≡ at B w.batches (last w.words) a) ⊎ (Opened B w.words × (cell S w.words a ≡ at B w.batches (last w.words - 1) a)) → seq (cell S w.words a) ≤ n.seq
-        go (inl q) = rw q (at_k (last w.words) p.round.upto (omega arith))
+        go : (data_word S w.words a ≡ data_word_after B w.batches (committed_seq w.words) a) ⊎ (IsLastOpen B w.words × (data_word S w.words a ≡ data_word_after B w.batches (committed_seq w.words - 1) a)) → seq_of (data_word S w.words a) ≤ n.seq
+        go (inl q) = rw q (at_k (committed_seq w.words) p.round.upto (omega arith))
         go (inr (op, q)) =
-            let ne : n.seq ≡ last w.words → ⊥ = λ e. let z : word n.seq 0 < request_of w.words (holder w.words) = p.quiet e (omega (arith, op.any)) in omega (arith, op.asks, ap (λ (k : ℕ). word k 0) e) in
-            rw q (at_k (last w.words - 1) (omega (arith, p.round.upto)) (omega arith))
+            let ne : n.seq ≡ committed_seq w.words → ⊥ = λ e. let z : pack n.seq 0 < request_of w.words (committed_owner w.words) = p.quiet e (omega (arith, op.any)) in omega (arith, op.asks, ap (λ (k : ℕ). pack k 0) e) in
+            rw q (at_k (committed_seq w.words - 1) (omega (arith, p.round.upto)) (omega arith))
 
     -- a round that met a newer cell begins again
-    pub again : (n : Data) → Round S B w.words w.batches i n → Calm S B w.words w.batches i n.seq → n.rounds ≤ 2 → (x : ℕ) → x < S.cells → n.seq < seq (cell S w.words x) → At S B w.words w.batches i (next_round n) LoadCurrent
-    again n p c few x l u = (begun_as S Lawful B w g i m h n _ p.begun refl refl refl refl refl refl, calm_more S Lawful B w g i m h n.seq (last w.words) p.upto c, record { few = few; later = λ z. omega (arith, p.later, cell_upto x l) })
+    pub again : (n : CallState) → IsInRound S B w.words w.batches i n → HasNothingUnderWay S B w.words w.batches i n.seq → n.rounds ≤ 2 → (x : ℕ) → x < S.cells → n.seq < seq_of (data_word S w.words x) → HoldsAtPlace S B w.words w.batches i (next_round n) LoadCurrent
+    again n p c few x l u = (begun_as S Lawful B w g i m h n _ p.begun refl refl refl refl refl refl, calm_more S Lawful B w g i m h n.seq (committed_seq w.words) p.upto c, record { few = few; later = λ z. omega (arith, p.later, cell_upto x l) })
 
     -- a machine in a round, past the help, looks for its call in the history
-    pub entered_at : (n : Data) → Round S B w.words w.batches i n → Calm S B w.words w.batches i n.seq
-        → (n.seq ≡ last w.words → B.seq < n.seq → word n.seq 0 < request_of w.words (holder w.words)) → At S B w.words w.batches i (entered S n) LoadOwnTicket
+    pub entered_at : (n : CallState) → IsInRound S B w.words w.batches i n → HasNothingUnderWay S B w.words w.batches i n.seq
+        → (n.seq ≡ committed_seq w.words → B.seq < n.seq → pack n.seq 0 < request_of w.words (committed_owner w.words)) → HoldsAtPlace S B w.words w.batches i (enter S n) LoadOwnTicket
     entered_at n p o quiet = (
       record {
         round = round_as S Lawful B w g i m h n _ p refl refl refl refl refl refl refl refl;
@@ -136,44 +136,44 @@ module _ (S : Setup) (Lawful : List ℕ → Type 0) (B : Start) where
       refl,
     )
       where
-        unknown_at : (x : ℕ) → (x < S.cells) ⊎ (S.cells ≤ x) → get_or (unknown S) x None ≡ None
+        unknown_at : (x : ℕ) → (x < S.cells) ⊎ (S.cells ≤ x) → get_or (nothing_known S) x None ≡ None
         unknown_at x (inl l) = get_or-replicate S.cells x None None l
-        unknown_at x (inr l) = get_or_past (unknown S) x None (rw length-replicate l)
+        unknown_at x (inr l) = get_or_past (nothing_known S) x None (rw length-replicate l)
 
         elim_none : (v : ℕ) → ◌≡◌ {A = Option ℕ} None (Some v) → ⊥
         elim_none v q = cc
 
     -- a request that was found not to be open is above
-    pub quiet_from : (s o : ℕ) → WasCurrent S B w.words w.batches s o → (B.seq < s → request_of w.words o ≡ word s 0 → ⊥) → s ≡ last w.words → B.seq < s → word s 0 < request_of w.words (holder w.words)
+    pub quiet_from : (s o : ℕ) → WasCurrent S B w.words w.batches s o → (B.seq < s → request_of w.words o ≡ pack s 0 → ⊥) → s ≡ committed_seq w.words → B.seq < s → pack s 0 < request_of w.words (committed_owner w.words)
     quiet_from s o p away e l =
-        let low : word s 0 ≤ request_of w.words (batch B w.batches s).owner = floor_of S Lawful B w.words w.batches g.shared s l p.upto in
-        let q : (batch B w.batches s).owner ≡ o = p.committed l in
-        let low' : word s 0 ≤ request_of w.words o = rw q at low in
+        let low : pack s 0 ≤ request_of w.words (batch_at B w.batches s).owner = floor_of S Lawful B w.words w.batches g.shared s l p.upto in
+        let q : (batch_at B w.batches s).owner ≡ o = p.committed l in
+        let low' : pack s 0 ≤ request_of w.words o = rw q data_word_after low in
         rw (← p.same e) (above low' (away l))
       where
-        above : word s 0 ≤ request_of w.words o → (request_of w.words o ≡ word s 0 → ⊥) → word s 0 < request_of w.words o
+        above : pack s 0 ≤ request_of w.words o → (request_of w.words o ≡ pack s 0 → ⊥) → pack s 0 < request_of w.words o
         above x y = omega arith
 
-    pub current_of : (n : Data) → Round S B w.words w.batches i n → WasCurrent S B w.words w.batches n.seq n.owner
+    pub current_of : (n : CallState) → IsInRound S B w.words w.batches i n → WasCurrent S B w.words w.batches n.seq n.owner
     current_of n p = record { from = p.from; upto = p.upto; same = p.same; owner_in = p.owner_in; committed = p.committed; first = p.first }
 
-    pub not_open : (s f : ℕ) → is_open s f ≡ false → 0 < s → f ≡ word s 0 → ⊥
+    pub not_open : (s f : ℕ) → is_request_open s f ≡ false → 0 < s → f ≡ pack s 0 → ⊥
     not_open s f e p q = grind (arith, nat_tests)
 
-    pub opened_is : (s f : ℕ) → is_open s f ≡ true → (0 < s) × (f ≡ word s 0)
+    pub opened_is : (s f : ℕ) → is_request_open s f ≡ true → (0 < s) × (f ≡ pack s 0)
     opened_is s f e = (grind (arith, nat_tests), grind (arith, nat_tests))
 
-    pub load_request_kept : At S B w.words w.batches i m LoadRequest → Goes S Lawful B i w (stepped_on S i m LoadRequest w)
-    load_request_kept a = assemble_read S Lawful B w g i h _ _ (took_at S m (request_of w.words m.owner) LoadRequest) (same_words S Lawful B w g i m h (m.owner + 1)) (same_batches S Lawful B w g i m h) (
-        go (is_open m.seq (request_of w.words m.owner)) refl)
+    pub load_request_kept : HoldsAtPlace S B w.words w.batches i m LoadRequest → KeepsGuarantee S Lawful B i w (after_counted_step S i m LoadRequest w)
+    load_request_kept a = assemble_read S Lawful B w g i h _ _ (take_word_at S m (request_of w.words m.owner) LoadRequest) (same_words S Lawful B w g i m h (m.owner + 1)) (same_batches S Lawful B w g i m h) (
+        go (is_request_open m.seq (request_of w.words m.owner)) refl)
       where
-        after : (0 < m.seq) × (request_of w.words m.owner ≡ word m.seq 0) → (m.seq ≡ B.seq) ⊎ (m.seq ≡ B.seq → ⊥) → B.seq < m.seq
+        after : (0 < m.seq) × (request_of w.words m.owner ≡ pack m.seq 0) → (m.seq ≡ B.seq) ⊎ (m.seq ≡ B.seq → ⊥) → B.seq < m.seq
         after q (inl e) =
-            let z : word B.seq 0 < request_of w.words B.owner = g.shared.requests.floor (omega (arith, q.0)) in
-            absurd (omega (arith, q.1, ap (λ (k : ℕ). word k 0) e, ap (request_of w.words) (a.0.first e)))
+            let z : pack B.seq 0 < request_of w.words B.owner = g.shared.requests.floor (omega (arith, q.0)) in
+            absurd (omega (arith, q.1, ap (λ (k : ℕ). pack k 0) e, ap (request_of w.words) (a.0.first e)))
         after q (inr e) = omega (arith, a.0.from)
 
-        go : (b : Bool) → is_open m.seq (request_of w.words m.owner) ≡ b → At S B w.words w.batches i (after_load_request S m b) (after_load_request S m b).place
+        go : (b : Bool) → is_request_open m.seq (request_of w.words m.owner) ≡ b → HoldsAtPlace S B w.words w.batches i (after_load_request S m b) (after_load_request S m b).place
         go true eb = (
           record {
             helper = inl (round_as S Lawful B w g i m h m _ a.0 refl refl refl refl refl refl refl refl);
@@ -191,47 +191,47 @@ module _ (S : Setup) (Lawful : List ℕ → Type 0) (B : Start) where
         go false eb = entered_at m a.0 a.1 (quiet_from m.seq m.owner (current_of m a.0) (λ l. not_open m.seq (request_of w.words m.owner) eb (omega (arith, l))))
 
     -- a cell that isn't newer than the round is that of the round's state
-    pub cell_of : (n : Data) → Looks S B w.words w.batches i n → (x : ℕ) → x < S.cells → seq (cell S w.words x) ≤ n.seq → cell S w.words x ≡ at B w.batches n.seq x
+    pub cell_of : (n : CallState) → IsPastRequest S B w.words w.batches i n → (x : ℕ) → x < S.cells → seq_of (data_word S w.words x) ≤ n.seq → data_word S w.words x ≡ data_word_after B w.batches n.seq x
     cell_of n p x l o = go (g.shared.data_cells.each x l)
       where
-        go : (cell S w.words x ≡ at B w.batches (last w.words) x) ⊎ (Opened B w.words × (cell S w.words x ≡ at B w.batches (last w.words - 1) x)) → cell S w.words x ≡ at B w.batches n.seq x
-        go (inl q) = q ∙ later S B w.batches g.shared.start (logs_of S Lawful B w g) n.seq (last w.words) x p.round.from p.round.upto (omega arith) l (rw (← q) o)
+        go : (data_word S w.words x ≡ data_word_after B w.batches (committed_seq w.words) x) ⊎ (IsLastOpen B w.words × (data_word S w.words x ≡ data_word_after B w.batches (committed_seq w.words - 1) x)) → data_word S w.words x ≡ data_word_after B w.batches n.seq x
+        go (inl q) = q ∙ later S B w.batches g.shared.start (logs_of S Lawful B w g) n.seq (committed_seq w.words) x p.round.from p.round.upto (omega arith) l (rw (← q) o)
         go (inr (op, q)) =
-            let ne : n.seq ≡ last w.words → ⊥ = λ e. let z : word n.seq 0 < request_of w.words (holder w.words) = p.quiet e (omega (arith, op.any)) in omega (arith, op.asks, ap (λ (k : ℕ). word k 0) e) in
-            q ∙ later S B w.batches g.shared.start (logs_of S Lawful B w g) n.seq (last w.words - 1) x p.round.from (omega (arith, p.round.upto)) (omega arith) l (rw (← q) o)
+            let ne : n.seq ≡ committed_seq w.words → ⊥ = λ e. let z : pack n.seq 0 < request_of w.words (committed_owner w.words) = p.quiet e (omega (arith, op.any)) in omega (arith, op.asks, ap (λ (k : ℕ). pack k 0) e) in
+            q ∙ later S B w.batches g.shared.start (logs_of S Lawful B w g) n.seq (committed_seq w.words - 1) x p.round.from (omega (arith, p.round.upto)) (omega arith) l (rw (← q) o)
 
     -- a machine that has loaded the cell x, no newer than its round, knows it
-    pub learn : (n : Data) → Looks S B w.words w.batches i n → (x : ℕ) → x < S.cells → seq (cell S w.words x) ≤ n.seq → Looks S B w.words w.batches i (record n { known = learned S n x (cell S w.words x) })
+    pub learn : (n : CallState) → IsPastRequest S B w.words w.batches i n → (x : ℕ) → x < S.cells → seq_of (data_word S w.words x) ≤ n.seq → IsPastRequest S B w.words w.batches i (record n { known = with_cell_known S n x (data_word S w.words x) })
     learn n p x l fresh = record {
       round = round_as S Lawful B w g i m h n _ p.round refl refl refl refl refl refl refl refl;
       quiet = p.quiet;
       agrees = λ y v q. knows y v q (cases_eq y x);
-      all = length-set n.known x (Some (pay (cell S w.words x))) ∙ p.all;
+      all = length-set n.known x (Some (payload_of (data_word S w.words x))) ∙ p.all;
     }
       where
-        this : get_or (numbers B w.batches n.seq) x 0 ≡ pay (cell S w.words x)
-        this = number_at S Lawful B w.batches n.seq x ∙ ap pay (sym (cell_of n p x l fresh))
+        this : get_or (numbers_after B w.batches n.seq) x 0 ≡ payload_of (data_word S w.words x)
+        this = number_at S Lawful B w.batches n.seq x ∙ ap payload_of (sym (cell_of n p x l fresh))
 
-        knows : (y v : ℕ) → get_or (learned S n x (cell S w.words x)) y None ≡ Some v → (y ≡ x) ⊎ (y ≡ x → ⊥) → get_or (numbers B w.batches n.seq) y 0 ≡ v
+        knows : (y v : ℕ) → get_or (with_cell_known S n x (data_word S w.words x)) y None ≡ Some v → (y ≡ x) ⊎ (y ≡ x → ⊥) → get_or (numbers_after B w.batches n.seq) y 0 ≡ v
         knows y v q (inl e) =
-            let s : get_or (learned S n x (cell S w.words x)) x None ≡ Some (pay (cell S w.words x)) = get_or-set_same n.known x (Some (pay (cell S w.words x))) None (omega (arith, p.all)) in
-            let t : Some v ≡ Some (pay (cell S w.words x)) = sym (rw e at q) ∙ s in
-            let u : v ≡ pay (cell S w.words x) = cc in
+            let s : get_or (with_cell_known S n x (data_word S w.words x)) x None ≡ Some (payload_of (data_word S w.words x)) = get_or-set_same n.known x (Some (payload_of (data_word S w.words x))) None (omega (arith, p.all)) in
+            let t : Some v ≡ Some (payload_of (data_word S w.words x)) = sym (rw e data_word_after q) ∙ s in
+            let u : v ≡ payload_of (data_word S w.words x) = cc in
             rw e (this ∙ sym u)
-        knows y v q (inr e) = p.agrees y v (sym (get_or-set_other n.known x y (Some (pay (cell S w.words x))) None e) ∙ q)
+        knows y v q (inr e) = p.agrees y v (sym (get_or-set_other n.known x y (Some (payload_of (data_word S w.words x))) None e) ∙ q)
 
-    pub learn_past : (n : Data) → Past S B w.words w.batches i n → (x : ℕ) → x < S.cells → seq (cell S w.words x) ≤ n.seq → Past S B w.words w.batches i (record n { known = learned S n x (cell S w.words x) })
+    pub learn_past : (n : CallState) → IsPastOwnTicket S B w.words w.batches i n → (x : ℕ) → x < S.cells → seq_of (data_word S w.words x) ≤ n.seq → IsPastOwnTicket S B w.words w.batches i (record n { known = with_cell_known S n x (data_word S w.words x) })
     learn_past n p x l fresh = record { looks = learn n p.looks x l fresh; under = p.under; left = p.left }
 
     -- what is so of s ≤ n where s isn't open: the durable word of CUR has reached it
-    pub round_risen : (n : Data) → Looks S B w.words w.batches i n → n.seq ≤ risen S w.words
+    pub round_risen : (n : CallState) → IsPastRequest S B w.words w.batches i n → n.seq ≤ durable_seq S w.words
     round_risen n p = go g.shared.durable.step
       where
-        go : (last w.words ≡ risen S w.words) ⊎ ((last w.words ≡ risen S w.words + 1) × Opened B w.words) → n.seq ≤ risen S w.words
+        go : (committed_seq w.words ≡ durable_seq S w.words) ⊎ ((committed_seq w.words ≡ durable_seq S w.words + 1) × IsLastOpen B w.words) → n.seq ≤ durable_seq S w.words
         go (inl q) = omega (arith, p.round.upto)
         go (inr (q, op)) =
-            let ne : n.seq ≡ last w.words → ⊥ = λ e. let z : word n.seq 0 < request_of w.words (holder w.words) = p.quiet e (omega (arith, op.any)) in omega (arith, op.asks, ap (λ (k : ℕ). word k 0) e) in
+            let ne : n.seq ≡ committed_seq w.words → ⊥ = λ e. let z : pack n.seq 0 < request_of w.words (committed_owner w.words) = p.quiet e (omega (arith, op.any)) in omega (arith, op.asks, ap (λ (k : ℕ). pack k 0) e) in
             omega (arith, p.round.upto)
 
-    pub at_risen : (n : Data) → Looks S B w.words w.batches i n → n.seq ≤ B.seq + length w.batches
+    pub at_risen : (n : CallState) → IsPastRequest S B w.words w.batches i n → n.seq ≤ B.seq + length w.batches
     at_risen n p = omega (arith, p.round.upto, n_is)

@@ -3,30 +3,30 @@ use Rattle.std.proofs.Common.{◌≡◌, ℕ, zero, suc, ◌+◌, ◌*◌, ◌-�
 use Rattle.std.proofs.Math.Nat.{mul_comm}
 use Rattle.std.proofs.lemmas.Bool.Decides.{nat_tests}
 use Rattle.of_core.specs.declared.machine.trying.TheConstants.{MOST_TRIES}
-use Rattle.of_cell.specs.Words.{word, seq, pay}
-use Rattle.of_mem.specs.Meaning.{Walked, Needs, Gives}
-use Rattle.of_mem.specs.Pad.{over}
+use Rattle.of_cell.specs.Words.{pack, seq_of, payload_of}
+use Rattle.of_mem.specs.Meaning.{WalkEnd, Needs, Gives}
+use Rattle.of_mem.specs.Pad.{overlaid}
 use Rattle.of_core.specs.declared.place.Place.{Place}
 use Rattle.of_core.specs.declared.place.Place.TheVariants.{Idle, TryCurrent, TryRequest, TryCell, StoreScript, StoreAnnouncement, LoadCurrent, LoadRequest, CopyLog, LookAgain, LoadOwnTicket, LoadShape, LoadReply, LoadAnnouncement, LoadTicket, LoadScript, LoadCell, RaiseOld, StoreLog, RaiseLog, StoreRequest, RaiseRequest, ExchangeCurrent, RaiseCurrent, LoadTarget, ExchangeTarget, ReloadTarget, RaiseTarget, CloseRequest, RaiseClosed}
-use Rattle.of_core.specs.Table.{Setup, ticket_cell, shape_cell, reply_cell, cell}
-use Rattle.of_core.specs.Machine.{Data, unknown, learned, log_words, opened, first_place}
-use Rattle.of_core.specs.Steps.{read_on, read_ran, tried, resumed, after_try_request, over_try, after_try_cell, want_at, word_of, took_at, counted_at, after_store_script, after_load_request, after_copy_log, after_look_again, after_own_ticket, after_load_shape, shape_read, after_load_reply, reply_read, asks_more, first_mark, after_announcement, weighed, after_load_ticket, after_load_script, script_more, ran, next_call, with_run, after_load_cell, after_raise_log, after_exchange, after_raise_current, after_load_target, next_entry, after_raise_closed, is_open, copy_more}
-use Rattle.of_core.specs.World.{World, Start}
-use Rattle.of_core.specs.Transaction.{Applies}
-use Rattle.of_core.specs.Invariant.{At, Core}
-use Rattle.of_core.specs.Bound.{bound, unknowns, applying, behind_help, lost, rounds_left, behind_apply, helped, tries_left, announced_left, scan_left, Within}
+use Rattle.of_core.specs.Table.{Setup, ticket_cell, shape_cell, reply_cell, data_word}
+use Rattle.of_core.specs.Machine.{CallState, nothing_known, with_cell_known, log_words, begin, first_place}
+use Rattle.of_core.specs.Steps.{read_on, after_read_run, begin_reading, resume, after_try_request, end_try, after_try_cell, want_at, word_of, take_word_at, with_step_counted, after_store_script, after_load_request, after_copy_log, after_look_again, after_own_ticket, after_load_shape, with_shape, after_load_reply, with_reply, next_reply_place, first_marked_place, after_announcement, weigh, after_load_ticket, after_load_script, with_script_word, after_script_run, next_scanned_caller, with_call_run, after_load_cell, after_raise_log, after_exchange, after_raise_current, after_load_target, next_entry, after_raise_closed, is_request_open, with_log_word_copied}
+use Rattle.of_core.specs.World.{Moment, TableStart}
+use Rattle.of_core.specs.Transaction.{IsApplying}
+use Rattle.of_core.specs.Invariant.{HoldsAtPlace, MeetsCore}
+use Rattle.of_core.specs.Bound.{bound, unknown_cell_count, apply_steps, round_steps_after_help, lost_round_steps, steps_left_in_rounds, steps_left_after_apply, steps_left_after_help, steps_left_in_tries, steps_left_announced, steps_left_in_scan, IsWithinBound}
 use Rattle.of_core.proofs.Logs.{room_for, length-log_words}
 use Rattle.of_core.proofs.Tests.{differ, mark_some}
 use Rattle.of_core.proofs.Rounds.{own_row_old}
 use Rattle.of_core.proofs.OwnReply.{done_now}
 use Rattle.of_core.proofs.Scans.{ticket_in_cells}
 
-unknowns_all : (n : ℕ) → unknowns (replicate n None) ≡ n
+unknowns_all : (n : ℕ) → unknown_cell_count (replicate n None) ≡ n
 unknowns_all zero = refl
 unknowns_all (suc n) = ap suc (unknowns_all n)
 
 -- one more cell is known
-unknowns_set : (ks : List (Option ℕ)) (a v : ℕ) → a < length ks → get_or ks a None ≡ None → unknowns (set ks a (Some v)) + 1 ≡ unknowns ks
+unknowns_set : (ks : List (Option ℕ)) (a v : ℕ) → a < length ks → get_or ks a None ≡ None → unknown_cell_count (set ks a (Some v)) + 1 ≡ unknown_cell_count ks
 unknowns_set [] a v l e = absurd (omega arith)
 unknowns_set (None ∷ ks) zero v l e = omega arith
 unknowns_set (Some x ∷ ks) zero v l e = cc
@@ -81,7 +81,7 @@ round_sum : (st m p x q l : ℕ) → x + (11 * m + p + 13) ≡ q → st + (q + (
 round_sum st m p x q l e h = omega arith
 
 -- a call that opens
-pub opened_within : (S : Setup) (m : Data) (op : List ℕ) → Within S (opened S m op) (opened S m op).place
+pub opened_within : (S : Setup) (m : CallState) (op : List ℕ) → IsWithinBound S (begin S m op) (begin S m op).place
 opened_within S m op = go (S.meaning.reads_only op)
   where
     sum : (i m p : ℕ) → 0 + (i - 0 + 1 + (3 * (11 * m + p + 13) + (4 * m + 3))) ≤ i + 1 + 3 * (15 * m + p + 15) + 4 * (7 * m + 7)
@@ -90,78 +90,78 @@ opened_within S m op = go (S.meaning.reads_only op)
     first : (i m p : ℕ) → 0 + ((4 - 0) * (7 * m + 7) + (i + 1 + (3 * (11 * m + p + 13) + (4 * m + 3)))) ≤ i + 1 + 3 * (15 * m + p + 15) + 4 * (7 * m + 7)
     first i m p = omega arith
 
-    go : (b : Bool) → Within S (record (opened S m op) { place = first_place b }) (first_place b)
+    go : (b : Bool) → IsWithinBound S (record (begin S m op) { place = first_place b }) (first_place b)
     go true = record { told = λ q. cc; steps = rw (mul_comm (S.instrs + 1) S.callers) (first S.instrs S.cells (S.callers * (S.instrs + 1))) }
     go false = record { told = λ q. cc; steps = rw (mul_comm (S.instrs + 1) S.callers) (sum S.instrs S.cells (S.callers * (S.instrs + 1))) }
 
 module _ (S : Setup) where
   -- the scan goes on behind the caller that it has come to
-  next_within : (n : Data) → n.scan < S.callers → n.steps + scan_left S n ≤ bound S → (b : Bool) → nat_lt (n.scan + 1) S.callers ≡ b → Within S (next_call n b) (next_call n b).place
+  next_within : (n : CallState) → n.scan < S.callers → n.steps + steps_left_in_scan S n ≤ bound S → (b : Bool) → nat_lt (n.scan + 1) S.callers ≡ b → IsWithinBound S (next_scanned_caller n b) (next_scanned_caller n b).place
   next_within n l h true e = record {
     told = λ q. cc;
-    steps = next_sum n.steps (S.instrs + 1) ((S.callers - (n.scan + 1) - 1) * (S.instrs + 1)) ((S.callers - n.scan - 1) * (S.instrs + 1)) (unknowns n.known) (4 * S.cells + 6) (rounds_left S n) (bound S)
+    steps = next_sum n.steps (S.instrs + 1) ((S.callers - (n.scan + 1) - 1) * (S.instrs + 1)) ((S.callers - n.scan - 1) * (S.instrs + 1)) (unknown_cell_count n.known) (4 * S.cells + 6) (steps_left_in_rounds S n) (bound S)
         (row_cost S.callers n.scan (S.instrs + 1) (let z : n.scan + 1 < S.callers = grind (arith, nat_tests) in z)) h;
   }
-  next_within n l h false e = record { told = λ q. cc; steps = done_sum n.steps ((S.callers - n.scan - 1) * (S.instrs + 1)) (unknowns n.known) (4 * S.cells + 6) (rounds_left S n) (bound S) h }
+  next_within n l h false e = record { told = λ q. cc; steps = done_sum n.steps ((S.callers - n.scan - 1) * (S.instrs + 1)) (unknown_cell_count n.known) (4 * S.cells + 6) (steps_left_in_rounds S n) (bound S) h }
 
-  weighed_within : (n : Data) → n.scan < S.callers → n.steps + (S.instrs + scan_left S n) ≤ bound S → (b : Bool) → Within S (weighed S n b) (weighed S n b).place
-  weighed_within n l h true = record { told = λ q. cc; steps = same n.steps S.instrs (scan_left S n) (bound S) h }
+  weighed_within : (n : CallState) → n.scan < S.callers → n.steps + (S.instrs + steps_left_in_scan S n) ≤ bound S → (b : Bool) → IsWithinBound S (weigh S n b) (weigh S n b).place
+  weighed_within n l h true = record { told = λ q. cc; steps = same n.steps S.instrs (steps_left_in_scan S n) (bound S) h }
     where
       same : (s k x l : ℕ) → s + (k + x) ≤ l → s + (k - 0 + x) ≤ l
       same s k x l h = omega arith
-  weighed_within n l h false = next_within n l (less n.steps S.instrs (scan_left S n) (bound S) h) (nat_lt (n.scan + 1) S.callers) refl
+  weighed_within n l h false = next_within n l (less n.steps S.instrs (steps_left_in_scan S n) (bound S) h) (nat_lt (n.scan + 1) S.callers) refl
     where
       less : (s k x l : ℕ) → s + (k + x) ≤ l → s + x ≤ l
       less s k x l h = omega arith
 
-  ran_within : (n : Data) → n.scan < S.callers → n.steps + scan_left S n ≤ bound S → (r : Walked) → Within S (ran S n r) (ran S n r).place
+  ran_within : (n : CallState) → n.scan < S.callers → n.steps + steps_left_in_scan S n ≤ bound S → (r : WalkEnd) → IsWithinBound S (after_script_run S n r) (after_script_run S n r).place
   ran_within n l h (Needs a) = record { told = λ q. cc; steps = h }
-  ran_within n l h (Gives es r) = next_within (with_run S n es r) l h (nat_lt (n.scan + 1) S.callers) refl
+  ran_within n l h (Gives es r) = next_within (with_call_run S n es r) l h (nat_lt (n.scan + 1) S.callers) refl
 
-  asks_within : (n : Data) (x j : ℕ) → n.steps + (S.instrs - x) ≤ bound S → x ≤ j → (r : Option ℕ) → ((k : ℕ) → r ≡ Some k → x ≤ k) → Within S (asks_more n r) (asks_more n r).place
+  asks_within : (n : CallState) (x j : ℕ) → n.steps + (S.instrs - x) ≤ bound S → x ≤ j → (r : Option ℕ) → ((k : ℕ) → r ≡ Some k → x ≤ k) → IsWithinBound S (next_reply_place n r) (next_reply_place n r).place
   asks_within n x j h l None f = record { steps = omega arith; told = λ q. omega arith }
   asks_within n x j h l (Some k) f = record { told = λ q. cc; steps = sum n.steps S.instrs x k (bound S) h (f k refl) }
     where
       sum : (s i x k l : ℕ) → s + (i - x) ≤ l → x ≤ k → s + (i - k) ≤ l
       sum s i x k l h f = omega arith
 
-  reads_within : (n : Data) → n.steps + (unknowns n.known + tries_left S n) ≤ bound S → Within S (read_on S n) (read_on S n).place
+  reads_within : (n : CallState) → n.steps + (unknown_cell_count n.known + steps_left_in_tries S n) ≤ bound S → IsWithinBound S (read_on S n) (read_on S n).place
   reads_within n h = go (S.meaning.walk n.known n.op)
     where
       fewer_by : (s x l : ℕ) → s + x ≤ l → s ≤ l
       fewer_by s x l h = omega arith
 
-      go : (r : Walked) → Within S (read_ran n r) (read_ran n r).place
+      go : (r : WalkEnd) → IsWithinBound S (after_read_run n r) (after_read_run n r).place
       go (Needs a) = record { told = λ q. cc; steps = h }
-      go (Gives es r) = record { steps = omega arith; told = λ q. fewer_by n.steps (unknowns n.known + tries_left S n) (bound S) h }
+      go (Gives es r) = record { steps = omega arith; told = λ q. fewer_by n.steps (unknown_cell_count n.known + steps_left_in_tries S n) (bound S) h }
 
-  tried_within : (n : Data) → n.steps + (S.cells + tries_left S n) ≤ bound S → Within S (tried S n) (tried S n).place
-  tried_within n h = reads_within (record n { known = unknown S; helps = false }) (rw (unknowns_all S.cells) h)
+  tried_within : (n : CallState) → n.steps + (S.cells + steps_left_in_tries S n) ≤ bound S → IsWithinBound S (begin_reading S n) (begin_reading S n).place
+  tried_within n h = reads_within (record n { known = nothing_known S; helps = false }) (rw (unknowns_all S.cells) h)
 
-  resumed_within : (n : Data) (b : Bool) → n.steps + helped S n b ≤ bound S → Within S (resumed S n b) (resumed S n b).place
+  resumed_within : (n : CallState) (b : Bool) → n.steps + steps_left_after_help S n b ≤ bound S → IsWithinBound S (resume S n b) (resume S n b).place
   resumed_within n true h = tried_within n h
   resumed_within n false h = record { told = λ q. cc; steps = h }
 
-  module _ (Lawful : List ℕ → Type 0) (B : Start) (w : World) (g : Core S Lawful B w) (i : ℕ) (m : Data) (h : i < S.callers) where
+  module _ (Lawful : List ℕ → Type 0) (B : TableStart) (w : Moment) (g : MeetsCore S Lawful B w) (i : ℕ) (m : CallState) (h : i < S.callers) where
     -- with the step counted
-    abbrev now : Data
+    abbrev now : CallState
     now = record m { steps = m.steps + 1 }
 
-    pub n_cells : (j : ℕ) → Applies S B w.words w.batches i m j → length m.log ≤ S.cells
+    pub n_cells : (j : ℕ) → IsApplying S B w.words w.batches i m j → length m.log ≤ S.cells
     n_cells j p = rw p.log.many (g.shared.counted.logs m.seq p.after p.upto).few
 
     words_row : S.instrs + 1 ≤ S.callers * (S.instrs + 1)
     words_row = let r : i * (S.instrs + 1) + (S.instrs + 1) ≤ S.callers * (S.instrs + 1) = room_for i S.callers (S.instrs + 1) h in omega arith
 
     -- each step leaves one less
-    pub within : (p : Place) → At S B w.words w.batches i m p → Within S m p → m.place ≡ p
-        → Within S (took_at S (counted_at p m) (get_or w.words (word_of (want_at S m p)) 0) p) (took_at S (counted_at p m) (get_or w.words (word_of (want_at S m p)) 0) p).place
-    within Idle a t e = subst (λ (q : Place). Within S m q) (sym e) t
-    within TryCurrent a t e = record { told = λ q. cc; steps = sum m.steps S.cells ((MOST_TRIES - (m.tries + 1)) * (7 * S.cells + 7)) ((MOST_TRIES - m.tries) * (7 * S.cells + 7)) (announced_left S) (bound S) (try_cost m.tries (7 * S.cells + 7) a.3) t.steps }
+    pub within : (p : Place) → HoldsAtPlace S B w.words w.batches i m p → IsWithinBound S m p → m.place ≡ p
+        → IsWithinBound S (take_word_at S (with_step_counted p m) (get_or w.words (word_of (want_at S m p)) 0) p) (take_word_at S (with_step_counted p m) (get_or w.words (word_of (want_at S m p)) 0) p).place
+    within Idle a t e = subst (λ (q : Place). IsWithinBound S m q) (sym e) t
+    within TryCurrent a t e = record { told = λ q. cc; steps = sum m.steps S.cells ((MOST_TRIES - (m.tries + 1)) * (7 * S.cells + 7)) ((MOST_TRIES - m.tries) * (7 * S.cells + 7)) (steps_left_announced S) (bound S) (try_cost m.tries (7 * S.cells + 7) a.3) t.steps }
       where
         sum : (s c x y r l : ℕ) → x + (7 * c + 7) ≡ y → s + (y + r) ≤ l → s + 1 + (7 * c + 6 + (x + r)) ≤ l
         sum s c x y r l e h = omega arith
-    within TryRequest a t e = go (is_open m.seq (get_or w.words (m.owner + 1) 0))
+    within TryRequest a t e = go (is_request_open m.seq (get_or w.words (m.owner + 1) 0))
       where
         opens : (s c r l : ℕ) → s + (7 * c + 6 + r) ≤ l → s + 1 + (2 * c + 1 - 0 + 1 + (4 * c + 3) + (c + r)) ≤ l
         opens s c r l h = omega arith
@@ -169,20 +169,20 @@ module _ (S : Setup) where
         closed : (s c r l : ℕ) → s + (7 * c + 6 + r) ≤ l → s + 1 + (c + r) ≤ l
         closed s c r l h = omega arith
 
-        trying : (b : Bool) → (m.rounds == 0) ≡ b → m.steps + 1 + (2 * S.cells + 1 - 0 + 1 + applying S + helped S m b) ≤ bound S
-        trying true q = opens m.steps S.cells (tries_left S m) (bound S) t.steps
+        trying : (b : Bool) → (m.rounds == 0) ≡ b → m.steps + 1 + (2 * S.cells + 1 - 0 + 1 + apply_steps S + steps_left_after_help S m b) ≤ bound S
+        trying true q = opens m.steps S.cells (steps_left_in_tries S m) (bound S) t.steps
         trying false q = absurd (differ m.rounds 0 q a.0.fresh.rounds)
 
-        go : (b : Bool) → Within S (after_try_request S now b) (after_try_request S now b).place
+        go : (b : Bool) → IsWithinBound S (after_try_request S now b) (after_try_request S now b).place
         go true = record { told = λ q. cc; steps = trying (m.rounds == 0) refl }
-        go false = tried_within now (closed m.steps S.cells (tries_left S m) (bound S) t.steps)
-    within (TryCell x) a t e = go (nat_lt m.seq (seq found))
+        go false = tried_within now (closed m.steps S.cells (steps_left_in_tries S m) (bound S) t.steps)
+    within (TryCell x) a t e = go (nat_lt m.seq (seq_of found))
       where
         found : ℕ
         found = get_or w.words (word_of (want_at S m (TryCell x))) 0
 
-        one : unknowns (learned S m x found) + 1 ≡ unknowns m.known
-        one = unknowns_set m.known x (pay found) (omega (arith, a.3.all, a.4)) a.5
+        one : unknown_cell_count (with_cell_known S m x found) + 1 ≡ unknown_cell_count m.known
+        one = unknowns_set m.known x (payload_of found) (omega (arith, a.3.all, a.4)) a.5
 
         again : (s u v r l : ℕ) → v + 1 ≡ u → s + (u + r) ≤ l → s + 1 + r ≤ l
         again s u v r l e h = omega arith
@@ -193,13 +193,13 @@ module _ (S : Setup) where
         less : (s u v r l : ℕ) → v + 1 ≡ u → s + (u + r) ≤ l → s + 1 + (v + r) ≤ l
         less s u v r l e h = omega arith
 
-        over : (b : Bool) → Within S (over_try now b) (over_try now b).place
-        over true = record { told = λ q. cc; steps = again m.steps (unknowns m.known) (unknowns (learned S m x found)) (tries_left S m) (bound S) one t.steps }
-        over false = record { told = λ q. cc; steps = aloud m.steps (unknowns m.known) (unknowns (learned S m x found)) ((MOST_TRIES - m.tries) * (7 * S.cells + 7)) S.instrs (3 * lost S + applying S) (bound S) one t.steps }
+        over : (b : Bool) → IsWithinBound S (end_try now b) (end_try now b).place
+        overlaid true = record { told = λ q. cc; steps = again m.steps (unknown_cell_count m.known) (unknown_cell_count (with_cell_known S m x found)) (steps_left_in_tries S m) (bound S) one t.steps }
+        overlaid false = record { told = λ q. cc; steps = aloud m.steps (unknown_cell_count m.known) (unknown_cell_count (with_cell_known S m x found)) ((MOST_TRIES - m.tries) * (7 * S.cells + 7)) S.instrs (3 * lost_round_steps S + apply_steps S) (bound S) one t.steps }
 
-        go : (b : Bool) → Within S (after_try_cell S now x found b) (after_try_cell S now x found b).place
-        go true = over (nat_lt m.tries MOST_TRIES)
-        go false = reads_within (record now { known = learned S m x found }) (less m.steps (unknowns m.known) (unknowns (learned S m x found)) (tries_left S m) (bound S) one t.steps)
+        go : (b : Bool) → IsWithinBound S (after_try_cell S now x found b) (after_try_cell S now x found b).place
+        go true = overlaid (nat_lt m.tries MOST_TRIES)
+        go false = reads_within (record now { known = with_cell_known S m x found }) (less m.steps (unknown_cell_count m.known) (unknown_cell_count (with_cell_known S m x found)) (steps_left_in_tries S m) (bound S) one t.steps)
     within (StoreScript j) a t e = go (nat_lt (j + 1) (length m.op))
       where
         more : (s i j x l : ℕ) → j < i → s + (i - j + 1 + x) ≤ l → s + 1 + (i - (j + 1) + 1 + x) ≤ l
@@ -211,15 +211,15 @@ module _ (S : Setup) where
         j_in : j < S.instrs
         j_in = omega (arith, a.2, a.0.words)
 
-        go : (b : Bool) → Within S (after_store_script now j b) (after_store_script now j b).place
-        go true = record { told = λ q. cc; steps = more m.steps S.instrs j (3 * lost S + applying S) (bound S) j_in t.steps }
-        go false = record { told = λ q. cc; steps = last m.steps S.instrs j (3 * lost S + applying S) (bound S) j_in t.steps }
-    within StoreAnnouncement a t e = record { told = λ q. cc; steps = sum m.steps m.rounds (lost S) (applying S) (bound S) a.0.rounds t.steps }
+        go : (b : Bool) → IsWithinBound S (after_store_script now j b) (after_store_script now j b).place
+        go true = record { told = λ q. cc; steps = more m.steps S.instrs j (3 * lost_round_steps S + apply_steps S) (bound S) j_in t.steps }
+        go false = record { told = λ q. cc; steps = last m.steps S.instrs j (3 * lost_round_steps S + apply_steps S) (bound S) j_in t.steps }
+    within StoreAnnouncement a t e = record { told = λ q. cc; steps = sum m.steps m.rounds (lost_round_steps S) (apply_steps S) (bound S) a.0.rounds t.steps }
       where
         sum : (s r q x l : ℕ) → r ≡ 0 → s + (1 + (3 * q + x)) ≤ l → s + 1 + ((3 - r) * q + x) ≤ l
         sum s r q x l e h = rw e (omega arith)
-    within LoadCurrent a t e = record { told = λ q. cc; steps = round_sum m.steps S.cells (S.callers * (S.instrs + 1)) ((3 - (m.rounds + 1)) * lost S) ((3 - m.rounds) * lost S) (bound S) (round_cost m.rounds (lost S) a.2.few) t.steps }
-    within LoadRequest a t e = go (is_open m.seq (get_or w.words (m.owner + 1) 0))
+    within LoadCurrent a t e = record { told = λ q. cc; steps = round_sum m.steps S.cells (S.callers * (S.instrs + 1)) ((3 - (m.rounds + 1)) * lost_round_steps S) ((3 - m.rounds) * lost_round_steps S) (bound S) (round_cost m.rounds (lost_round_steps S) a.2.few) t.steps }
+    within LoadRequest a t e = go (is_request_open m.seq (get_or w.words (m.owner + 1) 0))
       where
         opens : (s c x l : ℕ) → s + (6 * c + 6 + x) ≤ l → s + 1 + (2 * c + 1 - 0 + 1 + (4 * c + 3) + x) ≤ l
         opens s c x l h = omega arith
@@ -227,14 +227,14 @@ module _ (S : Setup) where
         closed : (s c x l : ℕ) → s + (6 * c + 6 + x) ≤ l → s + 1 + x ≤ l
         closed s c x l h = omega arith
 
-        round : (b : Bool) → (m.rounds == 0) ≡ b → m.steps + 1 + (2 * S.cells + 1 - 0 + 1 + applying S + helped S m b) ≤ bound S
-        round false q = opens m.steps S.cells (behind_help S + rounds_left S m) (bound S) t.steps
+        round : (b : Bool) → (m.rounds == 0) ≡ b → m.steps + 1 + (2 * S.cells + 1 - 0 + 1 + apply_steps S + steps_left_after_help S m b) ≤ bound S
+        round false q = opens m.steps S.cells (round_steps_after_help S + steps_left_in_rounds S m) (bound S) t.steps
         round true q = let z : m.rounds ≡ 0 = grind (arith, nat_tests) in absurd (omega (arith, a.0.begun_one))
 
-        go : (b : Bool) → Within S (after_load_request S now b) (after_load_request S now b).place
+        go : (b : Bool) → IsWithinBound S (after_load_request S now b) (after_load_request S now b).place
         go true = record { told = λ q. cc; steps = round (m.rounds == 0) refl }
-        go false = record { told = λ q. cc; steps = closed m.steps S.cells (behind_help S + rounds_left S m) (bound S) t.steps }
-    within (CopyLog x) a t e = go (nat_lt (x + 1) (2 * get_or (copy_more m found) 0 0 + 1))
+        go false = record { told = λ q. cc; steps = closed m.steps S.cells (round_steps_after_help S + steps_left_in_rounds S m) (bound S) t.steps }
+    within (CopyLog x) a t e = go (nat_lt (x + 1) (2 * get_or (with_log_word_copied m found) 0 0 + 1))
       where
         found : ℕ
         found = get_or w.words (word_of (want_at S m (CopyLog x))) 0
@@ -245,10 +245,10 @@ module _ (S : Setup) where
         last : (s c x k r l : ℕ) → x < c → s + (c - x + 1 + k + r) ≤ l → s + 1 + (1 + k + r) ≤ l
         last s c x k r l z h = omega arith
 
-        go : (b : Bool) → Within S (after_copy_log now x found b) (after_copy_log now x found b).place
-        go true = record { told = λ q. cc; steps = more m.steps (2 * S.cells + 1) x (applying S) (helped S m (m.rounds == 0)) (bound S) a.2 t.steps }
-        go false = record { told = λ q. cc; steps = last m.steps (2 * S.cells + 1) x (applying S) (helped S m (m.rounds == 0)) (bound S) a.2 t.steps }
-    within LookAgain a t e = go (get_or w.words (m.owner + 1) 0 == word m.seq 0) (m.rounds == 0) t.steps
+        go : (b : Bool) → IsWithinBound S (after_copy_log now x found b) (after_copy_log now x found b).place
+        go true = record { told = λ q. cc; steps = more m.steps (2 * S.cells + 1) x (apply_steps S) (steps_left_after_help S m (m.rounds == 0)) (bound S) a.2 t.steps }
+        go false = record { told = λ q. cc; steps = last m.steps (2 * S.cells + 1) x (apply_steps S) (steps_left_after_help S m (m.rounds == 0)) (bound S) a.2 t.steps }
+    within LookAgain a t e = go (get_or w.words (m.owner + 1) 0 == pack m.seq 0) (m.rounds == 0) t.steps
       where
         opens : (s k r l : ℕ) → s + (1 + k + r) ≤ l → s + 1 + (k + r) ≤ l
         opens s k r l h = omega arith
@@ -256,14 +256,14 @@ module _ (S : Setup) where
         closed : (s k r l : ℕ) → s + (1 + k + r) ≤ l → s + 1 + r ≤ l
         closed s k r l h = omega arith
 
-        helping : (b : Bool) → b ≡ true → m.steps + 1 + (applying S + behind_apply S m b) ≤ bound S
-        helping true q = opens m.steps (applying S) (helped S m (m.rounds == 0)) (bound S) t.steps
+        helping : (b : Bool) → b ≡ true → m.steps + 1 + (apply_steps S + steps_left_after_apply S m b) ≤ bound S
+        helping true q = opens m.steps (apply_steps S) (steps_left_after_help S m (m.rounds == 0)) (bound S) t.steps
         helping false q = cc
 
-        go : (b d : Bool) → m.steps + (1 + applying S + helped S m d) ≤ bound S → Within S (after_look_again S now b d) (after_look_again S now b d).place
+        go : (b d : Bool) → m.steps + (1 + apply_steps S + steps_left_after_help S m d) ≤ bound S → IsWithinBound S (after_look_again S now b d) (after_look_again S now b d).place
         go true d u = record { told = λ q. cc; steps = helping m.helps a.0.helps }
-        go false d u = resumed_within now d (closed m.steps (applying S) (helped S m d) (bound S) u)
-    within LoadOwnTicket a t e = go (nat_lt m.seq (seq found)) (pay found == m.made) (m.seq == S.limit)
+        go false d u = resumed_within now d (closed m.steps (apply_steps S) (steps_left_after_help S m d) (bound S) u)
+    within LoadOwnTicket a t e = go (nat_lt m.seq (seq_of found)) (payload_of found == m.made) (m.seq == S.limit)
       where
         found : ℕ
         found = get_or w.words (word_of (want_at S m LoadOwnTicket)) 0
@@ -284,54 +284,54 @@ module _ (S : Setup) where
         cells_in : ticket_cell S m.caller < S.cells
         cells_in = rw a.0.round.begun.caller (ticket_in_cells S Lawful B w g i m h i h)
 
-        known_one : unknowns (learned S m (ticket_cell S m.caller) found) + 1 ≡ S.cells
-        known_one = unknowns_set m.known (ticket_cell S m.caller) (pay found) (omega (arith, a.0.all, cells_in)) (none_at m.known a.2) ∙ ap unknowns a.2 ∙ unknowns_all S.cells
+        known_one : unknown_cell_count (with_cell_known S m (ticket_cell S m.caller) found) + 1 ≡ S.cells
+        known_one = unknowns_set m.known (ticket_cell S m.caller) (payload_of found) (omega (arith, a.0.all, cells_in)) (none_at m.known a.2) ∙ ap unknown_cell_count a.2 ∙ unknowns_all S.cells
           where
             none_of : (n y : ℕ) → get_or {A = Option ℕ} (replicate n None) y None ≡ None
             none_of zero y = refl
             none_of (suc n) zero = refl
             none_of (suc n) (suc y) = none_of n y
 
-            none_at : (ks : List (Option ℕ)) → ks ≡ unknown S → get_or ks (ticket_cell S m.caller) None ≡ None
+            none_at : (ks : List (Option ℕ)) → ks ≡ nothing_known S → get_or ks (ticket_cell S m.caller) None ≡ None
             none_at ks q = rw q (none_of S.cells (ticket_cell S m.caller))
 
-        go : (b c d : Bool) → Within S (after_own_ticket S now found b c d) (after_own_ticket S now found b c d).place
-        go true c d = record { told = λ q. cc; steps = newer m.steps (behind_help S) (rounds_left S m) (bound S) (omega arith) t.steps }
-        go false true d = record { told = λ q. cc; steps = shape m.steps S.instrs S.cells (S.callers * (S.instrs + 1)) (rounds_left S m) (bound S) words_row t.steps }
+        go : (b c d : Bool) → IsWithinBound S (after_own_ticket S now found b c d) (after_own_ticket S now found b c d).place
+        go true c d = record { told = λ q. cc; steps = newer m.steps (round_steps_after_help S) (steps_left_in_rounds S m) (bound S) (omega arith) t.steps }
+        go false true d = record { told = λ q. cc; steps = shape m.steps S.instrs S.cells (S.callers * (S.instrs + 1)) (steps_left_in_rounds S m) (bound S) words_row t.steps }
         go false false true = record { steps = omega arith; told = λ q. tt }
         go false false false = record {
           told = λ q. cc;
-          steps = call m.steps (S.instrs + 1) S.cells (S.callers * (S.instrs + 1)) (unknowns (learned S m (ticket_cell S m.caller) found)) ((S.callers - m.scan - 1) * (S.instrs + 1)) (rounds_left S m) (bound S)
+          steps = call m.steps (S.instrs + 1) S.cells (S.callers * (S.instrs + 1)) (unknown_cell_count (with_cell_known S m (ticket_cell S m.caller) found)) ((S.callers - m.scan - 1) * (S.instrs + 1)) (steps_left_in_rounds S m) (bound S)
               known_one (one_row S.callers m.scan (S.instrs + 1) a.5 (omega arith)) t.steps;
         }
-    within LoadShape a t e = go (nat_lt m.seq (seq found)) refl
+    within LoadShape a t e = go (nat_lt m.seq (seq_of found)) refl
       where
         found : ℕ
-        found = cell S w.words (shape_cell S m.caller)
+        found = data_word S w.words (shape_cell S m.caller)
 
         same : (s i l : ℕ) → s + (i + 1) ≤ l → s + 1 + (i - 0) ≤ l
         same s i l h = omega arith
 
-        fresh : seq (cell S w.words (shape_cell S m.caller)) ≤ m.seq
+        fresh : seq_of (data_word S w.words (shape_cell S m.caller)) ≤ m.seq
         fresh = rw a.0.round.begun.caller (own_row_old S Lawful B w g i m h m a.0 (done_now S Lawful B w g i m h m a.2) (shape_cell S i) (omega arith, omega arith))
 
-        go : (b : Bool) → nat_lt m.seq (seq found) ≡ b → Within S (after_load_shape S now found b) (after_load_shape S now found b).place
-        go true q = let z : m.seq < seq found = grind (arith, nat_tests) in absurd (omega (arith, fresh))
-        go false q = asks_within (shape_read S now found) 0 0 (same m.steps S.instrs (bound S) t.steps) (omega arith) (first_mark (pay found) 0 S.instrs) (λ k z. omega arith)
-    within (LoadReply j) a t e = go (nat_lt m.seq (seq found)) refl
+        go : (b : Bool) → nat_lt m.seq (seq_of found) ≡ b → IsWithinBound S (after_load_shape S now found b) (after_load_shape S now found b).place
+        go true q = let z : m.seq < seq_of found = grind (arith, nat_tests) in absurd (omega (arith, fresh))
+        go false q = asks_within (with_shape S now found) 0 0 (same m.steps S.instrs (bound S) t.steps) (omega arith) (first_marked_place (payload_of found) 0 S.instrs) (λ k z. omega arith)
+    within (LoadReply j) a t e = go (nat_lt m.seq (seq_of found)) refl
       where
         found : ℕ
-        found = cell S w.words (reply_cell S m.caller j)
+        found = data_word S w.words (reply_cell S m.caller j)
 
-        fresh : seq (cell S w.words (reply_cell S m.caller j)) ≤ m.seq
+        fresh : seq_of (data_word S w.words (reply_cell S m.caller j)) ≤ m.seq
         fresh = rw a.0.round.begun.caller (own_row_old S Lawful B w g i m h m a.0 (done_now S Lawful B w g i m h m a.2) (reply_cell S i j) (omega arith, omega (arith, a.4)))
 
         less : (s i j l : ℕ) → j < i → s + (i - j) ≤ l → s + 1 + (i - (j + 1)) ≤ l
         less s i j l z h = omega arith
 
-        go : (b : Bool) → nat_lt m.seq (seq found) ≡ b → Within S (after_load_reply S now j found b) (after_load_reply S now j found b).place
-        go true q = let z : m.seq < seq found = grind (arith, nat_tests) in absurd (omega (arith, fresh))
-        go false q = asks_within (reply_read now j found) (j + 1) (j + 1) (less m.steps S.instrs j (bound S) a.4 t.steps) (omega arith) (first_mark m.raw.shape (j + 1) (S.instrs - j - 1)) (λ k z. (mark_some m.raw.shape (j + 1) (S.instrs - j - 1) k z).0)
+        go : (b : Bool) → nat_lt m.seq (seq_of found) ≡ b → IsWithinBound S (after_load_reply S now j found b) (after_load_reply S now j found b).place
+        go true q = let z : m.seq < seq_of found = grind (arith, nat_tests) in absurd (omega (arith, fresh))
+        go false q = asks_within (with_reply now j found) (j + 1) (j + 1) (less m.steps S.instrs j (bound S) a.4 t.steps) (omega arith) (first_marked_place m.raw.shape (j + 1) (S.instrs - j - 1)) (λ k z. (mark_some m.raw.shape (j + 1) (S.instrs - j - 1) k z).0)
     within LoadAnnouncement a t e = go (get_or m.known (ticket_cell S m.scan) None)
       where
         found : ℕ
@@ -340,21 +340,21 @@ module _ (S : Setup) where
         less : (s k x l : ℕ) → s + (k + 1 + x) ≤ l → s + 1 + (k + x) ≤ l
         less s k x l h = omega arith
 
-        go : (r : Option ℕ) → Within S (after_announcement S now found r) (after_announcement S now found r).place
-        go None = record { told = λ q. cc; steps = less m.steps S.instrs (scan_left S m) (bound S) t.steps }
-        go (Some v) = weighed_within (record now { heard = found }) a.3 (less m.steps S.instrs (scan_left S m) (bound S) t.steps) (nat_lt v (seq found))
-    within LoadTicket a t e = go (nat_lt m.seq (seq found))
+        go : (r : Option ℕ) → IsWithinBound S (after_announcement S now found r) (after_announcement S now found r).place
+        go None = record { told = λ q. cc; steps = less m.steps S.instrs (steps_left_in_scan S m) (bound S) t.steps }
+        go (Some v) = weighed_within (record now { heard = found }) a.3 (less m.steps S.instrs (steps_left_in_scan S m) (bound S) t.steps) (nat_lt v (seq_of found))
+    within LoadTicket a t e = go (nat_lt m.seq (seq_of found))
       where
         found : ℕ
         found = get_or w.words (word_of (want_at S m LoadTicket)) 0
 
-        go : (b : Bool) → Within S (after_load_ticket S now found b) (after_load_ticket S now found b).place
-        go true = record { told = λ q. cc; steps = again_sum m.steps S.instrs ((S.callers - m.scan - 1) * (S.instrs + 1)) (unknowns m.known) (4 * S.cells + 6) (rounds_left S m) (bound S) (omega arith) t.steps }
-        go false = weighed_within (record now { known = learned S m (ticket_cell S m.scan) found }) a.3
-            (known_sum m.steps S.instrs ((S.callers - m.scan - 1) * (S.instrs + 1)) (unknowns m.known) (unknowns (learned S m (ticket_cell S m.scan) found)) (4 * S.cells + 6) (rounds_left S m) (bound S)
-            (unknowns_set m.known (ticket_cell S m.scan) (pay found) (omega (arith, a.0.looks.all, ticket_in_cells S Lawful B w g i m h m.scan a.3)) a.5) t.steps)
-            (nat_lt (pay found) (seq m.heard))
-    within (LoadScript j) a t e = go (nat_lt (j + 1) (pay m.heard))
+        go : (b : Bool) → IsWithinBound S (after_load_ticket S now found b) (after_load_ticket S now found b).place
+        go true = record { told = λ q. cc; steps = again_sum m.steps S.instrs ((S.callers - m.scan - 1) * (S.instrs + 1)) (unknown_cell_count m.known) (4 * S.cells + 6) (steps_left_in_rounds S m) (bound S) (omega arith) t.steps }
+        go false = weighed_within (record now { known = with_cell_known S m (ticket_cell S m.scan) found }) a.3
+            (known_sum m.steps S.instrs ((S.callers - m.scan - 1) * (S.instrs + 1)) (unknown_cell_count m.known) (unknown_cell_count (with_cell_known S m (ticket_cell S m.scan) found)) (4 * S.cells + 6) (steps_left_in_rounds S m) (bound S)
+            (unknowns_set m.known (ticket_cell S m.scan) (payload_of found) (omega (arith, a.0.looks.all, ticket_in_cells S Lawful B w g i m h m.scan a.3)) a.5) t.steps)
+            (nat_lt (payload_of found) (seq_of m.heard))
+    within (LoadScript j) a t e = go (nat_lt (j + 1) (payload_of m.heard))
       where
         found : ℕ
         found = get_or w.words (word_of (want_at S m (LoadScript j))) 0
@@ -368,25 +368,25 @@ module _ (S : Setup) where
         last : (s i j x l : ℕ) → j < i → s + (i - j + x) ≤ l → s + 1 + x ≤ l
         last s i j x l z h = omega arith
 
-        go : (b : Bool) → Within S (after_load_script S now j found b) (after_load_script S now j found b).place
-        go true = record { told = λ q. cc; steps = more m.steps S.instrs j (scan_left S m) (bound S) j_in t.steps }
-        go false = ran_within (record now { script = script_more m found }) a.3 (last m.steps S.instrs j (scan_left S m) (bound S) j_in t.steps) (S.meaning.walk (over m.known m.log) (script_more m found))
-    within (LoadCell x) a t e = go (nat_lt m.seq (seq found))
+        go : (b : Bool) → IsWithinBound S (after_load_script S now j found b) (after_load_script S now j found b).place
+        go true = record { told = λ q. cc; steps = more m.steps S.instrs j (steps_left_in_scan S m) (bound S) j_in t.steps }
+        go false = ran_within (record now { script = with_script_word m found }) a.3 (last m.steps S.instrs j (steps_left_in_scan S m) (bound S) j_in t.steps) (S.meaning.walk (overlaid m.known m.log) (with_script_word m found))
+    within (LoadCell x) a t e = go (nat_lt m.seq (seq_of found))
       where
         found : ℕ
         found = get_or w.words (word_of (want_at S m (LoadCell x))) 0
 
-        go : (b : Bool) → Within S (after_load_cell S now x found b) (after_load_cell S now x found b).place
-        go true = record { told = λ q. cc; steps = again_sum0 m.steps ((S.callers - m.scan - 1) * (S.instrs + 1)) (unknowns m.known) (4 * S.cells + 6) (rounds_left S m) (bound S) (omega arith) t.steps }
-        go false = ran_within (record now { known = learned S m x found }) a.3
-            (known_sum0 m.steps ((S.callers - m.scan - 1) * (S.instrs + 1)) (unknowns m.known) (unknowns (learned S m x found)) (4 * S.cells + 6) (rounds_left S m) (bound S)
-            (unknowns_set m.known x (pay found) (omega (arith, a.0.looks.all, a.6)) a.7) t.steps)
-            (S.meaning.walk (over (learned S m x found) m.log) m.script)
-    within RaiseOld a t e = record { told = λ q. cc; steps = sum m.steps S.cells (rounds_left S m) (bound S) t.steps }
+        go : (b : Bool) → IsWithinBound S (after_load_cell S now x found b) (after_load_cell S now x found b).place
+        go true = record { told = λ q. cc; steps = again_sum0 m.steps ((S.callers - m.scan - 1) * (S.instrs + 1)) (unknown_cell_count m.known) (4 * S.cells + 6) (steps_left_in_rounds S m) (bound S) (omega arith) t.steps }
+        go false = ran_within (record now { known = with_cell_known S m x found }) a.3
+            (known_sum0 m.steps ((S.callers - m.scan - 1) * (S.instrs + 1)) (unknown_cell_count m.known) (unknown_cell_count (with_cell_known S m x found)) (4 * S.cells + 6) (steps_left_in_rounds S m) (bound S)
+            (unknowns_set m.known x (payload_of found) (omega (arith, a.0.looks.all, a.6)) a.7) t.steps)
+            (S.meaning.walk (overlaid (with_cell_known S m x found) m.log) m.script)
+    within RaiseOld a t e = record { told = λ q. cc; steps = sum m.steps S.cells (steps_left_in_rounds S m) (bound S) t.steps }
       where
         sum : (s c r l : ℕ) → s + (4 * c + 6 + r) ≤ l → s + 1 + (2 * (2 * c + 1 - 0) + 3 + r) ≤ l
         sum s c r l h = omega arith
-    within (StoreLog x) a t e = record { told = λ q. cc; steps = sum m.steps (2 * (2 * S.cells + 1 - x)) (rounds_left S m) (bound S) t.steps }
+    within (StoreLog x) a t e = record { told = λ q. cc; steps = sum m.steps (2 * (2 * S.cells + 1 - x)) (steps_left_in_rounds S m) (bound S) t.steps }
       where
         sum : (s y r l : ℕ) → s + (y + 3 + r) ≤ l → s + 1 + (y + 2 + r) ≤ l
         sum s y r l h = omega arith
@@ -401,19 +401,19 @@ module _ (S : Setup) where
         last : (s c x r l : ℕ) → x < c → s + (2 * (c - x) + 2 + r) ≤ l → s + 1 + (3 + r) ≤ l
         last s c x r l z h = omega arith
 
-        go : (b : Bool) → Within S (after_raise_log now x b) (after_raise_log now x b).place
-        go true = record { told = λ q. cc; steps = more m.steps (2 * S.cells + 1) x (rounds_left S m) (bound S) x_in t.steps }
-        go false = record { told = λ q. cc; steps = last m.steps (2 * S.cells + 1) x (rounds_left S m) (bound S) x_in t.steps }
-    within StoreRequest a t e = record { told = λ q. cc; steps = fewer m.steps (3 + rounds_left S m) (2 + rounds_left S m) (bound S) t.steps (omega arith) }
-    within RaiseRequest a t e = record { told = λ q. cc; steps = fewer m.steps (2 + rounds_left S m) (1 + rounds_left S m) (bound S) t.steps (omega arith) }
-    within ExchangeCurrent a t e = go (get_or w.words 0 0 == word m.seq m.owner)
+        go : (b : Bool) → IsWithinBound S (after_raise_log now x b) (after_raise_log now x b).place
+        go true = record { told = λ q. cc; steps = more m.steps (2 * S.cells + 1) x (steps_left_in_rounds S m) (bound S) x_in t.steps }
+        go false = record { told = λ q. cc; steps = last m.steps (2 * S.cells + 1) x (steps_left_in_rounds S m) (bound S) x_in t.steps }
+    within StoreRequest a t e = record { told = λ q. cc; steps = fewer m.steps (3 + steps_left_in_rounds S m) (2 + steps_left_in_rounds S m) (bound S) t.steps (omega arith) }
+    within RaiseRequest a t e = record { told = λ q. cc; steps = fewer m.steps (2 + steps_left_in_rounds S m) (1 + steps_left_in_rounds S m) (bound S) t.steps (omega arith) }
+    within ExchangeCurrent a t e = go (get_or w.words 0 0 == pack m.seq m.owner)
       where
         won : (s y k l : ℕ) → s + (1 + (y + k)) ≤ l → s + 1 + (k + 0) ≤ l
         won s y k l h = omega arith
 
-        go : (b : Bool) → Within S (after_exchange now b) (after_exchange now b).place
-        go true = record { told = λ q. cc; steps = won m.steps ((3 - m.rounds) * lost S) (applying S) (bound S) t.steps }
-        go false = record { told = λ q. cc; steps = fewer m.steps (1 + rounds_left S m) (rounds_left S m) (bound S) t.steps (omega arith) }
+        go : (b : Bool) → IsWithinBound S (after_exchange now b) (after_exchange now b).place
+        go true = record { told = λ q. cc; steps = won m.steps ((3 - m.rounds) * lost_round_steps S) (apply_steps S) (bound S) t.steps }
+        go false = record { told = λ q. cc; steps = fewer m.steps (1 + steps_left_in_rounds S m) (steps_left_in_rounds S m) (bound S) t.steps (omega arith) }
     within RaiseCurrent a t e = go (nat_lt 0 (length m.log))
       where
         more : (s c r l : ℕ) → s + (4 * c + 3 + r) ≤ l → s + 1 + (4 * (c - 0) + 2 + r) ≤ l
@@ -422,10 +422,10 @@ module _ (S : Setup) where
         none : (s c r l : ℕ) → s + (4 * c + 3 + r) ≤ l → s + 1 + (2 + r) ≤ l
         none s c r l h = omega arith
 
-        go : (b : Bool) → Within S (after_raise_current now b) (after_raise_current now b).place
-        go true = record { told = λ q. cc; steps = more m.steps S.cells (behind_apply S m m.helps) (bound S) t.steps }
-        go false = record { told = λ q. cc; steps = none m.steps S.cells (behind_apply S m m.helps) (bound S) t.steps }
-    within (LoadTarget j) a t e = go (nat_lt (seq found) m.seq)
+        go : (b : Bool) → IsWithinBound S (after_raise_current now b) (after_raise_current now b).place
+        go true = record { told = λ q. cc; steps = more m.steps S.cells (steps_left_after_apply S m m.helps) (bound S) t.steps }
+        go false = record { told = λ q. cc; steps = none m.steps S.cells (steps_left_after_apply S m m.helps) (bound S) t.steps }
+    within (LoadTarget j) a t e = go (nat_lt (seq_of found) m.seq)
       where
         found : ℕ
         found = get_or w.words (word_of (want_at S m (LoadTarget j))) 0
@@ -436,14 +436,14 @@ module _ (S : Setup) where
         newer : (s y r l : ℕ) → s + (y + 2 + r) ≤ l → s + 1 + (y - 1 + r) ≤ l
         newer s y r l h = omega arith
 
-        go : (b : Bool) → Within S (after_load_target now j found b) (after_load_target now j found b).place
-        go true = record { told = λ q. cc; steps = older m.steps (4 * (S.cells - j)) (behind_apply S m m.helps) (bound S) t.steps }
-        go false = record { told = λ q. cc; steps = newer m.steps (4 * (S.cells - j)) (behind_apply S m m.helps) (bound S) t.steps }
-    within (ExchangeTarget j f) a t e = record { told = λ q. cc; steps = sum m.steps (4 * (S.cells - j)) (behind_apply S m m.helps) (bound S) t.steps }
+        go : (b : Bool) → IsWithinBound S (after_load_target now j found b) (after_load_target now j found b).place
+        go true = record { told = λ q. cc; steps = older m.steps (4 * (S.cells - j)) (steps_left_after_apply S m m.helps) (bound S) t.steps }
+        go false = record { told = λ q. cc; steps = newer m.steps (4 * (S.cells - j)) (steps_left_after_apply S m m.helps) (bound S) t.steps }
+    within (ExchangeTarget j f) a t e = record { told = λ q. cc; steps = sum m.steps (4 * (S.cells - j)) (steps_left_after_apply S m m.helps) (bound S) t.steps }
       where
         sum : (s y r l : ℕ) → s + (y + 1 + r) ≤ l → s + 1 + (y + r) ≤ l
         sum s y r l h = omega arith
-    within (ReloadTarget j) a t e = record { told = λ q. cc; steps = sum m.steps S.cells j (behind_apply S m m.helps) (bound S) (omega (arith, a.1, n_cells j a.0)) t.steps }
+    within (ReloadTarget j) a t e = record { told = λ q. cc; steps = sum m.steps S.cells j (steps_left_after_apply S m m.helps) (bound S) (omega (arith, a.1, n_cells j a.0)) t.steps }
       where
         sum : (s c j r l : ℕ) → j < c → s + (4 * (c - j) + r) ≤ l → s + 1 + (4 * (c - j) - 1 + r) ≤ l
         sum s c j r l z h = omega arith
@@ -458,10 +458,10 @@ module _ (S : Setup) where
         last : (s c j r l : ℕ) → j < c → s + (4 * (c - j) - 1 + r) ≤ l → s + 1 + (2 + r) ≤ l
         last s c j r l z h = omega arith
 
-        go : (b : Bool) → Within S (next_entry now j b) (next_entry now j b).place
-        go true = record { told = λ q. cc; steps = more m.steps S.cells j (behind_apply S m m.helps) (bound S) j_in t.steps }
-        go false = record { told = λ q. cc; steps = last m.steps S.cells j (behind_apply S m m.helps) (bound S) j_in t.steps }
-    within CloseRequest a t e = record { told = λ q. cc; steps = sum m.steps (behind_apply S m m.helps) (bound S) t.steps }
+        go : (b : Bool) → IsWithinBound S (next_entry now j b) (next_entry now j b).place
+        go true = record { told = λ q. cc; steps = more m.steps S.cells j (steps_left_after_apply S m m.helps) (bound S) j_in t.steps }
+        go false = record { told = λ q. cc; steps = last m.steps S.cells j (steps_left_after_apply S m m.helps) (bound S) j_in t.steps }
+    within CloseRequest a t e = record { told = λ q. cc; steps = sum m.steps (steps_left_after_apply S m m.helps) (bound S) t.steps }
       where
         sum : (s r l : ℕ) → s + (2 + r) ≤ l → s + 1 + (1 + r) ≤ l
         sum s r l h = omega arith
@@ -473,6 +473,6 @@ module _ (S : Setup) where
         sum0 : (s l : ℕ) → s + (1 + 0) ≤ l → s + 1 ≤ l
         sum0 s l h = omega arith
 
-        go : (b d : Bool) → (m.rounds == 0) ≡ d → m.steps + (1 + behind_apply S m b) ≤ bound S → Within S (after_raise_closed S now b d) (after_raise_closed S now b d).place
-        go true d q u = resumed_within now d (subst (λ (x : Bool). m.steps + 1 + helped S m x ≤ bound S) q (sum m.steps (helped S m (m.rounds == 0)) (bound S) u))
+        go : (b d : Bool) → (m.rounds == 0) ≡ d → m.steps + (1 + steps_left_after_apply S m b) ≤ bound S → IsWithinBound S (after_raise_closed S now b d) (after_raise_closed S now b d).place
+        go true d q u = resumed_within now d (subst (λ (x : Bool). m.steps + 1 + steps_left_after_help S m x ≤ bound S) q (sum m.steps (steps_left_after_help S m (m.rounds == 0)) (bound S) u))
         go false d q u = record { steps = omega arith; told = λ q. sum0 m.steps (bound S) u }

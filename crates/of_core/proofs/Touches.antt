@@ -2,17 +2,17 @@
 use Rattle.std.proofs.Common.{◌≡◌, ℕ, zero, suc, ◌+◌, ◌*◌, ◌-◌, ◌<◌, ◌≤◌, ◌⊎◌, ◌==◌, inl, inr, List, [], ◌∷◌, length, get_or, refl, sym, ◌∙◌, ap, subst, arith, true, false}
 use Rattle.std.specs.List.{All}
 use Rattle.std.proofs.lemmas.Bool.Decides.{nat_tests}
-use Rattle.of_cell.specs.Words.{word, seq, pay}
+use Rattle.of_cell.specs.Words.{pack, seq_of, payload_of}
 use Rattle.of_mem.specs.declared.work.RawReply.{RawReply}
-use Rattle.of_core.specs.Table.{Setup, size, request_at, data_at, log_at, announcement_of, script_word, current_word, request_of, cell, log_word, durable_word, durable_request, durable_cell, durable_log, last, holder, risen}
-use Rattle.of_core.specs.Machine.{Data, Call, log_words}
-use Rattle.of_core.specs.World.{World, Batch, Start}
-use Rattle.of_core.specs.History.{batch, at}
-use Rattle.of_core.specs.Shared.{Heard, Kinds, IsRequest, IsLogWord, Shared, Opened, Counted, DataCells, Requests, Durable, Held}
-use Rattle.of_core.specs.Rounds.{Begun, Round, Past, Quieted}
-use Rattle.of_core.specs.Scan.{Over}
-use Rattle.of_core.specs.Invariant.{Core}
-use Rattle.of_core.specs.Moves.{Moves}
+use Rattle.of_core.specs.Table.{Setup, cell_count, request_at, data_at, log_at, announcement_of, script_word, current_word, request_of, data_word, log_word_of, durable_word, durable_request, durable_cell, durable_log, committed_seq, committed_owner, durable_seq}
+use Rattle.of_core.specs.Machine.{CallState, Call, log_words}
+use Rattle.of_core.specs.World.{Moment, Batch, TableStart}
+use Rattle.of_core.specs.History.{batch_at, data_word_after}
+use Rattle.of_core.specs.Shared.{AnnouncementsAreServed, WordsHaveTheirKind, IsRequest, IsLogWord, WordsMatchHistory, IsLastOpen, CountsBatches, DataCellsMatchState, RequestsMatchBatches, DurableWordsMatch, WasHeldByCell}
+use Rattle.of_core.specs.Rounds.{IsAnnounced, IsInRound, IsPastOwnTicket, AnnouncesNothingNew}
+use Rattle.of_core.specs.Scan.{HasScannedUpTo}
+use Rattle.of_core.specs.Invariant.{MeetsCore}
+use Rattle.of_core.specs.Moves.{Guarantees}
 use Rattle.of_core.proofs.Logs.{length-log_words}
 use Rattle.of_core.proofs.Stability.{log_in, heard_as, said_as}
 
@@ -26,33 +26,33 @@ differ a b e q = grind (arith, nat_tests)
 pub equals : (a b : ℕ) → (a == b) ≡ true → a ≡ b
 equals a b e = grind (arith, nat_tests)
 
-module _ (S : Setup) (Lawful : List ℕ → Type 0) (B : Start) where
+module _ (S : Setup) (Lawful : List ℕ → Type 0) (B : TableStart) where
   -- the last commit stays, cells rise, and no durable word changes
   pub record Touches (i : ℕ) (ws vs : List ℕ) (bs : List Batch) : Type 0 where
     pub room : length vs ≡ length ws
     pub current_word : current_word vs ≡ current_word ws
-    pub requests : (j : ℕ) → j < S.callers → (j ≡ i → ⊥) → (request_of vs j ≡ request_of ws j) ⊎ ((B.seq < last ws) × ((batch B bs (last ws)).owner ≡ j) × (request_of ws j ≡ word (last ws) 0) × (request_of vs j ≡ word (last ws) 1))
-    pub logs : (j : ℕ) → j < S.callers → (j ≡ i → ⊥) → (x : ℕ) → x < 2 * S.cells + 1 → log_word S vs j x ≡ log_word S ws j x
-    pub changes : (a : ℕ) → a < S.cells → (cell S vs a ≡ cell S ws a) ⊎ (last ws ≤ seq (cell S vs a))
-    pub rise : (c : ℕ) → c < size S → get_or ws c 0 ≤ get_or vs c 0
-    pub durs : (c : ℕ) → c < size S → durable_word S vs c ≡ durable_word S ws c
-    pub log_how : (j x : ℕ) → j < S.callers → x < 2 * S.cells + 1 → (log_word S vs j x ≡ log_word S ws j x) ⊎ (seq (log_word S ws j x) < seq (log_word S vs j x))
-    pub script_of : (j x : ℕ) → j < S.callers → x < S.instrs + 1 → (script_word S vs j x ≡ script_word S ws j x) ⊎ ((j ≡ i) × Quieted S B ws bs j)
-    pub announcements : (j : ℕ) → j < S.callers → (announcement_of S vs j ≡ announcement_of S ws j) ⊎ ((j ≡ i) × ((k : ℕ) → B.seq < k → k ≤ last ws → (batch B bs k).announcements j ≡ announcement_of S vs j → ⊥))
+    pub requests : (j : ℕ) → j < S.callers → (j ≡ i → ⊥) → (request_of vs j ≡ request_of ws j) ⊎ ((B.seq < committed_seq ws) × ((batch_at B bs (committed_seq ws)).owner ≡ j) × (request_of ws j ≡ pack (committed_seq ws) 0) × (request_of vs j ≡ pack (committed_seq ws) 1))
+    pub logs : (j : ℕ) → j < S.callers → (j ≡ i → ⊥) → (x : ℕ) → x < 2 * S.cells + 1 → log_word_of S vs j x ≡ log_word_of S ws j x
+    pub changes : (a : ℕ) → a < S.cells → (data_word S vs a ≡ data_word S ws a) ⊎ (committed_seq ws ≤ seq_of (data_word S vs a))
+    pub rise : (c : ℕ) → c < cell_count S → get_or ws c 0 ≤ get_or vs c 0
+    pub durs : (c : ℕ) → c < cell_count S → durable_word S vs c ≡ durable_word S ws c
+    pub log_how : (j x : ℕ) → j < S.callers → x < 2 * S.cells + 1 → (log_word_of S vs j x ≡ log_word_of S ws j x) ⊎ (seq_of (log_word_of S ws j x) < seq_of (log_word_of S vs j x))
+    pub script_of : (j x : ℕ) → j < S.callers → x < S.instrs + 1 → (script_word S vs j x ≡ script_word S ws j x) ⊎ ((j ≡ i) × AnnouncesNothingNew S B ws bs j)
+    pub announcements : (j : ℕ) → j < S.callers → (announcement_of S vs j ≡ announcement_of S ws j) ⊎ ((j ≡ i) × ((k : ℕ) → B.seq < k → k ≤ committed_seq ws → (batch_at B bs k).announcements j ≡ announcement_of S vs j → ⊥))
 
-  module _ (i : ℕ) (ws vs : List ℕ) (bs : List Batch) (t : Touches i ws vs bs) (s : Shared S Lawful B ws bs) where
-    pub last_same : last vs ≡ last ws
-    last_same = ap seq t.current_word
+  module _ (i : ℕ) (ws vs : List ℕ) (bs : List Batch) (t : Touches i ws vs bs) (s : WordsMatchHistory S Lawful B ws bs) where
+    pub last_same : committed_seq vs ≡ committed_seq ws
+    last_same = ap seq_of t.current_word
 
-    pub low_of : (c : ℕ) → c < size S → durable_word S vs c ≤ get_or vs c 0
+    pub low_of : (c : ℕ) → c < cell_count S → durable_word S vs c ≤ get_or vs c 0
     low_of c l = omega (arith, t.durs c l, t.rise c l, s.durable.low c l)
 
     pub dur_cur : durable_word S vs 0 ≡ durable_word S ws 0
     dur_cur = t.durs 0 (omega arith)
 
-    pub moves_of : Moves S B i ws bs vs bs
+    pub moves_of : Guarantees S B i ws bs vs bs
     moves_of = let e = last_same in record {
-      same = λ q. ap pay t.current_word;
+      same = λ q. ap payload_of t.current_word;
       states = λ k l m. refl;
       batches = λ k l m. refl;
       limit = rw t.current_word s.counted.limit;
@@ -72,7 +72,7 @@ module _ (S : Setup) (Lawful : List ℕ → Type 0) (B : Start) where
       low = low_of;
     }
 
-    pub counted_of : Counted S B vs bs
+    pub counted_of : CountsBatches S B vs bs
     counted_of = let h = s.counted in record {
       count = rw t.current_word h.count;
       limit = rw t.current_word h.limit;
@@ -83,19 +83,19 @@ module _ (S : Setup) (Lawful : List ℕ → Type 0) (B : Start) where
       logs = rw t.current_word h.logs;
     }
 
-    pub requests_of : Requests S B vs bs
+    pub requests_of : RequestsMatchBatches S B vs bs
     requests_of = let h = s.requests in record {
       floor = λ l. omega (arith, h.floor l, t.rise (B.owner + 1) (omega (arith, s.start.owner_in)));
-      closed = λ k l m. omega (arith, h.closed k l (rw last_same at m), t.rise ((batch B bs k).owner + 1) (omega (arith, s.counted.owners k l (omega (arith, last_same)))));
-      latest = λ l. let x : word (last ws) 0 ≤ request_of ws (holder ws) = h.latest (rw last_same at l) in rw t.current_word (omega (arith, t.rise (holder ws + 1) (omega (arith, s.counted.owner_in))));
+      closed = λ k l m. omega (arith, h.closed k l (rw last_same data_word_after m), t.rise ((batch_at B bs k).owner + 1) (omega (arith, s.counted.owners k l (omega (arith, last_same)))));
+      latest = λ l. let x : pack (committed_seq ws) 0 ≤ request_of ws (committed_owner ws) = h.latest (rw last_same data_word_after l) in rw t.current_word (omega (arith, t.rise (committed_owner ws + 1) (omega (arith, s.counted.owner_in))));
     }
 
     -- the durable facts, where the open transaction stays open, or where all is in the cells
-    pub durable_of : ((a : ℕ) → a < S.cells → seq (cell S vs a) ≤ risen S ws)
-        → (((last ws ≡ risen S ws) ⊎ ((last ws ≡ risen S ws + 1) × Opened B ws)) → (last ws ≡ risen S ws) ⊎ ((last ws ≡ risen S ws + 1) × Opened B vs))
-        → ((a : ℕ) → a < S.cells → (durable_cell S ws a ≡ at B bs (risen S ws) a) ⊎ (Opened B vs × (last ws ≡ risen S ws) × (durable_cell S ws a ≡ at B bs (risen S ws - 1) a)))
-        → ((k : ℕ) → B.seq < k → k ≤ last ws → (j : ℕ) → (batch B bs k).owner ≡ j → durable_request S ws j ≡ word k 0 → (x : ℕ) → x < 2 * S.cells + 1 → log_word S vs j x ≡ log_word S ws j x)
-        → Durable S B vs bs
+    pub durable_of : ((a : ℕ) → a < S.cells → seq_of (data_word S vs a) ≤ durable_seq S ws)
+        → (((committed_seq ws ≡ durable_seq S ws) ⊎ ((committed_seq ws ≡ durable_seq S ws + 1) × IsLastOpen B ws)) → (committed_seq ws ≡ durable_seq S ws) ⊎ ((committed_seq ws ≡ durable_seq S ws + 1) × IsLastOpen B vs))
+        → ((a : ℕ) → a < S.cells → (durable_cell S ws a ≡ data_word_after B bs (durable_seq S ws) a) ⊎ (IsLastOpen B vs × (committed_seq ws ≡ durable_seq S ws) × (durable_cell S ws a ≡ data_word_after B bs (durable_seq S ws - 1) a)))
+        → ((k : ℕ) → B.seq < k → k ≤ committed_seq ws → (j : ℕ) → (batch_at B bs k).owner ≡ j → durable_request S ws j ≡ pack k 0 → (x : ℕ) → x < 2 * S.cells + 1 → log_word_of S vs j x ≡ log_word_of S ws j x)
+        → DurableWordsMatch S B vs bs
     durable_of fresh step cells logs = let h = s.durable in record {
       low = low_of;
       from = rw dur_cur h.from;
@@ -105,15 +105,15 @@ module _ (S : Setup) (Lawful : List ℕ → Type 0) (B : Start) where
       fresh = λ a l. rw dur_cur (fresh a l);
       cells = λ a l. rw (t.durs (data_at S a) (omega arith), dur_cur, t.current_word) (cells a l);
       begun = λ l. rw (t.durs (request_at B.owner) (omega (arith, s.start.owner_in))) (h.begun l);
-      floor = λ k l u. rw (t.durs (request_at (batch B bs k).owner) (omega (arith, s.counted.owners k l (rw last_same at u)))) (h.floor k l (rw last_same at u));
-      logs = λ k l u j o q x v m z. logs_at k l (rw last_same at u) j o q x v m z;
+      floor = λ k l u. rw (t.durs (request_at (batch_at B bs k).owner) (omega (arith, s.counted.owners k l (rw last_same data_word_after u)))) (h.floor k l (rw last_same data_word_after u));
+      logs = λ k l u j o q x v m z. logs_at k l (rw last_same data_word_after u) j o q x v m z;
     }
       where
-        logs_at : (k : ℕ) → B.seq < k → k ≤ last ws → (j : ℕ) → (batch B bs k).owner ≡ j → durable_request S vs j ≡ word k 0 → (x v : ℕ) → x < length (log_words (batch B bs k).log) → get_or (log_words (batch B bs k).log) x 0 ≡ v → (log_word S vs j x ≡ word k v) × (durable_log S vs j x ≡ word k v)
+        logs_at : (k : ℕ) → B.seq < k → k ≤ committed_seq ws → (j : ℕ) → (batch_at B bs k).owner ≡ j → durable_request S vs j ≡ pack k 0 → (x v : ℕ) → x < length (log_words (batch_at B bs k).log) → get_or (log_words (batch_at B bs k).log) x 0 ≡ v → (log_word_of S vs j x ≡ pack k v) × (durable_log S vs j x ≡ pack k v)
         logs_at k l u j o q x v m z =
             let j_in : j < S.callers = rw (← o) (s.counted.owners k l u) in
-            let x_in : x < 2 * S.cells + 1 = omega (arith, length-log_words (batch B bs k).log, (s.counted.logs k l u).few) in
-            let q' : durable_request S ws j ≡ word k 0 = sym (t.durs (request_at j) (omega arith)) ∙ q in
+            let x_in : x < 2 * S.cells + 1 = omega (arith, length-log_words (batch_at B bs k).log, (s.counted.logs k l u).few) in
+            let q' : durable_request S ws j ≡ pack k 0 = sym (t.durs (request_at j) (omega arith)) ∙ q in
             let p = s.durable.logs k l u j o q' x v m z in
             (logs k l u j o q' x x_in ∙ p.0, t.durs (log_at S j x) (log_in S j x j_in x_in) ∙ p.1)
 
@@ -121,35 +121,35 @@ module _ (S : Setup) (Lawful : List ℕ → Type 0) (B : Start) where
     request_as j v h l = rw t.current_word (h l)
 
     pub log_as : (j x v : ℕ) → IsLogWord B ws bs j x v → IsLogWord B vs bs j x v
-    log_as j x v h a u o = h a (rw t.current_word at u) o
+    log_as j x v h a u o = h a (rw t.current_word data_word_after u) o
 
     -- what requests and log words are, where this is so of the table's
-    pub kinds_of : ((j : ℕ) → j < S.callers → IsRequest B ws bs j (request_of vs j)) → ((j x : ℕ) → j < S.callers → x < 2 * S.cells + 1 → IsLogWord B ws bs j x (log_word S vs j x))
-        → ((j y : ℕ) → j < S.callers → y < S.cells → pay (log_word S vs j (2 * y + 1)) < S.cells) → Kinds S B vs bs
+    pub kinds_of : ((j : ℕ) → j < S.callers → IsRequest B ws bs j (request_of vs j)) → ((j x : ℕ) → j < S.callers → x < 2 * S.cells + 1 → IsLogWord B ws bs j x (log_word_of S vs j x))
+        → ((j y : ℕ) → j < S.callers → y < S.cells → payload_of (log_word_of S vs j (2 * y + 1)) < S.cells) → WordsHaveTheirKind S B vs bs
     kinds_of r l z = record {
       requests = λ j u. request_as j (request_of vs j) (r j u);
       dur_requests = λ j u. request_as j (durable_request S vs j) (subst (λ (y : ℕ). IsRequest B ws bs j y) (sym (t.durs (request_at j) (omega arith))) (s.kinds.dur_requests j u));
-      logs = λ j x u v. log_as j x (log_word S vs j x) (l j x u v);
+      logs = λ j x u v. log_as j x (log_word_of S vs j x) (l j x u v);
       dur_logs = λ j x u v. log_as j x (durable_log S vs j x) (subst (λ (y : ℕ). IsLogWord B ws bs j x y) (sym (t.durs (log_at S j x) (log_in S j x u v))) (s.kinds.dur_logs j x u v));
       sized = z;
     }
 
     -- where the log words stay
-    pub kinds_same : ((j : ℕ) → j < S.callers → IsRequest B ws bs j (request_of vs j)) → ((j x : ℕ) → j < S.callers → x < 2 * S.cells + 1 → log_word S vs j x ≡ log_word S ws j x) → Kinds S B vs bs
+    pub kinds_same : ((j : ℕ) → j < S.callers → IsRequest B ws bs j (request_of vs j)) → ((j x : ℕ) → j < S.callers → x < 2 * S.cells + 1 → log_word_of S vs j x ≡ log_word_of S ws j x) → WordsHaveTheirKind S B vs bs
     kinds_same r e = kinds_of r (λ j x u v. subst (λ (y : ℕ). IsLogWord B ws bs j x y) (sym (e j x u v)) (s.kinds.logs j x u v)) (λ j y u v. rw (e j (2 * y + 1) u (omega arith)) (s.kinds.sized j y u v))
 
     pub request_same : (j : ℕ) → j < S.callers → request_of vs j ≡ request_of ws j → IsRequest B ws bs j (request_of vs j)
     request_same j l e = subst (λ (y : ℕ). IsRequest B ws bs j y) (sym e) (s.kinds.requests j l)
 
-    pub shared_of : DataCells S B vs bs → Durable S B vs bs → Heard S B vs bs → Kinds S B vs bs → Shared S Lawful B vs bs
+    pub shared_of : DataCellsMatchState S B vs bs → DurableWordsMatch S B vs bs → AnnouncementsAreServed S B vs bs → WordsHaveTheirKind S B vs bs → WordsMatchHistory S Lawful B vs bs
     shared_of d l hd kd = record { kinds = kd; start = s.start; few = s.few; narrow = s.narrow; little = s.little; own_in = s.own_in; room = rw t.room s.room; counted = counted_of; data_cells = d; requests = requests_of; durable = l; stands = s.stands; heard = hd }
 
     -- where no script word and no announcement changed
     module _ (behind : (j x : ℕ) → script_word S vs j x ≡ script_word S ws j x) where
-      pub heard_of : ((j : ℕ) → j < S.callers → pay (log_word S vs j 0) ≤ S.cells) → Heard S B vs bs
+      pub heard_of : ((j : ℕ) → j < S.callers → payload_of (log_word_of S vs j 0) ≤ S.cells) → AnnouncementsAreServed S B vs bs
       heard_of counts = heard_as S B ws vs bs (λ j l. behind j S.instrs) last_same counts s.heard
 
-      pub begun_of : (m : Data) → i < S.callers → Begun S B ws bs i m → (n : Data) → n.caller ≡ m.caller → n.made ≡ m.made → n.op ≡ m.op → n.kept ≡ m.kept → n.rounds ≡ m.rounds → n.first ≡ m.first → Begun S B vs bs i n
+      pub begun_of : (m : CallState) → i < S.callers → IsAnnounced S B ws bs i m → (n : CallState) → n.caller ≡ m.caller → n.made ≡ m.made → n.op ≡ m.op → n.kept ≡ m.kept → n.rounds ≡ m.rounds → n.first ≡ m.first → IsAnnounced S B vs bs i n
       begun_of m h p n a b o x r f = record {
         caller = a ∙ p.caller;
         ticket = rw b p.ticket;
@@ -161,10 +161,10 @@ module _ (S : Setup) (Lawful : List ℕ → Type 0) (B : Start) where
         upto = rw (b, t.current_word) p.upto;
         beyond = rw b p.beyond;
         mine = rw (b, o, t.current_word) p.mine;
-        known = rw (r, f) (λ l. ((p.known l).0, λ k u v. (p.known l).1 k u (rw last_same at v) ∙ sym (behind i S.instrs)));
+        known = rw (r, f) (λ l. ((p.known l).0, λ k u v. (p.known l).1 k u (rw last_same data_word_after v) ∙ sym (behind i S.instrs)));
       }
 
-      pub round_of : (m : Data) → i < S.callers → Round S B ws bs i m → (n : Data) → n.caller ≡ m.caller → n.made ≡ m.made → n.op ≡ m.op → n.seq ≡ m.seq → n.owner ≡ m.owner → n.kept ≡ m.kept → n.rounds ≡ m.rounds → n.first ≡ m.first → Round S B vs bs i n
+      pub round_of : (m : CallState) → i < S.callers → IsInRound S B ws bs i m → (n : CallState) → n.caller ≡ m.caller → n.made ≡ m.made → n.op ≡ m.op → n.seq ≡ m.seq → n.owner ≡ m.owner → n.kept ≡ m.kept → n.rounds ≡ m.rounds → n.first ≡ m.first → IsInRound S B vs bs i n
       round_of m h p n a b o c d x r f = record {
         begun = begun_of m h p.begun n a b o x r f;
         from = rw c p.from;
@@ -179,11 +179,11 @@ module _ (S : Setup) (Lawful : List ℕ → Type 0) (B : Start) where
         few = rw r p.few;
       }
 
-      pub past_of : (m : Data) → i < S.callers → Past S B ws bs i m → (n : Data) → n.caller ≡ m.caller → n.made ≡ m.made → n.op ≡ m.op → n.seq ≡ m.seq → n.owner ≡ m.owner → n.kept ≡ m.kept → n.rounds ≡ m.rounds → n.first ≡ m.first → n.known ≡ m.known → Past S B vs bs i n
+      pub past_of : (m : CallState) → i < S.callers → IsPastOwnTicket S B ws bs i m → (n : CallState) → n.caller ≡ m.caller → n.made ≡ m.made → n.op ≡ m.op → n.seq ≡ m.seq → n.owner ≡ m.owner → n.kept ≡ m.kept → n.rounds ≡ m.rounds → n.first ≡ m.first → n.known ≡ m.known → IsPastOwnTicket S B vs bs i n
       past_of m h p n a b o c d x r f e = record {
         looks = record {
           round = round_of m h p.looks.round n a b o c d x r f;
-          quiet = λ q l. let y : word m.seq 0 < request_of ws (holder ws) = p.looks.quiet (sym c ∙ q ∙ last_same) (rw c at l) in rw (c, t.current_word) (omega (arith, t.rise (holder ws + 1) (omega (arith, s.counted.owner_in))));
+          quiet = λ q l. let y : pack m.seq 0 < request_of ws (committed_owner ws) = p.looks.quiet (sym c ∙ q ∙ last_same) (rw c data_word_after l) in rw (c, t.current_word) (omega (arith, t.rise (committed_owner ws + 1) (omega (arith, s.counted.owner_in))));
           agrees = rw (c, e) p.looks.agrees;
           all = rw e p.looks.all;
         };
@@ -191,7 +191,7 @@ module _ (S : Setup) (Lawful : List ℕ → Type 0) (B : Start) where
         left = rw (b, c) p.left;
       }
 
-      pub over_of : (q made : ℕ) (op : List ℕ) (raw : RawReply) (calls : List Call) (es : List (ℕ × ℕ)) (n : ℕ) → Over S B ws bs i q made op raw calls es n → Over S B vs bs i q made op raw calls es n
+      pub over_of : (q made : ℕ) (op : List ℕ) (raw : RawReply) (calls : List Call) (es : List (ℕ × ℕ)) (n : ℕ) → HasScannedUpTo S B ws bs i q made op raw calls es n → HasScannedUpTo S B vs bs i q made op raw calls es n
       over_of q made op raw calls es n o = record {
         over = o.over;
         taken = o.taken;
@@ -205,14 +205,14 @@ module _ (S : Setup) (Lawful : List ℕ → Type 0) (B : Start) where
         met = λ after c l u z. rw (behind c S.instrs) (o.met after c l u (z ∙ behind c S.instrs));
       }
 
-  module _ (w : World) (g : Core S Lawful B w) where
+  module _ (w : Moment) (g : MeetsCore S Lawful B w) where
     -- what a data cell holds it has held
-    pub held_now : (a : ℕ) → a < S.cells → Held B w.words w.batches a (cell S w.words a)
+    pub held_now : (a : ℕ) → a < S.cells → WasHeldByCell B w.words w.batches a (data_word S w.words a)
     held_now a l = go (g.shared.data_cells.each a l)
       where
-        n_is : last w.words ≡ B.seq + length w.batches
+        n_is : committed_seq w.words ≡ B.seq + length w.batches
         n_is = g.shared.counted.count
 
-        go : (cell S w.words a ≡ at B w.batches (last w.words) a) ⊎ (Opened B w.words × (cell S w.words a ≡ at B w.batches (last w.words - 1) a)) → Held B w.words w.batches a (cell S w.words a)
-        go (inl q) = (last w.words, omega (arith, n_is), omega arith, q)
-        go (inr q) = (last w.words - 1, omega (arith, q.0.any), omega arith, q.1)
+        go : (data_word S w.words a ≡ data_word_after B w.batches (committed_seq w.words) a) ⊎ (IsLastOpen B w.words × (data_word S w.words a ≡ data_word_after B w.batches (committed_seq w.words - 1) a)) → WasHeldByCell B w.words w.batches a (data_word S w.words a)
+        go (inl q) = (committed_seq w.words, omega (arith, n_is), omega arith, q)
+        go (inr q) = (committed_seq w.words - 1, omega (arith, q.0.any), omega arith, q.1)

@@ -4,112 +4,112 @@ use Rattle.std.proofs.lemmas.Bool.{cases_eq, cases_lt}
 use Rattle.std.proofs.lemmas.Bool.Decides.{nat_tests}
 use Rattle.std.proofs.lemmas.List.{length-map, length-replicate, get_or-replicate, get_or_past, get_or-set_same, get_or-set_other}
 use Rattle.of_core.specs.declared.machine.trying.TheConstants.{MOST_TRIES}
-use Rattle.of_cell.specs.Words.{word, seq, pay}
-use Rattle.of_mem.specs.Meaning.{Walked, Needs, Gives, Fits, Sound}
+use Rattle.of_cell.specs.Words.{pack, seq_of, payload_of}
+use Rattle.of_mem.specs.Meaning.{WalkEnd, Needs, Gives, WalkFits, IsSoundMeaning}
 use Rattle.of_core.specs.declared.place.Place.TheVariants.{TryCurrent, TryRequest, TryCell}
-use Rattle.of_core.specs.Table.{Setup, data_at, base, current_word, request_of, cell, last, holder, risen}
-use Rattle.of_core.specs.Machine.{Data, unknown, learned}
-use Rattle.of_core.specs.Steps.{read_on, read_ran, tried, resumed, after_try_request, over_try, after_try_cell, is_open, took_at}
-use Rattle.of_core.specs.World.{World, Start, stepped_on}
-use Rattle.of_core.specs.History.{state, at, numbers}
-use Rattle.of_core.specs.Shared.{Opened}
-use Rattle.of_core.specs.Rounds.{WasCurrent, Trying, Helper, Watches, Calm}
-use Rattle.of_core.specs.Invariant.{At, Core}
-use Rattle.of_core.specs.Moves.{Goes}
+use Rattle.of_core.specs.Table.{Setup, data_at, first_operation_cell, current_word, request_of, data_word, committed_seq, committed_owner, durable_seq}
+use Rattle.of_core.specs.Machine.{CallState, nothing_known, with_cell_known}
+use Rattle.of_core.specs.Steps.{read_on, after_read_run, begin_reading, resume, after_try_request, end_try, after_try_cell, is_request_open, take_word_at}
+use Rattle.of_core.specs.World.{Moment, TableStart, after_counted_step}
+use Rattle.of_core.specs.History.{state_after, data_word_after, numbers_after}
+use Rattle.of_core.specs.Shared.{IsLastOpen}
+use Rattle.of_core.specs.Rounds.{WasCurrent, IsInTry, MayHelp, KnowsClosedState, HasNothingUnderWay}
+use Rattle.of_core.specs.Invariant.{HoldsAtPlace, MeetsCore}
+use Rattle.of_core.specs.Moves.{KeepsGuarantee}
 use Rattle.of_core.proofs.States.{state_length, later}
 use Rattle.of_core.proofs.Alike.{calm_more, fresh_as, trying_as}
 use Rattle.of_core.proofs.Assembling.{assemble_read, logs_of, number_at, same_batches, same_words}
 use Rattle.of_core.proofs.Rounds.{entered_at, n_is, not_open, opened_is, quiet_from}
 use Rattle.of_core.proofs.Tests.{differ, not_newer}
 
-module _ (S : Setup) (Lawful : List ℕ → Type 0) (B : Start) where
+module _ (S : Setup) (Lawful : List ℕ → Type 0) (B : TableStart) where
   -- the machine m of caller i, at its place
-  module _ (w : World) (g : Core S Lawful B w) (i : ℕ) (m : Data) (h : i < S.callers) where
+  module _ (w : Moment) (g : MeetsCore S Lawful B w) (i : ℕ) (m : CallState) (h : i < S.callers) where
     -- a cell that isn't newer than a round or a try is that of its state
-    cell_seen : (s o : ℕ) (known : List (Option ℕ)) → WasCurrent S B w.words w.batches s o → Watches S B w.words w.batches s known → (x : ℕ) → x < S.cells → seq (cell S w.words x) ≤ s → cell S w.words x ≡ at B w.batches s x
+    cell_seen : (s o : ℕ) (known : List (Option ℕ)) → WasCurrent S B w.words w.batches s o → KnowsClosedState S B w.words w.batches s known → (x : ℕ) → x < S.cells → seq_of (data_word S w.words x) ≤ s → data_word S w.words x ≡ data_word_after B w.batches s x
     cell_seen s o known c p x l fresh = go (g.shared.data_cells.each x l)
       where
-        go : (cell S w.words x ≡ at B w.batches (last w.words) x) ⊎ (Opened B w.words × (cell S w.words x ≡ at B w.batches (last w.words - 1) x)) → cell S w.words x ≡ at B w.batches s x
-        go (inl q) = q ∙ later S B w.batches g.shared.start (logs_of S Lawful B w g) s (last w.words) x c.from c.upto (omega (arith, n_is S Lawful B w g i m h)) l (rw (← q) fresh)
+        go : (data_word S w.words x ≡ data_word_after B w.batches (committed_seq w.words) x) ⊎ (IsLastOpen B w.words × (data_word S w.words x ≡ data_word_after B w.batches (committed_seq w.words - 1) x)) → data_word S w.words x ≡ data_word_after B w.batches s x
+        go (inl q) = q ∙ later S B w.batches g.shared.start (logs_of S Lawful B w g) s (committed_seq w.words) x c.from c.upto (omega (arith, n_is S Lawful B w g i m h)) l (rw (← q) fresh)
         go (inr (op, q)) =
-            let ne : s ≡ last w.words → ⊥ = λ e. let z : word s 0 < request_of w.words (holder w.words) = p.quiet e (omega (arith, op.any)) in omega (arith, op.asks, ap (λ (k : ℕ). word k 0) e) in
-            q ∙ later S B w.batches g.shared.start (logs_of S Lawful B w g) s (last w.words - 1) x c.from (omega (arith, c.upto)) (omega (arith, n_is S Lawful B w g i m h)) l (rw (← q) fresh)
+            let ne : s ≡ committed_seq w.words → ⊥ = λ e. let z : pack s 0 < request_of w.words (committed_owner w.words) = p.quiet e (omega (arith, op.any)) in omega (arith, op.asks, ap (λ (k : ℕ). pack k 0) e) in
+            q ∙ later S B w.batches g.shared.start (logs_of S Lawful B w g) s (committed_seq w.words - 1) x c.from (omega (arith, c.upto)) (omega (arith, n_is S Lawful B w g i m h)) l (rw (← q) fresh)
 
     -- a try that has seen a cell of its state knows one more
-    pub watch_more : (s o : ℕ) (n : Data) → WasCurrent S B w.words w.batches s o → Watches S B w.words w.batches s n.known → (x : ℕ) → x < S.cells → seq (cell S w.words x) ≤ s
-        → Watches S B w.words w.batches s (learned S n x (cell S w.words x))
-    watch_more s o n c p x l fresh = record { quiet = p.quiet; agrees = λ y v q. knows y v q (cases_eq y x); all = length-set n.known x (Some (pay (cell S w.words x))) ∙ p.all }
+    pub watch_more : (s o : ℕ) (n : CallState) → WasCurrent S B w.words w.batches s o → KnowsClosedState S B w.words w.batches s n.known → (x : ℕ) → x < S.cells → seq_of (data_word S w.words x) ≤ s
+        → KnowsClosedState S B w.words w.batches s (with_cell_known S n x (data_word S w.words x))
+    watch_more s o n c p x l fresh = record { quiet = p.quiet; agrees = λ y v q. knows y v q (cases_eq y x); all = length-set n.known x (Some (payload_of (data_word S w.words x))) ∙ p.all }
       where
-        this : get_or (numbers B w.batches s) x 0 ≡ pay (cell S w.words x)
-        this = number_at S Lawful B w.batches s x ∙ ap pay (sym (cell_seen s o n.known c p x l fresh))
+        this : get_or (numbers_after B w.batches s) x 0 ≡ payload_of (data_word S w.words x)
+        this = number_at S Lawful B w.batches s x ∙ ap payload_of (sym (cell_seen s o n.known c p x l fresh))
 
-        knows : (y v : ℕ) → get_or (learned S n x (cell S w.words x)) y None ≡ Some v → (y ≡ x) ⊎ (y ≡ x → ⊥) → get_or (numbers B w.batches s) y 0 ≡ v
+        knows : (y v : ℕ) → get_or (with_cell_known S n x (data_word S w.words x)) y None ≡ Some v → (y ≡ x) ⊎ (y ≡ x → ⊥) → get_or (numbers_after B w.batches s) y 0 ≡ v
         knows y v q (inl e) =
-            let z : get_or (learned S n x (cell S w.words x)) x None ≡ Some (pay (cell S w.words x)) = get_or-set_same n.known x (Some (pay (cell S w.words x))) None (omega (arith, p.all, l)) in
-            let t : Some v ≡ Some (pay (cell S w.words x)) = sym (rw e at q) ∙ z in
-            let u : v ≡ pay (cell S w.words x) = cc in
+            let z : get_or (with_cell_known S n x (data_word S w.words x)) x None ≡ Some (payload_of (data_word S w.words x)) = get_or-set_same n.known x (Some (payload_of (data_word S w.words x))) None (omega (arith, p.all, l)) in
+            let t : Some v ≡ Some (payload_of (data_word S w.words x)) = sym (rw e data_word_after q) ∙ z in
+            let u : v ≡ payload_of (data_word S w.words x) = cc in
             rw e (this ∙ sym u)
-        knows y v q (inr e) = p.agrees y v (sym (get_or-set_other n.known x y (Some (pay (cell S w.words x))) None e) ∙ q)
+        knows y v q (inr e) = p.agrees y v (sym (get_or-set_other n.known x y (Some (payload_of (data_word S w.words x))) None e) ∙ q)
 
-    seen_risen : (s o : ℕ) (known : List (Option ℕ)) → WasCurrent S B w.words w.batches s o → Watches S B w.words w.batches s known → s ≤ risen S w.words
+    seen_risen : (s o : ℕ) (known : List (Option ℕ)) → WasCurrent S B w.words w.batches s o → KnowsClosedState S B w.words w.batches s known → s ≤ durable_seq S w.words
     seen_risen s o known c p = go g.shared.durable.step
       where
-        go : (last w.words ≡ risen S w.words) ⊎ ((last w.words ≡ risen S w.words + 1) × Opened B w.words) → s ≤ risen S w.words
+        go : (committed_seq w.words ≡ durable_seq S w.words) ⊎ ((committed_seq w.words ≡ durable_seq S w.words + 1) × IsLastOpen B w.words) → s ≤ durable_seq S w.words
         go (inl q) = omega (arith, c.upto)
         go (inr (q, op)) =
-            let ne : s ≡ last w.words → ⊥ = λ e. let z : word s 0 < request_of w.words (holder w.words) = p.quiet e (omega (arith, op.any)) in omega (arith, op.asks, ap (λ (k : ℕ). word k 0) e) in
+            let ne : s ≡ committed_seq w.words → ⊥ = λ e. let z : pack s 0 < request_of w.words (committed_owner w.words) = p.quiet e (omega (arith, op.any)) in omega (arith, op.asks, ap (λ (k : ℕ). pack k 0) e) in
             omega (arith, c.upto)
 
     -- a try goes on by its walk
-    reads_at : (n : Data) → Sound S.meaning Lawful (base S) S.cells → Trying S B w.words w.batches i n → WasCurrent S B w.words w.batches n.seq n.owner → Calm S B w.words w.batches i n.seq → Watches S B w.words w.batches n.seq n.known
-        → At S B w.words w.batches i (read_on S n) (read_on S n).place
+    reads_at : (n : CallState) → IsSoundMeaning S.meaning Lawful (first_operation_cell S) S.cells → IsInTry S B w.words w.batches i n → WasCurrent S B w.words w.batches n.seq n.owner → HasNothingUnderWay S B w.words w.batches i n.seq → KnowsClosedState S B w.words w.batches n.seq n.known
+        → HoldsAtPlace S B w.words w.batches i (read_on S n) (read_on S n).place
     reads_at n sound p c o k = go (S.meaning.walk n.known n.op) refl (sound.walks n.known xs n.op size (g.shared.stands.lawful n.seq c.from upto) k.agrees)
       where
         upto : n.seq ≤ B.seq + length w.batches
         upto = omega (arith, c.upto, n_is S Lawful B w g i m h)
 
         xs : List ℕ
-        xs = numbers B w.batches n.seq
+        xs = numbers_after B w.batches n.seq
 
-        size : length (numbers B w.batches n.seq) ≡ S.cells
-        size = length-map (state B w.batches n.seq) pay ∙ state_length S B w.batches g.shared.start (logs_of S Lawful B w g) n.seq c.from upto
+        size : length (numbers_after B w.batches n.seq) ≡ S.cells
+        size = length-map (state_after B w.batches n.seq) payload_of ∙ state_length S B w.batches g.shared.start (logs_of S Lawful B w g) n.seq c.from upto
 
-        go : (r : Walked) → S.meaning.walk n.known n.op ≡ r → Fits S.meaning (base S) S.cells n.known xs n.op (S.meaning.walk n.known n.op) → At S B w.words w.batches i (read_ran n r) (read_ran n r).place
-        go (Needs a) e f = let f' = rw e at f in (trying_as S Lawful B w g i m h n _ p refl refl refl refl refl refl, c, o, k, f'.1, f'.2)
+        go : (r : WalkEnd) → S.meaning.walk n.known n.op ≡ r → WalkFits S.meaning (first_operation_cell S) S.cells n.known xs n.op (S.meaning.walk n.known n.op) → HoldsAtPlace S B w.words w.batches i (after_read_run n r) (after_read_run n r).place
+        go (Needs a) e f = let f' = rw e data_word_after f in (trying_as S Lawful B w g i m h n _ p refl refl refl refl refl refl, c, o, k, f'.1, f'.2)
         go (Gives es r) e f = record {
           caller = p.fresh.caller;
-          calm = calm_more S Lawful B w g i m h n.seq (last w.words) c.upto o;
+          calm = calm_more S Lawful B w g i m h n.seq (committed_seq w.words) c.upto o;
           kept = p.fresh.kept;
           quieted = p.fresh.quieted;
           upto = omega (arith, p.fresh.above);
           older = omega (arith, p.fresh.newer);
-          told = (c.from, seen_risen n.seq n.owner n.known c k, c.upto, (rw e at f).reply, p.reads);
+          told = (c.from, seen_risen n.seq n.owner n.known c k, c.upto, (rw e data_word_after f).reply, p.reads);
         }
 
-    none_known : (x v : ℕ) → get_or (unknown S) x None ≡ Some v → ⊥
+    none_known : (x v : ℕ) → get_or (nothing_known S) x None ≡ Some v → ⊥
     none_known x v q = elim_none (sym (unknown_at (cases_lt x S.cells)) ∙ q)
       where
-        unknown_at : (x < S.cells) ⊎ (S.cells ≤ x) → get_or (unknown S) x None ≡ None
+        unknown_at : (x < S.cells) ⊎ (S.cells ≤ x) → get_or (nothing_known S) x None ≡ None
         unknown_at (inl l) = get_or-replicate S.cells x None None l
-        unknown_at (inr l) = get_or_past (unknown S) x None (rw length-replicate l)
+        unknown_at (inr l) = get_or_past (nothing_known S) x None (rw length-replicate l)
 
         elim_none : ◌≡◌ {A = Option ℕ} None (Some v) → ⊥
         elim_none q = cc
 
-    tried_at : (n : Data) → Sound S.meaning Lawful (base S) S.cells → Trying S B w.words w.batches i n → WasCurrent S B w.words w.batches n.seq n.owner → Calm S B w.words w.batches i n.seq
-        → (n.seq ≡ last w.words → B.seq < n.seq → word n.seq 0 < request_of w.words (holder w.words)) → At S B w.words w.batches i (tried S n) (tried S n).place
-    tried_at n sound p c o quiet = reads_at (record n { known = unknown S; helps = false }) sound (trying_as S Lawful B w g i m h n _ p refl refl refl refl refl refl) c o
+    tried_at : (n : CallState) → IsSoundMeaning S.meaning Lawful (first_operation_cell S) S.cells → IsInTry S B w.words w.batches i n → WasCurrent S B w.words w.batches n.seq n.owner → HasNothingUnderWay S B w.words w.batches i n.seq
+        → (n.seq ≡ committed_seq w.words → B.seq < n.seq → pack n.seq 0 < request_of w.words (committed_owner w.words)) → HoldsAtPlace S B w.words w.batches i (begin_reading S n) (begin_reading S n).place
+    tried_at n sound p c o quiet = reads_at (record n { known = nothing_known S; helps = false }) sound (trying_as S Lawful B w g i m h n _ p refl refl refl refl refl refl) c o
         (record { quiet = quiet; agrees = λ x v q. absurd (none_known x v q); all = length-replicate S.cells None })
 
-    pub resumed_at : (n : Data) → Sound S.meaning Lawful (base S) S.cells → Helper S B w.words w.batches i n → WasCurrent S B w.words w.batches n.seq n.owner → Calm S B w.words w.batches i n.seq
-        → (n.seq ≡ last w.words → B.seq < n.seq → word n.seq 0 < request_of w.words (holder w.words)) → (b : Bool) → (n.rounds == 0) ≡ b → At S B w.words w.batches i (resumed S n b) (resumed S n b).place
+    pub resumed_at : (n : CallState) → IsSoundMeaning S.meaning Lawful (first_operation_cell S) S.cells → MayHelp S B w.words w.batches i n → WasCurrent S B w.words w.batches n.seq n.owner → HasNothingUnderWay S B w.words w.batches i n.seq
+        → (n.seq ≡ committed_seq w.words → B.seq < n.seq → pack n.seq 0 < request_of w.words (committed_owner w.words)) → (b : Bool) → (n.rounds == 0) ≡ b → HoldsAtPlace S B w.words w.batches i (resume S n b) (resume S n b).place
     resumed_at n sound (inl p) c o quiet true e = let z : n.rounds ≡ 0 = grind (arith, nat_tests) in absurd (omega (arith, p.begun_one))
     resumed_at n sound (inl p) c o quiet false e = entered_at S Lawful B w g i m h n p o quiet
     resumed_at n sound (inr p) c o quiet true e = tried_at n sound p c o quiet
     resumed_at n sound (inr p) c o quiet false e = absurd (differ n.rounds 0 e p.fresh.rounds)
 
-    pub try_current_kept : At S B w.words w.batches i m TryCurrent → Goes S Lawful B i w (stepped_on S i m TryCurrent w)
-    try_current_kept a = assemble_read S Lawful B w g i h _ _ (took_at S m (current_word w.words) TryCurrent) (same_words S Lawful B w g i m h 0) (same_batches S Lawful B w g i m h) (
+    pub try_current_kept : HoldsAtPlace S B w.words w.batches i m TryCurrent → KeepsGuarantee S Lawful B i w (after_counted_step S i m TryCurrent w)
+    try_current_kept a = assemble_read S Lawful B w g i h _ _ (take_word_at S m (current_word w.words) TryCurrent) (same_words S Lawful B w g i m h 0) (same_batches S Lawful B w g i m h) (
       record { fresh = fresh_as S Lawful B w g i m h m _ a.0 refl refl refl refl refl; reads = a.2; few = omega (arith, a.3) },
       record {
         from = omega (arith, n_is S Lawful B w g i m h);
@@ -122,17 +122,17 @@ module _ (S : Setup) (Lawful : List ℕ → Type 0) (B : Start) where
       a.1,
     )
 
-    pub try_request_kept : Sound S.meaning Lawful (base S) S.cells → At S B w.words w.batches i m TryRequest → Goes S Lawful B i w (stepped_on S i m TryRequest w)
-    try_request_kept sound a = assemble_read S Lawful B w g i h _ _ (took_at S m (request_of w.words m.owner) TryRequest) (same_words S Lawful B w g i m h (m.owner + 1)) (same_batches S Lawful B w g i m h) (
-        go (is_open m.seq (request_of w.words m.owner)) refl)
+    pub try_request_kept : IsSoundMeaning S.meaning Lawful (first_operation_cell S) S.cells → HoldsAtPlace S B w.words w.batches i m TryRequest → KeepsGuarantee S Lawful B i w (after_counted_step S i m TryRequest w)
+    try_request_kept sound a = assemble_read S Lawful B w g i h _ _ (take_word_at S m (request_of w.words m.owner) TryRequest) (same_words S Lawful B w g i m h (m.owner + 1)) (same_batches S Lawful B w g i m h) (
+        go (is_request_open m.seq (request_of w.words m.owner)) refl)
       where
-        after : (0 < m.seq) × (request_of w.words m.owner ≡ word m.seq 0) → (m.seq ≡ B.seq) ⊎ (m.seq ≡ B.seq → ⊥) → B.seq < m.seq
+        after : (0 < m.seq) × (request_of w.words m.owner ≡ pack m.seq 0) → (m.seq ≡ B.seq) ⊎ (m.seq ≡ B.seq → ⊥) → B.seq < m.seq
         after q (inl e) =
-            let z : word B.seq 0 < request_of w.words B.owner = g.shared.requests.floor (omega (arith, q.0)) in
-            absurd (omega (arith, q.1, ap (λ (k : ℕ). word k 0) e, ap (request_of w.words) (a.1.first e)))
+            let z : pack B.seq 0 < request_of w.words B.owner = g.shared.requests.floor (omega (arith, q.0)) in
+            absurd (omega (arith, q.1, ap (λ (k : ℕ). pack k 0) e, ap (request_of w.words) (a.1.first e)))
         after q (inr e) = omega (arith, a.1.from)
 
-        go : (b : Bool) → is_open m.seq (request_of w.words m.owner) ≡ b → At S B w.words w.batches i (after_try_request S m b) (after_try_request S m b).place
+        go : (b : Bool) → is_request_open m.seq (request_of w.words m.owner) ≡ b → HoldsAtPlace S B w.words w.batches i (after_try_request S m b) (after_try_request S m b).place
         go true eb = (
           record {
             helper = inr (trying_as S Lawful B w g i m h m _ a.0 refl refl refl refl refl refl);
@@ -149,15 +149,15 @@ module _ (S : Setup) (Lawful : List ℕ → Type 0) (B : Start) where
         )
         go false eb = tried_at m sound a.0 a.1 a.2 (quiet_from S Lawful B w g i m h m.seq m.owner a.1 (λ l. not_open S Lawful B w g i m h m.seq (request_of w.words m.owner) eb (omega (arith, l))))
 
-    pub try_cell_kept : Sound S.meaning Lawful (base S) S.cells → (x : ℕ) → At S B w.words w.batches i m (TryCell x) → Goes S Lawful B i w (stepped_on S i m (TryCell x) w)
-    try_cell_kept sound x a = assemble_read S Lawful B w g i h _ _ (took_at S m (cell S w.words x) (TryCell x)) (same_words S Lawful B w g i m h (data_at S x)) (same_batches S Lawful B w g i m h) (
-        go (nat_lt m.seq (seq (cell S w.words x))) refl)
+    pub try_cell_kept : IsSoundMeaning S.meaning Lawful (first_operation_cell S) S.cells → (x : ℕ) → HoldsAtPlace S B w.words w.batches i m (TryCell x) → KeepsGuarantee S Lawful B i w (after_counted_step S i m (TryCell x) w)
+    try_cell_kept sound x a = assemble_read S Lawful B w g i h _ _ (take_word_at S m (data_word S w.words x) (TryCell x)) (same_words S Lawful B w g i m h (data_at S x)) (same_batches S Lawful B w g i m h) (
+        go (nat_lt m.seq (seq_of (data_word S w.words x))) refl)
       where
-        over : (b : Bool) → nat_lt m.tries MOST_TRIES ≡ b → At S B w.words w.batches i (over_try m b) (over_try m b).place
-        over true e = (fresh_as S Lawful B w g i m h m _ a.0.fresh refl refl refl refl refl, calm_more S Lawful B w g i m h m.seq (last w.words) a.1.upto a.2, a.0.reads, let z : m.tries < 4 = grind (arith, nat_tests) in omega arith)
-        over false e = (fresh_as S Lawful B w g i m h m _ a.0.fresh refl refl refl refl refl, calm_more S Lawful B w g i m h m.seq (last w.words) a.1.upto a.2, omega (arith, a.0.fresh.some), refl)
+        over : (b : Bool) → nat_lt m.tries MOST_TRIES ≡ b → HoldsAtPlace S B w.words w.batches i (end_try m b) (end_try m b).place
+        over true e = (fresh_as S Lawful B w g i m h m _ a.0.fresh refl refl refl refl refl, calm_more S Lawful B w g i m h m.seq (committed_seq w.words) a.1.upto a.2, a.0.reads, let z : m.tries < 4 = grind (arith, nat_tests) in omega arith)
+        over false e = (fresh_as S Lawful B w g i m h m _ a.0.fresh refl refl refl refl refl, calm_more S Lawful B w g i m h m.seq (committed_seq w.words) a.1.upto a.2, omega (arith, a.0.fresh.some), refl)
 
-        go : (b : Bool) → nat_lt m.seq (seq (cell S w.words x)) ≡ b → At S B w.words w.batches i (after_try_cell S m x (cell S w.words x) b) (after_try_cell S m x (cell S w.words x) b).place
+        go : (b : Bool) → nat_lt m.seq (seq_of (data_word S w.words x)) ≡ b → HoldsAtPlace S B w.words w.batches i (after_try_cell S m x (data_word S w.words x) b) (after_try_cell S m x (data_word S w.words x) b).place
         go true e = over (nat_lt m.tries MOST_TRIES) refl
-        go false e = reads_at (record m { known = learned S m x (cell S w.words x) }) sound (trying_as S Lawful B w g i m h m _ a.0 refl refl refl refl refl refl) a.1 a.2
-            (watch_more m.seq m.owner m a.1 a.3 x a.4 (not_newer m.seq (seq (cell S w.words x)) e))
+        go false e = reads_at (record m { known = with_cell_known S m x (data_word S w.words x) }) sound (trying_as S Lawful B w g i m h m _ a.0 refl refl refl refl refl refl) a.1 a.2
+            (watch_more m.seq m.owner m a.1 a.3 x a.4 (not_newer m.seq (seq_of (data_word S w.words x)) e))

@@ -5,11 +5,11 @@ use Rattle.of_mem.specs.Meaning.{Meaning}
 use Rattle.of_mem.specs.declared.work.TheConstants.{MOST_INSTRS}
 use Rattle.of_core.specs.declared.bank.Bank.TheInside.{Inside}
 use Rattle.of_core.specs.Table.{setup_of}
-use Rattle.of_core.specs.Starts.{start_of}
-use Rattle.of_core.specs.Moment.{Bench, Reached, Alike, held, table_words}
+use Rattle.of_core.specs.Starts.{start_from_durable}
+use Rattle.of_core.specs.Moment.{Bank, IsReached, RunSameWork, call_states, table_word_count}
 
-abbrev pub bench : {W : Type 0} → Inside W → Bench W
-bench b = record { work = b.work; callers = b.shape.callers; cells = b.shape.cells; limit = b.limit; start = start_of b.shape.callers b.shape.cells b.first.value.items; words = b.words.items; machines = held b.machines.items }
+abbrev pub bank_value : {W : Type 0} → Inside W → Bank W
+bank_value b = record { work = b.work; callers = b.shape.callers; cells = b.shape.cells; limit = b.limit; start = start_from_durable b.shape.callers b.shape.cells b.first.value.items; words = b.words.items; machines = call_states b.machines.items }
 
 -- the sizes fit one another, and the words and machines are those of a moment
 pub record IsBank {W : Type 0} (many size : W → ℕ) (meaning : W → Meaning) (lawful : W → List ℕ → Type 0) (b : Inside W) : Type 0 where
@@ -17,7 +17,7 @@ pub record IsBank {W : Type 0} (many size : W → ℕ) (meaning : W → Meaning)
   pub instrs : b.shape.instrs ≡ MOST_INSTRS
   pub cells : size b.work ≡ b.shape.cells
   pub limit : b.limit ≤ GREATEST_LIMIT
-  pub room : length b.words.items ≡ table_words (setup_of b.shape.callers b.shape.cells b.limit (meaning b.work))
+  pub room : length b.words.items ≡ table_word_count (setup_of b.shape.callers b.shape.cells b.limit (meaning b.work))
   pub members : length b.machines.items ≡ b.shape.callers
-  pub alike : Alike b.work b.shape.callers b.shape.cells b.limit b.machines.items
-  pub reached : Reached (setup_of b.shape.callers b.shape.cells b.limit (meaning b.work)) (lawful b.work) (start_of b.shape.callers b.shape.cells b.first.value.items) b.words.items (held b.machines.items)
+  pub alike : RunSameWork b.work b.shape.callers b.shape.cells b.limit b.machines.items
+  pub reached : IsReached (setup_of b.shape.callers b.shape.cells b.limit (meaning b.work)) (lawful b.work) (start_from_durable b.shape.callers b.shape.cells b.first.value.items) b.words.items (call_states b.machines.items)

@@ -2,7 +2,7 @@
 -- reads off the durable words.
 use Rattle.std.specs.Prelude.{ℕ, ◌+◌, ◌*◌, ◌-◌, List, length, Option, Some, None, Bool, true, false, ◌≡◌, ◌≤◌, ◌<◌, map}
 use Rattle.std.proofs.Common.{get_or, take}
-use Rattle.of_cell.specs.Words.{seq, pay}
+use Rattle.of_cell.specs.Words.{seq_of, payload_of}
 use Rattle.of_mem.specs.Meaning.{Agrees, SameFrom}
 use Rattle.of_recover.specs.Recovered.{recovered_data}
 use Rattle.of_core.specs.declared.place.Place.{Place}
@@ -10,16 +10,16 @@ use Rattle.of_core.specs.declared.place.Place.TheVariants.{Idle, TryCell, LoadOw
 use Rattle.of_core.specs.declared.place.Outcome.{Outcome}
 use Rattle.of_core.specs.declared.place.Outcome.TheVariants.{Answered, Spent}
 use Rattle.std.specs.List.{All}
-use Rattle.of_core.specs.Table.{Setup, base, size, request_at, data_at, log_at, durable_word, announcement_of, last, risen}
-use Rattle.of_core.specs.Machine.{Call, Data, IsOpen}
-use Rattle.of_core.specs.World.{World, Start, Batch, Read}
-use Rattle.of_core.specs.Order.{Ordered}
-use Rattle.of_core.specs.Shared.{Held, IsRequest, IsLogWord, DataCells}
-use Rattle.of_core.specs.Rounds.{Finds, ReadUpto}
-use Rattle.of_core.specs.Invariant.{HeldAsCurrent}
-use Rattle.of_core.specs.History.{state, batch, EachBatch, EachCall, IsOlderCall, at, numbers, replay, ticket_in, Legal, Last, Rising, HasCall}
+use Rattle.of_core.specs.Table.{Setup, first_operation_cell, cell_count, request_at, data_at, log_at, durable_word, announcement_of, committed_seq, durable_seq}
+use Rattle.of_core.specs.Machine.{Call, CallState, IsOpen}
+use Rattle.of_core.specs.World.{Moment, TableStart, Batch, Read}
+use Rattle.of_core.specs.Order.{AreInCallOrder}
+use Rattle.of_core.specs.Shared.{WasHeldByCell, IsRequest, IsLogWord, DataCellsMatchState}
+use Rattle.of_core.specs.Rounds.{FindsOwnTicket, HasReadReplyUpTo}
+use Rattle.of_core.specs.Invariant.{WasHeldByCurrent}
+use Rattle.of_core.specs.History.{state_after, batch_at, EachBatch, EachCall, IsOlderCall, data_word_after, numbers_after, numbers_after_batches, last_ticket_by, IsLegalHistory, OwnCellsShowLast, CallersRise, HasCall}
 use Rattle.of_core.specs.Bound.{bound}
-use Rattle.of_core.specs.Events.{machine}
+use Rattle.of_core.specs.Events.{machine_in}
 
 -- the places of a round or a try at which what is known of cells is of its state
 abbrev pub knows_state : Place → Bool
@@ -40,56 +40,56 @@ knows_state ExchangeCurrent = true
 knows_state p = false
 
 -- what was loaded of the own cells of caller i, of which its answer is read, is of the state
-abbrev pub ReadsOwn : Setup → (state : List ℕ) → (i : ℕ) → Data → Place → Type 0
-ReadsOwn S st i m LoadShape = Finds S st i m
-ReadsOwn S st i m (LoadReply j) = Finds S st i m × ReadUpto S st i m j
-ReadsOwn S st i m p = Unit {0}
+abbrev pub OwnCellsAreOfState : Setup → (state_after : List ℕ) → (i : ℕ) → CallState → Place → Type 0
+OwnCellsAreOfState S st i m LoadShape = FindsOwnTicket S st i m
+OwnCellsAreOfState S st i m (LoadReply j) = FindsOwnTicket S st i m × HasReadReplyUpTo S st i m j
+OwnCellsAreOfState S st i m p = Unit {0}
 
 -- a round or a try has used the cells of one state alone: what is known of cells, and what was
 -- loaded of the own ones
-pub record UsesOne (S : Setup) (B : Start) (w : World) (i : ℕ) (m : Data) : Type 0 where
-  pub known : knows_state m.place ≡ true → Agrees m.known (numbers B w.batches m.seq)
-  pub own : ReadsOwn S (state B w.batches m.seq) i m m.place
+pub record UsesOneState (S : Setup) (B : TableStart) (w : Moment) (i : ℕ) (m : CallState) : Type 0 where
+  pub known : knows_state m.place ≡ true → Agrees m.known (numbers_after B w.batches m.seq)
+  pub own : OwnCellsAreOfState S (state_after B w.batches m.seq) i m m.place
 
 -- A word that the cell c has held, as the history tells it: the current-transaction word names a
 -- batch and its owner, a request is open or closes a batch of its caller, a data word is of some
 -- state, and a log word of a batch's sequence is of that batch's log.
-pub record HasHeld (S : Setup) (B : Start) (ws : List ℕ) (bs : List Batch) (c v : ℕ) : Type 0 where
-  pub current : c ≡ 0 → HeldAsCurrent B ws bs v
+pub record HasHeld (S : Setup) (B : TableStart) (ws : List ℕ) (bs : List Batch) (c v : ℕ) : Type 0 where
+  pub current : c ≡ 0 → WasHeldByCurrent B ws bs v
   pub request : (j : ℕ) → j < S.callers → c ≡ request_at j → IsRequest B ws bs j v
-  pub data_word : (a : ℕ) → a < S.cells → c ≡ data_at S a → Held B ws bs a v
+  pub data_word : (a : ℕ) → a < S.cells → c ≡ data_at S a → WasHeldByCell B ws bs a v
   pub log : (j x : ℕ) → j < S.callers → x < 2 * S.cells + 1 → c ≡ log_at S j x
       → IsLogWord B ws bs j x v
 
 -- the numbers after the first n batches, by replay of their calls
-abbrev pub replayed : Setup → Start → List Batch → (n : ℕ) → List ℕ
-replayed S B bs n = replay S.meaning (map pay B.cells) (take n bs)
+abbrev pub numbers_by_replay : Setup → TableStart → List Batch → (n : ℕ) → List ℕ
+numbers_by_replay S B bs n = numbers_after_batches S.meaning (map payload_of B.cells) (take n bs)
 
 -- the read's reply is its meaning on the replay of the batches up to its sequence
-abbrev pub ReadMeets : Setup → Start → List Batch → Read → Type 0
-ReadMeets S B bs r = S.meaning.reply (replayed S B bs (r.seq - B.seq)) r.op ≡ r.raw
+abbrev pub ReadIsLegal : Setup → TableStart → List Batch → Read → Type 0
+ReadIsLegal S B bs r = S.meaning.reply (numbers_by_replay S B bs (r.seq - B.seq)) r.op ≡ r.raw
 
 -- what the last answer of caller i says of the history: a read's is the meaning on the state at its
 -- sequence, a batch has an announced call, and a spent call is in no batch
-abbrev pub IsTold : Setup → Start → World → ℕ → Data → Option Outcome → Type 0
-IsTold S B w i m None = Unit {0}
-IsTold S B w i m (Some (Answered s false raw steps)) =
-    (steps ≤ bound S) × (B.seq ≤ s) × (s ≤ risen S w.words)
-    × (S.meaning.reply (numbers B w.batches s) m.op ≡ raw) × (S.meaning.reads_only m.op ≡ true)
-IsTold S B w i m (Some (Answered s true raw steps)) =
-    (steps ≤ bound S) × (B.seq < s) × (s ≤ risen S w.words)
-    × HasCall S (batch B w.batches s).calls i m.made m.op raw
-IsTold S B w i m (Some (Spent s)) =
+abbrev pub OutcomeIsInHistory : Setup → TableStart → Moment → ℕ → CallState → Option Outcome → Type 0
+OutcomeIsInHistory S B w i m None = Unit {0}
+OutcomeIsInHistory S B w i m (Some (Answered s false raw steps)) =
+    (steps ≤ bound S) × (B.seq ≤ s) × (s ≤ durable_seq S w.words)
+    × (S.meaning.reply (numbers_after B w.batches s) m.op ≡ raw) × (S.meaning.reads_only m.op ≡ true)
+OutcomeIsInHistory S B w i m (Some (Answered s true raw steps)) =
+    (steps ≤ bound S) × (B.seq < s) × (s ≤ durable_seq S w.words)
+    × HasCall S (batch_at B w.batches s).calls i m.made m.op raw
+OutcomeIsInHistory S B w i m (Some (Spent s)) =
     (s ≡ S.limit) × (B.seq + length w.batches ≡ s)
-    × ((k : ℕ) → B.seq < k → k ≤ s → All (IsOlderCall i m.made) (batch B w.batches k).calls)
-    × (s ≤ risen S w.words)
+    × ((k : ℕ) → B.seq < k → k ≤ s → All (IsOlderCall i m.made) (batch_at B w.batches k).calls)
+    × (s ≤ durable_seq S w.words)
 
 -- a call in a batch is one that its caller has begun; where it is the caller's open call, it is
 -- there with that call's words
-abbrev pub IsBegun : Setup → Start → World → Call → Type 0
-IsBegun S B w c =
-    let m : Data = machine w c.caller in
-    (c.caller < S.callers) × (ticket_in S B w.batches B.seq c.caller < c.ticket)
+abbrev pub WasBegunByCaller : Setup → TableStart → Moment → Call → Type 0
+WasBegunByCaller S B w c =
+    let m : CallState = machine_in w c.caller in
+    (c.caller < S.callers) × (last_ticket_by S B w.batches B.seq c.caller < c.ticket)
     × (c.ticket ≤ m.made) × (IsOpen m.place → c.ticket ≡ m.made → c.op ≡ m.op)
 
 -- of two calls of one caller the second is the newer
@@ -97,63 +97,63 @@ abbrev pub IsNewer : Call → Call → Type 0
 IsNewer c d = d.caller ≡ c.caller → c.ticket < d.ticket
 
 -- what is claimed of a moment
-pub record IsSound (S : Setup) (B : Start) (w : World) : Type 0 where
+pub record IsSound (S : Setup) (B : TableStart) (w : Moment) : Type 0 where
   -- the history is legal: the calls of the batches, in order, have the replies that they meet, and
   -- the reads theirs
-  pub legal : Legal S.meaning (map pay B.cells) w.batches
-  pub reads : All (ReadMeets S B w.batches) w.reads
+  pub legal : IsLegalHistory S.meaning (map payload_of B.cells) w.batches
+  pub reads : All (ReadIsLegal S B w.batches) w.reads
   -- apart from the callers' own cells the state behind each batch is what the calls up to it lead
   -- to
   pub state : (k : ℕ) → k ≤ length w.batches
-      → SameFrom (base S) (numbers B w.batches (B.seq + k)) (replayed S B w.batches k)
+      → SameFrom (first_operation_cell S) (numbers_after B w.batches (B.seq + k)) (numbers_by_replay S B w.batches k)
   -- each call in a batch was begun by its caller
-  pub begun : EachCall B w.batches (IsBegun S B w)
+  pub begun : EachCall B w.batches (WasBegunByCaller S B w)
   -- no batch is empty, a batch's calls stand by caller, and each caller's tickets rise
   pub some : EachBatch B w.batches (λ cs. 0 < length cs)
-  pub rising : EachBatch B w.batches Rising
+  pub rising : EachBatch B w.batches CallersRise
   pub tickets : (j k : ℕ) → B.seq < j → j < k → k ≤ B.seq + length w.batches
-      → All (λ c. All (IsNewer c) (batch B w.batches k).calls) (batch B w.batches j).calls
+      → All (λ c. All (IsNewer c) (batch_at B w.batches k).calls) (batch_at B w.batches j).calls
   -- each caller's calls, in batches and read, stand in the order in which it made them, and no read
   -- is newer than the durable sequence
-  pub order : Ordered S B w.words w.batches w.reads
+  pub order : AreInCallOrder S B w.words w.batches w.reads
   -- recovery of the durable words gives the state after the batches up to the durable sequence
   pub recovers : (a : ℕ) → a < S.cells
       → recovered_data S.callers S.cells (durable_word S w.words) a
-      ≡ at B w.batches (risen S w.words) a
+      ≡ data_word_after B w.batches (durable_seq S w.words) a
   -- in which each caller's own cells hold its last call
-  pub own : (i : ℕ) → i < S.callers → Last S B w.batches (risen S w.words) i
+  pub own : (i : ℕ) → i < S.callers → OwnCellsShowLast S B w.batches (durable_seq S w.words) i
   -- and no word is newer
   pub old : (a : ℕ) → a < S.cells
-      → seq (recovered_data S.callers S.cells (durable_word S w.words) a) ≤ risen S w.words
+      → seq_of (recovered_data S.callers S.cells (durable_word S w.words) a) ≤ durable_seq S w.words
   -- the durable sequence is no older than the start, and no newer than the last batch
-  pub from : B.seq ≤ risen S w.words
-  pub reaches : risen S w.words ≤ B.seq + length w.batches
+  pub from : B.seq ≤ durable_seq S w.words
+  pub reaches : durable_seq S w.words ≤ B.seq + length w.batches
   -- its owner is a caller
-  pub owner : pay (durable_word S w.words 0) < S.callers
+  pub owner : payload_of (durable_word S w.words 0) < S.callers
   -- no batch is above the limit
   pub limit : B.seq + length w.batches ≤ S.limit
   -- an announcement that stood when a batch was committed is run by the next batch at the latest:
   -- a call is in a batch after at most two commits that follow its announcement
   pub met : (k i : ℕ) → B.seq < k → k < B.seq + length w.batches → i < S.callers
-      → (batch B w.batches k).announcements i ≡ announcement_of S w.words i
-      → seq (announcement_of S w.words i) ≤ ticket_in S B w.batches (k + 1) i
+      → (batch_at B w.batches k).announcements i ≡ announcement_of S w.words i
+      → seq_of (announcement_of S w.words i) ≤ last_ticket_by S B w.batches (k + 1) i
   -- batches are the callers'
   pub owners : (k : ℕ) → B.seq < k → k ≤ B.seq + length w.batches
-      → (batch B w.batches k).owner < S.callers
+      → (batch_at B w.batches k).owner < S.callers
   -- the current-transaction word counts the batches, and the table's data cells are those of the
   -- last state, or, while its transaction is open, of the one before
-  pub count : last w.words ≡ B.seq + length w.batches
-  pub data_cells : DataCells S B w.words w.batches
+  pub count : committed_seq w.words ≡ B.seq + length w.batches
+  pub data_cells : DataCellsMatchState S B w.words w.batches
   -- no durable word is above its cell's, and each is one that its cell has held
-  pub low : (c : ℕ) → c < size S → durable_word S w.words c ≤ get_or w.words c 0
-  pub held : (c : ℕ) → c < size S → HasHeld S B w.words w.batches c (durable_word S w.words c)
+  pub low : (c : ℕ) → c < cell_count S → durable_word S w.words c ≤ get_or w.words c 0
+  pub held : (c : ℕ) → c < cell_count S → HasHeld S B w.words w.batches c (durable_word S w.words c)
   -- each round and each try has used the cells of one state alone
-  pub one : (i : ℕ) → i < S.callers → UsesOne S B w i (machine w i)
+  pub one : (i : ℕ) → i < S.callers → UsesOneState S B w i (machine_in w i)
   -- each caller has a machine, and no call makes more steps than the bound
   pub members : length w.machines ≡ S.callers
-  pub within : (i : ℕ) → i < S.callers → (machine w i).steps ≤ bound S
+  pub within : (i : ℕ) → i < S.callers → (machine_in w i).steps ≤ bound S
   -- an idle machine has made no step of an open call
-  pub at_rest : (i : ℕ) → i < S.callers → (machine w i).place ≡ Idle → (machine w i).steps ≡ 0
+  pub at_rest : (i : ℕ) → i < S.callers → (machine_in w i).place ≡ Idle → (machine_in w i).steps ≡ 0
   -- each idle machine's last outcome is in the history, at the durable sequence at most
-  pub answered : (i : ℕ) → i < S.callers → (machine w i).place ≡ Idle
-      → IsTold S B w i (machine w i) (machine w i).answer
+  pub answered : (i : ℕ) → i < S.callers → (machine_in w i).place ≡ Idle
+      → OutcomeIsInHistory S B w i (machine_in w i) (machine_in w i).answer

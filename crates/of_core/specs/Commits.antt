@@ -2,42 +2,42 @@
 -- lost only to one of them, and an outcome is no older than its call.
 use Rattle.std.specs.Prelude.{ℕ, ◌+◌, ◌-◌, List, [], length, ◌≡◌, ◌≤◌, ◌<◌, Bool, true, false}
 use Rattle.std.proofs.Common.{get_or, take}
-use Rattle.of_cell.specs.Words.{seq}
+use Rattle.of_cell.specs.Words.{seq_of}
 use Rattle.of_core.specs.declared.machine.trying.TheConstants.{MOST_TRIES}
 use Rattle.of_core.specs.declared.place.Place.{Place}
 use Rattle.of_core.specs.declared.place.Place.TheVariants.{TryCurrent, StoreScript, StoreAnnouncement, LoadCurrent}
 use Rattle.of_core.specs.declared.place.Outcome.{Outcome}
 use Rattle.of_core.specs.declared.place.Outcome.TheVariants.{Answered, Spent}
 use Rattle.of_core.specs.Table.{Setup, announcement_of}
-use Rattle.of_core.specs.Machine.{Data, IsOpen, no_call}
-use Rattle.of_core.specs.Steps.{took}
-use Rattle.of_core.specs.World.{World, Start, Batch}
-use Rattle.of_core.specs.History.{batch}
-use Rattle.of_core.specs.Invariant.{Good}
-use Rattle.of_core.specs.Events.{Event, run, opening, start_ticket, IsSchedule, machine}
+use Rattle.of_core.specs.Machine.{CallState, IsOpen, no_call}
+use Rattle.of_core.specs.Steps.{take_word}
+use Rattle.of_core.specs.World.{Moment, TableStart, Batch}
+use Rattle.of_core.specs.History.{batch_at}
+use Rattle.of_core.specs.Invariant.{MeetsInvariant}
+use Rattle.of_core.specs.Events.{Event, after_events, opening_moment, start_ticket, IsSchedule, machine_in}
 use Rattle.of_core.specs.Turn.{IsIdle}
-use Rattle.of_core.specs.Calls.{operations, outcomes, no_outcome}
+use Rattle.of_core.specs.Calls.{operations_begun, outcomes, no_outcome}
 use Rattle.of_core.specs.Laws.{EachStep, EachSchedule}
 
 -- the sequence of the last batch
-abbrev pub last_batch : Start → World → ℕ
+abbrev pub last_batch : TableStart → Moment → ℕ
 last_batch B w = B.seq + length w.batches
 
 -- Two commits.
 
 -- the ticket that caller i has announced, or 0 if it has announced none
-abbrev pub announced_ticket : Setup → World → (i : ℕ) → ℕ
-announced_ticket S w i = seq (announcement_of S w.words i)
+abbrev pub announced_ticket : Setup → Moment → (i : ℕ) → ℕ
+announced_ticket S w i = seq_of (announcement_of S w.words i)
 
 -- a batch, the batch n at the latest, has the call t of caller i
-pub record HasRun (B : Start) (bs : List Batch) (n i t : ℕ) : Type 0 where
+pub record HasRun (B : TableStart) (bs : List Batch) (n i t : ℕ) : Type 0 where
   pub number : ℕ
   pub from : B.seq < number
   pub upto : number ≤ n
   pub place : ℕ
-  pub among : place < length (batch B bs number).calls
-  pub caller : (get_or (batch B bs number).calls place no_call).caller ≡ i
-  pub ticket : (get_or (batch B bs number).calls place no_call).ticket ≡ t
+  pub among : place < length (batch_at B bs number).calls
+  pub caller : (get_or (batch_at B bs number).calls place no_call).caller ≡ i
+  pub ticket : (get_or (batch_at B bs number).calls place no_call).ticket ≡ t
 
 -- An announced call is done after at most two commits that follow its announcement: if the call of
 -- caller i with a ticket of this table is announced after the first k events, and two more batches
@@ -45,8 +45,8 @@ pub record HasRun (B : Start) (bs : List Batch) (n i t : ℕ) : Type 0 where
 abbrev pub DoneAfterTwoCommits : Setup → (List ℕ → Type 0) → Type 0
 DoneAfterTwoCommits S Lawful = EachSchedule S Lawful (λ B n es.
     (k i : ℕ) → i < S.callers →
-    let w : World = run S (opening S B n) (take k es) in
-    let v : World = run S (opening S B n) es in
+    let w : Moment = after_events S (opening_moment S B n) (take k es) in
+    let v : Moment = after_events S (opening_moment S B n) es in
     start_ticket S B i < announced_ticket S w i → last_batch B w + 2 ≤ last_batch B v
     → HasRun B v.batches (last_batch B w + 2) i (announced_ticket S w i))
 
@@ -68,13 +68,13 @@ announces_at p = false
 -- a try or a round is given up only after a batch was committed since it began
 abbrev pub GivenUp : Setup → (List ℕ → Type 0) → Type 0
 GivenUp S Lawful = EachStep S Lawful (λ B w i m n.
-    announces_at m.place ≡ false → begins_at (took S m n).place ≡ true → IsOpen m.place
+    announces_at m.place ≡ false → begins_at (take_word S m n).place ≡ true → IsOpen m.place
     → m.seq < last_batch B w)
 
 -- Beside these commits since it began, a call has lost at most one try and one round for each: it
 -- has begun at most one more. If its operation only reads, it has begun a round, and so was
 -- announced, only after as many commits as lose the most tries.
-pub record HasLost (S : Setup) (m : Data) (commits : ℕ) : Type 0 where
+pub record HasLost (S : Setup) (m : CallState) (commits : ℕ) : Type 0 where
   pub tries : m.tries ≤ commits + 1
   pub rounds : m.rounds ≤ commits + 1
   pub tried : S.meaning.reads_only m.op ≡ true → 1 ≤ m.rounds → MOST_TRIES ≤ commits
@@ -83,10 +83,10 @@ pub record HasLost (S : Setup) (m : Data) (commits : ℕ) : Type 0 where
 -- there is none, a read ends in its first try, and any other call in its first round
 abbrev pub LostToCommits : Setup → (List ℕ → Type 0) → Type 0
 LostToCommits S Lawful =
-    (B : Start) (w : World) → Good S Lawful B w → (es : List Event) → IsSchedule S w es →
-    let v : World = run S w es in
-    (i : ℕ) → i < S.callers → IsIdle (machine w i) → IsOpen (machine v i).place
-    → HasLost S (machine v i) (last_batch B v - last_batch B w)
+    (B : TableStart) (w : Moment) → MeetsInvariant S Lawful B w → (es : List Event) → IsSchedule S w es →
+    let v : Moment = after_events S w es in
+    (i : ℕ) → i < S.callers → IsIdle (machine_in w i) → IsOpen (machine_in v i).place
+    → HasLost S (machine_in v i) (last_batch B v - last_batch B w)
 
 -- How old an outcome may be.
 
@@ -104,8 +104,8 @@ IsSince S from op (Spent s) =
 -- every outcome is no older than the last batch at any moment before its call began
 abbrev pub OutcomesAreNew : Setup → (List ℕ → Type 0) → Type 0
 OutcomesAreNew S Lawful = EachSchedule S Lawful (λ B n es.
-    let w : World = opening S B n in
-    (k i x : ℕ) → i < S.callers → length (operations (take k es) i) ≤ x
+    let w : Moment = opening_moment S B n in
+    (k i x : ℕ) → i < S.callers → length (operations_begun (take k es) i) ≤ x
     → x < length (outcomes S w es i)
-    → IsSince S (last_batch B (run S w (take k es))) (get_or (operations es i) x [])
+    → IsSince S (last_batch B (after_events S w (take k es))) (get_or (operations_begun es i) x [])
     (get_or (outcomes S w es i) x no_outcome))

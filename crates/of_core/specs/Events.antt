@@ -3,11 +3,11 @@ use Rattle.std.specs.Prelude.{◌==◌, Bool, true, false, ℕ, ◌+◌, max, Li
 use Rattle.std.proofs.Common.{get_or, set, take, replicate, zero, suc}
 use Rattle.of_cell.specs.declared.word.TheConstants.{PAYLOADS}
 use Rattle.of_core.specs.declared.place.Place.TheVariants.{Idle}
-use Rattle.of_cell.specs.Words.{pay}
-use Rattle.of_core.specs.Table.{Setup, size, durable_at, ticket_cell}
-use Rattle.of_core.specs.Machine.{Data, IsOpen, no_machine, idle, opened}
-use Rattle.of_core.specs.Steps.{finds}
-use Rattle.of_core.specs.World.{World, Start, stepped}
+use Rattle.of_cell.specs.Words.{payload_of}
+use Rattle.of_core.specs.Table.{Setup, cell_count, durable_at, ticket_cell}
+use Rattle.of_core.specs.Machine.{CallState, IsOpen, no_machine, idle_machine, begin}
+use Rattle.of_core.specs.Steps.{word_found}
+use Rattle.of_core.specs.World.{Moment, TableStart, after_step}
 use Rattle.of_core.specs.Starts.{first_words}
 
 -- what may happen to a table
@@ -22,84 +22,84 @@ pub data Event : Type 0 where
   Raises : ℕ → Event
 
 -- the machine of caller i
-abbrev pub machine : World → ℕ → Data
-machine w i = get_or w.machines i no_machine
+abbrev pub machine_in : Moment → ℕ → CallState
+machine_in w i = get_or w.machines i no_machine
 
 -- the durable word of a cell is raised to a word
-abbrev pub evicted : Setup → World → ℕ × ℕ → World
-evicted S w e = record w { words = set w.words (durable_at S e.0) (max (get_or w.words (durable_at S e.0) 0) e.1) }
+abbrev pub after_raise : Setup → Moment → ℕ × ℕ → Moment
+after_raise S w e = record w { words = set w.words (durable_at S e.0) (max (get_or w.words (durable_at S e.0) 0) e.1) }
 
 -- the machine m of caller i begins a call
-abbrev pub begun : Setup → ℕ → Data → List ℕ → World → World
-begun S i m op w = record w { machines = set w.machines i (opened S m op) }
+abbrev pub after_begin : Setup → ℕ → CallState → List ℕ → Moment → Moment
+after_begin S i m op w = record w { machines = set w.machines i (begin S m op) }
 
 -- the world after an event
-abbrev pub happens : Setup → World → Event → World
-happens S w (Begins i op) = begun S i (machine w i) op w
-happens S w (Loads c) = record w { loaded = w.loaded ++ (c, get_or w.words c 0) ∷ [] }
-happens S w (Evicts k) = evicted S w (get_or w.loaded k (0, 0))
-happens S w (Raises c) = evicted S w (c, get_or w.words c 0)
-happens S w (Turns i) = stepped S i (machine w i) (finds S w.words (machine w i)) w
+abbrev pub after_event : Setup → Moment → Event → Moment
+after_event S w (Begins i op) = after_begin S i (machine_in w i) op w
+after_event S w (Loads c) = record w { loaded = w.loaded ++ (c, get_or w.words c 0) ∷ [] }
+after_event S w (Evicts k) = after_raise S w (get_or w.loaded k (0, 0))
+after_event S w (Raises c) = after_raise S w (c, get_or w.words c 0)
+after_event S w (Turns i) = after_step S i (machine_in w i) (word_found S w.words (machine_in w i)) w
 
 -- when an event may happen: a call begins where none of the caller's is open, with 1 to as many words as an operation may have
-abbrev pub MayHappen : Setup → World → Event → Type 0
-MayHappen S w (Begins i op) = (i < S.callers) × ((machine w i).place ≡ Idle) × (1 ≤ length op) × (length op ≤ S.instrs) × ((machine w i).made + 1 < PAYLOADS)
-MayHappen S w (Loads c) = c < size S
+abbrev pub MayHappen : Setup → Moment → Event → Type 0
+MayHappen S w (Begins i op) = (i < S.callers) × ((machine_in w i).place ≡ Idle) × (1 ≤ length op) × (length op ≤ S.instrs) × ((machine_in w i).made + 1 < PAYLOADS)
+MayHappen S w (Loads c) = c < cell_count S
 MayHappen S w (Evicts k) = k < length w.loaded
-MayHappen S w (Raises c) = c < size S
+MayHappen S w (Raises c) = c < cell_count S
 MayHappen S w (Turns i) = i < S.callers
 
 -- the moment that a list of events leaves
-abbrev pub run : Setup → World → List Event → World
-run S w [] = w
-run S w (e ∷ es) = run S (happens S w e) es
+abbrev pub after_events : Setup → Moment → List Event → Moment
+after_events S w [] = w
+after_events S w (e ∷ es) = after_events S (after_event S w e) es
 
 -- each event may happen when it comes
-abbrev pub IsSchedule : Setup → World → List Event → Type 0
+abbrev pub IsSchedule : Setup → Moment → List Event → Type 0
 IsSchedule S w [] = Unit {0}
-IsSchedule S w (e ∷ es) = MayHappen S w e × IsSchedule S (happens S w e) es
+IsSchedule S w (e ∷ es) = MayHappen S w e × IsSchedule S (after_event S w e) es
 
 -- the cell c has held v at one of the moments that the events lead through
-abbrev pub HasStood : Setup → World → List Event → (c v : ℕ) → Type 0
+abbrev pub HasStood : Setup → Moment → List Event → (c v : ℕ) → Type 0
 HasStood S w es c v =
-    (k : ℕ) × (k ≤ length es) × (get_or (run S w (take k es)).words c 0 ≡ v)
+    (k : ℕ) × (k ≤ length es) × (get_or (after_events S w (take k es)).words c 0 ≡ v)
 
 -- how many calls caller i has behind it at a start: the number of its ticket cell
-abbrev pub start_ticket : Setup → Start → ℕ → ℕ
-start_ticket S B i = pay (get_or B.cells (ticket_cell S i) 0)
+abbrev pub start_ticket : Setup → TableStart → ℕ → ℕ
+start_ticket S B i = payload_of (get_or B.cells (ticket_cell S i) 0)
 
 -- n idle machines from caller i on, each with so many calls behind it
-abbrev pub idles : Setup → (made : ℕ → ℕ) → ℕ → ℕ → List Data
-idles S made i zero = []
-idles S made i (suc n) = idle S i (made i) ∷ idles S made (suc i) n
+abbrev pub idle_machines : Setup → (made : ℕ → ℕ) → ℕ → ℕ → List CallState
+idle_machines S made i zero = []
+idle_machines S made i (suc n) = idle_machine S i (made i) ∷ idle_machines S made (suc i) n
 
 -- a table of n words at its start, before anything has happened
-abbrev pub opening : Setup → Start → ℕ → World
-opening S B n = record { words = first_words S.callers S.cells B n; machines = idles S (start_ticket S B) 0 S.callers; batches = []; reads = []; loaded = [] }
+abbrev pub opening_moment : Setup → TableStart → ℕ → Moment
+opening_moment S B n = record { words = first_words S.callers S.cells B n; machines = idle_machines S (start_ticket S B) 0 S.callers; batches = []; reads = []; loaded = [] }
 
 -- the start of a table of zeros
-abbrev pub zeros : Setup → Start
-zeros S = record { seq = 0; owner = 0; cells = replicate S.cells 0 }
+abbrev pub zero_start : Setup → TableStart
+zero_start S = record { seq = 0; owner = 0; cells = replicate S.cells 0 }
 
 -- 1 where it is so
-abbrev pub counted : Bool → ℕ
-counted true = 1
-counted false = 0
+abbrev pub one_if : Bool → ℕ
+one_if true = 1
+one_if false = 0
 
 -- how many turns of caller i an event is
-abbrev pub one_turn : ℕ → Event → ℕ
-one_turn i (Begins j op) = 0
-one_turn i (Turns j) = counted (i == j)
-one_turn i (Loads c) = 0
-one_turn i (Evicts k) = 0
-one_turn i (Raises c) = 0
+abbrev pub turns_in_event : ℕ → Event → ℕ
+turns_in_event i (Begins j op) = 0
+turns_in_event i (Turns j) = one_if (i == j)
+turns_in_event i (Loads c) = 0
+turns_in_event i (Evicts k) = 0
+turns_in_event i (Raises c) = 0
 
 -- and how many of the events
-abbrev pub turns : ℕ → List Event → ℕ
-turns i [] = 0
-turns i (e ∷ es) = one_turn i e + turns i es
+abbrev pub turn_count : ℕ → List Event → ℕ
+turn_count i [] = 0
+turn_count i (e ∷ es) = turns_in_event i e + turn_count i es
 
 -- caller i has an open call, and has it after each of the events
-abbrev pub StaysOpen : Setup → World → List Event → ℕ → Type 0
-StaysOpen S w [] i = IsOpen (machine w i).place
-StaysOpen S w (e ∷ es) i = IsOpen (machine w i).place × StaysOpen S (happens S w e) es i
+abbrev pub StaysOpen : Setup → Moment → List Event → ℕ → Type 0
+StaysOpen S w [] i = IsOpen (machine_in w i).place
+StaysOpen S w (e ∷ es) i = IsOpen (machine_in w i).place × StaysOpen S (after_event S w e) es i

@@ -6,10 +6,10 @@ use Rattle.of_core.specs.declared.machine.trying.TheConstants.{MOST_TRIES}
 use Rattle.of_core.specs.declared.place.Place.{Place}
 use Rattle.of_core.specs.declared.place.Place.TheVariants.{TryCell, LoadOwnTicket, LoadTicket, LoadCell}
 use Rattle.of_core.specs.Table.{Setup}
-use Rattle.of_core.specs.Machine.{Data}
-use Rattle.of_core.specs.World.{World, Start}
-use Rattle.of_core.specs.Invariant.{Good}
-use Rattle.of_core.specs.Events.{Event, Begins, happens, MayHappen, run, turns, IsSchedule, StaysOpen, machine}
+use Rattle.of_core.specs.Machine.{CallState}
+use Rattle.of_core.specs.World.{Moment, TableStart}
+use Rattle.of_core.specs.Invariant.{MeetsInvariant}
+use Rattle.of_core.specs.Events.{Event, Begins, after_event, MayHappen, after_events, turn_count, IsSchedule, StaysOpen, machine_in}
 
 -- how many cells are known
 abbrev pub knowns : List (Option ℕ) → ℕ
@@ -29,7 +29,7 @@ next_load p = 0
 
 -- what a machine touches at a moment: no log of it has more than `longest` entries, and its try or
 -- round has loaded no more than `most` data cells
-pub record Touches (m : Data) (longest most : ℕ) : Type 0 where
+pub record Touches (m : CallState) (longest most : ℕ) : Type 0 where
   -- its write-set, or the log that it applies
   pub log : length m.log ≤ longest
   -- the log that it copies: the first word is the number of entries
@@ -38,10 +38,10 @@ pub record Touches (m : Data) (longest most : ℕ) : Type 0 where
   pub cells : knowns m.known + next_load m.place ≤ most
 
 -- so it is of caller i now and after each of the events
-abbrev pub TouchesOnly : Setup → World → List Event → (i longest most : ℕ) → Type 0
-TouchesOnly S w [] i longest most = Touches (machine w i) longest most
+abbrev pub TouchesOnly : Setup → Moment → List Event → (i longest most : ℕ) → Type 0
+TouchesOnly S w [] i longest most = Touches (machine_in w i) longest most
 TouchesOnly S w (e ∷ es) i longest most =
-    Touches (machine w i) longest most × TouchesOnly S (happens S w e) es i longest most
+    Touches (machine_in w i) longest most × TouchesOnly S (after_event S w e) es i longest most
 
 -- The steps of each part of a call.
 
@@ -78,7 +78,7 @@ footprint S op longest most tries rounds =
 
 -- The open call of the machine m has made this many steps: fewer than what it touches allows, in at
 -- most four tries and three rounds. A call that may write makes no try.
-pub record HasFootprint (S : Setup) (longest most : ℕ) (m : Data) (steps : ℕ) : Type 0 where
+pub record HasFootprint (S : Setup) (longest most : ℕ) (m : CallState) (steps : ℕ) : Type 0 where
   pub within : steps < footprint S m.op longest most m.tries m.rounds
   pub tries : m.tries ≤ MOST_TRIES
   pub rounds : m.rounds ≤ 3
@@ -88,9 +88,9 @@ pub record HasFootprint (S : Setup) (longest most : ℕ) (m : Data) (steps : ℕ
 -- the size of the memory, so its last one comes in time
 abbrev pub ByFootprint : Setup → (List ℕ → Type 0) → Type 0
 ByFootprint S Lawful =
-    (B : Start) (w : World) → Good S Lawful B w
+    (B : TableStart) (w : Moment) → MeetsInvariant S Lawful B w
     → (i : ℕ) (op : List ℕ) → MayHappen S w (Begins i op) →
-    let v : World = happens S w (Begins i op) in
+    let v : Moment = after_event S w (Begins i op) in
     (es : List Event) → IsSchedule S v es → StaysOpen S v es i
     → (longest most : ℕ) → TouchesOnly S v es i longest most
-    → HasFootprint S longest most (machine (run S v es) i) (turns i es)
+    → HasFootprint S longest most (machine_in (after_events S v es) i) (turn_count i es)

@@ -2,28 +2,28 @@
 use Rattle.std.specs.Prelude.{ℕ, ◌+◌, List, length, ◌≤◌, ◌<◌}
 use Rattle.of_cell.specs.declared.word.TheConstants.{PAYLOADS}
 use Rattle.of_mem.specs.declared.work.TheConstants.{MOST_INSTRS}
-use Rattle.of_core.specs.Table.{Setup, base, table_size}
-use Rattle.of_core.specs.World.{World, Start}
-use Rattle.of_core.specs.History.{batch, numbers}
+use Rattle.of_core.specs.Table.{Setup, first_operation_cell, words_before_members}
+use Rattle.of_core.specs.World.{Moment, TableStart}
+use Rattle.of_core.specs.History.{batch_at, numbers_after}
 use Rattle.of_core.specs.Shared.{MayStart, IsLog}
-use Rattle.of_core.specs.Invariant.{Good}
+use Rattle.of_core.specs.Invariant.{MeetsInvariant}
 
 -- what a moment rests on
-pub record HasGrounds (S : Setup) (Lawful : List ℕ → Type 0) (B : Start) (w : World) : Type 0 where
+pub record HasGrounds (S : Setup) (Lawful : List ℕ → Type 0) (B : TableStart) (w : Moment) : Type 0 where
   -- it has begun at a start that a table may have
   pub may_start : MayStart S Lawful B
   -- the state behind each batch is lawful
-  pub states : (k : ℕ) → B.seq ≤ k → k ≤ B.seq + length w.batches → Lawful (numbers B w.batches k)
+  pub states : (k : ℕ) → B.seq ≤ k → k ≤ B.seq + length w.batches → Lawful (numbers_after B w.batches k)
   -- and each batch's log has entries of data cells, none twice
-  pub logs : (k : ℕ) → B.seq < k → k ≤ B.seq + length w.batches → IsLog S (batch B w.batches k).log
+  pub logs : (k : ℕ) → B.seq < k → k ≤ B.seq + length w.batches → IsLog S (batch_at B w.batches k).log
   -- the table has room for all its words, and its numbers fit a word
-  pub room : table_size S ≤ length w.words
+  pub room : words_before_members S ≤ length w.words
   pub callers : S.callers < PAYLOADS
   pub instrs : S.instrs ≤ MOST_INSTRS
   pub cells : S.cells < PAYLOADS
-  pub own_in : base S ≤ S.cells
+  pub own_in : first_operation_cell S ≤ S.cells
 
 -- whatever meets the invariant has these grounds
 abbrev pub GoodGrounds : Setup → (List ℕ → Type 0) → Type 0
 GoodGrounds S Lawful =
-    (B : Start) (w : World) → Good S Lawful B w → HasGrounds S Lawful B w
+    (B : TableStart) (w : Moment) → MeetsInvariant S Lawful B w → HasGrounds S Lawful B w

@@ -1,11 +1,11 @@
 -- Whom a call helps.
 use Rattle.std.specs.Prelude.{ℕ, Bool, true, false, Option, Some, None}
-use Rattle.of_core.specs.Machine.{Data}
+use Rattle.of_core.specs.Machine.{CallState}
 
 -- the owner of the log that a helper copies or applies
 abbrev pub helped_by : (helps : Bool) → (owner : ℕ) → Option ℕ
 helped_by true owner = Some owner
 helped_by false owner = None
 
-abbrev pub helped : Data → Option ℕ
-helped m = helped_by m.helps m.owner
+abbrev pub steps_left_after_help : CallState → Option ℕ
+steps_left_after_help m = helped_by m.helps m.owner

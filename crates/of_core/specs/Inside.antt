@@ -8,14 +8,14 @@ use Rattle.of_mem.specs.declared.work.TheConstants.{MOST_INSTRS}
 use Rattle.of_core.specs.declared.ran.RanCall.{RanCall}
 use Rattle.of_core.specs.declared.machine.Machine.TheInside.{Inside}
 use Rattle.of_core.specs.Machine.{Call}
-use Rattle.of_core.specs.Seen.{Seen, setup}
-use Rattle.of_core.specs.Fit.{Fit, Room}
+use Rattle.of_core.specs.Seen.{Machine, machine_setup}
+use Rattle.of_core.specs.Fit.{FitsSizes, HasRoomInParts}
 
-abbrev pub call_of : RanCall → Call
-call_of c = record { caller = c.caller; ticket = c.ticket; op = take c.words c.op; raw = c.raw }
+abbrev pub call_value : RanCall → Call
+call_value c = record { caller = c.caller; ticket = c.ticket; op = take c.words c.op; raw = c.raw }
 
-abbrev pub seen : {W : Type 0} → Inside W → Seen W
-seen m = record {
+abbrev pub machine_value : {W : Type 0} → Inside W → Machine W
+machine_value m = record {
   work = m.work;
   callers = m.shape.callers;
   cells = m.shape.cells;
@@ -41,7 +41,7 @@ seen m = record {
     scan = m.scan;
     heard = m.heard;
     script = m.script.items;
-    calls = map call_of m.calls.items;
+    calls = map call_value m.calls.items;
   };
 }
 
@@ -49,5 +49,5 @@ pub record IsFit {W : Type 0} (many size : W → ℕ) (meaning : W → Meaning) 
   pub instrs : m.shape.instrs ≡ MOST_INSTRS
   pub durable : m.durable ≡ durable_cells m.shape.callers m.shape.cells
   pub own_log : m.own_log ≡ log_cell m.shape.callers m.shape.cells m.caller 0
-  pub fit : Fit (many m.work) (size m.work) (setup meaning (seen m)) (seen m).call
-  pub room : Room (setup meaning (seen m)) (seen m).call m.log.room (vec_capacity m.op) (vec_capacity m.script) (vec_capacity m.copy) (vec_capacity m.calls) m.part.batch m.part.script
+  pub fit : FitsSizes (many m.work) (size m.work) (machine_setup meaning (machine_value m)) (machine_value m).call
+  pub room : HasRoomInParts (machine_setup meaning (machine_value m)) (machine_value m).call m.log.room (vec_capacity m.op) (vec_capacity m.script) (vec_capacity m.copy) (vec_capacity m.calls) m.part.batch m.part.script

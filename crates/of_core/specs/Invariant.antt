@@ -2,98 +2,98 @@
 use Rattle.std.specs.Prelude.{ℕ, ◌+◌, ◌*◌, List, [], length, Option, Some, None, true, false, ◌≡◌, ◌≤◌, ◌<◌, ◌⊎◌}
 use Rattle.std.proofs.Common.{get_or, take}
 use Rattle.of_core.specs.declared.machine.trying.TheConstants.{MOST_TRIES}
-use Rattle.of_cell.specs.Words.{word, seq, pay}
+use Rattle.of_cell.specs.Words.{pack, seq_of, payload_of}
 use Rattle.of_core.specs.declared.place.Place.{Place}
 use Rattle.of_core.specs.declared.place.Place.TheVariants.{Idle, TryCurrent, TryRequest, TryCell, StoreScript, StoreAnnouncement, LoadCurrent, LoadRequest, CopyLog, LookAgain, LoadOwnTicket, LoadShape, LoadReply, LoadAnnouncement, LoadTicket, LoadScript, LoadCell, RaiseOld, StoreLog, RaiseLog, StoreRequest, RaiseRequest, ExchangeCurrent, RaiseCurrent, LoadTarget, ExchangeTarget, ReloadTarget, RaiseTarget, CloseRequest, RaiseClosed}
 use Rattle.of_core.specs.declared.place.Outcome.{Outcome}
 use Rattle.of_core.specs.declared.place.Outcome.TheVariants.{Answered, Spent}
 use Rattle.std.specs.List.{All}
-use Rattle.of_core.specs.Table.{Setup, log_at, size, ticket_cell, request_of, cell, log_word, durable_request, announcement_of, script_of, last, risen}
-use Rattle.of_core.specs.Machine.{Data, entry, log_words, unknown}
-use Rattle.of_core.specs.World.{Batch, World, Start}
-use Rattle.of_core.specs.History.{state, batch, numbers, ticket_in, HasCall}
-use Rattle.of_core.specs.Shared.{Held, IsRequest, IsLogWord, Shared}
-use Rattle.of_core.specs.Rounds.{Keeps, Quieted, Fresh, Begun, Round, WasCurrent, Trying, Watches, Between, Looks, Past, Calm, Finds, ReadUpto}
-use Rattle.of_core.specs.Scan.{Over, Hears, Reads, Scans}
-use Rattle.of_core.specs.Transaction.{Applies, Copies, Stored, ClosedDurably, Logs}
-use Rattle.of_core.specs.Order.{Order}
-use Rattle.of_core.specs.Bound.{Within}
-use Rattle.of_core.specs.Least.{Late}
+use Rattle.of_core.specs.Table.{Setup, log_at, cell_count, ticket_cell, request_of, data_word, log_word_of, durable_request, announcement_of, script_words_of, committed_seq, durable_seq}
+use Rattle.of_core.specs.Machine.{CallState, log_entry, log_words, nothing_known}
+use Rattle.of_core.specs.World.{Batch, Moment, TableStart}
+use Rattle.of_core.specs.History.{state_after, batch_at, numbers_after, last_ticket_by, HasCall}
+use Rattle.of_core.specs.Shared.{WasHeldByCell, IsRequest, IsLogWord, WordsMatchHistory}
+use Rattle.of_core.specs.Rounds.{KnowsOwnRequest, AnnouncesNothingNew, IsUnannounced, IsAnnounced, IsInRound, WasCurrent, IsInTry, KnowsClosedState, IsBetweenRounds, IsPastRequest, IsPastOwnTicket, HasNothingUnderWay, FindsOwnTicket, HasReadReplyUpTo}
+use Rattle.of_core.specs.Scan.{HasScannedUpTo, HasLoadedAnnouncement, HasLoadedScript, IsInScan}
+use Rattle.of_core.specs.Transaction.{IsApplying, IsCopyingLog, HasStoredLog, HasClosedDurably, IsStoringLog}
+use Rattle.of_core.specs.Order.{KeepsCallOrder}
+use Rattle.of_core.specs.Bound.{IsWithinBound}
+use Rattle.of_core.specs.Least.{HasMadeLeastSteps}
 
 -- what the last answer says
-abbrev pub Told : Setup → Start → List ℕ → List Batch → ℕ → Data → Option Outcome → Type 0
-Told S B ws bs i m None = Unit {0}
-Told S B ws bs i m (Some (Answered s false raw steps)) = (B.seq ≤ s) × (s ≤ risen S ws) × (s ≤ last ws) × (S.meaning.reply (numbers B bs s) m.op ≡ raw) × (S.meaning.reads_only m.op ≡ true)
-Told S B ws bs i m (Some (Answered s true raw steps)) = (B.seq < s) × (s ≤ risen S ws) × (s ≤ last ws) × HasCall S (batch B bs s).calls i m.made m.op raw
-Told S B ws bs i m (Some (Spent s)) = (ticket_in S B bs (last ws) i < m.made) × (s ≡ S.limit) × (last ws ≡ s) × (s ≤ risen S ws)
+abbrev pub LastOutcomeStands : Setup → TableStart → List ℕ → List Batch → ℕ → CallState → Option Outcome → Type 0
+LastOutcomeStands S B ws bs i m None = Unit {0}
+LastOutcomeStands S B ws bs i m (Some (Answered s false raw steps)) = (B.seq ≤ s) × (s ≤ durable_seq S ws) × (s ≤ committed_seq ws) × (S.meaning.reply (numbers_after B bs s) m.op ≡ raw) × (S.meaning.reads_only m.op ≡ true)
+LastOutcomeStands S B ws bs i m (Some (Answered s true raw steps)) = (B.seq < s) × (s ≤ durable_seq S ws) × (s ≤ committed_seq ws) × HasCall S (batch_at B bs s).calls i m.made m.op raw
+LastOutcomeStands S B ws bs i m (Some (Spent s)) = (last_ticket_by S B bs (committed_seq ws) i < m.made) × (s ≡ S.limit) × (committed_seq ws ≡ s) × (s ≤ durable_seq S ws)
 
 -- an idle machine: nothing of it is under way, and its last answer is in the history
-pub record Rests (S : Setup) (B : Start) (ws : List ℕ) (bs : List Batch) (i : ℕ) (m : Data) : Type 0 where
+pub record IsAtRest (S : Setup) (B : TableStart) (ws : List ℕ) (bs : List Batch) (i : ℕ) (m : CallState) : Type 0 where
   pub caller : m.caller ≡ i
-  pub calm : Calm S B ws bs i (last ws)
-  pub kept : Keeps B ws bs i m.kept
-  pub quieted : Quieted S B ws bs i
-  pub upto : ticket_in S B bs (last ws) i ≤ m.made
-  pub older : seq (announcement_of S ws i) ≤ m.made
-  pub told : Told S B ws bs i m m.answer
+  pub calm : HasNothingUnderWay S B ws bs i (committed_seq ws)
+  pub kept : KnowsOwnRequest B ws bs i m.kept
+  pub quieted : AnnouncesNothingNew S B ws bs i
+  pub upto : last_ticket_by S B bs (committed_seq ws) i ≤ m.made
+  pub older : seq_of (announcement_of S ws i) ≤ m.made
+  pub told : LastOutcomeStands S B ws bs i m m.answer
 
 -- what a place says of its machine
-abbrev pub At : Setup → Start → List ℕ → List Batch → ℕ → Data → Place → Type 0
-At S B ws bs i m Idle = Rests S B ws bs i m
-At S B ws bs i m TryCurrent = Fresh S B ws bs i m × Calm S B ws bs i (last ws) × (S.meaning.reads_only m.op ≡ true) × (m.tries < MOST_TRIES)
-At S B ws bs i m TryRequest = Trying S B ws bs i m × WasCurrent S B ws bs m.seq m.owner × Calm S B ws bs i m.seq
-At S B ws bs i m (TryCell a) = Trying S B ws bs i m × WasCurrent S B ws bs m.seq m.owner × Calm S B ws bs i m.seq × Watches S B ws bs m.seq m.known × (a < S.cells) × (get_or m.known a None ≡ None)
-At S B ws bs i m (StoreScript j) = Fresh S B ws bs i m × Calm S B ws bs i (last ws) × (j < length m.op) × (script_of S ws i j ≡ take j m.op)
-At S B ws bs i m StoreAnnouncement = Fresh S B ws bs i m × Calm S B ws bs i (last ws) × (script_of S ws i (length m.op) ≡ m.op)
-At S B ws bs i m LoadCurrent = Begun S B ws bs i m × Calm S B ws bs i (last ws) × Between ws m
-At S B ws bs i m LoadRequest = Round S B ws bs i m × Calm S B ws bs i m.seq
-At S B ws bs i m (CopyLog x) = Copies S B ws bs i m x × (request_of ws m.owner ≡ word m.seq 0 → x < length (log_words (batch B bs m.seq).log)) × (x < 2 * S.cells + 1)
-At S B ws bs i m LookAgain = Copies S B ws bs i m (length m.copy) × (request_of ws m.owner ≡ word m.seq 0 → length m.copy ≡ length (log_words (batch B bs m.seq).log))
-At S B ws bs i m LoadOwnTicket = Looks S B ws bs i m × Calm S B ws bs i m.seq × (m.known ≡ unknown S) × (m.log ≡ []) × (m.calls ≡ []) × (m.scan ≡ 0)
-At S B ws bs i m LoadShape = Looks S B ws bs i m × Calm S B ws bs i m.seq × Finds S (state B bs m.seq) i m
-At S B ws bs i m (LoadReply j) = Looks S B ws bs i m × Calm S B ws bs i m.seq × Finds S (state B bs m.seq) i m × ReadUpto S (state B bs m.seq) i m j × (j < S.instrs)
-At S B ws bs i m LoadAnnouncement = Past S B ws bs i m × Calm S B ws bs i m.seq × Scans S B ws bs i m × (m.scan < S.callers)
-At S B ws bs i m LoadTicket = Past S B ws bs i m × Calm S B ws bs i m.seq × Scans S B ws bs i m × (m.scan < S.callers) × Hears S B ws bs i m.seq m.scan m.heard × (get_or m.known (ticket_cell S m.scan) None ≡ None)
-At S B ws bs i m (LoadScript j) = Past S B ws bs i m × Calm S B ws bs i m.seq × Scans S B ws bs i m × (m.scan < S.callers) × Hears S B ws bs i m.seq m.scan m.heard × Reads S (state B bs m.seq) ws m.seq m.scan m.heard m.script j × (j < pay m.heard)
-At S B ws bs i m (LoadCell a) = Past S B ws bs i m × Calm S B ws bs i m.seq × Scans S B ws bs i m × (m.scan < S.callers) × Hears S B ws bs i m.seq m.scan m.heard × Reads S (state B bs m.seq) ws m.seq m.scan m.heard m.script (pay m.heard) × (a < S.cells) × (get_or m.known a None ≡ None)
-At S B ws bs i m RaiseOld = Past S B ws bs i m × Calm S B ws bs i m.seq × Over S B ws bs i m.seq m.made m.op m.raw m.calls m.log S.callers
-At S B ws bs i m (StoreLog x) = Logs S B ws bs i m x x × (x < length (log_words m.log))
-At S B ws bs i m (RaiseLog x) = Logs S B ws bs i m (x + 1) x × (x < length (log_words m.log))
-At S B ws bs i m StoreRequest = Logs S B ws bs i m (length (log_words m.log)) (length (log_words m.log))
-At S B ws bs i m RaiseRequest = Stored S B ws bs i m (length (log_words m.log)) (length (log_words m.log)) × (request_of ws i ≡ word (m.seq + 1) 0) × ClosedDurably S B ws bs i
-At S B ws bs i m ExchangeCurrent = Stored S B ws bs i m (length (log_words m.log)) (length (log_words m.log)) × (request_of ws i ≡ word (m.seq + 1) 0) × (durable_request S ws i ≡ word (m.seq + 1) 0)
-At S B ws bs i m RaiseCurrent = Applies S B ws bs i m 0
-At S B ws bs i m (LoadTarget j) = Applies S B ws bs i m j × (j < length m.log) × (m.seq ≤ risen S ws)
-At S B ws bs i m (ExchangeTarget j f) = Applies S B ws bs i m j × (j < length m.log) × (m.seq ≤ risen S ws) × (seq f < m.seq) × ((cell S ws (entry m j).0 ≡ f) ⊎ (m.seq ≤ seq (cell S ws (entry m j).0)))
-At S B ws bs i m (ReloadTarget j) = Applies S B ws bs i m j × (j < length m.log) × (m.seq ≤ risen S ws) × (m.seq ≤ seq (cell S ws (entry m j).0))
-At S B ws bs i m (RaiseTarget j f) = Applies S B ws bs i m j × (j < length m.log) × (m.seq ≤ risen S ws) × (m.seq ≤ seq f) × (f ≤ cell S ws (entry m j).0) × Held B ws bs (entry m j).0 f
-At S B ws bs i m CloseRequest = Applies S B ws bs i m (length m.log) × (m.seq ≤ risen S ws)
-At S B ws bs i m RaiseClosed = Applies S B ws bs i m (length m.log) × (m.seq ≤ risen S ws) × (word m.seq 0 < request_of ws m.owner)
+abbrev pub HoldsAtPlace : Setup → TableStart → List ℕ → List Batch → ℕ → CallState → Place → Type 0
+HoldsAtPlace S B ws bs i m Idle = IsAtRest S B ws bs i m
+HoldsAtPlace S B ws bs i m TryCurrent = IsUnannounced S B ws bs i m × HasNothingUnderWay S B ws bs i (committed_seq ws) × (S.meaning.reads_only m.op ≡ true) × (m.tries < MOST_TRIES)
+HoldsAtPlace S B ws bs i m TryRequest = IsInTry S B ws bs i m × WasCurrent S B ws bs m.seq m.owner × HasNothingUnderWay S B ws bs i m.seq
+HoldsAtPlace S B ws bs i m (TryCell a) = IsInTry S B ws bs i m × WasCurrent S B ws bs m.seq m.owner × HasNothingUnderWay S B ws bs i m.seq × KnowsClosedState S B ws bs m.seq m.known × (a < S.cells) × (get_or m.known a None ≡ None)
+HoldsAtPlace S B ws bs i m (StoreScript j) = IsUnannounced S B ws bs i m × HasNothingUnderWay S B ws bs i (committed_seq ws) × (j < length m.op) × (script_words_of S ws i j ≡ take j m.op)
+HoldsAtPlace S B ws bs i m StoreAnnouncement = IsUnannounced S B ws bs i m × HasNothingUnderWay S B ws bs i (committed_seq ws) × (script_words_of S ws i (length m.op) ≡ m.op)
+HoldsAtPlace S B ws bs i m LoadCurrent = IsAnnounced S B ws bs i m × HasNothingUnderWay S B ws bs i (committed_seq ws) × IsBetweenRounds ws m
+HoldsAtPlace S B ws bs i m LoadRequest = IsInRound S B ws bs i m × HasNothingUnderWay S B ws bs i m.seq
+HoldsAtPlace S B ws bs i m (CopyLog x) = IsCopyingLog S B ws bs i m x × (request_of ws m.owner ≡ pack m.seq 0 → x < length (log_words (batch_at B bs m.seq).log)) × (x < 2 * S.cells + 1)
+HoldsAtPlace S B ws bs i m LookAgain = IsCopyingLog S B ws bs i m (length m.copy) × (request_of ws m.owner ≡ pack m.seq 0 → length m.copy ≡ length (log_words (batch_at B bs m.seq).log))
+HoldsAtPlace S B ws bs i m LoadOwnTicket = IsPastRequest S B ws bs i m × HasNothingUnderWay S B ws bs i m.seq × (m.known ≡ nothing_known S) × (m.log ≡ []) × (m.calls ≡ []) × (m.scan ≡ 0)
+HoldsAtPlace S B ws bs i m LoadShape = IsPastRequest S B ws bs i m × HasNothingUnderWay S B ws bs i m.seq × FindsOwnTicket S (state_after B bs m.seq) i m
+HoldsAtPlace S B ws bs i m (LoadReply j) = IsPastRequest S B ws bs i m × HasNothingUnderWay S B ws bs i m.seq × FindsOwnTicket S (state_after B bs m.seq) i m × HasReadReplyUpTo S (state_after B bs m.seq) i m j × (j < S.instrs)
+HoldsAtPlace S B ws bs i m LoadAnnouncement = IsPastOwnTicket S B ws bs i m × HasNothingUnderWay S B ws bs i m.seq × IsInScan S B ws bs i m × (m.scan < S.callers)
+HoldsAtPlace S B ws bs i m LoadTicket = IsPastOwnTicket S B ws bs i m × HasNothingUnderWay S B ws bs i m.seq × IsInScan S B ws bs i m × (m.scan < S.callers) × HasLoadedAnnouncement S B ws bs i m.seq m.scan m.heard × (get_or m.known (ticket_cell S m.scan) None ≡ None)
+HoldsAtPlace S B ws bs i m (LoadScript j) = IsPastOwnTicket S B ws bs i m × HasNothingUnderWay S B ws bs i m.seq × IsInScan S B ws bs i m × (m.scan < S.callers) × HasLoadedAnnouncement S B ws bs i m.seq m.scan m.heard × HasLoadedScript S (state_after B bs m.seq) ws m.seq m.scan m.heard m.script j × (j < payload_of m.heard)
+HoldsAtPlace S B ws bs i m (LoadCell a) = IsPastOwnTicket S B ws bs i m × HasNothingUnderWay S B ws bs i m.seq × IsInScan S B ws bs i m × (m.scan < S.callers) × HasLoadedAnnouncement S B ws bs i m.seq m.scan m.heard × HasLoadedScript S (state_after B bs m.seq) ws m.seq m.scan m.heard m.script (payload_of m.heard) × (a < S.cells) × (get_or m.known a None ≡ None)
+HoldsAtPlace S B ws bs i m RaiseOld = IsPastOwnTicket S B ws bs i m × HasNothingUnderWay S B ws bs i m.seq × HasScannedUpTo S B ws bs i m.seq m.made m.op m.raw m.calls m.log S.callers
+HoldsAtPlace S B ws bs i m (StoreLog x) = IsStoringLog S B ws bs i m x x × (x < length (log_words m.log))
+HoldsAtPlace S B ws bs i m (RaiseLog x) = IsStoringLog S B ws bs i m (x + 1) x × (x < length (log_words m.log))
+HoldsAtPlace S B ws bs i m StoreRequest = IsStoringLog S B ws bs i m (length (log_words m.log)) (length (log_words m.log))
+HoldsAtPlace S B ws bs i m RaiseRequest = HasStoredLog S B ws bs i m (length (log_words m.log)) (length (log_words m.log)) × (request_of ws i ≡ pack (m.seq + 1) 0) × HasClosedDurably S B ws bs i
+HoldsAtPlace S B ws bs i m ExchangeCurrent = HasStoredLog S B ws bs i m (length (log_words m.log)) (length (log_words m.log)) × (request_of ws i ≡ pack (m.seq + 1) 0) × (durable_request S ws i ≡ pack (m.seq + 1) 0)
+HoldsAtPlace S B ws bs i m RaiseCurrent = IsApplying S B ws bs i m 0
+HoldsAtPlace S B ws bs i m (LoadTarget j) = IsApplying S B ws bs i m j × (j < length m.log) × (m.seq ≤ durable_seq S ws)
+HoldsAtPlace S B ws bs i m (ExchangeTarget j f) = IsApplying S B ws bs i m j × (j < length m.log) × (m.seq ≤ durable_seq S ws) × (seq_of f < m.seq) × ((data_word S ws (log_entry m j).0 ≡ f) ⊎ (m.seq ≤ seq_of (data_word S ws (log_entry m j).0)))
+HoldsAtPlace S B ws bs i m (ReloadTarget j) = IsApplying S B ws bs i m j × (j < length m.log) × (m.seq ≤ durable_seq S ws) × (m.seq ≤ seq_of (data_word S ws (log_entry m j).0))
+HoldsAtPlace S B ws bs i m (RaiseTarget j f) = IsApplying S B ws bs i m j × (j < length m.log) × (m.seq ≤ durable_seq S ws) × (m.seq ≤ seq_of f) × (f ≤ data_word S ws (log_entry m j).0) × WasHeldByCell B ws bs (log_entry m j).0 f
+HoldsAtPlace S B ws bs i m CloseRequest = IsApplying S B ws bs i m (length m.log) × (m.seq ≤ durable_seq S ws)
+HoldsAtPlace S B ws bs i m RaiseClosed = IsApplying S B ws bs i m (length m.log) × (m.seq ≤ durable_seq S ws) × (pack m.seq 0 < request_of ws m.owner)
 
 -- a word that the current-transaction cell has held
-abbrev pub HeldAsCurrent : Start → List ℕ → List Batch → ℕ → Type 0
-HeldAsCurrent B ws bs w = (B.seq ≤ seq w) × (B.seq < seq w → pay w ≡ (batch B bs (seq w)).owner) × (seq w ≡ B.seq → pay w ≡ B.owner)
+abbrev pub WasHeldByCurrent : TableStart → List ℕ → List Batch → ℕ → Type 0
+WasHeldByCurrent B ws bs w = (B.seq ≤ seq_of w) × (B.seq < seq_of w → payload_of w ≡ (batch_at B bs (seq_of w)).owner) × (seq_of w ≡ B.seq → payload_of w ≡ B.owner)
 
 -- a word that its cell has held, and that isn't above it: such a one is loaded for an eviction
-pub record IsLoaded (S : Setup) (B : Start) (ws : List ℕ) (bs : List Batch) (e : ℕ × ℕ) : Type 0 where
-  pub place : e.0 < size S
+pub record IsLoaded (S : Setup) (B : TableStart) (ws : List ℕ) (bs : List Batch) (e : ℕ × ℕ) : Type 0 where
+  pub place : e.0 < cell_count S
   pub low : e.1 ≤ get_or ws e.0 0
-  pub was_cur : e.0 ≡ 0 → HeldAsCurrent B ws bs e.1
-  pub held : (a : ℕ) → a < S.cells → e.0 ≡ S.callers + 1 + a → Held B ws bs a e.1
+  pub was_cur : e.0 ≡ 0 → WasHeldByCurrent B ws bs e.1
+  pub held : (a : ℕ) → a < S.cells → e.0 ≡ S.callers + 1 + a → WasHeldByCell B ws bs a e.1
   pub request : (j : ℕ) → j < S.callers → e.0 ≡ j + 1 → IsRequest B ws bs j e.1
   -- one that has the sequence of its log cell is its word
-  pub log : (j x : ℕ) → j < S.callers → x < 2 * S.cells + 1 → e.0 ≡ log_at S j x → IsLogWord B ws bs j x e.1 × (seq e.1 ≡ seq (log_word S ws j x) → e.1 ≡ log_word S ws j x)
+  pub log : (j x : ℕ) → j < S.callers → x < 2 * S.cells + 1 → e.0 ≡ log_at S j x → IsLogWord B ws bs j x e.1 × (seq_of e.1 ≡ seq_of (log_word_of S ws j x) → e.1 ≡ log_word_of S ws j x)
 
 -- words and history, the words loaded for evictions, and each machine at its place
-pub record Core (S : Setup) (Lawful : List ℕ → Type 0) (B : Start) (w : World) : Type 0 where
-  pub shared : Shared S Lawful B w.words w.batches
+pub record MeetsCore (S : Setup) (Lawful : List ℕ → Type 0) (B : TableStart) (w : Moment) : Type 0 where
+  pub shared : WordsMatchHistory S Lawful B w.words w.batches
   pub members : length w.machines ≡ S.callers
   pub loaded : All (IsLoaded S B w.words w.batches) w.loaded
-  pub each : (i : ℕ) (m : Data) → i < S.callers → get_or w.machines i m ≡ m → At S B w.words w.batches i m m.place
+  pub each : (i : ℕ) (m : CallState) → i < S.callers → get_or w.machines i m ≡ m → HoldsAtPlace S B w.words w.batches i m m.place
 
 -- the invariant: the core, that no call makes more steps than the bound or fewer than its least, and that each caller's calls stand in the order in which it made them
-pub record Good (S : Setup) (Lawful : List ℕ → Type 0) (B : Start) (w : World) : Type 0 where
-  pub core : Core S Lawful B w
-  pub order : Order S B w
-  pub within : (i : ℕ) (m : Data) → i < S.callers → get_or w.machines i m ≡ m → Within S m m.place
-  pub late : (i : ℕ) (m : Data) → i < S.callers → get_or w.machines i m ≡ m → Late S m m.place
+pub record MeetsInvariant (S : Setup) (Lawful : List ℕ → Type 0) (B : TableStart) (w : Moment) : Type 0 where
+  pub core : MeetsCore S Lawful B w
+  pub order : KeepsCallOrder S B w
+  pub within : (i : ℕ) (m : CallState) → i < S.callers → get_or w.machines i m ≡ m → IsWithinBound S m m.place
+  pub late : (i : ℕ) (m : CallState) → i < S.callers → get_or w.machines i m ≡ m → HasMadeLeastSteps S m m.place

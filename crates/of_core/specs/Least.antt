@@ -1,21 +1,21 @@
 -- How many steps a call has made at least, by the place at which it stands.
 use Rattle.std.specs.Prelude.{ℕ, ◌+◌, ◌==◌, List, length, Option, Some, None, Bool, true, false, ◌≡◌, ◌≤◌}
-use Rattle.of_mem.specs.Meaning.{Walked, Needs, Gives}
+use Rattle.of_mem.specs.Meaning.{WalkEnd, Needs, Gives}
 use Rattle.of_core.specs.declared.place.Place.{Place}
 use Rattle.of_core.specs.declared.place.Place.TheVariants.{Idle, TryCurrent, TryRequest, TryCell, StoreScript, StoreAnnouncement, LoadCurrent, LoadRequest, CopyLog, LookAgain, LoadOwnTicket, LoadShape, LoadReply, LoadAnnouncement, LoadTicket, LoadScript, LoadCell, RaiseOld, StoreLog, RaiseLog, StoreRequest, RaiseRequest, ExchangeCurrent, RaiseCurrent, LoadTarget, ExchangeTarget, ReloadTarget, RaiseTarget, CloseRequest, RaiseClosed}
 use Rattle.of_core.specs.declared.place.Outcome.{Outcome}
 use Rattle.of_core.specs.declared.place.Outcome.TheVariants.{Answered, Spent}
 use Rattle.of_core.specs.Table.{Setup}
-use Rattle.of_core.specs.Machine.{Data, unknown}
+use Rattle.of_core.specs.Machine.{CallState, nothing_known}
 
 -- the two loads of a try, and one more where its run with nothing known needs a cell
-abbrev pub least_of : Walked → ℕ
+abbrev pub least_of : WalkEnd → ℕ
 least_of (Needs a) = 3
 least_of (Gives es r) = 2
 
 -- the least steps of a read that is answered without being announced
 abbrev pub least_read : Setup → List ℕ → ℕ
-least_read S op = least_of (S.meaning.walk (unknown S) op)
+least_read S op = least_of (S.meaning.walk (nothing_known S) op)
 
 -- the least steps of an announced call: its words, the announcement, the two loads of a round, its ticket and its shape
 abbrev pub least_call : List ℕ → ℕ
@@ -32,47 +32,47 @@ made_applying op in_try true = made_helping op in_try
 made_applying op in_try false = length op + 4
 
 -- how many steps are made at a place at least
-abbrev pub made_at : Data → Place → ℕ
-made_at m Idle = 0
-made_at m TryCurrent = 0
-made_at m TryRequest = 1
-made_at m (TryCell a) = 2
-made_at m (StoreScript j) = j
-made_at m StoreAnnouncement = length m.op
-made_at m LoadCurrent = length m.op + 1
-made_at m LoadRequest = length m.op + 2
-made_at m (CopyLog x) = made_helping m.op (m.rounds == 0)
-made_at m LookAgain = made_helping m.op (m.rounds == 0)
-made_at m LoadOwnTicket = length m.op + 3
-made_at m LoadShape = length m.op + 4
-made_at m (LoadReply j) = length m.op + 4
-made_at m LoadAnnouncement = length m.op + 4
-made_at m LoadTicket = length m.op + 4
-made_at m (LoadScript j) = length m.op + 4
-made_at m (LoadCell a) = length m.op + 4
-made_at m RaiseOld = length m.op + 4
-made_at m (StoreLog x) = length m.op + 4
-made_at m (RaiseLog x) = length m.op + 4
-made_at m StoreRequest = length m.op + 4
-made_at m RaiseRequest = length m.op + 4
-made_at m ExchangeCurrent = length m.op + 4
-made_at m RaiseCurrent = made_applying m.op (m.rounds == 0) m.helps
-made_at m (LoadTarget j) = made_applying m.op (m.rounds == 0) m.helps
-made_at m (ExchangeTarget j f) = made_applying m.op (m.rounds == 0) m.helps
-made_at m (ReloadTarget j) = made_applying m.op (m.rounds == 0) m.helps
-made_at m (RaiseTarget j f) = made_applying m.op (m.rounds == 0) m.helps
-made_at m CloseRequest = made_applying m.op (m.rounds == 0) m.helps
-made_at m RaiseClosed = made_applying m.op (m.rounds == 0) m.helps
+abbrev pub least_steps_at : CallState → Place → ℕ
+least_steps_at m Idle = 0
+least_steps_at m TryCurrent = 0
+least_steps_at m TryRequest = 1
+least_steps_at m (TryCell a) = 2
+least_steps_at m (StoreScript j) = j
+least_steps_at m StoreAnnouncement = length m.op
+least_steps_at m LoadCurrent = length m.op + 1
+least_steps_at m LoadRequest = length m.op + 2
+least_steps_at m (CopyLog x) = made_helping m.op (m.rounds == 0)
+least_steps_at m LookAgain = made_helping m.op (m.rounds == 0)
+least_steps_at m LoadOwnTicket = length m.op + 3
+least_steps_at m LoadShape = length m.op + 4
+least_steps_at m (LoadReply j) = length m.op + 4
+least_steps_at m LoadAnnouncement = length m.op + 4
+least_steps_at m LoadTicket = length m.op + 4
+least_steps_at m (LoadScript j) = length m.op + 4
+least_steps_at m (LoadCell a) = length m.op + 4
+least_steps_at m RaiseOld = length m.op + 4
+least_steps_at m (StoreLog x) = length m.op + 4
+least_steps_at m (RaiseLog x) = length m.op + 4
+least_steps_at m StoreRequest = length m.op + 4
+least_steps_at m RaiseRequest = length m.op + 4
+least_steps_at m ExchangeCurrent = length m.op + 4
+least_steps_at m RaiseCurrent = made_applying m.op (m.rounds == 0) m.helps
+least_steps_at m (LoadTarget j) = made_applying m.op (m.rounds == 0) m.helps
+least_steps_at m (ExchangeTarget j f) = made_applying m.op (m.rounds == 0) m.helps
+least_steps_at m (ReloadTarget j) = made_applying m.op (m.rounds == 0) m.helps
+least_steps_at m (RaiseTarget j f) = made_applying m.op (m.rounds == 0) m.helps
+least_steps_at m CloseRequest = made_applying m.op (m.rounds == 0) m.helps
+least_steps_at m RaiseClosed = made_applying m.op (m.rounds == 0) m.helps
 
 -- an answer tells at least so many steps
-abbrev pub Told_least : Setup → List ℕ → Option Outcome → Type 0
-Told_least S op None = Unit {0}
-Told_least S op (Some (Answered s true raw steps)) = least_call op ≤ steps
-Told_least S op (Some (Answered s false raw steps)) = least_read S op ≤ steps
-Told_least S op (Some (Spent s)) = Unit {0}
+abbrev pub TellsLeastSteps : Setup → List ℕ → Option Outcome → Type 0
+TellsLeastSteps S op None = Unit {0}
+TellsLeastSteps S op (Some (Answered s true raw steps)) = least_call op ≤ steps
+TellsLeastSteps S op (Some (Answered s false raw steps)) = least_read S op ≤ steps
+TellsLeastSteps S op (Some (Spent s)) = Unit {0}
 
 -- the steps made are as many at least; an idle machine has none of an open call, and its last answer tells as many as its call needed
-pub record Late (S : Setup) (m : Data) (p : Place) : Type 0 where
-  pub steps : made_at m p ≤ m.steps
+pub record HasMadeLeastSteps (S : Setup) (m : CallState) (p : Place) : Type 0 where
+  pub steps : least_steps_at m p ≤ m.steps
   pub rests : p ≡ Idle → m.steps ≡ 0
-  pub told : p ≡ Idle → Told_least S m.op m.answer
+  pub told : p ≡ Idle → TellsLeastSteps S m.op m.answer

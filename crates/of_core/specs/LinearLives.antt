@@ -4,41 +4,41 @@
 use Rattle.std.specs.Prelude.{ℕ, List, [], ◌∷◌, length, ◌≡◌, ◌<◌, false, map}
 use Rattle.std.specs.List.{All, flat_map}
 use Rattle.std.proofs.Common.{get_or}
-use Rattle.of_cell.specs.Words.{pay}
+use Rattle.of_cell.specs.Words.{payload_of}
 use Rattle.of_mem.specs.Meaning.{SameFrom}
-use Rattle.of_core.specs.Table.{Setup, base}
+use Rattle.of_core.specs.Table.{Setup, first_operation_cell}
 use Rattle.of_core.specs.Machine.{Call, no_call}
-use Rattle.of_core.specs.World.{Start}
-use Rattle.of_core.specs.History.{after_calls, Replies}
+use Rattle.of_core.specs.World.{TableStart}
+use Rattle.of_core.specs.History.{numbers_after_calls, HaveReplies}
 use Rattle.of_core.specs.Starts.{recovered_start}
-use Rattle.of_core.specs.Events.{Event, run, IsSchedule, opening, start_ticket}
+use Rattle.of_core.specs.Events.{Event, after_events, IsSchedule, opening_moment, start_ticket}
 use Rattle.of_core.specs.Claim.{IsNewer}
 use Rattle.of_core.specs.Linear.{Linearizes, IsRecovered}
 
 -- the start that recovery finds after the life of these events
-abbrev pub start_after : Setup → (n : ℕ) → Start → List Event → Start
-start_after S n B es = recovered_start S B (run S (opening S B n) es)
+abbrev pub start_after : Setup → (n : ℕ) → TableStart → List Event → TableStart
+start_after S n B es = recovered_start S B (after_events S (opening_moment S B n) es)
 
 -- and after all of these lives
-abbrev pub start_after_all : Setup → (n : ℕ) → Start → List (List Event) → Start
+abbrev pub start_after_all : Setup → (n : ℕ) → TableStart → List (List Event) → TableStart
 start_after_all S n B [] = B
 start_after_all S n B (es ∷ lives) = start_after_all S n (start_after S n B es) lives
 
 -- each is a schedule from what recovery finds after the one before
-abbrev pub AreLives : Setup → (n : ℕ) → Start → List (List Event) → Type 0
+abbrev pub AreLives : Setup → (n : ℕ) → TableStart → List (List Event) → Type 0
 AreLives S n B [] = Unit {0}
 AreLives S n B (es ∷ lives) =
-    IsSchedule S (opening S B n) es × AreLives S n (start_after S n B es) lives
+    IsSchedule S (opening_moment S B n) es × AreLives S n (start_after S n B es) lives
 
 -- each order linearizes its life, and leads to what recovery finds after it
-abbrev pub AreLinearized : Setup → (n : ℕ) → Start → List (List Event)
+abbrev pub AreLinearized : Setup → (n : ℕ) → TableStart → List (List Event)
     → (orders : List (List Call)) → Type 0
 AreLinearized S n B [] [] = Unit {0}
 AreLinearized S n B [] (order ∷ orders) = ⊥
 AreLinearized S n B (es ∷ lives) [] = ⊥
 AreLinearized S n B (es ∷ lives) (order ∷ orders) =
-    Linearizes S B (opening S B n) es order
-    × IsRecovered S B (run S (opening S B n) es) order
+    Linearizes S B (opening_moment S B n) es order
+    × IsRecovered S B (after_events S (opening_moment S B n) es) order
     × AreLinearized S n (start_after S n B es) lives orders
 
 -- the orders one after the other
@@ -47,14 +47,14 @@ whole_order orders = flat_map (λ order. order) orders
 
 -- the lives have such orders, which together are one serial run from the first start: so each call
 -- comes after all calls of the lives before its own
-pub record AreDurablyLinearizable (S : Setup) (n : ℕ) (B : Start) (lives : List (List Event))
+pub record AreDurablyLinearizable (S : Setup) (n : ℕ) (B : TableStart) (lives : List (List Event))
     : Type 0 where
   pub orders : List (List Call)
   pub each : AreLinearized S n B lives orders
   -- all of its calls have their replies, and it leads to the start after the last life
-  pub legal : Replies S.meaning (map pay B.cells) (whole_order orders)
-  pub leads : SameFrom (base S) (map pay (start_after_all S n B lives).cells)
-      (after_calls S.meaning (map pay B.cells) (whole_order orders))
+  pub legal : HaveReplies S.meaning (map payload_of B.cells) (whole_order orders)
+  pub leads : SameFrom (first_operation_cell S) (map payload_of (start_after_all S n B lives).cells)
+      (numbers_after_calls S.meaning (map payload_of B.cells) (whole_order orders))
   -- no call that may write is in it twice: only newer calls of its caller come after it
   pub once : (p q : ℕ) → p < q → q < length (whole_order orders)
       → S.meaning.reads_only (get_or (whole_order orders) p no_call).op ≡ false

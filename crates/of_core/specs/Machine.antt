@@ -1,7 +1,7 @@
 -- One call as a machine: what it holds.
 use Rattle.std.specs.Prelude.{◌≡◌, ◌⊎◌, ℕ, ◌+◌, nat_lt, List, [], ◌∷◌, ◌++◌, length, Option, Some, None, Bool, true, false, if◌then◌else◌}
 use Rattle.std.proofs.Common.{get_or, set, take, drop, replicate}
-use Rattle.of_cell.specs.Words.{pay}
+use Rattle.of_cell.specs.Words.{payload_of}
 use Rattle.of_mem.specs.declared.work.RawReply.{RawReply}
 use Rattle.of_core.specs.declared.place.Place.{Place}
 use Rattle.of_core.specs.declared.place.Place.TheVariants.{Idle, TryCurrent, StoreScript}
@@ -21,7 +21,7 @@ pub record Call : Type 0 where
 abbrev pub no_call : Call
 no_call = record { caller = 0; ticket = 0; op = []; raw = record { shape = 0; values = [] } }
 
-pub record Data : Type 0 where
+pub record CallState : Type 0 where
   pub caller : ℕ
   -- how many calls were begun, and the last one's operation
   pub made : ℕ
@@ -64,10 +64,10 @@ abbrev pub IsOpen : Place → Type 0
 IsOpen p = is_idle p ≡ false
 
 -- the entry j of the write-set: a data cell, and its number
-abbrev pub entry : Data → ℕ → ℕ × ℕ
-entry m j = get_or m.log j (0, 0)
+abbrev pub log_entry : CallState → ℕ → ℕ × ℕ
+log_entry m j = get_or m.log j (0, 0)
 
-abbrev pub no_machine : Data
+abbrev pub no_machine : CallState
 no_machine = record {
   caller = 0;
   made = 0;
@@ -93,16 +93,16 @@ no_machine = record {
 }
 
 -- nothing is known of any cell
-abbrev pub unknown : Setup → List (Option ℕ)
-unknown S = replicate S.cells None
+abbrev pub nothing_known : Setup → List (Option ℕ)
+nothing_known S = replicate S.cells None
 
 -- the machine of caller i that was just made, where so many calls were begun before
-abbrev pub idle : Setup → ℕ → (made : ℕ) → Data
-idle S i made = record no_machine { caller = i; made = made; known = unknown S; raw = record { shape = 0; values = replicate S.instrs 0 } }
+abbrev pub idle_machine : Setup → ℕ → (made : ℕ) → CallState
+idle_machine S i made = record no_machine { caller = i; made = made; known = nothing_known S; raw = record { shape = 0; values = replicate S.instrs 0 } }
 
 -- the machine d is m, or a fresh one of its caller, which may take the place of an idle one
-abbrev pub TakesPlace : Setup → (m d : Data) → Type 0
-TakesPlace S m d = (d ≡ m) ⊎ ((m.place ≡ Idle) × (d ≡ idle S m.caller m.made))
+abbrev pub MayReplace : Setup → (m d : CallState) → Type 0
+MayReplace S m d = (d ≡ m) ⊎ ((m.place ≡ Idle) × (d ≡ idle_machine S m.caller m.made))
 
 -- a call is begun: a read is tried first, any other is announced
 abbrev pub first_place : (reads : Bool) → Place
@@ -110,43 +110,43 @@ first_place true = TryCurrent
 first_place false = StoreScript 0
 
 -- it begins anew: of the calls before it the machine keeps their number alone
-abbrev pub opened : Setup → Data → List ℕ → Data
-opened S m op = record (idle S m.caller m.made) { made = m.made + 1; op = op; place = first_place (S.meaning.reads_only op) }
+abbrev pub begin : Setup → CallState → List ℕ → CallState
+begin S m op = record (idle_machine S m.caller m.made) { made = m.made + 1; op = op; place = first_place (S.meaning.reads_only op) }
 
 -- The words of a log: the number of its entries, and then cell and number of each.
-abbrev pub flat : List (ℕ × ℕ) → List ℕ
-flat [] = []
-flat (e ∷ es) = e.0 ∷ e.1 ∷ flat es
+abbrev pub flat_entries : List (ℕ × ℕ) → List ℕ
+flat_entries [] = []
+flat_entries (e ∷ es) = e.0 ∷ e.1 ∷ flat_entries es
 
 abbrev pub log_words : List (ℕ × ℕ) → List ℕ
-log_words es = length es ∷ flat es
+log_words es = length es ∷ flat_entries es
 
 -- the log that such words are
-abbrev pub pairs : List ℕ → List (ℕ × ℕ)
-pairs [] = []
-pairs (a ∷ []) = []
-pairs (a ∷ v ∷ ws) = (a, v) ∷ pairs ws
+abbrev pub entries_of_words : List ℕ → List (ℕ × ℕ)
+entries_of_words [] = []
+entries_of_words (a ∷ []) = []
+entries_of_words (a ∷ v ∷ ws) = (a, v) ∷ entries_of_words ws
 
 abbrev pub log_of : List ℕ → List (ℕ × ℕ)
 log_of [] = []
-log_of (n ∷ ws) = pairs ws
+log_of (n ∷ ws) = entries_of_words ws
 
 -- the entries from entry f on, going round
-abbrev pub turned : ℕ → List (ℕ × ℕ) → List (ℕ × ℕ)
-turned f es = drop f es ++ take f es
+abbrev pub rotated : ℕ → List (ℕ × ℕ) → List (ℕ × ℕ)
+rotated f es = drop f es ++ take f es
 
 -- what is known when a word of the data cell a was found
-abbrev pub learned : Setup → Data → (a found : ℕ) → List (Option ℕ)
-learned S m a found = set m.known a (Some (pay found))
+abbrev pub with_cell_known : Setup → CallState → (a found : ℕ) → List (Option ℕ)
+with_cell_known S m a found = set m.known a (Some (payload_of found))
 
 -- the numbers of cells from a on
-abbrev pub listed : ℕ → List ℕ → List (ℕ × ℕ)
-listed a [] = []
-listed a (v ∷ vs) = (a, v) ∷ listed (a + 1) vs
+abbrev pub cells_from : ℕ → List ℕ → List (ℕ × ℕ)
+cells_from a [] = []
+cells_from a (v ∷ vs) = (a, v) ∷ cells_from (a + 1) vs
 
 -- the reply cells of the caller whose ticket cell this is, where the shape isn't that of an abort
 abbrev pub reply_cells : (row count : ℕ) → RawReply → List (ℕ × ℕ)
-reply_cells row count r = if nat_lt r.shape LEAST_ABORT then listed (row + 2) (take count r.values) else []
+reply_cells row count r = if nat_lt r.shape LEAST_ABORT then cells_from (row + 2) (take count r.values) else []
 
 -- what a call with so many words writes into its own cells, of which this is the ticket cell: the reply, and then the shape and the ticket
 abbrev pub own_cells : (row ticket count : ℕ) → RawReply → List (ℕ × ℕ)

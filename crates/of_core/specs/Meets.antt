@@ -2,16 +2,16 @@
 use Rattle.std.specs.Prelude.{◌≡◌, ℕ, ◌<◌, List}
 use Rattle.std.proofs.Common.{get_or}
 use Rattle.of_core.specs.Table.{Setup}
-use Rattle.of_core.specs.Machine.{Data}
-use Rattle.of_core.specs.Steps.{want, FoundBy}
-use Rattle.of_core.specs.World.{World, Start}
-use Rattle.of_core.specs.Invariant.{Good}
+use Rattle.of_core.specs.Machine.{CallState}
+use Rattle.of_core.specs.Steps.{want, IsFoundBy}
+use Rattle.of_core.specs.World.{Moment, TableStart}
+use Rattle.of_core.specs.Invariant.{MeetsInvariant}
 
-pub record Meets (S : Setup) (Lawful : List ℕ → Type 0) (m : Data) (found : ℕ) : Type 0 where
-  pub start : Start
-  pub world : World
-  pub good : Good S Lawful start world
+pub record MayTake (S : Setup) (Lawful : List ℕ → Type 0) (m : CallState) (found : ℕ) : Type 0 where
+  pub start : TableStart
+  pub world : Moment
+  pub good : MeetsInvariant S Lawful start world
   pub caller : ℕ
   pub in_range : caller < S.callers
   pub here : get_or world.machines caller m ≡ m
-  pub finds : FoundBy (want S m) world.words found
+  pub finds : IsFoundBy (want S m) world.words found

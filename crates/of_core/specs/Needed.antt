@@ -1,34 +1,34 @@
 -- A try or a round makes no step that it has no use for: it loads a data cell only if a run needs it,
 -- and copies a log only if its transaction is open.
 use Rattle.std.specs.Prelude.{ℕ, List, ◌≡◌, ◌<◌}
-use Rattle.of_cell.specs.Words.{word}
+use Rattle.of_cell.specs.Words.{pack}
 use Rattle.of_mem.specs.Meaning.{Needs}
-use Rattle.of_mem.specs.Pad.{over}
+use Rattle.of_mem.specs.Pad.{overlaid}
 use Rattle.of_core.specs.declared.place.Place.{Place}
 use Rattle.of_core.specs.declared.place.Place.TheVariants.{TryCell, CopyLog, LoadCell}
 use Rattle.of_core.specs.Table.{Setup, request_of}
-use Rattle.of_core.specs.Machine.{Data, IsOpen}
-use Rattle.of_core.specs.Steps.{took}
-use Rattle.of_core.specs.World.{World}
-use Rattle.of_core.specs.Events.{machine, opening, run}
+use Rattle.of_core.specs.Machine.{CallState, IsOpen}
+use Rattle.of_core.specs.Steps.{take_word}
+use Rattle.of_core.specs.World.{Moment}
+use Rattle.of_core.specs.Events.{machine_in, opening_moment, after_events}
 use Rattle.of_core.specs.Laws.{EachStep, EachSchedule}
 
 -- at a place that loads a cell for a run, the run on what is known so far names that cell: of a try
 -- the run of the call itself, and of a round that of the call that the scan has come to, with the
 -- writes of the calls before it over what is known
-abbrev pub NeedsCell : Setup → Data → Place → Type 0
+abbrev pub NeedsCell : Setup → CallState → Place → Type 0
 NeedsCell S m (TryCell a) = S.meaning.walk m.known m.op ≡ Needs a
-NeedsCell S m (LoadCell a) = S.meaning.walk (over m.known m.log) m.script ≡ Needs a
+NeedsCell S m (LoadCell a) = S.meaning.walk (overlaid m.known m.log) m.script ≡ Needs a
 NeedsCell S m p = Unit {0}
 
 -- so it is of each caller at every moment of every schedule
 abbrev pub LoadsNeeded : Setup → (List ℕ → Type 0) → Type 0
 LoadsNeeded S Lawful = EachSchedule S Lawful (λ B n es.
-    let w : World = run S (opening S B n) es in
-    (i : ℕ) → i < S.callers → NeedsCell S (machine w i) (machine w i).place)
+    let w : Moment = after_events S (opening_moment S B n) es in
+    (i : ℕ) → i < S.callers → NeedsCell S (machine_in w i) (machine_in w i).place)
 
 -- a step leads to the first word of a log only if the request of its owner is open
 abbrev pub CopiesOpenLogs : Setup → (List ℕ → Type 0) → Type 0
 CopiesOpenLogs S Lawful = EachStep S Lawful (λ B w i m n.
-    IsOpen m.place → (took S m n).place ≡ CopyLog 0
-    → (0 < m.seq) × (request_of w.words m.owner ≡ word m.seq 0))
+    IsOpen m.place → (take_word S m n).place ≡ CopyLog 0
+    → (0 < m.seq) × (request_of w.words m.owner ≡ pack m.seq 0))

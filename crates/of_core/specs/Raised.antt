@@ -3,11 +3,11 @@
 use Rattle.std.specs.Prelude.{ℕ, ◌+◌, ◌==◌, ◌&&◌, nat_lt, List, [], ◌∷◌, length, Bool, false, if◌then◌else◌, ◌≡◌, ◌≤◌, ◌<◌, ◌⊎◌}
 use Rattle.std.proofs.Common.{get_or}
 use Rattle.of_core.specs.declared.place.Op.TheVariants.{Raise}
-use Rattle.of_core.specs.Table.{Setup, size, durable_at, durable_word}
+use Rattle.of_core.specs.Table.{Setup, cell_count, durable_at, durable_word}
 use Rattle.of_core.specs.Steps.{want}
-use Rattle.of_core.specs.World.{World, Start}
-use Rattle.of_core.specs.Invariant.{Good, IsLoaded}
-use Rattle.of_core.specs.Events.{Event, happens, MayHappen, run, opening, counted, machine, IsSchedule}
+use Rattle.of_core.specs.World.{Moment, TableStart}
+use Rattle.of_core.specs.Invariant.{MeetsInvariant, IsLoaded}
+use Rattle.of_core.specs.Events.{Event, after_event, MayHappen, after_events, opening_moment, one_if, machine_in, IsSchedule}
 use Rattle.of_core.specs.Laws.{EachSchedule}
 
 -- it goes round again if the loaded word x has become another word y that is still below v
@@ -15,11 +15,11 @@ abbrev pub goes_round : (x y v : ℕ) → Bool
 goes_round x y v = if x == y then false else nat_lt y v
 
 -- how many of the events change the durable word of the cell c to one that is still below v
-abbrev pub lower_changes : Setup → World → List Event → (c v : ℕ) → ℕ
+abbrev pub lower_changes : Setup → Moment → List Event → (c v : ℕ) → ℕ
 lower_changes S w [] c v = 0
 lower_changes S w (e ∷ es) c v =
-    counted (goes_round (durable_word S w.words c) (durable_word S (happens S w e).words c) v)
-    + lower_changes S (happens S w e) es c v
+    one_if (goes_round (durable_word S w.words c) (durable_word S (after_event S w e).words c) v)
+    + lower_changes S (after_event S w e) es c v
 
 -- a word that was loaded for an eviction, with its cell, can change the durable word x of the cell c
 -- to one below v
@@ -29,55 +29,55 @@ is_pending x c v e = (e.0 == c) && (nat_lt x e.1 && nat_lt e.1 v)
 -- how many of these can
 abbrev pub pending_among : (x c v : ℕ) → List (ℕ × ℕ) → ℕ
 pending_among x c v [] = 0
-pending_among x c v (e ∷ es) = counted (is_pending x c v e) + pending_among x c v es
+pending_among x c v (e ∷ es) = one_if (is_pending x c v e) + pending_among x c v es
 
 -- how many words loaded for evictions are above the durable word of the cell c and below v, and so
 -- may still be raised there
-abbrev pub pending : Setup → World → (c v : ℕ) → ℕ
+abbrev pub pending : Setup → Moment → (c v : ℕ) → ℕ
 pending S w c v = pending_among (durable_word S w.words c) c v w.loaded
 
 -- While a caller is about to raise a durable word to v, no call changes that word to one that is
 -- still below v, whatever happens. An eviction that has loaded its word before does it at most once.
 abbrev pub RaisesAreShort : Setup → (List ℕ → Type 0) → Type 0
 RaisesAreShort S Lawful =
-    (B : Start) (w : World) → Good S Lawful B w
-    → (i c v : ℕ) → i < S.callers → c < size S → want S (machine w i) ≡ Raise (durable_at S c) v
+    (B : TableStart) (w : Moment) → MeetsInvariant S Lawful B w
+    → (i c v : ℕ) → i < S.callers → c < cell_count S → want S (machine_in w i) ≡ Raise (durable_at S c) v
     → (es : List Event) → IsSchedule S w es → lower_changes S w es c v ≤ pending S w c v
 
 -- and the same of the raise of an eviction
 abbrev pub EvictionsAreShort : Setup → (List ℕ → Type 0) → Type 0
 EvictionsAreShort S Lawful =
-    (B : Start) (w : World) → Good S Lawful B w
+    (B : TableStart) (w : Moment) → MeetsInvariant S Lawful B w
     → (e : ℕ × ℕ) → IsLoaded S B w.words w.batches e
     → (es : List Event) → IsSchedule S w es → lower_changes S w es e.0 e.1 ≤ pending S w e.0 e.1
 
 -- a caller that is about to raise a durable word raises it to no more than its cell holds
 abbrev pub RaisesHeld : Setup → (List ℕ → Type 0) → Type 0
 RaisesHeld S Lawful =
-    (B : Start) (w : World) → Good S Lawful B w
-    → (i c v : ℕ) → i < S.callers → c < size S → want S (machine w i) ≡ Raise (durable_at S c) v
+    (B : TableStart) (w : Moment) → MeetsInvariant S Lawful B w
+    → (i c v : ℕ) → i < S.callers → c < cell_count S → want S (machine_in w i) ≡ Raise (durable_at S c) v
     → v ≤ get_or w.words c 0
 
 -- In schedules from a start a cell changes only if its durable word is at least its word. So of all
 -- the words that a cell has held, only the present one may not be durable.
 abbrev pub CellsLevel : Setup → (List ℕ → Type 0) → Type 0
 CellsLevel S Lawful = EachSchedule S Lawful (λ B n es.
-    let w : World = run S (opening S B n) es in
-    (e : Event) → MayHappen S w e → (c : ℕ) → c < size S
-    → (get_or (happens S w e).words c 0 ≡ get_or w.words c 0)
+    let w : Moment = after_events S (opening_moment S B n) es in
+    (e : Event) → MayHappen S w e → (c : ℕ) → c < cell_count S
+    → (get_or (after_event S w e).words c 0 ≡ get_or w.words c 0)
     ⊎ (get_or w.words c 0 ≤ durable_word S w.words c))
 
 -- so in them nothing changes a durable word to one below the word that a caller is about to raise
 abbrev pub RaisesUndisturbed : Setup → (List ℕ → Type 0) → Type 0
 RaisesUndisturbed S Lawful = EachSchedule S Lawful (λ B n es.
-    let w : World = run S (opening S B n) es in
-    (i c v : ℕ) → i < S.callers → c < size S → want S (machine w i) ≡ Raise (durable_at S c) v
+    let w : Moment = after_events S (opening_moment S B n) es in
+    (i c v : ℕ) → i < S.callers → c < cell_count S → want S (machine_in w i) ≡ Raise (durable_at S c) v
     → (ds : List Event) → IsSchedule S w ds → lower_changes S w ds c v ≡ 0)
 
 -- nor below a word that was loaded for an eviction
 abbrev pub EvictionsUndisturbed : Setup → (List ℕ → Type 0) → Type 0
 EvictionsUndisturbed S Lawful = EachSchedule S Lawful (λ B n es.
-    let w : World = run S (opening S B n) es in
+    let w : Moment = after_events S (opening_moment S B n) es in
     (k : ℕ) → k < length w.loaded
     → (ds : List Event) → IsSchedule S w ds
     → lower_changes S w ds (get_or w.loaded k (0, 0)).0 (get_or w.loaded k (0, 0)).1 ≡ 0)
@@ -86,8 +86,8 @@ EvictionsUndisturbed S Lawful = EachSchedule S Lawful (λ B n es.
 -- failed, the next load ends it
 abbrev pub RaisesStand : Setup → (List ℕ → Type 0) → Type 0
 RaisesStand S Lawful = EachSchedule S Lawful (λ B n es.
-    let w : World = run S (opening S B n) es in
-    (i c v : ℕ) → i < S.callers → c < size S → want S (machine w i) ≡ Raise (durable_at S c) v
+    let w : Moment = after_events S (opening_moment S B n) es in
+    (i c v : ℕ) → i < S.callers → c < cell_count S → want S (machine_in w i) ≡ Raise (durable_at S c) v
     → (ds : List Event) → IsSchedule S w ds
-    → (durable_word S (run S w ds).words c ≡ durable_word S w.words c)
-    ⊎ (v ≤ durable_word S (run S w ds).words c))
+    → (durable_word S (after_events S w ds).words c ≡ durable_word S w.words c)
+    ⊎ (v ≤ durable_word S (after_events S w ds).words c))

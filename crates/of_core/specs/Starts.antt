@@ -2,56 +2,56 @@
 -- recovery finds.
 use Rattle.std.specs.Prelude.{◌≡◌, ℕ, ◌+◌, ◌*◌, ◌-◌, ◌<◌, List, ◌∷◌, ◌++◌, length, slice_range}
 use Rattle.std.proofs.Common.{get_or, set, replicate, zero, suc}
-use Rattle.of_cell.specs.Words.{word, seq, pay}
+use Rattle.of_cell.specs.Words.{pack, seq_of, payload_of}
 use Rattle.of_cell.specs.Cells.{data_cell, durable_cells}
-use Rattle.of_recover.specs.Recovered.{recovered}
-use Rattle.of_core.specs.Table.{Setup, size, durable_word, risen}
-use Rattle.of_core.specs.World.{World, Start}
-use Rattle.of_core.specs.History.{state}
+use Rattle.of_recover.specs.Recovered.{recovered_words}
+use Rattle.of_core.specs.Table.{Setup, cell_count, durable_word, durable_seq}
+use Rattle.of_core.specs.World.{Moment, TableStart}
+use Rattle.of_core.specs.History.{state_after}
 use Rattle.of_core.specs.Shared.{MayStart}
 
 -- the request of a start's owner: closed, where there is a transaction behind the start
-abbrev pub closed_at : ℕ → ℕ
-closed_at zero = 0
-closed_at (suc s) = word (suc s) 1
+abbrev pub closed_request : ℕ → ℕ
+closed_request zero = 0
+closed_request (suc s) = pack (suc s) 1
 
 -- the cells at a start: its current-transaction word and its data words, its owner's request
 -- closed, and 0 everywhere else
-unfoldable pub first_cells : (callers cells : ℕ) → Start → List ℕ
+unfoldable pub first_cells : (callers cells : ℕ) → TableStart → List ℕ
 first_cells callers cells B =
-    (word B.seq B.owner ∷ set (replicate callers 0) B.owner (closed_at B.seq))
+    (pack B.seq B.owner ∷ set (replicate callers 0) B.owner (closed_request B.seq))
     ++ (B.cells ++ replicate (callers * (2 * cells + 1)) 0)
 
 -- the words at a start: the cells, their durable words, which are the same, and 0 behind them
-unfoldable pub first_words : (callers cells : ℕ) → Start → (words : ℕ) → List ℕ
+unfoldable pub first_words : (callers cells : ℕ) → TableStart → (words : ℕ) → List ℕ
 first_words callers cells B n =
     first_cells callers cells B
     ++ (first_cells callers cells B
     ++ replicate (n - (durable_cells callers cells + durable_cells callers cells)) 0)
 
 -- the start that a durable row is
-abbrev pub start_of : (callers cells : ℕ) → List ℕ → Start
-start_of callers cells row = record {
-  seq = seq (get_or row 0 0);
-  owner = pay (get_or row 0 0);
+abbrev pub start_from_durable : (callers cells : ℕ) → List ℕ → TableStart
+start_from_durable callers cells row = record {
+  seq = seq_of (get_or row 0 0);
+  owner = payload_of (get_or row 0 0);
   cells = slice_range row (data_cell callers 0) (data_cell callers 0 + cells);
 }
 
 -- the row is the durable words, cell by cell
 pub record IsDurable (S : Setup) (ws row : List ℕ) : Type 0 where
-  pub long : length row ≡ size S
-  pub each : (c : ℕ) → c < size S → get_or row c 0 ≡ durable_word S ws c
+  pub long : length row ≡ cell_count S
+  pub each : (c : ℕ) → c < cell_count S → get_or row c 0 ≡ durable_word S ws c
 
 -- the start that recovery finds: the durable sequence, its owner, and the state after its batch
-abbrev pub recovered_start : Setup → Start → World → Start
+abbrev pub recovered_start : Setup → TableStart → Moment → TableStart
 recovered_start S B w = record {
-  seq = risen S w.words;
-  owner = pay (durable_word S w.words 0);
-  cells = state B w.batches (risen S w.words);
+  seq = durable_seq S w.words;
+  owner = payload_of (durable_word S w.words 0);
+  cells = state_after B w.batches (durable_seq S w.words);
 }
 
 -- a durable row of which recovery changes nothing, and which a table may start from
 pub record IsStartRow (S : Setup) (Lawful : List ℕ → Type 0) (row : List ℕ) : Type 0 where
   pub long : length row ≡ durable_cells S.callers S.cells
-  pub recovered : recovered S.callers S.cells row ≡ row
-  pub may_start : MayStart S Lawful (start_of S.callers S.cells row)
+  pub recovered : recovered_words S.callers S.cells row ≡ row
+  pub may_start : MayStart S Lawful (start_from_durable S.callers S.cells row)

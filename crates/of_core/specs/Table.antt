@@ -1,11 +1,11 @@
 -- The words of the shared table: which stand where, and what they are called.
 use Rattle.std.specs.Prelude.{ℕ, List, [], ◌∷◌, ◌++◌, ◌%◌}
 use Rattle.std.proofs.Common.{get_or, zero, suc}
-use Rattle.of_cell.specs.Words.{seq, pay}
+use Rattle.of_cell.specs.Words.{seq_of, payload_of}
 use Rattle.of_cell.specs.Cells.{request_cell, data_cell, log_cell, durable_cells, durable_place, script_place, members_place}
 use Rattle.of_recover.specs.Row.{current_seq}
 use Rattle.of_mem.specs.Meaning.{Meaning}
-use Rattle.of_mem.specs.Places.{ticket_at, shape_at, reply_at, base_of}
+use Rattle.of_mem.specs.Places.{ticket_cell_at, shape_at, reply_at, base_of}
 use Rattle.of_mem.specs.declared.work.TheConstants.{MOST_INSTRS}
 
 -- what all machines of a table have in common
@@ -36,23 +36,23 @@ abbrev pub log_at : Setup → ℕ → ℕ → ℕ
 log_at S i x = log_cell S.callers S.cells i x
 
 -- how many cells there are
-abbrev pub size : Setup → ℕ
-size S = durable_cells S.callers S.cells
+abbrev pub cell_count : Setup → ℕ
+cell_count S = durable_cells S.callers S.cells
 
 -- each has a durable word behind them all
 abbrev pub durable_at : Setup → ℕ → ℕ
 durable_at S c = durable_place S.callers S.cells c
 
 -- then each caller's row of script words, the last of which is its announcement
-abbrev pub script_at : Setup → ℕ → ℕ → ℕ
-script_at S i x = script_place S.callers S.instrs S.cells i x
+abbrev pub script_word_at : Setup → ℕ → ℕ → ℕ
+script_word_at S i x = script_place S.callers S.instrs S.cells i x
 
-abbrev pub table_size : Setup → ℕ
-table_size S = members_place S.callers S.instrs S.cells
+abbrev pub words_before_members : Setup → ℕ
+words_before_members S = members_place S.callers S.instrs S.cells
 
 -- Data cells. Each caller's own come first: the ticket, the shape and the reply of its last announced call that was run.
 abbrev pub ticket_cell : Setup → ℕ → ℕ
-ticket_cell S i = ticket_at S.instrs i
+ticket_cell S i = ticket_cell_at S.instrs i
 
 abbrev pub shape_cell : Setup → ℕ → ℕ
 shape_cell S i = shape_at S.instrs i
@@ -61,8 +61,8 @@ abbrev pub reply_cell : Setup → ℕ → ℕ → ℕ
 reply_cell S i j = reply_at S.instrs i j
 
 -- where the operations' own cells begin
-abbrev pub base : Setup → ℕ
-base S = base_of S.callers S.instrs
+abbrev pub first_operation_cell : Setup → ℕ
+first_operation_cell S = base_of S.callers S.instrs
 
 -- The words themselves.
 abbrev pub current_word : List ℕ → ℕ
@@ -71,11 +71,11 @@ current_word ws = get_or ws 0 0
 abbrev pub request_of : List ℕ → ℕ → ℕ
 request_of ws i = get_or ws (request_at i) 0
 
-abbrev pub cell : Setup → List ℕ → ℕ → ℕ
-cell S ws a = get_or ws (data_at S a) 0
+abbrev pub data_word : Setup → List ℕ → ℕ → ℕ
+data_word S ws a = get_or ws (data_at S a) 0
 
-abbrev pub log_word : Setup → List ℕ → ℕ → ℕ → ℕ
-log_word S ws i x = get_or ws (log_at S i x) 0
+abbrev pub log_word_of : Setup → List ℕ → ℕ → ℕ → ℕ
+log_word_of S ws i x = get_or ws (log_at S i x) 0
 
 abbrev pub durable_word : Setup → List ℕ → ℕ → ℕ
 durable_word S ws c = get_or ws (durable_at S c) 0
@@ -90,23 +90,23 @@ abbrev pub durable_log : Setup → List ℕ → ℕ → ℕ → ℕ
 durable_log S ws i x = get_or ws (durable_at S (log_at S i x)) 0
 
 abbrev pub script_word : Setup → List ℕ → ℕ → ℕ → ℕ
-script_word S ws i x = get_or ws (script_at S i x) 0
+script_word S ws i x = get_or ws (script_word_at S i x) 0
 
 abbrev pub announcement_of : Setup → List ℕ → ℕ → ℕ
-announcement_of S ws i = get_or ws (script_at S i S.instrs) 0
+announcement_of S ws i = get_or ws (script_word_at S i S.instrs) 0
 
 -- the first n script words of caller i
-abbrev pub script_of : Setup → List ℕ → ℕ → ℕ → List ℕ
-script_of S ws i zero = []
-script_of S ws i (suc n) = script_of S ws i n ++ script_word S ws i n ∷ []
+abbrev pub script_words_of : Setup → List ℕ → ℕ → ℕ → List ℕ
+script_words_of S ws i zero = []
+script_words_of S ws i (suc n) = script_words_of S ws i n ++ script_word S ws i n ∷ []
 
 -- the last committed sequence, and who committed it
-abbrev pub last : List ℕ → ℕ
-last ws = seq (current_word ws)
+abbrev pub committed_seq : List ℕ → ℕ
+committed_seq ws = seq_of (current_word ws)
 
-abbrev pub holder : List ℕ → ℕ
-holder ws = pay (current_word ws)
+abbrev pub committed_owner : List ℕ → ℕ
+committed_owner ws = payload_of (current_word ws)
 
 -- the durable sequence: the last one that a crash keeps
-abbrev pub risen : Setup → List ℕ → ℕ
-risen S ws = current_seq (durable_word S ws)
+abbrev pub durable_seq : Setup → List ℕ → ℕ
+durable_seq S ws = current_seq (durable_word S ws)

@@ -5,22 +5,22 @@ use Rattle.of_core.specs.declared.bank.Turn.TheVariants.{Idle as NoCall, Open, E
 use Rattle.of_core.specs.declared.place.Outcome.{Outcome}
 use Rattle.of_core.specs.declared.place.Place.{Place}
 use Rattle.of_core.specs.declared.place.Place.TheVariants.{Idle}
-use Rattle.of_core.specs.Machine.{Data}
-use Rattle.of_core.specs.Seen.{ended}
+use Rattle.of_core.specs.Machine.{CallState}
+use Rattle.of_core.specs.Seen.{ended_outcome}
 
 -- the call has ended with an outcome, or it is open
-abbrev pub told : Option Outcome → Turn
-told None = Open
-told (Some o) = Ended o
+abbrev pub end_from_own_cells : Option Outcome → Turn
+end_from_own_cells None = Open
+end_from_own_cells (Some o) = Ended o
 
 -- what the step from a place says, where it led to this machine
-abbrev pub turn_from : Place → Data → Turn
-turn_from Idle m = NoCall
-turn_from p m = told (ended m)
+abbrev pub turn_at : Place → CallState → Turn
+turn_at Idle m = NoCall
+turn_at p m = end_from_own_cells (ended_outcome m)
 
 -- what a turn says that led from one machine to the other
-abbrev pub turn_of : (before now : Data) → Turn
-turn_of before now = turn_from before.place now
+abbrev pub turn_of : (before now : CallState) → Turn
+turn_of before now = turn_at before.place now
 
-abbrev pub IsIdle : Data → Type 0
+abbrev pub IsIdle : CallState → Type 0
 IsIdle m = m.place ≡ Idle

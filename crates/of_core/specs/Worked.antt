@@ -1,14 +1,14 @@
 -- Small works for worked schedules.
 use Rattle.std.specs.Prelude.{ℕ, ◌+◌, ◌*◌, ◌^◌, ◌-◌, ◌==◌, List, [], ◌∷◌, ◌++◌, length, Option, Some, None, Bool, true, false}
 use Rattle.std.proofs.Common.{get_or, replicate, zero, suc}
-use Rattle.of_cell.specs.Words.{word}
+use Rattle.of_cell.specs.Words.{pack}
 use Rattle.of_mem.specs.declared.work.TheConstants.{MOST_INSTRS}
 use Rattle.of_mem.specs.declared.work.RawReply.{RawReply}
-use Rattle.of_mem.specs.Meaning.{Meaning, Walked, Needs, Gives, written}
-use Rattle.of_core.specs.Table.{Setup, setup_of, table_size}
-use Rattle.of_core.specs.World.{World, Start}
+use Rattle.of_mem.specs.Meaning.{Meaning, WalkEnd, Needs, Gives, with_writes_in}
+use Rattle.of_core.specs.Table.{Setup, setup_of, words_before_members}
+use Rattle.of_core.specs.World.{Moment, TableStart}
 use Rattle.of_core.specs.declared.place.Outcome.{Outcome}
-use Rattle.of_core.specs.Events.{Event, Begins, Turns, run, opening, zeros}
+use Rattle.of_core.specs.Events.{Event, Begins, Turns, after_events, opening_moment, zero_start}
 use Rattle.of_core.specs.Calls.{outcomes}
 
 -- a reply whose numbers are these, each marked at its place
@@ -16,12 +16,12 @@ abbrev pub reply_with : List ℕ → RawReply
 reply_with vs = record { shape = 2 ^ length vs - 1; values = vs ++ replicate (MOST_INSTRS - length vs) 0 }
 
 -- the walk asks for the cell a where it isn't known, and goes on with its number
-abbrev pub known_or : ℕ → (ℕ → Walked) → Option ℕ → Walked
+abbrev pub known_or : ℕ → (ℕ → WalkEnd) → Option ℕ → WalkEnd
 known_or a next None = Needs a
 known_or a next (Some v) = next v
 
 -- the walk loads n cells from a on, and ends with their numbers
-abbrev pub loaded_more : List (Option ℕ) → (a n : ℕ) → List ℕ → (List ℕ → Walked) → Walked
+abbrev pub loaded_more : List (Option ℕ) → (a n : ℕ) → List ℕ → (List ℕ → WalkEnd) → WalkEnd
 loaded_more known a zero vs end = end vs
 loaded_more known a (suc n) vs end = known_or a (λ v. loaded_more known (a + 1) n (vs ++ v ∷ []) end) (get_or known a None)
 
@@ -41,13 +41,13 @@ abbrev pub register_reply : ℕ → List ℕ → List ℕ → (reads : Bool) →
 register_reply a xs op true = reply_with (numbers_from xs a (length op))
 register_reply a xs op false = reply_with (0 ∷ [])
 
-abbrev pub register_walk : ℕ → List (Option ℕ) → List ℕ → (reads : Bool) → Walked
+abbrev pub register_walk : ℕ → List (Option ℕ) → List ℕ → (reads : Bool) → WalkEnd
 register_walk a known op true = loaded_more known a (length op) [] (λ vs. Gives [] (reply_with vs))
 register_walk a known op false = Gives (register_writes a op false) (reply_with (0 ∷ []))
 
-abbrev pub registers : ℕ → Meaning
-registers a = record {
-  cells = λ xs op. written xs (register_writes a op (is_read op));
+abbrev pub register_meaning : ℕ → Meaning
+register_meaning a = record {
+  cells = λ xs op. with_writes_in xs (register_writes a op (is_read op));
   reply = λ xs op. register_reply a xs op (is_read op);
   walk = λ known op. register_walk a known op (is_read op);
   reads_only = is_read;
@@ -57,9 +57,9 @@ registers a = record {
 abbrev pub six_writes : ℕ → ℕ → List (ℕ × ℕ)
 six_writes a v = (a + 4, v) ∷ (a + 5, v) ∷ (a + 6, v) ∷ (a + 7, v) ∷ (a + 8, v) ∷ (a + 9, v) ∷ []
 
-abbrev pub first_key : ℕ → Meaning
-first_key a = record {
-  cells = λ xs op. written xs (six_writes a (get_or op 0 0));
+abbrev pub first_key_meaning : ℕ → Meaning
+first_key_meaning a = record {
+  cells = λ xs op. with_writes_in xs (six_writes a (get_or op 0 0));
   reply = λ xs op. reply_with (0 ∷ []);
   walk = λ known op. loaded_more known a 4 [] (λ vs. Gives (six_writes a (get_or op 0 0)) (reply_with (0 ∷ [])));
   reads_only = λ op. false;
@@ -70,17 +70,17 @@ abbrev pub table_with : ℕ → (ℕ → Meaning) → Setup
 table_with n meaning = setup_of n (n * (MOST_INSTRS + 2) + 10) 100 (meaning (n * (MOST_INSTRS + 2)))
 
 -- from zeros, caller 0 begins the operation and makes so many turns
-abbrev pub alone : ℕ → (ℕ → Meaning) → List ℕ → (turns : ℕ) → World
-alone n meaning op k = run (table_with n meaning) (opening (table_with n meaning) (zeros (table_with n meaning)) (table_size (table_with n meaning))) (Begins 0 op ∷ replicate k (Turns 0))
+abbrev pub moment_alone : ℕ → (ℕ → Meaning) → List ℕ → (turns : ℕ) → Moment
+moment_alone n meaning op k = after_events (table_with n meaning) (opening_moment (table_with n meaning) (zero_start (table_with n meaning)) (words_before_members (table_with n meaning))) (Begins 0 op ∷ replicate k (Turns 0))
 
 -- caller 1 begins to store v, and ends it
-abbrev pub stores : ℕ → List Event
-stores v = Begins 1 (v ∷ []) ∷ replicate 50 (Turns 1)
+abbrev pub other_stores : ℕ → List Event
+other_stores v = Begins 1 (v ∷ []) ∷ replicate 50 (Turns 1)
 
 -- caller 0 reads two registers, and before each load of the second, in each try, caller 1 stores there
-abbrev pub overtaken : (turns : ℕ) → World
-overtaken k = run (table_with 2 registers) (opening (table_with 2 registers) (zeros (table_with 2 registers)) (table_size (table_with 2 registers)))
-    (Begins 0 (0 ∷ 0 ∷ []) ∷ replicate 3 (Turns 0) ++ stores 1 ++ replicate 4 (Turns 0) ++ stores 2 ++ replicate 4 (Turns 0) ++ stores 3 ++ replicate 4 (Turns 0) ++ stores 4 ++ replicate k (Turns 0))
+abbrev pub moment_overtaken : (turns : ℕ) → Moment
+moment_overtaken k = after_events (table_with 2 register_meaning) (opening_moment (table_with 2 register_meaning) (zero_start (table_with 2 register_meaning)) (words_before_members (table_with 2 register_meaning)))
+    (Begins 0 (0 ∷ 0 ∷ []) ∷ replicate 3 (Turns 0) ++ other_stores 1 ++ replicate 4 (Turns 0) ++ other_stores 2 ++ replicate 4 (Turns 0) ++ other_stores 3 ++ replicate 4 (Turns 0) ++ other_stores 4 ++ replicate k (Turns 0))
 
 -- caller 0 reads one register, and then stores to one
 abbrev pub read_and_store : List Event
@@ -88,14 +88,14 @@ read_and_store = Begins 0 (0 ∷ []) ∷ replicate 3 (Turns 0) ++ Begins 0 (7 �
 
 -- and how its calls end, from zeros
 abbrev pub two_calls : List Outcome
-two_calls = outcomes (table_with 1 registers) (opening (table_with 1 registers) (zeros (table_with 1 registers)) (table_size (table_with 1 registers))) read_and_store 0
+two_calls = outcomes (table_with 1 register_meaning) (opening_moment (table_with 1 register_meaning) (zero_start (table_with 1 register_meaning)) (words_before_members (table_with 1 register_meaning))) read_and_store 0
 
 -- a start behind one call of caller 0, whose ticket is 1 and which has stored 7 in the second register
-abbrev pub one_done : (seq : ℕ) → Start
-one_done s = record { seq = s; owner = 0; cells = word s 1 ∷ word s 65536 ∷ (replicate MOST_INSTRS 0 ++ (0 ∷ word s 7 ∷ replicate 8 0)) }
+abbrev pub one_done : (seq : ℕ) → TableStart
+one_done s = record { seq = s; owner = 0; cells = pack s 1 ∷ pack s 65536 ∷ (replicate MOST_INSTRS 0 ++ (0 ∷ pack s 7 ∷ replicate 8 0)) }
 
 -- from that start, with this limit, the caller begins to store and makes so many turns
-abbrev pub behind_one : (seq limit turns : ℕ) → World
+abbrev pub behind_one : (seq limit turns : ℕ) → Moment
 behind_one s l k =
-    let S : Setup = setup_of 1 (MOST_INSTRS + 12) l (registers (MOST_INSTRS + 2)) in
-    run S (opening S (one_done s) (table_size S)) (Begins 0 (8 ∷ []) ∷ replicate k (Turns 0))
+    let S : Setup = setup_of 1 (MOST_INSTRS + 12) l (register_meaning (MOST_INSTRS + 2)) in
+    after_events S (opening_moment S (one_done s) (words_before_members S)) (Begins 0 (8 ∷ []) ∷ replicate k (Turns 0))

@@ -2,17 +2,17 @@
 -- is among them, and no data cell goes back to an older word.
 use Rattle.std.specs.Prelude.{ℕ, ◌+◌, ◌-◌, List, [], ◌∷◌, ◌++◌, length, Option, ◌≡◌, ◌≤◌, ◌<◌, ◌⊎◌}
 use Rattle.std.proofs.Common.{get_or}
-use Rattle.of_cell.specs.Words.{seq}
+use Rattle.of_cell.specs.Words.{seq_of}
 use Rattle.of_mem.specs.Meaning.{Gives, Agrees}
-use Rattle.of_mem.specs.Pad.{over}
+use Rattle.of_mem.specs.Pad.{overlaid}
 use Rattle.of_mem.specs.Pairs.{put_all}
-use Rattle.of_core.specs.Table.{Setup, ticket_cell, cell}
+use Rattle.of_core.specs.Table.{Setup, ticket_cell, data_word}
 use Rattle.of_core.specs.Machine.{Call, no_call, own_cells}
-use Rattle.of_core.specs.World.{Batch, Start, World}
-use Rattle.of_core.specs.History.{batch, numbers}
+use Rattle.of_core.specs.World.{Batch, TableStart, Moment}
+use Rattle.of_core.specs.History.{batch_at, numbers_after}
 use Rattle.of_core.specs.Shared.{IsLog}
-use Rattle.of_core.specs.Invariant.{Good}
-use Rattle.of_core.specs.Events.{Event, IsSchedule, opening, run}
+use Rattle.of_core.specs.Invariant.{MeetsInvariant}
+use Rattle.of_core.specs.Events.{Event, IsSchedule, opening_moment, after_events}
 use Rattle.of_core.specs.Laws.{EachSchedule}
 
 -- how the call has run on a state, with the log so far over it
@@ -22,7 +22,7 @@ pub record RunOf (S : Setup) (state : List ℕ) (before : List (ℕ × ℕ)) (c 
   pub agrees : Agrees known state
   -- what the run wrote; its reply is the call's
   pub writes : List (ℕ × ℕ)
-  pub gives : S.meaning.walk (over known before) c.op ≡ Gives writes c.raw
+  pub gives : S.meaning.walk (overlaid known before) c.op ≡ Gives writes c.raw
 
 -- the log after a call: over what was there its writes, and then its caller's own cells
 abbrev pub with_call : Setup → (before writes : List (ℕ × ℕ)) → Call → List (ℕ × ℕ)
@@ -44,9 +44,9 @@ pub record IsLogOf (S : Setup) (state : List ℕ) (cs : List Call) (log : List (
 -- in every schedule from every start each batch's log is what its calls write on the state before
 abbrev pub LogsAreWrites : Setup → (List ℕ → Type 0) → Type 0
 LogsAreWrites S Lawful = EachSchedule S Lawful (λ B n es.
-    let bs : List Batch = (run S (opening S B n) es).batches in
+    let bs : List Batch = (after_events S (opening_moment S B n) es).batches in
     (k : ℕ) → B.seq < k → k ≤ B.seq + length bs
-    → IsLogOf S (numbers B bs (k - 1)) (batch B bs k).calls (batch B bs k).log)
+    → IsLogOf S (numbers_after B bs (k - 1)) (batch_at B bs k).calls (batch_at B bs k).log)
 
 -- the batch has a call of its owner
 abbrev pub HasOwnCall : Batch → Type 0
@@ -56,14 +56,14 @@ HasOwnCall b =
 -- and each batch has a call of its owner, who committed it
 abbrev pub OwnersTakePart : Setup → (List ℕ → Type 0) → Type 0
 OwnersTakePart S Lawful = EachSchedule S Lawful (λ B n es.
-    let bs : List Batch = (run S (opening S B n) es).batches in
-    (k : ℕ) → B.seq < k → k ≤ B.seq + length bs → HasOwnCall (batch B bs k))
+    let bs : List Batch = (after_events S (opening_moment S B n) es).batches in
+    (k : ℕ) → B.seq < k → k ≤ B.seq + length bs → HasOwnCall (batch_at B bs k))
 
 -- between any two moments a data cell keeps its word, or gets one of a later transaction: a helper
 -- never writes an older number, however late it comes
 abbrev pub CellsRise : Setup → (List ℕ → Type 0) → Type 0
 CellsRise S Lawful =
-    (B : Start) (w : World) → Good S Lawful B w → (es : List Event) → IsSchedule S w es →
-    let v : World = run S w es in
+    (B : TableStart) (w : Moment) → MeetsInvariant S Lawful B w → (es : List Event) → IsSchedule S w es →
+    let v : Moment = after_events S w es in
     (a : ℕ) → a < S.cells
-    → (cell S v.words a ≡ cell S w.words a) ⊎ (seq (cell S w.words a) < seq (cell S v.words a))
+    → (data_word S v.words a ≡ data_word S w.words a) ⊎ (seq_of (data_word S w.words a) < seq_of (data_word S v.words a))

@@ -3,15 +3,15 @@
 ghost use Rattle.std.specs.Prelude.{◌≡◌, ◌<◌, ◌≤◌, ◌+◌, ◌*◌, [], ◌∷◌, length, IfOk, IsTrue, ◌↔◌};
 ghost use Rattle.std.proofs.Common.{get_or};
 ghost use Rattle.of_mem.specs.declared.work.TheConstants.{MOST_INSTRS};
-ghost use Rattle.of_cell.specs.Words.{pay};
+ghost use Rattle.of_cell.specs.Words.{payload_of};
 ghost use Rattle.of_cell.specs.Cells.{durable_cells, table_words as cell_words};
 ghost use Rattle.of_cell.specs.declared.word.TheConstants.{PAYLOADS};
-ghost use Rattle.of_core.specs.Table.{size, setup_of};
-ghost use Rattle.of_core.specs.Events.{Begins, Turns, Raises, zeros, idles, opening, start_ticket};
+ghost use Rattle.of_core.specs.Table.{cell_count, setup_of};
+ghost use Rattle.of_core.specs.Events.{Begins, Turns, Raises, zero_start, idle_machines, opening_moment, start_ticket};
 ghost use Rattle.of_core.specs.Shared.{MayStart};
-ghost use Rattle.of_core.specs.Starts.{IsStartRow, closed_at, first_cells, first_words, start_of};
-ghost use Rattle.of_core.specs.Moment.{Reached, Alike, after, held, machine_of, table, table_words};
-ghost use Rattle.of_core.specs.Turn.{turn_of, told, IsIdle};
+ghost use Rattle.of_core.specs.Starts.{IsStartRow, closed_request, first_cells, first_words, start_from_durable};
+ghost use Rattle.of_core.specs.Moment.{IsReached, RunSameWork, bank_after, call_states, machine_of, bank_setup, table_word_count};
+ghost use Rattle.of_core.specs.Turn.{turn_of, end_from_own_cells, IsIdle};
 
 use crate::machine::{GREATEST_LIMIT, Machine};
 use crate::performer::OnWords;
@@ -49,20 +49,20 @@ pub struct Bank<W: Work> {
 }
 
 impl<W: Work> Model for Bank<W> {
-    ghost use Rattle.of_core.specs.Moment.{Bench};
+    ghost use Rattle.of_core.specs.Moment.{Bank};
 
-    ghost Value = { Bench W };
+    ghost Value = { Bank W };
 
-    ghost use Rattle.of_core.specs.Bank.{bench, IsBank};
+    ghost use Rattle.of_core.specs.Bank.{bank_value, IsBank};
 
-    ghost view = { bench };
+    ghost view = { bank_value };
 
     ghost invariant = { IsBank W.many W.size W.meaning W.lawful };
 }
 
 /// What a turn says of a call that was open before it.
 fn turn_to(answer: Option<Outcome>) -> Turn
-    ensures { result ≡ told answer }
+    ensures { result ≡ end_from_own_cells answer }
 {
     match answer {
         Some(outcome) => Turn::Ended(outcome),
@@ -72,7 +72,7 @@ fn turn_to(answer: Option<Outcome>) -> Turn
 
 /// The request of a start's owner: closed, where there is a transaction behind the start.
 fn closed(seq: u32) -> u64
-    ensures { result ≡ closed_at seq }
+    ensures { result ≡ closed_request seq }
 {
     if seq == 0 { 0 } else { pack(seq, 1) }
 }
@@ -80,8 +80,8 @@ fn closed(seq: u32) -> u64
 /// The cells at the start that a durable row is.
 fn first_cells(alloc: Global, shape: &Shape, durable: &[u64]) -> Result<Vec<u64>, AllocError>
     requires row { length durable.now ≡ durable_cells shape.now.callers shape.now.cells }
-    requires owner { pay (get_or durable.now 0 0) < shape.now.callers }
-    ensures { IfOk result (λ cells. cells.items ≡ first_cells shape.now.callers shape.now.cells (start_of shape.now.callers shape.now.cells durable.now)) }
+    requires owner { payload_of (get_or durable.now 0 0) < shape.now.callers }
+    ensures { IfOk result (λ cells. cells.items ≡ first_cells shape.now.callers shape.now.cells (start_from_durable shape.now.callers shape.now.cells durable.now)) }
 {
     let current = durable[shape.cur() as usize];
     let first = shape.data_cell(0) as usize;
@@ -96,8 +96,8 @@ fn first_cells(alloc: Global, shape: &Shape, durable: &[u64]) -> Result<Vec<u64>
 /// The words at the start that a durable row is: its cells, their durable words, and 0 behind them.
 fn first_words(alloc: Global, shape: &Shape, durable: &[u64]) -> Result<Vec<u64>, AllocError>
     requires row { length durable.now ≡ durable_cells shape.now.callers shape.now.cells }
-    requires owner { pay (get_or durable.now 0 0) < shape.now.callers }
-    ensures { let start = start_of shape.now.callers shape.now.cells durable.now in IfOk result (λ words. words.items ≡ first_words shape.now.callers shape.now.cells start (cell_words shape.now.callers shape.now.instrs shape.now.cells)) }
+    requires owner { payload_of (get_or durable.now 0 0) < shape.now.callers }
+    ensures { let start = start_from_durable shape.now.callers shape.now.cells durable.now in IfOk result (λ words. words.items ≡ first_words shape.now.callers shape.now.cells start (cell_words shape.now.callers shape.now.instrs shape.now.cells)) }
 {
     let cells = first_cells(alloc, shape, durable)?;
     let mut words = Vec::from_slice(alloc, &cells)?;
@@ -112,7 +112,7 @@ fn start_ticket(shape: &Shape, words: &[u64], caller: u32) -> u32
     requires caller { caller < shape.now.callers }
     requires own { shape.now.callers * (MOST_INSTRS + 2) ≤ shape.now.cells }
     requires row { durable_cells shape.now.callers shape.now.cells ≤ length words.now }
-    ensures { let start = start_of shape.now.callers shape.now.cells words.now in result ≡ pay (get_or start.cells (caller * (MOST_INSTRS + 2)) 0) }
+    ensures { let start = start_from_durable shape.now.callers shape.now.cells words.now in result ≡ payload_of (get_or start.cells (caller * (MOST_INSTRS + 2)) 0) }
 {
     let ticket = caller * (MOST_INSTRS as u32 + 2);
     payload_of(words[shape.data_cell(ticket) as usize])
@@ -133,8 +133,8 @@ fn idle_machines<W: Work>(
     requires limit { limit ≤ GREATEST_LIMIT }
     requires row { durable_cells shape.callers shape.cells ≤ length words.now }
     ensures each { IfOk result (λ ms. length ms.items ≡ shape.callers) }
-    ensures alike { IfOk result (λ ms. Alike work shape.callers shape.cells limit ms.items) }
-    ensures idle { let S = setup_of shape.callers shape.cells limit (W.meaning work) in IfOk result (λ ms. held ms.items ≡ idles S (start_ticket S (start_of shape.callers shape.cells words.now)) 0 shape.callers) }
+    ensures alike { IfOk result (λ ms. RunSameWork work shape.callers shape.cells limit ms.items) }
+    ensures idle { let S = setup_of shape.callers shape.cells limit (W.meaning work) in IfOk result (λ ms. call_states ms.items ≡ idle_machines S (start_ticket S (start_from_durable shape.callers shape.cells words.now)) 0 shape.callers) }
 {
     let mut machines = Vec::new(alloc);
     for caller in 0..shape.callers {
@@ -157,10 +157,10 @@ impl<W: Work> Bank<W> {
         ensures callers { IfOk result (λ b. b.callers ≡ shape.callers) }
         ensures cells { IfOk result (λ b. b.cells ≡ shape.cells) }
         ensures limit { IfOk result (λ b. b.limit ≡ limit) }
-        ensures start { IfOk result (λ b. b.start ≡ zeros (table W.meaning b)) }
-        ensures words { IfOk result (λ b. b.words ≡ (opening (table W.meaning b) (zeros (table W.meaning b)) (table_words (table W.meaning b))).words) }
-        ensures machines { IfOk result (λ b. b.machines ≡ (opening (table W.meaning b) (zeros (table W.meaning b)) (table_words (table W.meaning b))).machines) }
-        ensures idle { IfOk result (λ b. b.machines ≡ idles (table W.meaning b) (λ i. 0) 0 b.callers) }
+        ensures start { IfOk result (λ b. b.start ≡ zero_start (bank_setup W.meaning b)) }
+        ensures words { IfOk result (λ b. b.words ≡ (opening_moment (bank_setup W.meaning b) (zero_start (bank_setup W.meaning b)) (table_word_count (bank_setup W.meaning b))).words) }
+        ensures machines { IfOk result (λ b. b.machines ≡ (opening_moment (bank_setup W.meaning b) (zero_start (bank_setup W.meaning b)) (table_word_count (bank_setup W.meaning b))).machines) }
+        ensures idle { IfOk result (λ b. b.machines ≡ idle_machines (bank_setup W.meaning b) (λ i. 0) 0 b.callers) }
     {
         let words = vec![in alloc; 0; shape.words() as usize]?;
         let bank = Bank::over(alloc, shape, limit, work, words)?;
@@ -185,9 +185,9 @@ impl<W: Work> Bank<W> {
         ensures callers { IfOk result (λ b. b.callers ≡ shape.callers) }
         ensures cells { IfOk result (λ b. b.cells ≡ shape.cells) }
         ensures limit { IfOk result (λ b. b.limit ≡ limit) }
-        ensures start { IfOk result (λ b. b.start ≡ start_of shape.callers shape.cells durable.now) }
-        ensures words { let start = start_of shape.callers shape.cells durable.now in IfOk result (λ b. b.words ≡ (opening (table W.meaning b) start (table_words (table W.meaning b))).words) }
-        ensures machines { let start = start_of shape.callers shape.cells durable.now in IfOk result (λ b. b.machines ≡ (opening (table W.meaning b) start (table_words (table W.meaning b))).machines) }
+        ensures start { IfOk result (λ b. b.start ≡ start_from_durable shape.callers shape.cells durable.now) }
+        ensures words { let start = start_from_durable shape.callers shape.cells durable.now in IfOk result (λ b. b.words ≡ (opening_moment (bank_setup W.meaning b) start (table_word_count (bank_setup W.meaning b))).words) }
+        ensures machines { let start = start_from_durable shape.callers shape.cells durable.now in IfOk result (λ b. b.machines ≡ (opening_moment (bank_setup W.meaning b) start (table_word_count (bank_setup W.meaning b))).machines) }
     {
         let words = first_words(alloc, &shape, durable)?;
         let bank = Bank::over(alloc, shape, limit, work, words)?;
@@ -207,15 +207,15 @@ impl<W: Work> Bank<W> {
         requires instrs { shape.instrs ≡ MOST_INSTRS }
         requires cells { shape.cells ≡ W.size work }
         requires limit { limit ≤ GREATEST_LIMIT }
-        requires start { let S = setup_of shape.callers shape.cells limit (W.meaning work) in MayStart S (W.lawful work) (start_of shape.callers shape.cells words.items) }
-        requires words { let S = setup_of shape.callers shape.cells limit (W.meaning work) in words.items ≡ first_words shape.callers shape.cells (start_of shape.callers shape.cells words.items) (table_words S) }
+        requires start { let S = setup_of shape.callers shape.cells limit (W.meaning work) in MayStart S (W.lawful work) (start_from_durable shape.callers shape.cells words.items) }
+        requires words { let S = setup_of shape.callers shape.cells limit (W.meaning work) in words.items ≡ first_words shape.callers shape.cells (start_from_durable shape.callers shape.cells words.items) (table_word_count S) }
         ensures work { IfOk result (λ b. b.work ≡ work) }
         ensures callers { IfOk result (λ b. b.callers ≡ shape.callers) }
         ensures cells { IfOk result (λ b. b.cells ≡ shape.cells) }
         ensures limit { IfOk result (λ b. b.limit ≡ limit) }
-        ensures start { IfOk result (λ b. b.start ≡ start_of shape.callers shape.cells words.items) }
-        ensures words { IfOk result (λ b. b.words ≡ (opening (table W.meaning b) b.start (table_words (table W.meaning b))).words) }
-        ensures machines { IfOk result (λ b. b.machines ≡ (opening (table W.meaning b) b.start (table_words (table W.meaning b))).machines) }
+        ensures start { IfOk result (λ b. b.start ≡ start_from_durable shape.callers shape.cells words.items) }
+        ensures words { IfOk result (λ b. b.words ≡ (opening_moment (bank_setup W.meaning b) b.start (table_word_count (bank_setup W.meaning b))).words) }
+        ensures machines { IfOk result (λ b. b.machines ≡ (opening_moment (bank_setup W.meaning b) b.start (table_word_count (bank_setup W.meaning b))).machines) }
     {
         let machines = idle_machines(alloc, shape, limit, work, &words)?;
         Ok(Bank {
@@ -252,7 +252,7 @@ impl<W: Work> Bank<W> {
         requires some { 1 ≤ length op.now }
         requires few { length op.now ≤ MOST_INSTRS }
         requires made { (machine_of self.old caller).made + 1 < PAYLOADS }
-        ensures { self.new ≡ after W.meaning (Begins caller op.now ∷ []) self.old }
+        ensures { self.new ≡ bank_after W.meaning (Begins caller op.now ∷ []) self.old }
     {
         let machine = &mut self.machines[caller as usize];
         machine.begin(op);
@@ -262,7 +262,7 @@ impl<W: Work> Bank<W> {
     #[inline(always)]
     pub fn turn(&mut self, caller: u32) -> Turn
         requires { caller < self.old.callers }
-        ensures after { self.new ≡ after W.meaning (Turns caller ∷ []) self.old }
+        ensures after { self.new ≡ bank_after W.meaning (Turns caller ∷ []) self.old }
         ensures turn { result ≡ turn_of (machine_of self.old caller) (machine_of self.new caller) }
     {
         if self.is_idle(caller) {
@@ -277,8 +277,8 @@ impl<W: Work> Bank<W> {
 
     /// Raises a cell's durable word to the word that the cell holds.
     pub fn evict(&mut self, cell: u32)
-        requires { cell < size (table W.meaning self.old) }
-        ensures { self.new ≡ after W.meaning (Raises cell ∷ []) self.old }
+        requires { cell < cell_count (bank_setup W.meaning self.old) }
+        ensures { self.new ≡ bank_after W.meaning (Raises cell ∷ []) self.old }
     {
         let durable = self.shape.durable_word(cell) as usize;
         self.words[durable] = self.words[durable].max(self.words[cell as usize]);
@@ -286,7 +286,7 @@ impl<W: Work> Bank<W> {
 
     /// The words and machines are those that a schedule leaves from the start. It does nothing.
     pub fn stands(&self)
-        ensures { Reached (table W.meaning self.now) (W.lawful self.now.work) self.now.start self.now.words self.now.machines }
+        ensures { IsReached (bank_setup W.meaning self.now) (W.lawful self.now.work) self.now.start self.now.words self.now.machines }
     {
         // to read a field shows what the type keeps
         let _limit = self.limit;

@@ -2,12 +2,12 @@
 //! theorems.
 
 ghost use Rattle.of_core.specs.Laws.{setup_for};
-ghost use Rattle.of_core.specs.Laws.{StepKept, StepMoves, StepTaken, StepDurables, StepBlind};
-ghost use Rattle.of_core.specs.Laws.{NewCalls, BeginKept, LoadKept, LoadedStays, RaiseKept};
-ghost use Rattle.of_core.specs.Laws.{RaiseRises, BesideKept, StartKept, GoodIsSound};
-ghost use Rattle.of_core.specs.Laws.{StartCalls, StepCalls, BeginCalls, RaiseCalls, BesideCalls};
-ghost use Rattle.of_core.specs.Laws.{EventKept, ScheduleKept, EveryDurable, EveryMoment};
-ghost use Rattle.of_core.specs.Laws.{EveryCall, EveryTurn, CallsKept, EndsInTime};
+ghost use Rattle.of_core.specs.Laws.{StepsKeepInvariant, StepsGuarantee, OpenStepsAreSteps, StepsKeepDurables, StepBlind};
+ghost use Rattle.of_core.specs.Laws.{NewCallsWereOpen, BeginsKeepInvariant, LoadsMayBeRaised, StepsKeepLoaded, RaisesKeepInvariant};
+ghost use Rattle.of_core.specs.Laws.{RaisesNeverLower, WordsBehindAreFree, StartsMeetInvariant, InvariantIsSound};
+ghost use Rattle.of_core.specs.Laws.{StartsHaveNoCalls, StepsEndOwnCall, BeginsAddOneCall, RaisesKeepCalls, WordsBehindKeepCalls};
+ghost use Rattle.of_core.specs.Laws.{EventsKeepInvariant, SchedulesKeepInvariant, DurablesWereHeld, EveryMomentIsSound};
+ghost use Rattle.of_core.specs.Laws.{EveryCallStands, TurnsCountSteps, EventsLeadCalls, CallsEndInTime};
 ghost use Rattle.of_core.specs.Laws.{EveryOrder, Detectable, RealTime, LateCalls, OwnTime, EveryLife};
 ghost use Rattle.of_core.specs.Commits.{DoneAfterTwoCommits, GivenUp, LostToCommits, OutcomesAreNew};
 ghost use Rattle.of_core.specs.Footprint.{ByFootprint};
@@ -17,12 +17,12 @@ ghost use Rattle.of_core.specs.SpentRound.{SpentInRounds};
 ghost use Rattle.of_core.specs.Grounds.{GoodGrounds};
 ghost use Rattle.of_core.specs.Raised.{RaisesHeld, RaisesAreShort, EvictionsAreShort, CellsLevel};
 ghost use Rattle.of_core.specs.Raised.{RaisesUndisturbed, EvictionsUndisturbed, RaisesStand};
-ghost use Rattle.of_core.specs.Laws.{FirstWords, FirstMachines, ZerosMayStart};
-ghost use Rattle.of_core.specs.Laws.{ZeroWords, ZeroTickets};
-ghost use Rattle.of_core.specs.Laws.{Restarts, RestartsMidway, RenumbersMidway};
-ghost use Rattle.of_core.specs.Laws.{IdleOrOpen, IdleIs, IdleStays, IdleRests, FindsWord, TurnIsStep};
-ghost use Rattle.of_core.specs.Laws.{FirstState, BatchesNumbered, NextBatch, BatchesStand};
-ghost use Rattle.of_core.specs.Laws.{StatesStand, BeginningBatches, BeginningStates, BeginningLegal};
+ghost use Rattle.of_core.specs.Laws.{FirstWordsHoldStart, FirstMachinesAreIdle, ZerosMayStart};
+ghost use Rattle.of_core.specs.Laws.{ZeroTablesAreZeros, ZeroTablesHaveNoCalls};
+ghost use Rattle.of_core.specs.Laws.{RecoveredRowsMayStart, RestartsMidway, RenumbersMidway};
+ghost use Rattle.of_core.specs.Laws.{IsIdleOrOpen, IdleTestIsExact, TurnsKeepIdle, IdleRestsOnNothing, StepsFindTheirWord, TurnsAreSteps};
+ghost use Rattle.of_core.specs.Laws.{FirstStateIsStart, BatchesAreNumbered, NextBatchIsNumberedNext, LongerKeepsBatches};
+ghost use Rattle.of_core.specs.Laws.{LongerKeepsStates, PrefixKeepsBatches, PrefixKeepsStates, PrefixIsLegal};
 
 use of_mem::Work;
 
@@ -32,50 +32,50 @@ use of_mem::Work;
 /// the invariant, and whatever meets it has what every moment claims: it has begun at a start that
 /// a table may have, and its states are lawful.
 pub fn step_kept<W: Work>(limit: u32, work: W)
-    ensures kept { StepKept (setup_for W.many W.size W.meaning limit work) (W.lawful work) }
-    ensures moves { StepMoves (setup_for W.many W.size W.meaning limit work) (W.lawful work) }
-    ensures taken { StepTaken (setup_for W.many W.size W.meaning limit work) (W.lawful work) }
-    ensures durables { StepDurables (setup_for W.many W.size W.meaning limit work) (W.lawful work) }
+    ensures kept { StepsKeepInvariant (setup_for W.many W.size W.meaning limit work) (W.lawful work) }
+    ensures moves { StepsGuarantee (setup_for W.many W.size W.meaning limit work) (W.lawful work) }
+    ensures taken { OpenStepsAreSteps (setup_for W.many W.size W.meaning limit work) (W.lawful work) }
+    ensures durables { StepsKeepDurables (setup_for W.many W.size W.meaning limit work) (W.lawful work) }
     ensures blind { StepBlind (setup_for W.many W.size W.meaning limit work) (W.lawful work) }
-    ensures new_calls { NewCalls (setup_for W.many W.size W.meaning limit work) (W.lawful work) }
-    ensures begins { BeginKept (setup_for W.many W.size W.meaning limit work) (W.lawful work) }
-    ensures loads { LoadKept (setup_for W.many W.size W.meaning limit work) (W.lawful work) }
-    ensures stays { LoadedStays (setup_for W.many W.size W.meaning limit work) (W.lawful work) }
-    ensures raises { RaiseKept (setup_for W.many W.size W.meaning limit work) (W.lawful work) }
-    ensures rises { RaiseRises (setup_for W.many W.size W.meaning limit work) (W.lawful work) }
-    ensures beside { BesideKept (setup_for W.many W.size W.meaning limit work) (W.lawful work) }
-    ensures start { StartKept (setup_for W.many W.size W.meaning limit work) (W.lawful work) }
-    ensures sound { GoodIsSound (setup_for W.many W.size W.meaning limit work) (W.lawful work) }
+    ensures new_calls { NewCallsWereOpen (setup_for W.many W.size W.meaning limit work) (W.lawful work) }
+    ensures begins { BeginsKeepInvariant (setup_for W.many W.size W.meaning limit work) (W.lawful work) }
+    ensures loads { LoadsMayBeRaised (setup_for W.many W.size W.meaning limit work) (W.lawful work) }
+    ensures stays { StepsKeepLoaded (setup_for W.many W.size W.meaning limit work) (W.lawful work) }
+    ensures raises { RaisesKeepInvariant (setup_for W.many W.size W.meaning limit work) (W.lawful work) }
+    ensures rises { RaisesNeverLower (setup_for W.many W.size W.meaning limit work) (W.lawful work) }
+    ensures beside { WordsBehindAreFree (setup_for W.many W.size W.meaning limit work) (W.lawful work) }
+    ensures start { StartsMeetInvariant (setup_for W.many W.size W.meaning limit work) (W.lawful work) }
+    ensures sound { InvariantIsSound (setup_for W.many W.size W.meaning limit work) (W.lawful work) }
     ensures grounds { GoodGrounds (setup_for W.many W.size W.meaning limit work) (W.lawful work) }
 {}
 
 /// The calls of one caller, from a start on: a step ends its caller's open call or none, a begin
 /// adds one, also where a fresh machine makes it, and nothing else changes anybody's calls.
 pub fn calls_kept<W: Work>(limit: u32, work: W)
-    ensures start { StartCalls (setup_for W.many W.size W.meaning limit work) (W.lawful work) }
-    ensures steps { StepCalls (setup_for W.many W.size W.meaning limit work) (W.lawful work) }
-    ensures begins { BeginCalls (setup_for W.many W.size W.meaning limit work) (W.lawful work) }
-    ensures raises { RaiseCalls (setup_for W.many W.size W.meaning limit work) (W.lawful work) }
-    ensures beside { BesideCalls (setup_for W.many W.size W.meaning limit work) (W.lawful work) }
+    ensures start { StartsHaveNoCalls (setup_for W.many W.size W.meaning limit work) (W.lawful work) }
+    ensures steps { StepsEndOwnCall (setup_for W.many W.size W.meaning limit work) (W.lawful work) }
+    ensures begins { BeginsAddOneCall (setup_for W.many W.size W.meaning limit work) (W.lawful work) }
+    ensures raises { RaisesKeepCalls (setup_for W.many W.size W.meaning limit work) (W.lawful work) }
+    ensures beside { WordsBehindKeepCalls (setup_for W.many W.size W.meaning limit work) (W.lawful work) }
 {}
 
 /// Each event, and so each schedule, keeps the invariant. From every start every schedule leaves a
 /// moment with a legal history, of which recovery gives the state that its durable words name; and
 /// no durable word is other than one that its cell has held.
 pub fn every_moment<W: Work>(limit: u32, work: W)
-    ensures kept { EventKept (setup_for W.many W.size W.meaning limit work) (W.lawful work) }
-    ensures runs { ScheduleKept (setup_for W.many W.size W.meaning limit work) (W.lawful work) }
-    ensures durables { EveryDurable (setup_for W.many W.size W.meaning limit work) (W.lawful work) }
-    ensures sound { EveryMoment (setup_for W.many W.size W.meaning limit work) (W.lawful work) }
+    ensures kept { EventsKeepInvariant (setup_for W.many W.size W.meaning limit work) (W.lawful work) }
+    ensures runs { SchedulesKeepInvariant (setup_for W.many W.size W.meaning limit work) (W.lawful work) }
+    ensures durables { DurablesWereHeld (setup_for W.many W.size W.meaning limit work) (W.lawful work) }
+    ensures sound { EveryMomentIsSound (setup_for W.many W.size W.meaning limit work) (W.lawful work) }
 {}
 
 /// Of every schedule the calls of each caller are those that its events begin. Each ends with an
 /// outcome that is in the history, none goes back behind the one before, and each turn of an open
 /// call is a step of it.
 pub fn every_call<W: Work>(limit: u32, work: W)
-    ensures calls { EveryCall (setup_for W.many W.size W.meaning limit work) (W.lawful work) }
-    ensures turns { EveryTurn (setup_for W.many W.size W.meaning limit work) (W.lawful work) }
-    ensures kept { CallsKept (setup_for W.many W.size W.meaning limit work) (W.lawful work) }
+    ensures calls { EveryCallStands (setup_for W.many W.size W.meaning limit work) (W.lawful work) }
+    ensures turns { TurnsCountSteps (setup_for W.many W.size W.meaning limit work) (W.lawful work) }
+    ensures kept { EventsLeadCalls (setup_for W.many W.size W.meaning limit work) (W.lawful work) }
 {}
 
 /// Every schedule is durably linearizable: one serial order of all calls that were answered, and of
@@ -101,7 +101,7 @@ pub fn every_order<W: Work>(limit: u32, work: W)
 /// announcement. A try or a round is lost only to a commit: if nobody commits, a read ends in its
 /// first try and any other call in its first round. A call is spent only in one of its rounds.
 pub fn ends_in_time<W: Work>(limit: u32, work: W)
-    ensures in_time { EndsInTime (setup_for W.many W.size W.meaning limit work) (W.lawful work) }
+    ensures in_time { CallsEndInTime (setup_for W.many W.size W.meaning limit work) (W.lawful work) }
     ensures footprint { ByFootprint (setup_for W.many W.size W.meaning limit work) (W.lawful work) }
     ensures needed { LoadsNeeded (setup_for W.many W.size W.meaning limit work) (W.lawful work) }
     ensures helped { CopiesOpenLogs (setup_for W.many W.size W.meaning limit work) (W.lawful work) }
@@ -139,35 +139,35 @@ pub fn raises_are_short<W: Work>(limit: u32, work: W)
 /// recovery that has stopped between two of its writes changes nothing of that, and a renumbering
 /// that has stopped leaves a start with the same numbers.
 pub fn starts<W: Work>(limit: u32, work: W)
-    ensures words { FirstWords (setup_for W.many W.size W.meaning limit work) }
-    ensures machines { FirstMachines (setup_for W.many W.size W.meaning limit work) }
+    ensures words { FirstWordsHoldStart (setup_for W.many W.size W.meaning limit work) }
+    ensures machines { FirstMachinesAreIdle (setup_for W.many W.size W.meaning limit work) }
     ensures zeros { ZerosMayStart (setup_for W.many W.size W.meaning limit work) (W.lawful work) }
-    ensures zero_words { ZeroWords (setup_for W.many W.size W.meaning limit work) }
-    ensures zero_tickets { ZeroTickets (setup_for W.many W.size W.meaning limit work) }
-    ensures restarts { Restarts (setup_for W.many W.size W.meaning limit work) (W.lawful work) }
+    ensures zero_words { ZeroTablesAreZeros (setup_for W.many W.size W.meaning limit work) }
+    ensures zero_tickets { ZeroTablesHaveNoCalls (setup_for W.many W.size W.meaning limit work) }
+    ensures restarts { RecoveredRowsMayStart (setup_for W.many W.size W.meaning limit work) (W.lawful work) }
     ensures midway { RestartsMidway (setup_for W.many W.size W.meaning limit work) (W.lawful work) }
     ensures renumbered { RenumbersMidway (setup_for W.many W.size W.meaning limit work) (W.lawful work) }
 {}
 
 /// What holds of a machine by itself, on any table.
 pub fn machines()
-    ensures idle_or_open { IdleOrOpen }
-    ensures idle_is { IdleIs }
-    ensures idle_stays { IdleStays }
-    ensures idle_rests { IdleRests }
-    ensures finds { FindsWord }
-    ensures turns { TurnIsStep }
+    ensures idle_or_open { IsIdleOrOpen }
+    ensures idle_is { IdleTestIsExact }
+    ensures idle_stays { TurnsKeepIdle }
+    ensures idle_rests { IdleRestsOnNothing }
+    ensures finds { StepsFindTheirWord }
+    ensures turns { TurnsAreSteps }
 {}
 
 /// What holds of a history by itself: how its batches are numbered, what stands in a longer one,
 /// and that the beginning of a legal history is legal.
 pub fn histories()
-    ensures first { FirstState }
-    ensures numbered { BatchesNumbered }
-    ensures next { NextBatch }
-    ensures batches { BatchesStand }
-    ensures states { StatesStand }
-    ensures beginning_batches { BeginningBatches }
-    ensures beginning_states { BeginningStates }
-    ensures beginning_legal { BeginningLegal }
+    ensures first { FirstStateIsStart }
+    ensures numbered { BatchesAreNumbered }
+    ensures next { NextBatchIsNumberedNext }
+    ensures batches { LongerKeepsBatches }
+    ensures states { LongerKeepsStates }
+    ensures beginning_batches { PrefixKeepsBatches }
+    ensures beginning_states { PrefixKeepsStates }
+    ensures beginning_legal { PrefixIsLegal }
 {}

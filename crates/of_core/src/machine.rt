@@ -4,12 +4,12 @@ ghost use Rattle.std.specs.Prelude.{◌≡◌, ◌≢◌, ◌<◌, ◌≤◌, �
 ghost use Rattle.std.proofs.Common.{get_or};
 ghost use Rattle.of_mem.specs.declared.work.TheConstants.{MOST_INSTRS};
 ghost use Rattle.of_cell.specs.declared.word.TheConstants.{PAYLOADS};
-ghost use Rattle.of_core.specs.Table.{size, table_size, data_at, log_at, durable_at, ticket_cell, shape_cell, reply_cell};
-ghost use Rattle.of_core.specs.Seen.{setup, ended};
-ghost use Rattle.of_core.specs.Machine.{idle, opened, log_words};
-ghost use Rattle.of_core.specs.Steps.{want, want_at, took, took_at, counted_at, word_of};
+ghost use Rattle.of_core.specs.Table.{cell_count, words_before_members, data_at, log_at, durable_at, ticket_cell, shape_cell, reply_cell};
+ghost use Rattle.of_core.specs.Seen.{machine_setup, ended_outcome};
+ghost use Rattle.of_core.specs.Machine.{idle_machine, begin, log_words};
+ghost use Rattle.of_core.specs.Steps.{want, want_at, take_word, take_word_at, with_step_counted, word_of};
 ghost use Rattle.of_core.specs.declared.place.Op.{Op};
-ghost use Rattle.of_core.specs.Meets.{Meets};
+ghost use Rattle.of_core.specs.Meets.{MayTake};
 
 mod announcing;
 mod answering;
@@ -74,13 +74,13 @@ pub struct Machine<W: Work> {
 }
 
 impl<W: Work> Model for Machine<W> {
-    ghost use Rattle.of_core.specs.Seen.{Seen};
+    ghost use Rattle.of_core.specs.Seen.{Machine};
 
-    ghost Value = { Seen W };
+    ghost Value = { Machine W };
 
-    ghost use Rattle.of_core.specs.Inside.{seen, IsFit};
+    ghost use Rattle.of_core.specs.Inside.{machine_value, IsFit};
 
-    ghost view = { seen };
+    ghost view = { machine_value };
 
     ghost invariant = { IsFit W.many W.size W.meaning };
 }
@@ -105,7 +105,7 @@ impl<W: Work> Machine<W> {
         ensures callers { IfOk result (λ m. m.callers ≡ shape.callers) }
         ensures cells { IfOk result (λ m. m.cells ≡ shape.cells) }
         ensures limit { IfOk result (λ m. m.limit ≡ limit) }
-        ensures idle { IfOk result (λ m. m.call ≡ idle (setup W.meaning m) caller made) }
+        ensures idle { IfOk result (λ m. m.call ≡ idle_machine (machine_setup W.meaning m) caller made) }
     {
         let op = Vec::with_capacity(alloc, MOST_INSTRS)?;
         let part = Workspace::new(alloc, shape.cells)?;
@@ -152,7 +152,7 @@ impl<W: Work> Machine<W> {
         requires some { 1 ≤ length op.now }
         requires few { length op.now ≤ MOST_INSTRS }
         requires made { self.old.call.made + 1 < PAYLOADS }
-        ensures { self.new ≡ record self.old { call = opened (setup W.meaning self.old) self.old.call op.now } }
+        ensures { self.new ≡ record self.old { call = begin (machine_setup W.meaning self.old) self.old.call op.now } }
     {
         self.op.clear();
         match self.op.extend_from_slice(op) {
@@ -171,7 +171,7 @@ impl<W: Work> Machine<W> {
 
     /// Nothing of the calls before is kept but their number: a call begins as that of a fresh machine does.
     fn forget(&mut self)
-        ensures { self.new ≡ record self.old { call = record (idle (setup W.meaning self.old) self.old.call.caller self.old.call.made) { op = self.old.call.op } } }
+        ensures { self.new ≡ record self.old { call = record (idle_machine (machine_setup W.meaning self.old) self.old.call.caller self.old.call.made) { op = self.old.call.op } } }
     {
         self.place = Place::Idle;
         self.seq = 0;
@@ -212,7 +212,7 @@ impl<W: Work> Machine<W> {
 
     /// How the last call ended. None where a call is open, and where none has ended.
     pub fn answer(&self) -> Option<Outcome>
-        ensures { result ≡ ended self.now.call }
+        ensures { result ≡ ended_outcome self.now.call }
     {
         match self.place {
             Place::Idle => self.answer,
@@ -242,9 +242,9 @@ impl<W: Work> Machine<W> {
 
     /// The place of a cell's durable word.
     fn durable_word(&self, cell: u32) -> u32
-        requires { cell < size (setup W.meaning self.now) }
-        ensures value { result ≡ durable_at (setup W.meaning self.now) cell }
-        ensures below { result < table_size (setup W.meaning self.now) }
+        requires { cell < cell_count (machine_setup W.meaning self.now) }
+        ensures value { result ≡ durable_at (machine_setup W.meaning self.now) cell }
+        ensures below { result < words_before_members (machine_setup W.meaning self.now) }
     {
         self.durable + cell
     }
@@ -253,8 +253,8 @@ impl<W: Work> Machine<W> {
     /// The cell of word `at` of one's own log.
     fn own_log_cell(&self, at: u32) -> u32
         requires { at < 2 * self.now.cells + 1 }
-        ensures value { result ≡ log_at (setup W.meaning self.now) self.now.call.caller at }
-        ensures below { result < size (setup W.meaning self.now) }
+        ensures value { result ≡ log_at (machine_setup W.meaning self.now) self.now.call.caller at }
+        ensures below { result < cell_count (machine_setup W.meaning self.now) }
     {
         self.own_log + at
     }
@@ -262,16 +262,16 @@ impl<W: Work> Machine<W> {
     /// The word of a caller's ticket cell.
     fn ticket_word(&self, caller: u32) -> u32
         requires { caller < self.now.callers }
-        ensures value { result ≡ data_at (setup W.meaning self.now) (ticket_cell (setup W.meaning self.now) caller) }
-        ensures below { result < size (setup W.meaning self.now) }
+        ensures value { result ≡ data_at (machine_setup W.meaning self.now) (ticket_cell (machine_setup W.meaning self.now) caller) }
+        ensures below { result < cell_count (machine_setup W.meaning self.now) }
     {
         self.shape.data_cell(caller * OWN_CELLS)
     }
 
     /// The word of the shape of one's reply.
     fn shape_word(&self) -> u32
-        ensures value { result ≡ data_at (setup W.meaning self.now) (shape_cell (setup W.meaning self.now) self.now.call.caller) }
-        ensures below { result < size (setup W.meaning self.now) }
+        ensures value { result ≡ data_at (machine_setup W.meaning self.now) (shape_cell (machine_setup W.meaning self.now) self.now.call.caller) }
+        ensures below { result < cell_count (machine_setup W.meaning self.now) }
     {
         self.shape.data_cell(self.caller * OWN_CELLS + 1)
     }
@@ -279,8 +279,8 @@ impl<W: Work> Machine<W> {
     /// The word of a number of one's reply.
     fn reply_word(&self, at: u32) -> u32
         requires { at < MOST_INSTRS }
-        ensures value { result ≡ data_at (setup W.meaning self.now) (reply_cell (setup W.meaning self.now) self.now.call.caller at) }
-        ensures below { result < size (setup W.meaning self.now) }
+        ensures value { result ≡ data_at (machine_setup W.meaning self.now) (reply_cell (machine_setup W.meaning self.now) self.now.call.caller at) }
+        ensures below { result < cell_count (machine_setup W.meaning self.now) }
     {
         self.shape.data_cell(self.caller * OWN_CELLS + 2 + at)
     }
@@ -290,8 +290,8 @@ impl<W: Work> Machine<W> {
     #[tactic(auto, unfolding(crate::specs::Steps::want))]
     pub fn want(&self) -> Op
         requires { self.now.call.place ≢ Place.Idle }
-        ensures value { result ≡ want (setup W.meaning self.now) self.now.call }
-        ensures range { word_of result < table_size (setup W.meaning self.now) }
+        ensures value { result ≡ want (machine_setup W.meaning self.now) self.now.call }
+        ensures range { word_of result < words_before_members (machine_setup W.meaning self.now) }
     {
         self.want_by(self.place, &Naming, &mut ())
     }
@@ -301,9 +301,9 @@ impl<W: Work> Machine<W> {
     #[inline(always)]
     pub fn want_by<P: Performer>(&self, place: Place, by: &P, hand: &mut P::Hand) -> P::Given
         requires here { place ≡ self.now.call.place }
-        requires takes { (op : Op) → op ≡ want_at (setup W.meaning self.now) self.now.call place → word_of op < table_size (setup W.meaning self.now) → P.takes by.now hand.old op }
-        ensures made { P.made by.now hand.old (want_at (setup W.meaning self.now) self.now.call place) result hand.new }
-        ensures range { word_of (want_at (setup W.meaning self.now) self.now.call place) < table_size (setup W.meaning self.now) }
+        requires takes { (op : Op) → op ≡ want_at (machine_setup W.meaning self.now) self.now.call place → word_of op < words_before_members (machine_setup W.meaning self.now) → P.takes by.now hand.old op }
+        ensures made { P.made by.now hand.old (want_at (machine_setup W.meaning self.now) self.now.call place) result hand.new }
+        ensures range { word_of (want_at (machine_setup W.meaning self.now) self.now.call place) < words_before_members (machine_setup W.meaning self.now) }
     {
         match place {
             Place::Idle => by.load(hand, 0),
@@ -401,11 +401,11 @@ impl<W: Work> Machine<W> {
 
     /// Goes on with the word that the wanted step found, for a store with any number.
     #[inline(always)]
-    #[tactic(auto, unfolding(crate::specs::Steps::took))]
+    #[tactic(auto, unfolding(crate::specs::Steps::take_word))]
     pub fn take(&mut self, found: u64)
         requires open { self.old.call.place ≢ Place.Idle }
-        requires good { Meets (setup W.meaning self.old) (W.lawful self.old.work) self.old.call found }
-        ensures { self.new ≡ record self.old { call = took (setup W.meaning self.old) self.old.call found } }
+        requires good { MayTake (machine_setup W.meaning self.old) (W.lawful self.old.work) self.old.call found }
+        ensures { self.new ≡ record self.old { call = take_word (machine_setup W.meaning self.old) self.old.call found } }
     {
         self.take_at(self.place, found)
     }
@@ -415,8 +415,8 @@ impl<W: Work> Machine<W> {
     pub fn take_at(&mut self, place: Place, found: u64)
         requires here { place ≡ self.old.call.place }
         requires open { place ≢ Place.Idle }
-        requires good { Meets (setup W.meaning self.old) (W.lawful self.old.work) self.old.call found }
-        ensures { self.new ≡ record self.old { call = took_at (setup W.meaning self.old) (counted_at place self.old.call) found place } }
+        requires good { MayTake (machine_setup W.meaning self.old) (W.lawful self.old.work) self.old.call found }
+        ensures { self.new ≡ record self.old { call = take_word_at (machine_setup W.meaning self.old) (with_step_counted place self.old.call) found place } }
     {
         // the step bound keeps the count within its type
         self.steps += 1;

@@ -3,18 +3,18 @@ use Rattle.std.specs.Prelude.{◌≡◌, ◌≢◌, ◌≤◌, ℕ, List, [], �
 use Rattle.of_mem.specs.Meaning.{Meaning}
 use Rattle.of_row.specs.declared.member.Member.{Member}
 use Rattle.of_row.specs.declared.row.Row.{Row}
-use Rattle.of_row.specs.Views.{reach, shown}
-use Rattle.of_row.specs.Rule.{EachCall}
+use Rattle.of_row.specs.Views.{seen_seq, seen_history}
+use Rattle.of_row.specs.Rule.{EachCallBetween}
 use Rattle.of_row.specs.Rows.{start_at}
 use Rattle.of_door.specs.declared.door.Door.{Door}
 use Rattle.of_door.specs.declared.door.Hand.{Hand}
 
 -- the row that the door is on, and the number of the member that goes through it
-abbrev pub row_at : {W : Type 0} → Door W → Row W
-row_at d = d.table.shared.key.row.value
+abbrev pub row_of_door : {W : Type 0} → Door W → Row W
+row_of_door d = d.table.shared.key.row.value
 
-abbrev pub number_at : {W : Type 0} → Door W → ℕ
-number_at d = d.table.shared.key.number
+abbrev pub number_of_door : {W : Type 0} → Door W → ℕ
+number_of_door d = d.table.shared.key.number
 
 -- the hand is on this door
 abbrev pub IsHandOf : {W : Type 0} → Door W → Hand → Type 0
@@ -28,16 +28,16 @@ abbrev pub stored_by : Hand → List ℕ
 stored_by h = h.seat.me.0.stored
 
 -- between these the hand has exchanged the word once, from w, and found it so, and has then stored n
-abbrev pub Went : (w n : ℕ) → (before now : Hand) → Type 0
-Went w n before now = (found_by now ≡ found_by before ++ w ∷ []) × (stored_by now ≡ stored_by before ++ n ∷ [])
+abbrev pub WentThrough : (w n : ℕ) → (before now : Hand) → Type 0
+WentThrough w n before now = (found_by now ≡ found_by before ++ w ∷ []) × (stored_by now ≡ stored_by before ++ n ∷ [])
 
 -- or it has found the word n, which isn't w, and stored nothing
-abbrev pub Missed : (w n : ℕ) → (before now : Hand) → Type 0
-Missed w n before now = (n ≢ w) × (found_by now ≡ found_by before ++ n ∷ []) × (stored_by now ≡ stored_by before)
+abbrev pub WasRefused : (w n : ℕ) → (before now : Hand) → Type 0
+WasRefused w n before now = (n ≢ w) × (found_by now ≡ found_by before ++ n ∷ []) × (stored_by now ≡ stored_by before)
 
 -- each of the member's calls in what it has seen has a ticket that it has begun
 abbrev pub TicketsUpTo : {W : Type 0} → (W → Meaning) → Row W → Member → Type 0
 TicketsUpTo meaning r m =
     let B = start_at meaning r in
     let seen = m.seat.me.0.seen in
-    EachCall B (shown seen) B.seq (reach B seen) (λ c. c.caller ≡ m.number → c.ticket ≤ m.made)
+    EachCallBetween B (seen_history seen) B.seq (seen_seq B seen) (λ c. c.caller ≡ m.number → c.ticket ≤ m.made)

@@ -2,9 +2,9 @@
 
 ghost use Rattle.std.specs.Prelude.{◌≡◌, ◌<◌, [], false, Some, IfOk, IfErr};
 ghost use mathlib.Core.List.{IsPrefix};
-ghost use Rattle.of_row.specs.Rows.{IsOf, HasNoCall, HasOwnCalls, HasCallsOnce, HasSeenLegal};
-ghost use Rattle.of_row.specs.Turned.{onlooker};
-ghost use Rattle.of_door.specs.Rule.{Rests, Taken};
+ghost use Rattle.of_row.specs.Rows.{IsSeatOf, HasNoCall, HasOwnCalls, HasCallsOnce, HasSeenLegal};
+ghost use Rattle.of_row.specs.Turned.{view_of_nobody};
+ghost use Rattle.of_door.specs.Rule.{IsMemberAtDoor, TakesSlot};
 
 use crate::plays::{Admits, Doubles, Law, Puts, Takes};
 use crate::trace::{Key, Trace};
@@ -38,14 +38,14 @@ pub struct Hand {
 }
 
 impl<W: Work> Door<W> {
-    ghost use Rattle.of_door.specs.Doors.{row_at, number_at, IsHandOf, found_by, stored_by};
-    ghost use Rattle.of_door.specs.Doors.{Went, Missed, TicketsUpTo};
+    ghost use Rattle.of_door.specs.Doors.{row_of_door, number_of_door, IsHandOf, found_by, stored_by};
+    ghost use Rattle.of_door.specs.Doors.{WentThrough, WasRefused, TicketsUpTo};
 
     /// A door of a row, for the member of a number, with its first hand. The error is that there is no
     /// memory.
     pub fn new(alloc: Global, row: &Row<W>, number: u32) -> Result<(Door<W>, Hand), AllocError>
-        ensures row { IfOk result (λ d. row_at d.0 ≡ row.now) }
-        ensures number { IfOk result (λ d. number_at d.0 ≡ number) }
+        ensures row { IfOk result (λ d. row_of_door d.0 ≡ row.now) }
+        ensures number { IfOk result (λ d. number_of_door d.0 ≡ number) }
         ensures hand { IfOk result (λ d. IsHandOf d.0 d.1) }
         ensures lists { IfOk result (λ d. (found_by d.1 ≡ []) × (stored_by d.1 ≡ [])) }
     {
@@ -71,13 +71,13 @@ impl<W: Work> Door<W> {
 
     // Exchanges the word, once, and takes the slot where it was `old`. Gives the word found.
     fn take<O: Admits<W>>(&self, seat: &mut Seat<Option<Member>, Trace>, old: u64) -> u64
-        requires row { O.at_row ≡ Some (row_at self.now) }
-        requires number { O.number ≡ number_at self.now }
+        requires row { O.at_row ≡ Some (row_of_door self.now) }
+        requires number { O.number ≡ number_of_door self.now }
         requires hand { seat.old.table_id ≡ self.now.table.shared.table_id }
         requires free { seat.old.me.0.holds ≡ false }
         requires old { old < 2 }
         ensures hand { seat.new.table_id ≡ seat.old.table_id }
-        ensures taken { Taken (Rests (row_at self.now) (number_at self.now)) old seat.old.me result
+        ensures taken { TakesSlot (IsMemberAtDoor (row_of_door self.now) (number_of_door self.now)) old seat.old.me result
             seat.new.me }
     {
         self.table
@@ -93,17 +93,17 @@ impl<W: Work> Door<W> {
         hand: &mut Hand,
         member: Member,
     ) -> Result<Pass, (Member, u64)>
-        requires row { row_at self.now ≡ row.now }
+        requires row { row_of_door self.now ≡ row.now }
         requires hand { IsHandOf self.now hand.old }
-        requires member { IsOf row.now member.seat }
-        requires number { member.number ≡ number_at self.now }
+        requires member { IsSeatOf row.now member.seat }
+        requires number { member.number ≡ number_of_door self.now }
         requires idle { HasNoCall member }
         ensures hand { IsHandOf self.now hand.new }
-        ensures pass { IfOk result (λ p. IsOf row.now p.seat) }
-        ensures seen { IfOk result (λ p. p.seat.me.0 ≡ onlooker member.seat.me.0) }
-        ensures left { IfOk result (λ p. Went 0 1 hand.old hand.new) }
+        ensures pass { IfOk result (λ p. IsSeatOf row.now p.seat) }
+        ensures seen { IfOk result (λ p. p.seat.me.0 ≡ view_of_nobody member.seat.me.0) }
+        ensures left { IfOk result (λ p. WentThrough 0 1 hand.old hand.new) }
         ensures member { IfErr result (λ e. e.0 ≡ member) }
-        ensures refused { IfErr result (λ e. Missed 0 e.1 hand.old hand.new) }
+        ensures refused { IfErr result (λ e. WasRefused 0 e.1 hand.old hand.new) }
     {
         let found = self.take::<Brand>(&mut hand.seat, NOBODY);
         if found != NOBODY {
@@ -120,13 +120,13 @@ impl<W: Work> Door<W> {
     /// knows all that the pass had seen, and goes on behind all its calls. Else the error hands the pass
     /// back, with the word found. The exchange is tried once.
     pub fn come(&self, row: &Row<W>, hand: &mut Hand, pass: Pass) -> Result<Member, (Pass, u64)>
-        requires row { row_at self.now ≡ row.now }
+        requires row { row_of_door self.now ≡ row.now }
         requires hand { IsHandOf self.now hand.old }
-        requires pass { IsOf row.now pass.seat }
+        requires pass { IsSeatOf row.now pass.seat }
         requires nobody { pass.seat.me.0.kept ≡ [] }
         ensures hand { IsHandOf self.now hand.new }
-        ensures row { IfOk result (λ m. IsOf row.now m.seat) }
-        ensures number { IfOk result (λ m. m.number ≡ number_at self.now) }
+        ensures row { IfOk result (λ m. IsSeatOf row.now m.seat) }
+        ensures number { IfOk result (λ m. m.number ≡ number_of_door self.now) }
         ensures idle { IfOk result HasNoCall }
         ensures seen { IfOk result (λ m. IsPrefix pass.seat.me.0.seen m.seat.me.0.seen) }
         ensures past { IfOk result (λ m. IsPrefix pass.seat.me.0.past m.seat.me.0.past) }
@@ -134,9 +134,9 @@ impl<W: Work> Door<W> {
         ensures once { IfOk result (λ m. HasCallsOnce W.meaning row.now m.seat) }
         ensures legal { IfOk result (λ m. HasSeenLegal W.meaning row.now m.seat) }
         ensures made { IfOk result (TicketsUpTo W.meaning row.now) }
-        ensures came { IfOk result (λ m. Went 1 0 hand.old hand.new) }
+        ensures came { IfOk result (λ m. WentThrough 1 0 hand.old hand.new) }
         ensures pass { IfErr result (λ e. e.0 ≡ pass) }
-        ensures refused { IfErr result (λ e. Missed 1 e.1 hand.old hand.new) }
+        ensures refused { IfErr result (λ e. WasRefused 1 e.1 hand.old hand.new) }
     {
         let found = self.take::<Brand>(&mut hand.seat, MEMBER);
         if found != MEMBER {

@@ -2,8 +2,8 @@
 
 ghost use Rattle.std.specs.Prelude.{ℕ, Option, None};
 ghost use Rattle.of_row.specs.declared.row.Row.{Row as Line};
-ghost use Rattle.of_door.specs.Hands.{nothing};
-ghost use Rattle.of_door.specs.Rule.{Ruled, Rests, RestsBy, Taken, Put};
+ghost use Rattle.of_door.specs.Hands.{no_exchange};
+ghost use Rattle.of_door.specs.Rule.{DoorMeetsRule, IsMemberAtDoor, IsMemberAtToldDoor, TakesSlot, GivesSlotBack};
 
 use crate::trace::{Key, Trace};
 use atomic_table::{Play, Split, TableRule};
@@ -17,9 +17,9 @@ pub struct Law<W> {
 }
 
 impl<W: Work> TableRule<Option<Member>, Trace, Key<W>> for Law<W> {
-    ghost holds = { λ key s. Ruled (Rests key.row.value key.number) s };
+    ghost holds = { λ key s. DoorMeetsRule (IsMemberAtDoor key.row.value key.number) s };
 
-    ghost first = { λ _. nothing };
+    ghost first = { λ _. no_exchange };
 }
 
 /// The row and the number of the member that may stand here, for the proof alone.
@@ -41,14 +41,14 @@ pub struct Takes<W, O> {
 }
 
 impl<W, O: Admits<W>> Play<Option<Member>, Trace> for Takes<W, O> {
-    ghost then = { λ st me found after. Taken (RestsBy O.at_row O.number) st.first me found after };
+    ghost then = { λ st me found after. TakesSlot (IsMemberAtToldDoor O.at_row O.number) st.first me found after };
 }
 
 /// A store of 0 or 1.
 pub struct Puts;
 
 impl Play<Option<Member>, Trace> for Puts {
-    ghost then = { λ st me found after. Put st.first me after };
+    ghost then = { λ st me found after. GivesSlotBack st.first me after };
 }
 
 /// A second hand is made, with the same lists.

@@ -18,9 +18,9 @@ pub struct Trace {
 }
 
 impl Model for Trace {
-    ghost use Rattle.of_door.specs.Hands.{Known, nothing};
+    ghost use Rattle.of_door.specs.Hands.{HandLog, no_exchange};
 
-    ghost Value = { Known };
+    ghost Value = { HandLog };
 
-    ghost view = { λ _. nothing };
+    ghost view = { λ _. no_exchange };
 }

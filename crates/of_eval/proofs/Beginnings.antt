@@ -7,27 +7,27 @@ use Rattle.std.proofs.lemmas.Bool.{cases_lt}
 use Rattle.std.proofs.lemmas.List.{get_or_past}
 use Rattle.of_mem.specs.declared.plot.Plot.{Plot}
 use Rattle.of_mem.specs.Places.{fresh_at}
-use Rattle.of_mem.specs.Plots.{base, size}
-use Rattle.of_mem.specs.ProgramWork.{memory}
-use Rattle.of_mem.specs.Stores.{front_at, link_at, first_at, value_in, total}
-use Rattle.of_store.specs.State.{State}
+use Rattle.of_mem.specs.Plots.{base, data_cell_count}
+use Rattle.of_mem.specs.ProgramWork.{memory_of}
+use Rattle.of_mem.specs.Stores.{front_at, link_at, first_at, value_in, blocks_in_chains}
+use Rattle.of_store.specs.State.{Store}
 use Rattle.of_mem.proofs.Heaps.{front_below, each_weaker, cell_in}
-use Rattle.of_eval.specs.Faults.{here}
-use Rattle.of_eval.specs.Walking.{HasBegun, Walked, Stepped, Freed, Before, HasRegisters, unmet}
+use Rattle.of_eval.specs.Faults.{pointer_cell}
+use Rattle.of_eval.specs.Walking.{HasBegun, HasWalked, LinkLeadsOn, HasWalkedFreeList, IsBeforeChain, HasRegisters, unmet_count}
 use Rattle.of_eval.proofs.Paintings.{unmet_set}
 use Rattle.of_eval.proofs.Passing.{Fits, counted_few, walked_on}
 
 zero_at : (l : List ℕ) → All (λ (x : ℕ). x ≡ 0) l → (b : ℕ) → get_or l b 0 ≡ 0
 zero_at l h b = elim (cases_lt b (length l)) [ inl k ↦ h b 0 k | inr k ↦ get_or_past l b 0 k ]
 
-unmet_all : (l : List ℕ) → ((b : ℕ) → get_or l b 0 ≡ 0) → unmet l ≡ length l
+unmet_all : (l : List ℕ) → ((b : ℕ) → get_or l b 0 ≡ 0) → unmet_count l ≡ length l
 unmet_all [] h = refl
-unmet_all (x ∷ l) h = let e : x ≡ 0 = h 0 in let r : unmet l ≡ length l = unmet_all l (λ b. h (suc b)) in rw e (omega (arith, r))
+unmet_all (x ∷ l) h = let e : x ≡ 0 = h 0 in let r : unmet_count l ≡ length l = unmet_all l (λ b. h (suc b)) in rw e (omega (arith, r))
 
-pub walked_none : (p : Plot) (cells owners : List ℕ) → HasBegun p cells → length owners ≡ memory cells (fresh_at (base p)) → All (λ (x : ℕ). x ≡ 0) owners → Walked p cells 0 0 (λ _. []) owners
+pub walked_none : (p : Plot) (cells owners : List ℕ) → HasBegun p cells → length owners ≡ memory_of cells (fresh_at (base p)) → All (λ (x : ℕ). x ≡ 0) owners → HasWalked p cells 0 0 (λ _. []) owners
 walked_none p cells owners begun sized zeros =
     let z : (b : ℕ) → get_or owners b 0 ≡ 0 = zero_at owners zeros in
-    let u : unmet owners ≡ length owners = unmet_all owners z in
+    let u : unmet_count owners ≡ length owners = unmet_all owners z in
     record {
       begun = begun;
       passed = record {
@@ -40,7 +40,7 @@ walked_none p cells owners begun sized zeros =
         buckets = λ k l. tt;
         items = λ q l. tt;
       };
-      counted = counted_few (base p) (memory cells) 0 (λ _. []) (omega arith);
+      counted = counted_few (base p) (memory_of cells) 0 (λ _. []) (omega arith);
       painted = record {
         sized = sized;
         paint = λ c b h. absurd h;
@@ -50,20 +50,20 @@ walked_none p cells owners begun sized zeros =
     }
 
 -- the pointer cell that is read next is among the data cells
-pub here_below : (p : Plot) (cells : List ℕ) (n k : ℕ) (chains : ℕ → List ℕ) (owners : List ℕ) → Walked p cells n k chains owners → n < 37 → here (base p) n chains < size p
+pub here_below : (p : Plot) (cells : List ℕ) (n k : ℕ) (chains : ℕ → List ℕ) (owners : List ℕ) → HasWalked p cells n k chains owners → n < 37 → pointer_cell (base p) n chains < data_cell_count p
 here_below p cells n k chains owners w l =
-    cell_in (base p) (λ a. a < size p) (front_at (base p) n) (chains n) (omega (arith, (front_below (base p) n l).1))
-    (each_weaker (λ b. (b < memory cells (fresh_at (base p))) × (w.passed.owner b ≡ n)) (λ b. link_at (base p) b < size p) (λ b h. omega (arith, h.0, w.begun.few)) (chains n) (w.passed.owned n))
+    cell_in (base p) (λ a. a < data_cell_count p) (front_at (base p) n) (chains n) (omega (arith, (front_below (base p) n l).1))
+    (each_weaker (λ b. (b < memory_of cells (fresh_at (base p))) × (w.passed.owner b ≡ n)) (λ b. link_at (base p) b < data_cell_count p) (λ b h. omega (arith, h.0, w.begun.few)) (chains n) (w.passed.owned n))
 
 -- each step meets a block
-pub stepped_smaller : (cells : List ℕ) (cell chain b : ℕ) (before after : List ℕ) → Stepped cells cell chain before after (Some b) → unmet after < unmet before
+pub stepped_smaller : (cells : List ℕ) (cell chain b : ℕ) (before after : List ℕ) → LinkLeadsOn cells cell chain before after (Some b) → unmet_count after < unmet_count before
 stepped_smaller cells cell chain b before after s =
-    let u : unmet (set before b (chain + 1)) + 1 ≡ unmet before = unmet_set before b (chain + 1) s.1 s.2 (λ q. omega (arith, q)) in
-    let e : unmet after ≡ unmet (set before b (chain + 1)) = ap unmet s.3 in
+    let u : unmet_count (set before b (chain + 1)) + 1 ≡ unmet_count before = unmet_set before b (chain + 1) s.1 s.2 (λ q. omega (arith, q)) in
+    let e : unmet_count after ≡ unmet_count (set before b (chain + 1)) = ap unmet_count s.3 in
     omega (arith, u, e)
 
 -- no step is the end of a chain
-pub stepped_end : (cells : List ℕ) (cell chain : ℕ) (before after : List ℕ) (o : Option ℕ) → ((b : ℕ) → o ≡ Some b → ⊥) → Stepped cells cell chain before after o → (memory cells cell ≡ 0) × (after ≡ before)
+pub stepped_end : (cells : List ℕ) (cell chain : ℕ) (before after : List ℕ) (o : Option ℕ) → ((b : ℕ) → o ≡ Some b → ⊥) → LinkLeadsOn cells cell chain before after o → (memory_of cells cell ≡ 0) × (after ≡ before)
 stepped_end cells cell chain before after None n s = s
 stepped_end cells cell chain before after (Some b) n s = absurd (n b refl)
 
@@ -72,35 +72,35 @@ pub fits_free : (o : ℕ) (m : ℕ → ℕ) (chains : ℕ → List ℕ) (b : ℕ
 fits_free o m chains b = record { bucket = λ k l e. absurd (omega (arith, e)); item = λ q l e. absurd (omega (arith, e)) }
 
 -- the free list ends
-pub freed : (p : Plot) (cells : List ℕ) (chains : ℕ → List ℕ) (owners after : List ℕ) (cell : ℕ) → Walked p cells 0 0 chains owners → cell ≡ here (base p) 0 chains → memory cells cell ≡ 0 → after ≡ owners → Freed p cells after
-freed p cells chains owners after cell w e z same = subst (λ (x : List ℕ). Freed p cells x) (sym same) (
+pub freed : (p : Plot) (cells : List ℕ) (chains : ℕ → List ℕ) (owners after : List ℕ) (cell : ℕ) → HasWalked p cells 0 0 chains owners → cell ≡ pointer_cell (base p) 0 chains → memory_of cells cell ≡ 0 → after ≡ owners → HasWalkedFreeList p cells after
+freed p cells chains owners after cell w e z same = subst (λ (x : List ℕ). HasWalkedFreeList p cells x) (sym same) (
     let on = walked_on p cells 0 0 chains owners w 1 cell refl e z in
     record {
       chains = chains;
-      walked = record { begun = w.begun; passed = on.passed; counted = counted_few (base p) (memory cells) 1 chains (omega arith); painted = w.painted };
+      walked = record { begun = w.begun; passed = on.passed; counted = counted_few (base p) (memory_of cells) 1 chains (omega arith); painted = w.painted };
       start = w.passed.others 1 (omega arith);
     })
 
 -- only the first chain has blocks
-total_first : (chains : ℕ → List ℕ) → ((c : ℕ) → 1 ≤ c → chains c ≡ []) → (n : ℕ) → total chains (suc n) ≡ length (chains 0)
+total_first : (chains : ℕ → List ℕ) → ((c : ℕ) → 1 ≤ c → chains c ≡ []) → (n : ℕ) → blocks_in_chains chains (suc n) ≡ length (chains 0)
 total_first chains h zero = omega arith
-total_first chains h (suc n) = let r : total chains (suc n) ≡ length (chains 0) = total_first chains h n in omega (arith, r, ap length (h (suc n) (omega arith)))
+total_first chains h (suc n) = let r : blocks_in_chains chains (suc n) ≡ length (chains 0) = total_first chains h n in omega (arith, r, ap length (h (suc n) (omega arith)))
 
 -- the buckets begin with a store that has the registers alone
-pub begins : (p : Plot) (cells owners : List ℕ) (s : State) → Freed p cells owners → HasRegisters p cells 16 s → Before p cells 1 0 owners s
+pub begins : (p : Plot) (cells owners : List ℕ) (s : Store) → HasWalkedFreeList p cells owners → HasRegisters p cells 16 s → IsBeforeChain p cells 1 0 owners s
 begins p cells owners s f r = record {
   chains = f.chains;
-  walked = record { begun = f.walked.begun; passed = f.walked.passed; counted = counted_few (base p) (memory cells) 0 f.chains (omega arith); painted = f.walked.painted };
+  walked = record { begun = f.walked.begun; passed = f.walked.passed; counted = counted_few (base p) (memory_of cells) 0 f.chains (omega arith); painted = f.walked.painted };
   kept = record {
     state = r.state;
     room = r.room;
     registers = r.registers;
-    values = λ key. ap (λ (m : fin.FinMap nat_cmp ℕ). fin.get m key) r.keys ∙ fin.get-empty nat_cmp key ∙ ap (value_in (base p) (memory cells) key) (sym (none (1 + key % 32) (omega arith)));
+    values = λ key. ap (λ (m : fin.FinMap nat_cmp ℕ). fin.get m key) r.keys ∙ fin.get-empty nat_cmp key ∙ ap (value_in (base p) (memory_of cells) key) (sym (none (1 + key % 32) (omega arith)));
     key_blocks =
         let t = total_first f.chains none 32 in
         let e : fin.len s.keys ≡ 0 = ap fin.len r.keys ∙ fin.len-empty nat_cmp ℕ in
         t ∙ omega (arith, e);
-    items = λ q l. ap (map (λ b. memory cells (first_at (base p) b))) (none (33 + q) (omega arith)) ∙ sym (r.queues q);
+    items = λ q l. ap (map (λ b. memory_of cells (first_at (base p) b))) (none (33 + q) (omega arith)) ∙ sym (r.queues q);
   };
   start = f.start;
 }

@@ -4,10 +4,10 @@ use Rattle.std.specs.List.{AllByRecursion as Each}
 use Rattle.std.proofs.lemmas.Bool.{cases_eq, cases_lt}
 use Rattle.of_mem.specs.Places.{fresh_at, keys_at}
 use Rattle.of_mem.specs.Numbers.{IsNumber}
-use Rattle.of_mem.specs.Stores.{IsChain, IsBucket, front_at, first_at, second_at, last_pointer, total}
+use Rattle.of_mem.specs.Stores.{IsChain, IsBucket, front_at, first_at, second_at, last_pointer, blocks_in_chains}
 use Rattle.of_mem.proofs.Heaps.{each_left, each_right, chain_apart, same_chain}
 use Rattle.of_mem.proofs.Frames.{bucket_split}
-use Rattle.of_eval.specs.Faults.{Has, IsMet, IsNoKey, Passed, Counted, ChainFault, CountFault, here}
+use Rattle.of_eval.specs.Faults.{Has, IsMet, IsNoKey, HasPassed, HasRightCounts, ChainFault, CountFault, pointer_cell}
 use Rattle.of_eval.specs.Faults.ChainFault.{Pointer, Key, Value, Item}
 use Rattle.of_eval.specs.Faults.CountFault.{Keys, Tail, Length}
 use Rattle.of_eval.proofs.Paths.{has_each, path_front}
@@ -42,35 +42,35 @@ pub same_block : (o : ℕ) (m : ℕ → ℕ) (cell b d : ℕ) → m cell ≡ b +
 same_block o m cell b d e f = omega (arith, e, f)
 
 -- where the chain goes on, there is no fault
-pub no_fault : (o : ℕ) (m : ℕ → ℕ) (n : ℕ) (chains : ℕ → List ℕ) (d : ℕ) (rest : List ℕ) (cell : ℕ) → m (here o n chains) ≡ d + 1 → GoesOn o m n chains d rest → ChainFault o m n chains cell → ⊥
-no_fault o m n chains d rest cell p g (Pointer l b e bad is) = go (same_block o m (here o n chains) b d e p) bad
+pub no_fault : (o : ℕ) (m : ℕ → ℕ) (n : ℕ) (chains : ℕ → List ℕ) (d : ℕ) (rest : List ℕ) (cell : ℕ) → m (pointer_cell o n chains) ≡ d + 1 → GoesOn o m n chains d rest → ChainFault o m n chains cell → ⊥
+no_fault o m n chains d rest cell p g (Pointer l b e bad is) = go (same_block o m (pointer_cell o n chains) b d e p) bad
   where
     go : b ≡ d → (m (fresh_at o) ≤ b) ⊎ IsMet chains b → ⊥
     go s (inl q) = omega (arith, s, q, g.below)
     go s (inr q) = g.unmet (subst (IsMet chains) s q)
 no_fault o m n chains d rest cell p g (Key k b k_in e l bad is) =
-    let s : b ≡ d = same_block o m (here o n chains) b d l.pointer p in
+    let s : b ≡ d = same_block o m (pointer_cell o n chains) b d l.pointer p in
     no_key o m k d (chains n) rest (g.bucket k k_in e) (subst (λ x. IsNoKey o m k (chains n) (m (first_at o x))) s bad)
 no_fault o m n chains d rest cell p g (Value k b k_in e l good bad is) =
-    let s : b ≡ d = same_block o m (here o n chains) b d l.pointer p in
+    let s : b ≡ d = same_block o m (pointer_cell o n chains) b d l.pointer p in
     bad (subst (λ x. IsNumber (m (second_at o x))) (sym s) (bucket_at o m k d (chains n) rest (g.bucket k k_in e)).2)
 no_fault o m n chains d rest cell p g (Item q b q_in e l bad is) =
-    let s : b ≡ d = same_block o m (here o n chains) b d l.pointer p in
+    let s : b ≡ d = same_block o m (pointer_cell o n chains) b d l.pointer p in
     bad (subst (λ x. IsNumber (m (first_at o x))) (sym s) (g.item q q_in e))
 
 -- each fault of a chain has a block behind its pointer
-pub fault_block : (o : ℕ) (m : ℕ → ℕ) (n : ℕ) (chains : ℕ → List ℕ) (cell : ℕ) → ChainFault o m n chains cell → (n < 37) × ((b : ℕ) × (m (here o n chains) ≡ b + 1))
+pub fault_block : (o : ℕ) (m : ℕ → ℕ) (n : ℕ) (chains : ℕ → List ℕ) (cell : ℕ) → ChainFault o m n chains cell → (n < 37) × ((b : ℕ) × (m (pointer_cell o n chains) ≡ b + 1))
 fault_block o m n chains cell (Pointer l b e bad is) = (l, (b, e))
 fault_block o m n chains cell (Key k b k_in e l bad is) = (omega (arith, k_in, e), (b, l.pointer))
 fault_block o m n chains cell (Value k b k_in e l good bad is) = (omega (arith, k_in, e), (b, l.pointer))
 fault_block o m n chains cell (Item q b q_in e l bad is) = (omega (arith, q_in, e), (b, l.pointer))
 
 -- chains that are walked to their end are those of every other walk
-pub same_chains : (o : ℕ) (m : ℕ → ℕ) (n k : ℕ) (chains others : ℕ → List ℕ) → Passed o m n chains → Whole o m k others → (c : ℕ) → c < n → c < k → chains c ≡ others c
+pub same_chains : (o : ℕ) (m : ℕ → ℕ) (n k : ℕ) (chains others : ℕ → List ℕ) → HasPassed o m n chains → Whole o m k others → (c : ℕ) → c < n → c < k → chains c ≡ others c
 same_chains o m n k chains others h w c l r = same_chain o m (front_at o c) (chains c) (others c) (h.linked c l) (w.linked c r)
 
 -- a whole chain goes on where the walk stands
-pub whole_goes_on : (o : ℕ) (m : ℕ → ℕ) (n k : ℕ) (chains others : ℕ → List ℕ) → Passed o m n chains → Whole o m k others → n < k → (b : ℕ) (rest : List ℕ) → others n ≡ chains n ++ b ∷ rest → GoesOn o m n chains b rest
+pub whole_goes_on : (o : ℕ) (m : ℕ → ℕ) (n k : ℕ) (chains others : ℕ → List ℕ) → HasPassed o m n chains → Whole o m k others → n < k → (b : ℕ) (rest : List ℕ) → others n ≡ chains n ++ b ∷ rest → GoesOn o m n chains b rest
 whole_goes_on o m n k chains others h w l b rest e =
     let own = each_right (λ x. (x < m (fresh_at o)) × (w.owner x ≡ n)) (chains n) (b ∷ rest) (subst (Each (λ x. (x < m (fresh_at o)) × (w.owner x ≡ n))) e (w.owned n l)) in
     record {
@@ -96,23 +96,23 @@ whole_goes_on o m n k chains others h w l b rest e =
     ]
 
 -- no chain with a fault is whole
-pub chain_excludes : (o : ℕ) (m : ℕ → ℕ) (n k : ℕ) (chains others : ℕ → List ℕ) (cell : ℕ) → Passed o m n chains → Whole o m k others → n < k → ChainFault o m n chains cell → ⊥
+pub chain_excludes : (o : ℕ) (m : ℕ → ℕ) (n k : ℕ) (chains others : ℕ → List ℕ) (cell : ℕ) → HasPassed o m n chains → Whole o m k others → n < k → ChainFault o m n chains cell → ⊥
 chain_excludes o m n k chains others cell h w l f = go front.0 front.1 front.2
   where
-    block : (b : ℕ) × (m (here o n chains) ≡ b + 1)
+    block : (b : ℕ) × (m (pointer_cell o n chains) ≡ b + 1)
     block = (fault_block o m n chains cell f).1
 
-    front : (rest : List ℕ) × (others n ≡ chains n ++ rest) × IsChain o m (here o n chains) rest
+    front : (rest : List ℕ) × (others n ≡ chains n ++ rest) × IsChain o m (pointer_cell o n chains) rest
     front = path_front o m (front_at o n) (chains n) (others n) h.path (w.linked n l)
 
-    go : (rest : List ℕ) → others n ≡ chains n ++ rest → IsChain o m (here o n chains) rest → ⊥
+    go : (rest : List ℕ) → others n ≡ chains n ++ rest → IsChain o m (pointer_cell o n chains) rest → ⊥
     go [] e c = omega (arith, c, block.1)
     go (b ∷ rest) e c = no_fault o m n chains b rest cell c.0 (whole_goes_on o m n k chains others h w l b rest e) f
 
-total_same : (chains others : ℕ → List ℕ) (n : ℕ) → ((c : ℕ) → c < n → chains c ≡ others c) → total chains n ≡ total others n
+total_same : (chains others : ℕ → List ℕ) (n : ℕ) → ((c : ℕ) → c < n → chains c ≡ others c) → blocks_in_chains chains n ≡ blocks_in_chains others n
 total_same chains others zero h = refl
 total_same chains others (suc n) h =
-    let r : total chains n ≡ total others n = total_same chains others n (λ c l. h c (omega arith)) in
+    let r : blocks_in_chains chains n ≡ blocks_in_chains others n = total_same chains others n (λ c l. h c (omega arith)) in
     let e : length (chains n) ≡ length (others n) = ap length (h n (omega arith)) in
     omega (arith, r, e)
 
@@ -123,7 +123,7 @@ count_in o m n chains cell (Tail q q_in e bad is) = omega (arith, e, q_in)
 count_in o m n chains cell (Length q q_in e right bad is) = omega (arith, e, q_in)
 
 -- no count with a fault is right
-pub count_excludes : (o : ℕ) (m : ℕ → ℕ) (n k : ℕ) (chains others : ℕ → List ℕ) (cell : ℕ) → ((c : ℕ) → c < n → chains c ≡ others c) → Counted o m k others → n ≤ k → CountFault o m n chains cell → ⊥
+pub count_excludes : (o : ℕ) (m : ℕ → ℕ) (n k : ℕ) (chains others : ℕ → List ℕ) (cell : ℕ) → ((c : ℕ) → c < n → chains c ≡ others c) → HasRightCounts o m k others → n ≤ k → CountFault o m n chains cell → ⊥
 count_excludes o m n k chains others cell same h l (Keys e bad is) =
     bad (ap (λ (x : List ℕ). m (keys_at o) + length x) (same 0 (omega (arith, e))) ∙ h.keys (omega (arith, e, l)) ∙ sym (total_same chains others 33 (λ c i. same c (omega (arith, e, i)))))
 count_excludes o m n k chains others cell same h l (Tail q q_in e bad is) =
@@ -131,12 +131,12 @@ count_excludes o m n k chains others cell same h l (Tail q q_in e bad is) =
 count_excludes o m n k chains others cell same h l (Length q q_in e right bad is) =
     bad (h.lengths q (omega (arith, e, l)) ∙ ap length (sym (same (33 + q) (omega (arith, e)))))
 
-pub all_same : (o : ℕ) (m : ℕ → ℕ) (n k : ℕ) (chains others : ℕ → List ℕ) → Passed o m n chains → Whole o m k others → n ≤ k → (c : ℕ) → c < n → chains c ≡ others c
+pub all_same : (o : ℕ) (m : ℕ → ℕ) (n k : ℕ) (chains others : ℕ → List ℕ) → HasPassed o m n chains → Whole o m k others → n ≤ k → (c : ℕ) → c < n → chains c ≡ others c
 all_same o m n k chains others h w l c i = same_chains o m n k chains others h w c i (omega arith)
 
 -- what the walk passed is whole
-pub whole_passed : (o : ℕ) (m : ℕ → ℕ) (n : ℕ) (chains : ℕ → List ℕ) → Passed o m n chains → Whole o m n chains
+pub whole_passed : (o : ℕ) (m : ℕ → ℕ) (n : ℕ) (chains : ℕ → List ℕ) → HasPassed o m n chains → Whole o m n chains
 whole_passed o m n chains h = record { linked = h.linked; owner = h.owner; owned = λ c l. h.owned c; buckets = λ k k_in l. h.buckets k k_in; items = λ q q_in l. h.items q q_in }
 
-pub total_passed : (chains others : ℕ → List ℕ) → ((c : ℕ) → c < 37 → chains c ≡ others c) → total chains 37 ≡ total others 37
+pub total_passed : (chains others : ℕ → List ℕ) → ((c : ℕ) → c < 37 → chains c ≡ others c) → blocks_in_chains chains 37 ≡ blocks_in_chains others 37
 total_passed chains others h = total_same chains others 37 h

@@ -6,16 +6,16 @@ use Rattle.std.proofs.lemmas.Bool.{ne_eqb, eqb-false}
 use Rattle.of_mem.specs.declared.plot.Plot.{Plot}
 use Rattle.of_mem.specs.Places.{fresh_at, keys_at}
 use Rattle.of_mem.specs.Plots.{base}
-use Rattle.of_mem.specs.ProgramWork.{memory}
+use Rattle.of_mem.specs.ProgramWork.{memory_of}
 use Rattle.of_mem.specs.Numbers.{IsNumber}
-use Rattle.of_mem.specs.Stores.{Stands, first_at, total}
-use Rattle.of_store.specs.State.{State}
-use Rattle.of_eval.specs.Stored.{plain}
-use Rattle.of_eval.specs.Lawful.{StandsFor}
+use Rattle.of_mem.specs.Stores.{StandsForStore, first_at, blocks_in_chains}
+use Rattle.of_store.specs.State.{Store}
+use Rattle.of_eval.specs.Stored.{cell_store}
+use Rattle.of_eval.specs.Lawful.{DataCellsStandFor}
 use Rattle.of_eval.specs.Faults.{IsFirstFault}
 use Rattle.of_eval.specs.Faults.CountFault.{Keys}
 use Rattle.of_eval.specs.Faults.IsFirstFault.{Count, Lost}
-use Rattle.of_eval.specs.Walking.{Before, unmet}
+use Rattle.of_eval.specs.Walking.{IsBeforeChain, unmet_count}
 use Rattle.of_eval.proofs.Passing.{counted_few}
 use Rattle.of_eval.proofs.Filling.{lengths}
 
@@ -23,29 +23,29 @@ each_map : (P : ℕ → Type 0) (f : ℕ → ℕ) (l : List ℕ) → Each (λ b.
 each_map P f [] h = tt
 each_map P f (b ∷ l) h = (h.0, each_map P f l h.1)
 
-pub unmet_none : (l : List ℕ) → ((b : ℕ) → b < length l → get_or l b 0 ≢ 0) → unmet l ≡ 0
+pub unmet_none : (l : List ℕ) → ((b : ℕ) → b < length l → get_or l b 0 ≢ 0) → unmet_count l ≡ 0
 unmet_none [] h = refl
 unmet_none (x ∷ l) h =
-    let r : unmet l ≡ 0 = unmet_none l (λ b k. h (suc b) (omega arith)) in
+    let r : unmet_count l ≡ 0 = unmet_none l (λ b k. h (suc b) (omega arith)) in
     rw (ne_eqb x 0 (h 0 (omega arith))) (omega (arith, r))
 
-pub none_unmet : (l : List ℕ) → unmet l ≡ 0 → (b : ℕ) → b < length l → get_or l b 0 ≢ 0
+pub none_unmet : (l : List ℕ) → unmet_count l ≡ 0 → (b : ℕ) → b < length l → get_or l b 0 ≢ 0
 none_unmet [] e b k = absurd (omega arith)
 none_unmet (x ∷ l) e zero k = go (eqb x 0) refl e
   where
-    go : (t : Bool) → eqb x 0 ≡ t → cond t 1 0 + unmet l ≡ 0 → x ≢ 0
+    go : (t : Bool) → eqb x 0 ≡ t → cond t 1 0 + unmet_count l ≡ 0 → x ≢ 0
     go true q h = absurd (omega (arith, h))
     go false q h = eqb-false x 0 q
 none_unmet (x ∷ l) e (suc b) k = none_unmet l (go (eqb x 0) e) b (omega arith)
   where
-    go : (t : Bool) → cond t 1 0 + unmet l ≡ 0 → unmet l ≡ 0
+    go : (t : Bool) → cond t 1 0 + unmet_count l ≡ 0 → unmet_count l ≡ 0
     go true h = absurd (omega (arith, h))
     go false h = omega (arith, h)
 
-module _ (p : Plot) (cells owners : List ℕ) (s : State) where
-  pub keys_right : (cell : ℕ) → cell ≡ keys_at (base p) → memory cells cell ≡ fin.len s.keys → Before p cells 33 0 owners s → Before p cells 33 33 owners s
+module _ (p : Plot) (cells owners : List ℕ) (s : Store) where
+  pub keys_right : (cell : ℕ) → cell ≡ keys_at (base p) → memory_of cells cell ≡ fin.len s.keys → IsBeforeChain p cells 33 0 owners s → IsBeforeChain p cells 33 33 owners s
   keys_right cell is e h =
-      let here : memory cells (keys_at (base p)) ≡ fin.len s.keys = ap (memory cells) (sym is) ∙ e in
+      let here : memory_of cells (keys_at (base p)) ≡ fin.len s.keys = ap (memory_of cells) (sym is) ∙ e in
       record {
         chains = h.chains;
         walked = record {
@@ -58,28 +58,28 @@ module _ (p : Plot) (cells owners : List ℕ) (s : State) where
         start = h.start;
       }
 
-  pub keys_fault : (cell : ℕ) → cell ≡ keys_at (base p) → memory cells cell ≢ fin.len s.keys → Before p cells 33 0 owners s → IsFirstFault p.callers p.instrs p.blocks (memory cells) cell
-  keys_fault cell is n h = Count h.walked.begun 32 h.chains h.walked.passed (counted_few (base p) (memory cells) 32 h.chains (omega arith)) h.start
-      (Keys refl (λ e. n (ap (memory cells) is ∙ len (memory cells (keys_at (base p))) e)) is)
+  pub keys_fault : (cell : ℕ) → cell ≡ keys_at (base p) → memory_of cells cell ≢ fin.len s.keys → IsBeforeChain p cells 33 0 owners s → IsFirstFault p.callers p.instrs p.blocks (memory_of cells) cell
+  keys_fault cell is n h = Count h.walked.begun 32 h.chains h.walked.passed (counted_few (base p) (memory_of cells) 32 h.chains (omega arith)) h.start
+      (Keys refl (λ e. n (ap (memory_of cells) is ∙ len (memory_of cells (keys_at (base p))) e)) is)
     where
-      len : (n : ℕ) → n + length (h.chains 0) ≡ total h.chains 33 → n ≡ fin.len s.keys
-      len n e = let k : total h.chains 33 ≡ length (h.chains 0) + fin.len s.keys = h.kept.key_blocks in let both : n + length (h.chains 0) ≡ length (h.chains 0) + fin.len s.keys = e ∙ k in omega (arith, both)
+      len : (n : ℕ) → n + length (h.chains 0) ≡ blocks_in_chains h.chains 33 → n ≡ fin.len s.keys
+      len n e = let k : blocks_in_chains h.chains 33 ≡ length (h.chains 0) + fin.len s.keys = h.kept.key_blocks in let both : n + length (h.chains 0) ≡ length (h.chains 0) + fin.len s.keys = e ∙ k in omega (arith, both)
 
-  module _ (h : Before p cells 37 37 owners s) where
-    pub lost : (cell : ℕ) → cell ≡ fresh_at (base p) → unmet owners ≢ 0 → IsFirstFault p.callers p.instrs p.blocks (memory cells) cell
-    lost cell is n = Lost h.walked.begun h.chains h.walked.passed h.walked.counted h.start (λ e. n (left (total h.chains 37) h.walked.painted.counted e)) is
+  module _ (h : IsBeforeChain p cells 37 37 owners s) where
+    pub lost : (cell : ℕ) → cell ≡ fresh_at (base p) → unmet_count owners ≢ 0 → IsFirstFault p.callers p.instrs p.blocks (memory_of cells) cell
+    lost cell is n = Lost h.walked.begun h.chains h.walked.passed h.walked.counted h.start (λ e. n (left (blocks_in_chains h.chains 37) h.walked.painted.counted e)) is
       where
-        left : (t : ℕ) → t + unmet owners ≡ memory cells (fresh_at (base p)) → t ≡ memory cells (fresh_at (base p)) → unmet owners ≡ 0
+        left : (t : ℕ) → t + unmet_count owners ≡ memory_of cells (fresh_at (base p)) → t ≡ memory_of cells (fresh_at (base p)) → unmet_count owners ≡ 0
         left t e k = omega (arith, e, k)
 
-    stands : unmet owners ≡ 0 → Stands (base p) p.blocks (memory cells) (plain s)
+    stands : unmet_count owners ≡ 0 → StandsForStore (base p) p.blocks (memory_of cells) (cell_store s)
     stands none = record {
       chains = h.chains;
       owner = h.walked.passed.owner;
       heap = record {
         linked = h.walked.passed.linked;
         owned = λ c l. h.walked.passed.owned c;
-        counted = all (total h.chains 37) h.walked.painted.counted;
+        counted = all (blocks_in_chains h.chains 37) h.walked.painted.counted;
         few = h.walked.begun.few;
       };
       none_out = h.start;
@@ -87,11 +87,11 @@ module _ (p : Plot) (cells owners : List ℕ) (s : State) where
         registers = λ r l. (h.kept.registers r l, h.walked.begun.registers r l);
         values = h.kept.values;
         buckets = h.walked.passed.buckets;
-        keys = len (memory cells (keys_at (base p))) (h.walked.counted.keys (omega arith));
+        keys = len (memory_of cells (keys_at (base p))) (h.walked.counted.keys (omega arith));
         key_blocks = h.kept.key_blocks;
         queues = λ q l. record {
           listed = h.kept.items q l;
-          numbers = subst (λ (x : List ℕ). Each IsNumber x) (h.kept.items q l) (each_map IsNumber (λ b. memory cells (first_at (base p) b)) (h.chains (33 + q)) (h.walked.passed.items q l));
+          numbers = subst (λ (x : List ℕ). Each IsNumber x) (h.kept.items q l) (each_map IsNumber (λ b. memory_of cells (first_at (base p) b)) (h.chains (33 + q)) (h.walked.passed.items q l));
           ends = h.walked.counted.tails q (omega arith);
           counted = h.walked.counted.lengths q (omega arith) ∙ lengths p cells h.chains s h.kept q l;
         };
@@ -100,11 +100,11 @@ module _ (p : Plot) (cells owners : List ℕ) (s : State) where
       sixteen = h.kept.state.registers;
     }
       where
-        all : (t : ℕ) → t + unmet owners ≡ memory cells (fresh_at (base p)) → t + length (h.chains 37) ≡ memory cells (fresh_at (base p))
+        all : (t : ℕ) → t + unmet_count owners ≡ memory_of cells (fresh_at (base p)) → t + length (h.chains 37) ≡ memory_of cells (fresh_at (base p))
         all t e = omega (arith, e, none, ap length h.start)
 
-        len : (n : ℕ) → n + length (h.chains 0) ≡ total h.chains 33 → n ≡ fin.len s.keys
-        len n e = let k : total h.chains 33 ≡ length (h.chains 0) + fin.len s.keys = h.kept.key_blocks in let both : n + length (h.chains 0) ≡ length (h.chains 0) + fin.len s.keys = e ∙ k in omega (arith, both)
+        len : (n : ℕ) → n + length (h.chains 0) ≡ blocks_in_chains h.chains 33 → n ≡ fin.len s.keys
+        len n e = let k : blocks_in_chains h.chains 33 ≡ length (h.chains 0) + fin.len s.keys = h.kept.key_blocks in let both : n + length (h.chains 0) ≡ length (h.chains 0) + fin.len s.keys = e ∙ k in omega (arith, both)
 
-    pub stand_for : unmet owners ≡ 0 → StandsFor p.callers p.instrs p.blocks (memory cells) s
+    pub stand_for : unmet_count owners ≡ 0 → DataCellsStandFor p.callers p.instrs p.blocks (memory_of cells) s
     stand_for none = record { own = h.walked.begun.own; stored = record { state = h.kept.state; stands = stands none } }

@@ -7,19 +7,19 @@ use Rattle.std.proofs.lemmas.Bool.{cases_eq, ne_eqb}
 use Rattle.std.proofs.lemmas.List.{append-nil, length-map, map-append, get_or-set_same, get_or-set_other}
 use Rattle.of_mem.specs.declared.plot.Plot.{Plot}
 use Rattle.of_mem.specs.Plots.{base}
-use Rattle.of_mem.specs.ProgramWork.{memory}
+use Rattle.of_mem.specs.ProgramWork.{memory_of}
 use Rattle.of_mem.specs.Numbers.{IsNumber}
-use Rattle.of_mem.specs.Stores.{IsBucket, first_at, second_at, value_in, total}
+use Rattle.of_mem.specs.Stores.{IsBucket, first_at, second_at, value_in, blocks_in_chains}
 use Rattle.of_mem.proofs.Changes.{changed_same, changed_other, changed_cases, total_changed, total_changed_past}
 use Rattle.of_mem.proofs.Frames.{none_value, value_without}
 use Rattle.of_mem.proofs.Heaps.{each_append}
 use Rattle.of_alloc.proofs.Leaving.{keys_tie}
 use Rattle.of_script.specs.Language.{greatest}
-use Rattle.of_store.specs.State.{State, kept, queue, with_key, with_queue}
+use Rattle.of_store.specs.State.{Store, stored_count, queue, with_key, with_queue}
 use Rattle.of_store.proofs.Kept.{kept_put}
 use Rattle.of_store.proofs.Keeps.{put_keeps, queue_keeps, small_pushed}
 use Rattle.of_eval.specs.Instructions.{things_kept}
-use Rattle.of_eval.specs.Walking.{Kept}
+use Rattle.of_eval.specs.Walking.{HoldsWhatWasMet}
 use Rattle.of_eval.proofs.Passing.{with_block}
 
 -- a bucket with one block more
@@ -36,28 +36,28 @@ value_last o m key b (x ∷ l) n e = rw (ne_eqb (m (first_at o x)) key n.0) (val
 value_past : (o : ℕ) (m : ℕ → ℕ) (key b : ℕ) (l : List ℕ) → m (first_at o b) ≢ key → value_in o m key (l ++ b ∷ []) ≡ value_in o m key l
 value_past o m key b l n = sym (value_without o m key b l [] n) ∙ ap (value_in o m key) (append-nil l)
 
-module _ (p : Plot) (cells : List ℕ) (chains : ℕ → List ℕ) (s : State) (h : Kept p cells chains s) where
+module _ (p : Plot) (cells : List ℕ) (chains : ℕ → List ℕ) (s : Store) (h : HoldsWhatWasMet p cells chains s) where
   abbrev o : ℕ
   o = base p
 
   abbrev m : ℕ → ℕ
-  m = memory cells
+  m = memory_of cells
 
   pub lengths : (q : ℕ) → q < 4 → length (chains (33 + q)) ≡ length (queue s q)
   lengths q l = sym (length-map (chains (33 + q)) (λ (b : ℕ). m (first_at o b))) ∙ ap length (h.items q l)
 
   -- as many things are kept as blocks stand behind the free list
-  pub kept_blocks : kept s + length (chains 0) ≡ total chains 37
+  pub kept_blocks : stored_count s + length (chains 0) ≡ blocks_in_chains chains 37
   kept_blocks =
-      let t : total chains 37 ≡ total chains 33 + length (chains 33) + length (chains 34) + length (chains 35) + length (chains 36) = refl in
+      let t : blocks_in_chains chains 37 ≡ blocks_in_chains chains 33 + length (chains 33) + length (chains 34) + length (chains 35) + length (chains 36) = refl in
       omega (arith, t, things_kept s h.state, h.key_blocks, lengths 0 (omega arith), lengths 1 (omega arith), lengths 2 (omega arith), lengths 3 (omega arith))
 
   module _ (n k b : ℕ) (k_in : k < 32) (n_is : n ≡ 1 + k) (here : m (first_at o b) % 32 ≡ k) (key_small : m (first_at o b) ≤ greatest) (value_small : m (second_at o b) ≤ greatest)
-      (absent : fin.get s.keys (m (first_at o b)) ≡ None) (room : kept s < s.room) where
+      (absent : fin.get s.keys (m (first_at o b)) ≡ None) (room : stored_count s < s.room) where
     abbrev chains' : ℕ → List ℕ
     chains' = with_block chains n b
 
-    abbrev s' : State
+    abbrev s' : Store
     s' = with_key s (m (first_at o b)) (m (second_at o b))
 
     -- the key is in no block of its bucket
@@ -83,7 +83,7 @@ module _ (p : Plot) (cells : List ℕ) (chains : ℕ → List ℕ) (s : State) (
           (λ q. h.values key)
     ]
 
-    pub bucket_kept : Kept p cells chains' s'
+    pub bucket_kept : HoldsWhatWasMet p cells chains' s'
     bucket_kept =
         let more = kept_put s (m (first_at o b)) (m (second_at o b)) None absent in
         record {
@@ -99,11 +99,11 @@ module _ (p : Plot) (cells : List ℕ) (chains : ℕ → List ℕ) (s : State) (
           items = λ q q_in. ap (map (λ x. m (first_at o x))) (changed_other chains n (chains n ++ b ∷ []) (33 + q) (λ e. omega (arith, e, n_is, k_in))) ∙ h.items q q_in;
         }
 
-  module _ (n q b : ℕ) (q_in : q < 4) (n_is : n ≡ 33 + q) (small : m (first_at o b) ≤ greatest) (room : kept s < s.room) where
+  module _ (n q b : ℕ) (q_in : q < 4) (n_is : n ≡ 33 + q) (small : m (first_at o b) ≤ greatest) (room : stored_count s < s.room) where
     abbrev chains'' : ℕ → List ℕ
     chains'' = with_block chains n b
 
-    abbrev s'' : State
+    abbrev s'' : Store
     s'' = with_queue s q (queue s q ++ m (first_at o b) ∷ [])
 
     items'' : (r : ℕ) → r < 4 → map (λ x. m (first_at o x)) (chains'' (33 + r)) ≡ queue s'' r
@@ -119,7 +119,7 @@ module _ (p : Plot) (cells : List ℕ) (chains : ℕ → List ℕ) (s : State) (
           ∙ sym (get_or-set_other s.queues q r (queue s q ++ m (first_at o b) ∷ []) [] e)
     ]
 
-    pub queue_kept : Kept p cells chains'' s''
+    pub queue_kept : HoldsWhatWasMet p cells chains'' s''
     queue_kept =
         let l = length-append (queue s q) (m (first_at o b) ∷ []) in
         record {

@@ -1,31 +1,31 @@
 -- Words that look for a key before all else.
 use Rattle.std.proofs.Common.{◌≡◌, ℕ, refl, ◌∙◌, ap, Option, Some}
-use Rattle.of_mem.specs.Pad.{Pad}
-use Rattle.of_mem.specs.Programs.{Program, Lacks, run, then_do}
+use Rattle.of_mem.specs.Pad.{Part}
+use Rattle.of_mem.specs.Programs.{Program, Lacks, run_program, then_do}
 use Rattle.of_mem.proofs.Runs.{run_then_needs}
-use Rattle.of_map.specs.MapPrograms.{seek_program, got, put_found, del_found}
+use Rattle.of_map.specs.MapPrograms.{seek_program, get_at, put_found, del_found}
 use Rattle.of_script.specs.declared.instr.Instr.{Instr}
 use Rattle.of_script.specs.declared.instr.Instr.TheVariants.{Get, Put, Del, Need}
 use Rattle.of_script.specs.Reading.{instr_at}
-use Rattle.of_eval.specs.ScriptPrograms.{Answer, answers, put_answers, need_answers, instr_program, program_of, word_program}
+use Rattle.of_eval.specs.ScriptPrograms.{InstrResult, answer_program, put_answers, need_answers, instr_program, program_of, word_program}
 use Rattle.of_eval.specs.Stopped.{LooksFor}
 
 -- a word is that of an instruction that begins with the walk
 module _ (w key : ℕ) (i : Instr) (is : instr_at w ≡ Some i) where
-  looks_for : {A B : Type 0} (o blocks : ℕ) (walk : Program A) (first : A → Program B) (second : B → Program Answer)
-      → instr_program o blocks i ≡ then_do (then_do walk first) second → (p : Pad) (a : ℕ) → run walk p ≡ Lacks a → run (word_program o blocks w) p ≡ Lacks a
+  looks_for : {A B : Type 0} (o blocks : ℕ) (walk : Program A) (first : A → Program B) (second : B → Program InstrResult)
+      → instr_program o blocks i ≡ then_do (then_do walk first) second → (p : Part) (a : ℕ) → run_program walk p ≡ Lacks a → run_program (word_program o blocks w) p ≡ Lacks a
   looks_for o blocks walk first second begins p a lacks =
-      ap (λ (x : Option Instr). run (program_of o blocks x) p) is ∙ ap (λ (f : Program Answer). run f p) begins
+      ap (λ (x : Option Instr). run_program (program_of o blocks x) p) is ∙ ap (λ (f : Program InstrResult). run_program f p) begins
       ∙ run_then_needs (then_do walk first) second p a (run_then_needs walk first p a lacks)
 
 pub looks_get : (w key : ℕ) → instr_at w ≡ Some (Get key) → (o blocks : ℕ) → LooksFor o blocks w key
-looks_get w key is o blocks = looks_for w key (Get key) is o blocks (seek_program o blocks key) (got o) answers refl
+looks_get w key is o blocks = looks_for w key (Get key) is o blocks (seek_program o blocks key) (get_at o) answer_program refl
 
 pub looks_put : (w key v : ℕ) → instr_at w ≡ Some (Put key v) → (o blocks : ℕ) → LooksFor o blocks w key
 looks_put w key v is o blocks = looks_for w key (Put key v) is o blocks (seek_program o blocks key) (put_found o blocks key v) put_answers refl
 
 pub looks_del : (w key : ℕ) → instr_at w ≡ Some (Del key) → (o blocks : ℕ) → LooksFor o blocks w key
-looks_del w key is o blocks = looks_for w key (Del key) is o blocks (seek_program o blocks key) (del_found o) answers refl
+looks_del w key is o blocks = looks_for w key (Del key) is o blocks (seek_program o blocks key) (del_found o) answer_program refl
 
 pub looks_need : (w key v : ℕ) → instr_at w ≡ Some (Need key v) → (o blocks : ℕ) → LooksFor o blocks w key
-looks_need w key v is o blocks = looks_for w key (Need key v) is o blocks (seek_program o blocks key) (got o) (need_answers v) refl
+looks_need w key v is o blocks = looks_for w key (Need key v) is o blocks (seek_program o blocks key) (get_at o) (need_answers v) refl

@@ -7,22 +7,22 @@ use Rattle.std.proofs.lemmas.Bool.{false≢true}
 use Rattle.std.proofs.lemmas.List.{append_assoc, take_more, drop_more, get_or-drop, length-take-le}
 use Rattle.std.specs.Bool.{then_some}
 use Rattle.of_script.specs.declared.instr.TheConstants.{MOST_INSTRS}
-use Rattle.of_eval.specs.Shapes.{mark, mask_of}
+use Rattle.of_eval.specs.Shapes.{mark_bit, mask_of}
 use Rattle.of_eval.specs.Reading.{marked_in}
 use Rattle.of_eval.specs.ShapeLaws.{mask_below}
 
 half_below : (m n : ℕ) → m < 2 ^ suc n → m / 2 < 2 ^ n
 half_below m n l = grind arith
 
-mask_push : (vs : List (Option ℕ)) (v : Option ℕ) → mask_of (vs ++ v ∷ []) ≡ mask_of vs + mark v * 2 ^ length vs
+mask_push : (vs : List (Option ℕ)) (v : Option ℕ) → mask_of (vs ++ v ∷ []) ≡ mask_of vs + mark_bit v * 2 ^ length vs
 mask_push [] v = omega arith
-mask_push (x ∷ vs) v = let again : mask_of (vs ++ v ∷ []) ≡ mask_of vs + mark v * 2 ^ length vs = mask_push vs v in rw again (grind arith)
+mask_push (x ∷ vs) v = let again : mask_of (vs ++ v ∷ []) ≡ mask_of vs + mark_bit v * 2 ^ length vs = mask_push vs v in rw again (grind arith)
 
 -- the marks of one value more
-pub mask_more : (vs : List (Option ℕ)) (i : ℕ) → i < length vs → mask_of (take (i + 1) vs) ≡ mask_of (take i vs) + mark (get_or vs i None) * 2 ^ i
-mask_more vs i l = ap mask_of (take_more vs i None l) ∙ mask_push (take i vs) (get_or vs i None) ∙ ap (λ (n : ℕ). mask_of (take i vs) + mark (get_or vs i None) * 2 ^ n) (length-take-le i vs (omega arith))
+pub mask_more : (vs : List (Option ℕ)) (i : ℕ) → i < length vs → mask_of (take (i + 1) vs) ≡ mask_of (take i vs) + mark_bit (get_or vs i None) * 2 ^ i
+mask_more vs i l = ap mask_of (take_more vs i None l) ∙ mask_push (take i vs) (get_or vs i None) ∙ ap (λ (n : ℕ). mask_of (take i vs) + mark_bit (get_or vs i None) * 2 ^ n) (length-take-le i vs (omega arith))
 
-half_marked : (mask c : ℕ) (cs : List ℕ) → mask_of (marked_in (mask / 2) cs) ≡ mask / 2 → (t : Bool) → (mask % 2 == 1) ≡ t → mark (then_some t c) + 2 * mask_of (marked_in (mask / 2) cs) ≡ mask
+half_marked : (mask c : ℕ) (cs : List ℕ) → mask_of (marked_in (mask / 2) cs) ≡ mask / 2 → (t : Bool) → (mask % 2 == 1) ≡ t → mark_bit (then_some t c) + 2 * mask_of (marked_in (mask / 2) cs) ≡ mask
 half_marked mask c cs again true e = let odd : mask % 2 ≡ 1 = grind (arith, nat_tests) in omega (arith, odd, again)
 half_marked mask c cs again false e = let even : mask % 2 ≢ 1 = grind (arith, nat_tests) in omega (arith, even, again)
 
@@ -56,7 +56,7 @@ marked_again [] (c ∷ cs) e h = absurd (omega arith)
 marked_again (v ∷ vs) [] e h = absurd (omega arith)
 marked_again (v ∷ vs) (c ∷ cs) e h = go (marked_again vs cs (omega arith) (λ i. h (suc i))) v (h 0)
   where
-    go : marked_in (mask_of vs) cs ≡ vs → (x : Option ℕ) → ((w : ℕ) → x ≡ Some w → c ≡ w) → marked_in (mark x + 2 * mask_of vs) (c ∷ cs) ≡ x ∷ vs
+    go : marked_in (mask_of vs) cs ≡ vs → (x : Option ℕ) → ((w : ℕ) → x ≡ Some w → c ≡ w) → marked_in (mark_bit x + 2 * mask_of vs) (c ∷ cs) ≡ x ∷ vs
     go again None k =
         let half : (0 + 2 * mask_of vs) / 2 ≡ mask_of vs = omega arith in
         let even : ((0 + 2 * mask_of vs) % 2 == 1) ≡ false = (let e : (0 + 2 * mask_of vs) % 2 ≡ 0 = omega arith in grind (arith, nat_tests)) in
@@ -139,14 +139,14 @@ with_number vs i l k e = go (get_or vs i None) refl
   where
     go : (v : Option ℕ) → get_or vs i None ≡ v → mask_of (take i vs) + 1 * 2 ^ i % 4294967296 ≡ mask_of (take (i + 1) vs)
     go None q = absurd (false≢true (sym (ap is_some q) ∙ e))
-    go (Some v) q = let m = mask_more vs i l in let b = bit_small i k in let s : mark (get_or vs i None) ≡ 1 = ap mark q in rw (m, s) (omega (arith, b))
+    go (Some v) q = let m = mask_more vs i l in let b = bit_small i k in let s : mark_bit (get_or vs i None) ≡ 1 = ap mark_bit q in rw (m, s) (omega (arith, b))
 
 pub with_none : (vs : List (Option ℕ)) (i : ℕ) → i < length vs → is_some (get_or vs i None) ≡ false → mask_of (take i vs) ≡ mask_of (take (i + 1) vs)
 with_none vs i l e = go (get_or vs i None) refl
   where
     go : (v : Option ℕ) → get_or vs i None ≡ v → mask_of (take i vs) ≡ mask_of (take (i + 1) vs)
     go (Some v) q = absurd (false≢true (sym e ∙ ap is_some q))
-    go None q = let m = mask_more vs i l in let s : mark (get_or vs i None) ≡ 0 = ap mark q in rw (m, s) (omega arith)
+    go None q = let m = mask_more vs i l in let s : mark_bit (get_or vs i None) ≡ 0 = ap mark_bit q in rw (m, s) (omega arith)
 
 -- values with none from place n on have the mask of the first n
 pub mask_all : (vs : List (Option ℕ)) (n : ℕ) → ((i : ℕ) → n ≤ i → get_or vs i None ≡ None) → mask_of (take n vs) ≡ mask_of vs
@@ -156,7 +156,7 @@ mask_all (v ∷ vs) zero h =
     let here : v ≡ None = h 0 (omega arith) in
     let rest : 0 ≡ mask_of vs = mask_all vs 0 (λ i l. h (suc i) (omega arith)) in
     rw here (omega (arith, rest))
-mask_all (v ∷ vs) (suc n) h = ap (λ (m : ℕ). mark v + 2 * m) (mask_all vs n (λ i l. h (suc i) (omega arith)))
+mask_all (v ∷ vs) (suc n) h = ap (λ (m : ℕ). mark_bit v + 2 * m) (mask_all vs n (λ i l. h (suc i) (omega arith)))
 
 -- so many places of a word
 pub bit_is : (n : ℕ) → n ≤ MOST_INSTRS → 1 * 2 ^ n % 4294967296 ≡ 2 ^ n

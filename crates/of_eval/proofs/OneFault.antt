@@ -6,8 +6,8 @@ use Rattle.of_mem.specs.Places.{base_of, register_at, fresh_at, tail_at, length_
 use Rattle.of_mem.specs.Numbers.{IsNumber}
 use Rattle.of_mem.specs.Stores.{IsBucket, front_at, first_at, second_at, link_at, cell_after, last_pointer}
 use Rattle.of_mem.proofs.Heaps.{each_right}
-use Rattle.of_eval.specs.Lawful.{OwnStand}
-use Rattle.of_eval.specs.Faults.{Has, IsPath, IsMet, IsNoKey, LeadsOn, OwnFault, Begun, Passed, Counted, ChainFault, CountFault, IsFirstFault, here}
+use Rattle.of_eval.specs.Lawful.{OwnCellsAreSound}
+use Rattle.of_eval.specs.Faults.{Has, IsPath, IsMet, IsNoKey, LeadsToNewBlock, OwnFault, HasSoundHead, HasPassed, HasRightCounts, ChainFault, CountFault, IsFirstFault, pointer_cell}
 use Rattle.of_eval.specs.Faults.ChainFault.{Pointer, Key, Value, Item}
 use Rattle.of_eval.specs.Faults.CountFault.{Keys, Tail, Length}
 use Rattle.of_eval.specs.Faults.IsFirstFault.{Own, Register, Fresh, Chain, Count, Lost}
@@ -54,7 +54,7 @@ once_apart (a ∷ l) rest b h (inr k) = once_apart l rest b (λ i j d lt within.
 
 module _ (o : ℕ) (m : ℕ → ℕ) (n : ℕ) where
   -- a longer walk goes on where the shorter stands
-  passed_goes_on : (chains others : ℕ → List ℕ) → Passed o m n chains → Passed o m n others → (b : ℕ) (rest : List ℕ) → others n ≡ chains n ++ b ∷ rest → GoesOn o m n chains b rest
+  passed_goes_on : (chains others : ℕ → List ℕ) → HasPassed o m n chains → HasPassed o m n others → (b : ℕ) (rest : List ℕ) → others n ≡ chains n ++ b ∷ rest → GoesOn o m n chains b rest
   passed_goes_on chains others h g b rest e =
       let own = (each_right (λ x. (x < m (fresh_at o)) × (g.owner x ≡ n)) (chains n) (b ∷ rest) (subst (Each (λ x. (x < m (fresh_at o)) × (g.owner x ≡ n))) e (g.owned n))).0 in
       record {
@@ -77,14 +77,14 @@ module _ (o : ℕ) (m : ℕ → ℕ) (n : ℕ) where
       ]
 
   -- at a pointer to a block that is bad, no walk goes on
-  stuck : (chains : ℕ → List ℕ) (b d : ℕ) → m (here o n chains) ≡ b + 1 → (m (fresh_at o) ≤ b) ⊎ IsMet chains b → LeadsOn o m n chains d → ⊥
-  stuck chains b d e (inl q) l = let s = same_block o m (here o n chains) b d e l.pointer in omega (arith, s, q, l.below)
-  stuck chains b d e (inr q) l = l.unmet (subst (IsMet chains) (same_block o m (here o n chains) b d e l.pointer) q)
+  stuck : (chains : ℕ → List ℕ) (b d : ℕ) → m (pointer_cell o n chains) ≡ b + 1 → (m (fresh_at o) ≤ b) ⊎ IsMet chains b → LeadsToNewBlock o m n chains d → ⊥
+  stuck chains b d e (inl q) l = let s = same_block o m (pointer_cell o n chains) b d e l.pointer in omega (arith, s, q, l.below)
+  stuck chains b d e (inr q) l = l.unmet (subst (IsMet chains) (same_block o m (pointer_cell o n chains) b d e l.pointer) q)
 
   -- a key that is none is not one that is
-  key_value : (chains : ℕ → List ℕ) (k k' b d : ℕ) → n ≡ 1 + k → n ≡ 1 + k' → LeadsOn o m n chains b → LeadsOn o m n chains d → IsNoKey o m k (chains n) (m (first_at o b)) → (IsNoKey o m k' (chains n) (m (first_at o d)) → ⊥) → ⊥
+  key_value : (chains : ℕ → List ℕ) (k k' b d : ℕ) → n ≡ 1 + k → n ≡ 1 + k' → LeadsToNewBlock o m n chains b → LeadsToNewBlock o m n chains d → IsNoKey o m k (chains n) (m (first_at o b)) → (IsNoKey o m k' (chains n) (m (first_at o d)) → ⊥) → ⊥
   key_value chains k k' b d f f' g g' bad good =
-      let s : b ≡ d = same_block o m (here o n chains) b d g.pointer g'.pointer in
+      let s : b ≡ d = same_block o m (pointer_cell o n chains) b d g.pointer g'.pointer in
       let t : k ≡ k' = omega (arith, f, f') in
       good (subst (λ z. IsNoKey o m z (chains n) (m (first_at o d))) t (subst (λ z. IsNoKey o m k (chains n) (m (first_at o z))) s bad))
 
@@ -97,18 +97,18 @@ module _ (o : ℕ) (m : ℕ → ℕ) (n : ℕ) where
   fault_same chains x y (Key k d k_in f g bad' is') (Pointer l b e bad is) = absurd (stuck chains b d e bad g)
   fault_same chains x y (Value k d k_in f g good bad' is') (Pointer l b e bad is) = absurd (stuck chains b d e bad g)
   fault_same chains x y (Item q d q_in f g bad' is') (Pointer l b e bad is) = absurd (stuck chains b d e bad g)
-  fault_same chains x y (Key k b k_in f g bad is) (Key k' d k_in' f' g' bad' is') = is ∙ ap (first_at o) (same_block o m (here o n chains) b d g.pointer g'.pointer) ∙ sym is'
+  fault_same chains x y (Key k b k_in f g bad is) (Key k' d k_in' f' g' bad' is') = is ∙ ap (first_at o) (same_block o m (pointer_cell o n chains) b d g.pointer g'.pointer) ∙ sym is'
   fault_same chains x y (Key k b k_in f g bad is) (Value k' d k_in' f' g' good bad' is') = absurd (key_value chains k k' b d f f' g g' bad good)
   fault_same chains x y (Key k b k_in f g bad is) (Item q d q_in f' g' bad' is') = absurd (omega (arith, f, f', k_in))
   fault_same chains x y (Value k b k_in f g good bad is) (Key k' d k_in' f' g' bad' is') = absurd (key_value chains k' k d b f' f g' g bad' good)
-  fault_same chains x y (Value k b k_in f g good bad is) (Value k' d k_in' f' g' good' bad' is') = is ∙ ap (second_at o) (same_block o m (here o n chains) b d g.pointer g'.pointer) ∙ sym is'
+  fault_same chains x y (Value k b k_in f g good bad is) (Value k' d k_in' f' g' good' bad' is') = is ∙ ap (second_at o) (same_block o m (pointer_cell o n chains) b d g.pointer g'.pointer) ∙ sym is'
   fault_same chains x y (Value k b k_in f g good bad is) (Item q d q_in f' g' bad' is') = absurd (omega (arith, f, f', k_in))
   fault_same chains x y (Item q b q_in f g bad is) (Key k d k_in f' g' bad' is') = absurd (omega (arith, f, f', k_in))
   fault_same chains x y (Item q b q_in f g bad is) (Value k d k_in f' g' good bad' is') = absurd (omega (arith, f, f', k_in))
-  fault_same chains x y (Item q b q_in f g bad is) (Item q' d q_in' f' g' bad' is') = is ∙ ap (first_at o) (same_block o m (here o n chains) b d g.pointer g'.pointer) ∙ sym is'
+  fault_same chains x y (Item q b q_in f g bad is) (Item q' d q_in' f' g' bad' is') = is ∙ ap (first_at o) (same_block o m (pointer_cell o n chains) b d g.pointer g'.pointer) ∙ sym is'
 
   -- two faults of one chain
-  chains_one : (chains others : ℕ → List ℕ) (x y : ℕ) → Passed o m n chains → Passed o m n others → ChainFault o m n chains x → ChainFault o m n others y → x ≡ y
+  chains_one : (chains others : ℕ → List ℕ) (x y : ℕ) → HasPassed o m n chains → HasPassed o m n others → ChainFault o m n chains x → ChainFault o m n others y → x ≡ y
   chains_one chains others x y h g f k = go (compare o m (front_at o n) (chains n) (others n) h.path g.path)
     where
       same : chains n ≡ others n → (c : ℕ) → chains c ≡ others c
@@ -151,7 +151,7 @@ module _ (callers instrs blocks : ℕ) (m : ℕ → ℕ) where
   abbrev First : ℕ → Type 0
   First = IsFirstFault callers instrs blocks m
 
-  own_vs : (x y c : ℕ) → c < callers → ((d : ℕ) → d < c → OwnStand instrs m d) → OwnFault instrs m c x → First y → x ≡ y
+  own_vs : (x y c : ℕ) → c < callers → ((d : ℕ) → d < c → OwnCellsAreSound instrs m d) → OwnFault instrs m c x → First y → x ≡ y
   own_vs x y c l before f (Own d k before' g) = elim (cases_lt c d) [
     | inl i ↦ absurd (own_excludes instrs m c x (before' c i) f)
     | inr i ↦ elim (cases_lt d c) [
@@ -165,7 +165,7 @@ module _ (callers instrs blocks : ℕ) (m : ℕ → ℕ) where
   own_vs x y c l before f (Count b n chains p k start g) = absurd (own_excludes instrs m c x (b.own c l) f)
   own_vs x y c l before f (Lost b chains p k start bad e) = absurd (own_excludes instrs m c x (b.own c l) f)
 
-  register_vs : (x y : ℕ) → ((c : ℕ) → c < callers → OwnStand instrs m c) → (r : ℕ) → r < 16 → ((q : ℕ) → q < r → IsNumber (m (register_at o q))) → (IsNumber (m (register_at o r)) → ⊥) → x ≡ register_at o r → First y → x ≡ y
+  register_vs : (x y : ℕ) → ((c : ℕ) → c < callers → OwnCellsAreSound instrs m c) → (r : ℕ) → r < 16 → ((q : ℕ) → q < r → IsNumber (m (register_at o q))) → (IsNumber (m (register_at o r)) → ⊥) → x ≡ register_at o r → First y → x ≡ y
   register_vs x y own r l before bad e (Own d k before' g) = absurd (own_excludes instrs m d y (own d k) g)
   register_vs x y own r l before bad e (Register own' q k before' bad' e') = elim (cases_lt r q) [
     | inl i ↦ absurd (bad (before' r i))
@@ -179,7 +179,7 @@ module _ (callers instrs blocks : ℕ) (m : ℕ → ℕ) where
   register_vs x y own r l before bad e (Count b n chains p k start g) = absurd (bad (b.registers r l))
   register_vs x y own r l before bad e (Lost b chains p k start bad' e') = absurd (bad (b.registers r l))
 
-  fresh_vs : (x y : ℕ) → ((c : ℕ) → c < callers → OwnStand instrs m c) → ((r : ℕ) → r < 16 → IsNumber (m (register_at o r))) → blocks < m (fresh_at o) → x ≡ fresh_at o → First y → x ≡ y
+  fresh_vs : (x y : ℕ) → ((c : ℕ) → c < callers → OwnCellsAreSound instrs m c) → ((r : ℕ) → r < 16 → IsNumber (m (register_at o r))) → blocks < m (fresh_at o) → x ≡ fresh_at o → First y → x ≡ y
   fresh_vs x y own registers bad e (Own d k before g) = absurd (own_excludes instrs m d y (own d k) g)
   fresh_vs x y own registers bad e (Register own' q k before bad' e') = absurd (bad' (registers q k))
   fresh_vs x y own registers bad e (Fresh own' registers' bad' e') = e ∙ sym e'
@@ -188,9 +188,9 @@ module _ (callers instrs blocks : ℕ) (m : ℕ → ℕ) where
   fresh_vs x y own registers bad e (Lost b chains p k start bad' e') = absurd (omega (arith, bad, b.few))
 
   -- nothing before the chains is at fault where they have begun
-  begun_vs : (y : ℕ) → Begun callers instrs blocks m → First y → (A : Type 0) → ((n : ℕ) (chains : ℕ → List ℕ) → Passed o m n chains → Counted o m n chains → ChainFault o m n chains y → A)
-      → ((n : ℕ) (chains : ℕ → List ℕ) → Passed o m (1 + n) chains → Counted o m n chains → CountFault o m (1 + n) chains y → A)
-      → ((chains : ℕ → List ℕ) → Passed o m 37 chains → Counted o m 37 chains → y ≡ fresh_at o → A) → A
+  begun_vs : (y : ℕ) → HasSoundHead callers instrs blocks m → First y → (A : Type 0) → ((n : ℕ) (chains : ℕ → List ℕ) → HasPassed o m n chains → HasRightCounts o m n chains → ChainFault o m n chains y → A)
+      → ((n : ℕ) (chains : ℕ → List ℕ) → HasPassed o m (1 + n) chains → HasRightCounts o m n chains → CountFault o m (1 + n) chains y → A)
+      → ((chains : ℕ → List ℕ) → HasPassed o m 37 chains → HasRightCounts o m 37 chains → y ≡ fresh_at o → A) → A
   begun_vs y h (Own d k before g) A chain count lost = absurd (own_excludes instrs m d y (h.own d k) g)
   begun_vs y h (Register own q k before bad e) A chain count lost = absurd (bad (h.registers q k))
   begun_vs y h (Fresh own registers bad e) A chain count lost = absurd (omega (arith, bad, h.few))
@@ -199,25 +199,25 @@ module _ (callers instrs blocks : ℕ) (m : ℕ → ℕ) where
   begun_vs y h (Lost b chains p k start bad e) A chain count lost = lost chains p k e
 
   -- a fault of a chain and one of a count exclude each other
-  chain_count : (x y n k : ℕ) (chains others : ℕ → List ℕ) → Passed o m n chains → Counted o m n chains → ChainFault o m n chains x → Passed o m (1 + k) others → CountFault o m (1 + k) others y → ⊥
+  chain_count : (x y n k : ℕ) (chains others : ℕ → List ℕ) → HasPassed o m n chains → HasRightCounts o m n chains → ChainFault o m n chains x → HasPassed o m (1 + k) others → CountFault o m (1 + k) others y → ⊥
   chain_count x y n k chains others p c f q g = elim (cases_lt n (1 + k)) [
     | inl i ↦ chain_excludes o m n (1 + k) chains others x p (whole_passed o m (1 + k) others q) i f
     | inr i ↦ count_excludes o m (1 + k) n others chains y (all_same o m (1 + k) n others chains q (whole_passed o m n chains p) i) c i g
   ]
 
-  chain_vs : (x y : ℕ) → Begun callers instrs blocks m → (n : ℕ) (chains : ℕ → List ℕ) → Passed o m n chains → Counted o m n chains → ChainFault o m n chains x → First y → x ≡ y
+  chain_vs : (x y : ℕ) → HasSoundHead callers instrs blocks m → (n : ℕ) (chains : ℕ → List ℕ) → HasPassed o m n chains → HasRightCounts o m n chains → ChainFault o m n chains x → First y → x ≡ y
   chain_vs x y b n chains p c f h = begun_vs y b h (x ≡ y)
       (λ k others q d g. elim (cases_lt n k) [
         | inl i ↦ absurd (chain_excludes o m n k chains others x p (whole_passed o m k others q) i f)
         | inr i ↦ elim (cases_lt k n) [
           | inl j ↦ absurd (chain_excludes o m k n others chains y q (whole_passed o m n chains p) j g)
-          | inr j ↦ (let s : k ≡ n = omega arith in chains_one o m n chains others x y p (subst (λ z. Passed o m z others) s q) f (subst (λ z. ChainFault o m z others y) s g))
+          | inr j ↦ (let s : k ≡ n = omega arith in chains_one o m n chains others x y p (subst (λ z. HasPassed o m z others) s q) f (subst (λ z. ChainFault o m z others y) s g))
         ]
       ])
       (λ k others q d g. absurd (chain_count x y n k chains others p c f q g))
       (λ others q d e. absurd (chain_excludes o m n 37 chains others x p (whole_passed o m 37 others q) (fault_block o m n chains x f).0 f))
 
-  count_vs : (x y : ℕ) → Begun callers instrs blocks m → (n : ℕ) (chains : ℕ → List ℕ) → Passed o m (1 + n) chains → Counted o m n chains → CountFault o m (1 + n) chains x → First y → x ≡ y
+  count_vs : (x y : ℕ) → HasSoundHead callers instrs blocks m → (n : ℕ) (chains : ℕ → List ℕ) → HasPassed o m (1 + n) chains → HasRightCounts o m n chains → CountFault o m (1 + n) chains x → First y → x ≡ y
   count_vs x y b n chains p c f h = begun_vs y b h (x ≡ y)
       (λ k others q d g. absurd (chain_count y x k n others chains q d g p f))
       (λ k others q d g. elim (cases_lt n k) [
@@ -230,7 +230,7 @@ module _ (callers instrs blocks : ℕ) (m : ℕ → ℕ) where
       (λ others q d e. absurd (let l : 1 + n ≤ 37 = (let k = count_in o m (1 + n) chains x f in omega (arith, k)) in
       count_excludes o m (1 + n) 37 chains others x (all_same o m (1 + n) 37 chains others p (whole_passed o m 37 others q) l) d l f))
 
-  lost_vs : (x y : ℕ) → Begun callers instrs blocks m → (chains : ℕ → List ℕ) → Passed o m 37 chains → Counted o m 37 chains → x ≡ fresh_at o → First y → x ≡ y
+  lost_vs : (x y : ℕ) → HasSoundHead callers instrs blocks m → (chains : ℕ → List ℕ) → HasPassed o m 37 chains → HasRightCounts o m 37 chains → x ≡ fresh_at o → First y → x ≡ y
   lost_vs x y b chains p c e h = begun_vs y b h (x ≡ y)
       (λ k others q d g. absurd (chain_excludes o m k 37 others chains y q (whole_passed o m 37 chains p) (fault_block o m k others y g).0 g))
       (λ k others q d g. absurd (let l : 1 + k ≤ 37 = (let i = count_in o m (1 + k) others y g in omega (arith, i)) in

@@ -4,15 +4,15 @@ use Rattle.std.specs.Option.{unwrap_or}
 use Rattle.std.specs.List.{AllByRecursion as Each}
 use Rattle.std.proofs.lemmas.Bool.{lt-ltb, le-ltb, ltb-true, false≢true}
 use Rattle.of_mem.specs.declared.work.RawReply.{RawReply}
-use Rattle.of_mem.specs.Pairs.{value_at}
-use Rattle.of_mem.specs.Pad.{Pad, newest, newer, over}
+use Rattle.of_mem.specs.Pairs.{value_for}
+use Rattle.of_mem.specs.Pad.{Part, newest_at, newer_of, overlaid}
 use Rattle.of_mem.specs.declared.plot.Plot.{Plot}
 use Rattle.of_mem.specs.Plots.{base}
 use Rattle.of_mem.specs.Places.{cells_at, register_at, fresh_at, keys_at, tail_at, length_at}
-use Rattle.of_mem.specs.Programs.{Program, Ran, Lacks, Ends, run, IsPartOf}
+use Rattle.of_mem.specs.Programs.{Program, RunEnd, Lacks, Ends, run_program, IsPartOf}
 use Rattle.of_mem.specs.Meaning.{Needs, Gives, Agrees}
-use Rattle.of_mem.specs.ProgramWork.{memory, fresh_pad, walked}
-use Rattle.of_mem.specs.Stores.{Store, Stands, front_at, link_at, first_at, second_at}
+use Rattle.of_mem.specs.ProgramWork.{memory_of, fresh_part, walk_of_run}
+use Rattle.of_mem.specs.Stores.{CellStore, StandsForStore, front_at, link_at, first_at, second_at}
 use Rattle.of_mem.proofs.Counts.{blocks_below}
 use Rattle.of_mem.proofs.Frames.{SameBlocks, value_same, bucket_same, queue_same}
 use Rattle.of_mem.proofs.Heaps.{front_below, chain_copy}
@@ -21,17 +21,17 @@ use Rattle.of_mem.proofs.Sounds.{part_fresh}
 use Rattle.of_script.specs.declared.instr.TheConstants.{MOST_INSTRS}
 use Rattle.of_script.specs.declared.instr.Reply.{Reply}
 use Rattle.of_script.specs.declared.instr.Abort.{Abort}
-use Rattle.of_store.specs.State.{State}
+use Rattle.of_store.specs.State.{Store}
 use Rattle.of_eval.specs.declared.scripts.Scripts.{Scripts}
-use Rattle.of_eval.specs.Shapes.{IsWhole, cells_of, mask_of, abort_part}
+use Rattle.of_eval.specs.Shapes.{IsWhole, reply_cells, mask_of, abort_part}
 use Rattle.of_eval.specs.ShapeLaws.{code_some, mask_width}
-use Rattle.of_eval.specs.Stored.{plain, IsStored, HasState}
+use Rattle.of_eval.specs.Stored.{cell_store, IsStored, HasState}
 use Rattle.of_eval.specs.ScriptPrograms.{script_program}
-use Rattle.of_eval.specs.Scripts.{store_at, cells_in, LawfulCells, is_success, scripts_meaning}
+use Rattle.of_eval.specs.Scripts.{store_at, data_cells_of, LawfulCells, is_success, scripts_meaning}
 use Rattle.of_eval.specs.SoundScripts.{script_run}
 
 -- Only cells of the store are looked at.
-module _ (o blocks : ℕ) (m n : ℕ → ℕ) (same : (a : ℕ) → o ≤ a → a < cells_at o blocks → m a ≡ n a) (s : Store) (h : Stands o blocks m s) where
+module _ (o blocks : ℕ) (m n : ℕ → ℕ) (same : (a : ℕ) → o ≤ a → a < cells_at o blocks → m a ≡ n a) (s : CellStore) (h : StandsForStore o blocks m s) where
   back : (a : ℕ) → o ≤ a → a < cells_at o blocks → n a ≡ m a
   back a l k = sym (same a l k)
 
@@ -46,7 +46,7 @@ module _ (o blocks : ℕ) (m n : ℕ → ℕ) (same : (a : ℕ) → o ≤ a → 
   chain_same : (c : ℕ) → c < 38 → SameBlocks o m n (h.chains c)
   chain_same c l = blocks_same (h.chains c) (blocks_below o blocks m s h c l)
 
-  pub stands_below : Stands o blocks n s
+  pub stands_below : StandsForStore o blocks n s
   stands_below =
       let fresh : n (fresh_at o) ≡ m (fresh_at o) = back (fresh_at o) (omega arith) (omega arith) in
       record {
@@ -76,7 +76,7 @@ is_none_of None = true
 is_none_of (Some a) = false
 
 -- a success is a reply with no abort
-pub whole_success : (r : Reply) → IsWhole r → (o : Option Abort) → r.abort ≡ o → is_success (cells_of r) ≡ is_none_of o
+pub whole_success : (r : Reply) → IsWhole r → (o : Option Abort) → r.abort ≡ o → is_success (reply_cells r) ≡ is_none_of o
 whole_success r h None e =
     let k : mask_of r.values < 2 ^ length r.values = mask_width r.values in
     let small : mask_of r.values < 2 ^ MOST_INSTRS = subst (λ (n : ℕ). mask_of r.values < 2 ^ n) h.width k in
@@ -92,63 +92,63 @@ an_abort None e = absurd (false≢true e)
 an_abort (Some a) e = refl
 
 -- the writes of a reply with no abort are kept
-pub kept_when : (r : Reply) (x : RawReply) (q p : Pad) → IsWhole r → is_some r.abort ≡ false → p ≡ q → x ≡ cells_of r → Gives (cond (is_success (cells_of r)) q.script []) (cells_of r) ≡ Gives p.script x
+pub kept_when : (r : Reply) (x : RawReply) (q p : Part) → IsWhole r → is_some r.abort ≡ false → p ≡ q → x ≡ reply_cells r → Gives (cond (is_success (reply_cells r)) q.script []) (reply_cells r) ≡ Gives p.script x
 kept_when r x q p h e same is = rw (whole_success r h r.abort refl ∙ no_abort r.abort e) (λ i. Gives (sym same i).script (sym is i))
 
 -- those of an abort are dropped
-pub dropped_when : (r : Reply) (x : RawReply) (q p : Pad) → IsWhole r → is_some r.abort ≡ true → p.script ≡ [] → x ≡ cells_of r → Gives (cond (is_success (cells_of r)) q.script []) (cells_of r) ≡ Gives p.script x
+pub dropped_when : (r : Reply) (x : RawReply) (q p : Part) → IsWhole r → is_some r.abort ≡ true → p.script ≡ [] → x ≡ reply_cells r → Gives (cond (is_success (reply_cells r)) q.script []) (reply_cells r) ≡ Gives p.script x
 dropped_when r x q p h e none is = rw (whole_success r h r.abort refl ∙ an_abort r.abort e) (λ i. Gives (sym none i) (sym is i))
 
-alike_gives : (keeps : RawReply → Bool) (x : Ran RawReply) (r : RawReply) (q : Pad) → RunsAlike x (Ends r q) → walked keeps x ≡ Gives (cond (keeps r) q.script []) r
+alike_gives : (keeps : RawReply → Bool) (x : RunEnd RawReply) (r : RawReply) (q : Part) → RunsAlike x (Ends r q) → walk_of_run keeps x ≡ Gives (cond (keeps r) q.script []) r
 alike_gives keeps (Lacks a) r q h = absurd h
 alike_gives keeps (Ends s p) r q h = λ i. Gives (cond (keeps (h.0 i)) (h.1 i) []) (h.0 i)
 
-alike_needs : (keeps : RawReply → Bool) (x : Ran RawReply) (a : ℕ) → RunsAlike x (Lacks a) → walked keeps x ≡ Needs a
+alike_needs : (keeps : RawReply → Bool) (x : RunEnd RawReply) (a : ℕ) → RunsAlike x (Lacks a) → walk_of_run keeps x ≡ Needs a
 alike_needs keeps (Lacks b) a h = ap Needs h
 alike_needs keeps (Ends s p) a h = absurd h
 
 -- what a run asks of its part of memory
-abbrev pub IsPartOfLawful : Scripts → Pad → Type 0
-IsPartOfLawful w p = (xs : List ℕ) × (length xs ≡ cells_in w) × LawfulCells w xs × Agrees (over p.known p.batch) xs
+abbrev pub IsPartOfLawful : Scripts → Part → Type 0
+IsPartOfLawful w p = (xs : List ℕ) × (length xs ≡ data_cells_of w) × LawfulCells w xs × Agrees (overlaid p.known p.batch) xs
 
-module _ (w : Scripts) (p : Pad) (a : IsPartOfLawful w p) (size : length p.known ≡ cells_in w) (empty : p.script ≡ []) where
+module _ (w : Scripts) (p : Part) (a : IsPartOfLawful w p) (size : length p.known ≡ data_cells_of w) (empty : p.script ≡ []) where
   -- the list's cells, and past them whatever is known
   abbrev whole : ℕ → ℕ
-  whole x = cond (ltb x (cells_in w)) (memory a.0 x) (unwrap_or (newest p x) 0)
+  whole x = cond (ltb x (data_cells_of w)) (memory_of a.0 x) (unwrap_or (newest_at p x) 0)
 
-  inside : (x : ℕ) → x < cells_in w → memory a.0 x ≡ whole x
-  inside x l = rw (lt-ltb x (cells_in w) l) refl
+  inside : (x : ℕ) → x < data_cells_of w → memory_of a.0 x ≡ whole x
+  inside x l = rw (lt-ltb x (data_cells_of w) l) refl
 
-  newest_over : (x : ℕ) → x < cells_in w → newest p x ≡ get_or (over p.known p.batch) x None
-  unfolding newest
-  newest_over x l = ap (λ (es : List (ℕ × ℕ)). newer (value_at es x) (newer (value_at p.batch x) (get_or p.known x None))) empty ∙ sym (over_at p.known p.batch x (omega (arith, size, l)))
+  newest_over : (x : ℕ) → x < data_cells_of w → newest_at p x ≡ get_or (overlaid p.known p.batch) x None
+  unfolding newest_at
+  newest_over x l = ap (λ (es : List (ℕ × ℕ)). newer_of (value_for es x) (newer_of (value_for p.batch x) (get_or p.known x None))) empty ∙ sym (over_at p.known p.batch x (omega (arith, size, l)))
 
-  is_part : (x v : ℕ) → newest p x ≡ Some v → whole x ≡ v
-  is_part x v e = go (ltb x (cells_in w)) refl
+  is_part : (x v : ℕ) → newest_at p x ≡ Some v → whole x ≡ v
+  is_part x v e = go (ltb x (data_cells_of w)) refl
     where
-      go : (t : Bool) → ltb x (cells_in w) ≡ t → cond t (memory a.0 x) (unwrap_or (newest p x) 0) ≡ v
-      go true k = a.3 x v (sym (newest_over x (ltb-true x (cells_in w) k)) ∙ e)
+      go : (t : Bool) → ltb x (data_cells_of w) ≡ t → cond t (memory_of a.0 x) (unwrap_or (newest_at p x) 0) ≡ v
+      go true k = a.3 x v (sym (newest_over x (ltb-true x (data_cells_of w) k)) ∙ e)
       go false k = ap (λ (y : Option ℕ). unwrap_or y 0) e
 
   -- it is part of a memory that stands for the list's store
-  pub has_state : (m : ℕ → ℕ) × (s : State) × IsPartOf p m × IsStored (store_at w) w.blocks m s
-  has_state = (whole, a.2.0, is_part, record { state = a.2.1.state; stands = stands_below (store_at w) w.blocks (memory a.0) whole (λ x l k. inside x k) (plain a.2.0) a.2.1.stands })
+  pub has_state : (m : ℕ → ℕ) × (s : Store) × IsPartOf p m × IsStored (store_at w) w.blocks m s
+  has_state = (whole, a.2.0, is_part, record { state = a.2.1.state; stands = stands_below (store_at w) w.blocks (memory_of a.0) whole (λ x l k. inside x k) (cell_store a.2.0) a.2.1.stands })
 
   module _ (op : List ℕ) where
     abbrev program : Program RawReply
     program = script_program (store_at w) w.blocks op
 
-    alike : RunsAlike (run program (fresh_pad (over p.known p.batch))) (run program p)
-    alike = run_alike (store_at w) (cells_in w) program (fresh_pad (over p.known p.batch)) p (memory a.0)
+    alike : RunsAlike (run_program program (fresh_part (overlaid p.known p.batch))) (run_program program p)
+    alike = run_alike (store_at w) (data_cells_of w) program (fresh_part (overlaid p.known p.batch)) p (memory_of a.0)
         (record { below = λ x l. over_at p.known p.batch x (omega (arith, size, l)); script = sym empty })
-        (part_fresh (over p.known p.batch) a.0 a.3)
-        (script_run (store_at w) w.blocks w.few_blocks op (memory a.0) a.2.0 a.2.1).inside
+        (part_fresh (overlaid p.known p.batch) a.0 a.3)
+        (script_run (store_at w) w.blocks w.few_blocks op (memory_of a.0) a.2.0 a.2.1).inside
 
-    pub walk_gives : (r : RawReply) (q : Pad) → run program p ≡ Ends r q → (scripts_meaning w).walk (over p.known p.batch) op ≡ Gives (cond (is_success r) q.script []) r
-    walk_gives r q e = alike_gives is_success (run program (fresh_pad (over p.known p.batch))) r q (subst (RunsAlike (run program (fresh_pad (over p.known p.batch)))) e alike)
+    pub walk_gives : (r : RawReply) (q : Part) → run_program program p ≡ Ends r q → (scripts_meaning w).walk (overlaid p.known p.batch) op ≡ Gives (cond (is_success r) q.script []) r
+    walk_gives r q e = alike_gives is_success (run_program program (fresh_part (overlaid p.known p.batch))) r q (subst (RunsAlike (run_program program (fresh_part (overlaid p.known p.batch)))) e alike)
 
-    pub walk_needs : (x : ℕ) → run program p ≡ Lacks x → (scripts_meaning w).walk (over p.known p.batch) op ≡ Needs x
-    walk_needs x e = alike_needs is_success (run program (fresh_pad (over p.known p.batch))) x (subst (RunsAlike (run program (fresh_pad (over p.known p.batch)))) e alike)
+    pub walk_needs : (x : ℕ) → run_program program p ≡ Lacks x → (scripts_meaning w).walk (overlaid p.known p.batch) op ≡ Needs x
+    walk_needs x e = alike_needs is_success (run_program program (fresh_part (overlaid p.known p.batch))) x (subst (RunsAlike (run_program program (fresh_part (overlaid p.known p.batch)))) e alike)
 
   -- so it is on the work's plot
   pub state_on : (plot : Plot) → base plot ≡ store_at w → plot.blocks ≡ w.blocks → HasState plot p
@@ -156,8 +156,8 @@ module _ (w : Scripts) (p : Pad) (a : IsPartOfLawful w p) (size : length p.known
       let h = has_state in
       record { fits = size_is ∙ sym (λ i. cells_at (e i) (f i)); memory = h.0; state = h.1; part = h.2; stored = rw (e, f) h.3 }
     where
-      size_is : length p.known ≡ cells_in w
+      size_is : length p.known ≡ data_cells_of w
       size_is = size
 
-pub run_at : (o at blocks many : ℕ) (op : List ℕ) (p : Pad) (x : Ran RawReply) → o ≡ at → blocks ≡ many → run (script_program o blocks op) p ≡ x → run (script_program at many op) p ≡ x
+pub run_at : (o at blocks many : ℕ) (op : List ℕ) (p : Part) (x : RunEnd RawReply) → o ≡ at → blocks ≡ many → run_program (script_program o blocks op) p ≡ x → run_program (script_program at many op) p ≡ x
 run_at o at blocks many op p x e f h = rw (← e, ← f) h

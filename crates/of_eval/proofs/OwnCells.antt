@@ -5,7 +5,7 @@ use Rattle.std.proofs.lemmas.Bool.{cases_lt, lt-ltb, false≢true}
 use Rattle.std.proofs.lemmas.List.FromFn.{get_or-map-range_with_len}
 use Rattle.of_mem.specs.Places.{shape_at, reply_at}
 use Rattle.of_mem.specs.declared.plot.Plot.{Plot}
-use Rattle.of_mem.specs.ProgramWork.{memory}
+use Rattle.of_mem.specs.ProgramWork.{memory_of}
 use Rattle.of_mem.specs.Numbers.{IsNumber}
 use Rattle.of_eval.specs.declared.lawful_cells.LawErr.{LawErr}
 use Rattle.of_eval.specs.declared.lawful_cells.LawErr.TheVariants.{Memory, Unlawful}
@@ -17,8 +17,8 @@ use Rattle.of_script.specs.declared.instr.Reply.{Reply}
 use Rattle.of_script.specs.declared.instr.Abort.{Abort}
 use Rattle.of_store.specs.Replies.{IsSmall}
 use Rattle.of_eval.specs.Shapes.{IsWhole, mask_of, shape_of, abort_part}
-use Rattle.of_eval.specs.Lawful.{reply_number, HoldsReply, OwnStand}
-use Rattle.of_eval.specs.Faults.{IsShapeOf, HasNumber, OwnFault, AtCell}
+use Rattle.of_eval.specs.Lawful.{reply_number, OwnCellsHoldReply, OwnCellsAreSound}
+use Rattle.of_eval.specs.Faults.{IsShapeOf, HasNumber, OwnFault, NamesCellWith}
 
 -- another number at a place that has one
 abbrev pub renumbered : Option ℕ → ℕ → Option ℕ
@@ -95,7 +95,7 @@ pub number_at : (instrs : ℕ) (m : ℕ → ℕ) (c i : ℕ) → i < MOST_INSTRS
 number_at instrs m c i l k = get_or-map-range_with_len (reply_number instrs m c) 0 MOST_INSTRS i i 0 l (omega arith) ∙ ap (λ (t : Bool). if t then m (reply_at instrs c i) else 0) (lt-ltb i instrs k)
 
 -- a shape whose numbers are all small is that of a reply that the cells hold
-pub numbers_hold : (instrs : ℕ) (m : ℕ → ℕ) (c : ℕ) (r : Reply) → IsShapeOf instrs (m (shape_at instrs c)) r → ((i : ℕ) → i < r.len → HasNumber r i → IsNumber (m (reply_at instrs c i))) → HoldsReply instrs m c
+pub numbers_hold : (instrs : ℕ) (m : ℕ → ℕ) (c : ℕ) (r : Reply) → IsShapeOf instrs (m (shape_at instrs c)) r → ((i : ℕ) → i < r.len → HasNumber r i → IsNumber (m (reply_at instrs c i))) → OwnCellsHoldReply instrs m c
 numbers_hold instrs m c r h small =
     let f : ℕ → ℕ = λ i. m (reply_at instrs c i) in
     let fits : (i : ℕ) → i < r.len → HasNumber r i → m (reply_at instrs c i) ≤ greatest = λ i l k. omega (arith, small i l k) in
@@ -122,6 +122,6 @@ numbers_hold instrs m c r h small =
         go (Some w) q = let k : 0 + i ≡ i = omega arith in let p : m (reply_at instrs c (0 + i)) ≡ v = cc in ap (λ n. m (reply_at instrs c n)) (sym k) ∙ p
 
 -- the first fault of a caller's cells, where those of the callers before are sound
-pub own_names : (p : Plot) (cells : List ℕ) (c : ℕ) (e : LawErr) → c < p.callers → ((d : ℕ) → d < c → OwnStand p.instrs (memory cells) d) → AtCell (OwnFault p.instrs (memory cells) c) e → NamesFault p cells e
+pub own_names : (p : Plot) (cells : List ℕ) (c : ℕ) (e : LawErr) → c < p.callers → ((d : ℕ) → d < c → OwnCellsAreSound p.instrs (memory_of cells) d) → NamesCellWith (OwnFault p.instrs (memory_of cells) c) e → NamesFault p cells e
 own_names p cells c Memory l h f = tt
 own_names p cells c (Unlawful cell) l h f = Own c l h f

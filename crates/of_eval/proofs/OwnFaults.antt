@@ -8,8 +8,8 @@ use Rattle.of_script.specs.declared.instr.TheConstants.{MOST_INSTRS}
 use Rattle.of_script.specs.Language.{greatest}
 use Rattle.of_script.specs.declared.instr.Reply.{Reply}
 use Rattle.of_store.specs.Replies.{IsSmall}
-use Rattle.of_eval.specs.Lawful.{HoldsReply, OwnStand}
-use Rattle.of_eval.specs.Faults.{IsShapeOf, HasNumber, OwnFault, bare}
+use Rattle.of_eval.specs.Lawful.{OwnCellsHoldReply, OwnCellsAreSound}
+use Rattle.of_eval.specs.Faults.{IsShapeOf, HasNumber, OwnFault, shape_alone}
 use Rattle.of_eval.specs.Faults.OwnFault.{Left, NoShape, GreatReply}
 use Rattle.of_eval.proofs.Unpacked.{len_is, values_are}
 use Rattle.of_eval.proofs.OwnCells.{filled_at, filled_marks, renumbered, with_numbers, whole_with, shape_with, number_at}
@@ -22,11 +22,11 @@ zero_at (suc n) (suc i) = zero_at n i
 -- two replies of one shape have numbers at the same places
 same_numbers : (instrs shape : ℕ) (r s : Reply) → IsShapeOf instrs shape r → IsShapeOf instrs shape s → (r.len ≡ s.len) × ((j : ℕ) → HasNumber r j → HasNumber s j)
 same_numbers instrs shape r s h g =
-    let e : r.values ≡ s.values = sym (values_are (bare shape) r h.held (length-replicate {A = ℕ} MOST_INSTRS 0)) ∙ values_are (bare shape) s g.held (length-replicate {A = ℕ} MOST_INSTRS 0) in
-    (sym (len_is (bare shape) r h.held) ∙ len_is (bare shape) s g.held, λ j k. ap (λ (vs : List (Option ℕ)). is_some (get_or vs j None)) (sym e) ∙ k)
+    let e : r.values ≡ s.values = sym (values_are (shape_alone shape) r h.held (length-replicate {A = ℕ} MOST_INSTRS 0)) ∙ values_are (shape_alone shape) s g.held (length-replicate {A = ℕ} MOST_INSTRS 0) in
+    (sym (len_is (shape_alone shape) r h.held) ∙ len_is (shape_alone shape) s g.held, λ j k. ap (λ (vs : List (Option ℕ)). is_some (get_or vs j None)) (sym e) ∙ k)
 
 -- the shape of a reply that the cells hold
-shape_held : (instrs : ℕ) (m : ℕ → ℕ) (c : ℕ) (h : HoldsReply instrs m c) → IsShapeOf instrs (m (shape_at instrs c)) (with_numbers h.reply (λ _. 0))
+shape_held : (instrs : ℕ) (m : ℕ → ℕ) (c : ℕ) (h : OwnCellsHoldReply instrs m c) → IsShapeOf instrs (m (shape_at instrs c)) (with_numbers h.reply (λ _. 0))
 shape_held instrs m c h =
     let small : (i : ℕ) → i < h.reply.len → HasNumber h.reply i → 0 ≤ greatest = λ i l k. omega arith in
     record {
@@ -45,7 +45,7 @@ shape_held instrs m c h =
     zero_is (Some w) v e = cc
 
 -- a number of a reply that the cells hold
-number_held : (instrs : ℕ) (m : ℕ → ℕ) (c : ℕ) (h : HoldsReply instrs m c) (r : Reply) → IsShapeOf instrs (m (shape_at instrs c)) r → (j : ℕ) → j < r.len → HasNumber r j → IsNumber (m (reply_at instrs c j))
+number_held : (instrs : ℕ) (m : ℕ → ℕ) (c : ℕ) (h : OwnCellsHoldReply instrs m c) (r : Reply) → IsShapeOf instrs (m (shape_at instrs c)) r → (j : ℕ) → j < r.len → HasNumber r j → IsNumber (m (reply_at instrs c j))
 number_held instrs m c h r g j l k =
     let s = same_numbers instrs (m (shape_at instrs c)) r (with_numbers h.reply (λ _. 0)) g (shape_held instrs m c h) in
     go (get_or h.reply.values j None) refl (sym (filled_marks (λ _. 0) h.reply.values j) ∙ s.1 j k) (omega (arith, s.0, l, h.held.0.few)) (omega (arith, s.0, l, h.few))
@@ -57,7 +57,7 @@ number_held instrs m c h r g j l k =
         let small : v ≤ greatest = subst IsSmall e (h.held.0.fits.small j) in
         omega (arith, is, small)
 
-pub own_excludes : (instrs : ℕ) (m : ℕ → ℕ) (c cell : ℕ) → OwnStand instrs m c → OwnFault instrs m c cell → ⊥
+pub own_excludes : (instrs : ℕ) (m : ℕ → ℕ) (c cell : ℕ) → OwnCellsAreSound instrs m c → OwnFault instrs m c cell → ⊥
 own_excludes instrs m c cell h (Left t s e) = s (h.none t)
 own_excludes instrs m c cell h (NoShape t n e) = let k = h.some t in n (with_numbers k.reply (λ _. 0)) (shape_held instrs m c k)
 own_excludes instrs m c cell h (GreatReply t r g j l k before bad e) = bad (number_held instrs m c (h.some t) r g j l k)

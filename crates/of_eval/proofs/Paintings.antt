@@ -3,24 +3,24 @@ use Rattle.std.proofs.Common.{◌≡◌, ℕ, zero, suc, ◌+◌, ◌-◌, ◌<�
 use Rattle.std.specs.List.{AllByRecursion as Each}
 use Rattle.std.proofs.lemmas.Bool.{cases_eq, ne_eqb}
 use Rattle.std.proofs.lemmas.List.{get_or-set_same, get_or-set_other}
-use Rattle.of_mem.specs.Programs.{changed}
-use Rattle.of_mem.specs.Stores.{total}
+use Rattle.of_mem.specs.Programs.{with_value}
+use Rattle.of_mem.specs.Stores.{blocks_in_chains}
 use Rattle.of_mem.proofs.Changes.{changed_same, changed_other, total_changed}
 use Rattle.of_eval.specs.Faults.{Has, IsMet}
-use Rattle.of_eval.specs.Walking.{Painted, unmet}
+use Rattle.of_eval.specs.Walking.{OwnersMatchChains, unmet_count}
 use Rattle.of_eval.proofs.Paths.{has_last, has_more, has_before, each_has}
 
 -- one block more has an owner
-pub unmet_set : (l : List ℕ) (b v : ℕ) → b < length l → get_or l b 0 ≡ 0 → v ≢ 0 → unmet (set l b v) + 1 ≡ unmet l
+pub unmet_set : (l : List ℕ) (b v : ℕ) → b < length l → get_or l b 0 ≡ 0 → v ≢ 0 → unmet_count (set l b v) + 1 ≡ unmet_count l
 unmet_set [] b v h e n = absurd (omega arith)
 unmet_set (x ∷ l) zero v h e n = rw (e, ne_eqb v 0 n) (omega arith)
-unmet_set (x ∷ l) (suc b) v h e n = let r : unmet (set l b v) + 1 ≡ unmet l = unmet_set l b v (omega arith) e n in go (eqb x 0) r
+unmet_set (x ∷ l) (suc b) v h e n = let r : unmet_count (set l b v) + 1 ≡ unmet_count l = unmet_set l b v (omega arith) e n in go (eqb x 0) r
   where
-    go : (t : Bool) → unmet (set l b v) + 1 ≡ unmet l → cond t 1 0 + unmet (set l b v) + 1 ≡ cond t 1 0 + unmet l
+    go : (t : Bool) → unmet_count (set l b v) + 1 ≡ unmet_count l → cond t 1 0 + unmet_count (set l b v) + 1 ≡ cond t 1 0 + unmet_count l
     go true r = omega arith
     go false r = omega arith
 
-pub unmet_some : (l : List ℕ) (b : ℕ) → b < length l → get_or l b 0 ≡ 0 → 1 ≤ unmet l
+pub unmet_some : (l : List ℕ) (b : ℕ) → b < length l → get_or l b 0 ≡ 0 → 1 ≤ unmet_count l
 unmet_some l b h e = let r = unmet_set l b 1 h e (λ q. omega (arith, q)) in omega (arith, r)
 
 -- a block with an owner is below fresh
@@ -29,7 +29,7 @@ owner_below [] b c e = absurd (omega arith)
 owner_below (x ∷ l) zero c e = omega arith
 owner_below (x ∷ l) (suc b) c e = let r = owner_below l b c e in omega (arith, r)
 
-module _ (fresh : ℕ) (chains : ℕ → List ℕ) (owners : List ℕ) (h : Painted fresh chains owners) where
+module _ (fresh : ℕ) (chains : ℕ → List ℕ) (owners : List ℕ) (h : OwnersMatchChains fresh chains owners) where
   pub owned_of : (c : ℕ) → Each (λ b. (b < fresh) × (get_or owners b 0 - 1 ≡ c)) (chains c)
   owned_of c = each_has (λ b. (b < fresh) × (get_or owners b 0 - 1 ≡ c)) (chains c) (λ b k.
       let e = h.paint c b k in (subst (λ (n : ℕ). b < n) h.sized (owner_below owners b c e), omega (arith, e)))
@@ -39,7 +39,7 @@ module _ (fresh : ℕ) (chains : ℕ → List ℕ) (owners : List ℕ) (h : Pain
 
   module _ (n b : ℕ) (n_in : n < 37) (b_in : b < length owners) (free : get_or owners b 0 ≡ 0) where
     abbrev chains' : ℕ → List ℕ
-    chains' = changed chains n (chains n ++ b ∷ [])
+    chains' = with_value chains n (chains n ++ b ∷ [])
 
     abbrev owners' : List ℕ
     owners' = set owners b (n + 1)
@@ -70,7 +70,7 @@ module _ (fresh : ℕ) (chains : ℕ → List ℕ) (owners : List ℕ) (h : Pain
           )
     ]
 
-    pub painted_step : Painted fresh chains' owners'
+    pub painted_step : OwnersMatchChains fresh chains' owners'
     painted_step = record {
       sized = length-set owners b (n + 1) ∙ h.sized;
       paint = paint';
@@ -83,5 +83,5 @@ module _ (fresh : ℕ) (chains : ℕ → List ℕ) (owners : List ℕ) (h : Pain
     }
 
     -- there are fewer blocks in the chains than blocks below fresh
-    pub room_left : total chains 37 < fresh
+    pub room_left : blocks_in_chains chains 37 < fresh
     room_left = let u = unmet_some owners b b_in free in omega (arith, u, h.counted)

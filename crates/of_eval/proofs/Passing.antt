@@ -5,32 +5,32 @@ use Rattle.std.proofs.lemmas.Bool.{cases_eq}
 use Rattle.of_mem.specs.declared.plot.Plot.{Plot}
 use Rattle.of_mem.specs.Places.{fresh_at, keys_at}
 use Rattle.of_mem.specs.Plots.{base}
-use Rattle.of_mem.specs.ProgramWork.{memory}
-use Rattle.of_mem.specs.Programs.{changed}
+use Rattle.of_mem.specs.ProgramWork.{memory_of}
+use Rattle.of_mem.specs.Programs.{with_value}
 use Rattle.of_mem.specs.Numbers.{IsNumber}
 use Rattle.of_mem.specs.Stores.{IsChain, IsBucket, front_at, first_at, link_at, cell_after}
 use Rattle.of_mem.proofs.Changes.{changed_same, changed_other, changed_cases, total_changed_past}
 use Rattle.of_mem.proofs.Heaps.{each_append}
 use Rattle.of_eval.specs.declared.lawful_cells.LawErr.{LawErr}
 use Rattle.of_eval.specs.declared.lawful_cells.LawErr.TheVariants.{Memory, Unlawful}
-use Rattle.of_eval.specs.Faults.{IsPath, IsMet, LeadsOn, Passed, Counted, ChainFault, IsFirstFault, here}
+use Rattle.of_eval.specs.Faults.{IsPath, IsMet, LeadsToNewBlock, HasPassed, HasRightCounts, ChainFault, IsFirstFault, pointer_cell}
 use Rattle.of_eval.specs.Faults.ChainFault.{Pointer}
 use Rattle.of_eval.specs.Faults.IsFirstFault.{Chain}
-use Rattle.of_eval.specs.Walking.{Painted, Walked, Stepped, StoppedAt, NamesFault}
+use Rattle.of_eval.specs.Walking.{OwnersMatchChains, HasWalked, LinkLeadsOn, LinkIsAtFault, NamesFault}
 use Rattle.of_eval.proofs.Paths.{path_push, cell_push, path_chain, once_push}
 use Rattle.of_eval.proofs.Paintings.{owned_of, not_met, painted_step}
 
 -- a chain with one block more
 abbrev pub with_block : (ℕ → List ℕ) → ℕ → ℕ → ℕ → List ℕ
-with_block chains n b = changed chains n (chains n ++ b ∷ [])
+with_block chains n b = with_value chains n (chains n ++ b ∷ [])
 
 -- what stands in a block fits its chain
 pub record Fits (o : ℕ) (m : ℕ → ℕ) (n : ℕ) (chains : ℕ → List ℕ) (b : ℕ) : Type 0 where
   pub bucket : (k : ℕ) → k < 32 → n ≡ 1 + k → IsBucket o m k (chains n ++ b ∷ [])
   pub item : (q : ℕ) → q < 4 → n ≡ 33 + q → IsNumber (m (first_at o b))
 
-module _ (o : ℕ) (m : ℕ → ℕ) (n : ℕ) (chains : ℕ → List ℕ) (h : Passed o m n chains) where
-  passed_step : (b : ℕ) (owners : List ℕ) → Painted (m (fresh_at o)) (with_block chains n b) owners → LeadsOn o m n chains b → Fits o m n chains b → Passed o m n (with_block chains n b)
+module _ (o : ℕ) (m : ℕ → ℕ) (n : ℕ) (chains : ℕ → List ℕ) (h : HasPassed o m n chains) where
+  passed_step : (b : ℕ) (owners : List ℕ) → OwnersMatchChains (m (fresh_at o)) (with_block chains n b) owners → LeadsToNewBlock o m n chains b → Fits o m n chains b → HasPassed o m n (with_block chains n b)
   passed_step b owners p l f = record {
     linked = λ c k. subst (λ (x : List ℕ). IsChain o m (front_at o c) x) (sym (changed_other chains n (chains n ++ b ∷ []) c (λ e. omega (arith, e)))) (h.linked c k);
     path = subst (λ (x : List ℕ). IsPath o m (front_at o n) x) (sym (changed_same chains n (chains n ++ b ∷ []))) (path_push o m (front_at o n) b (chains n) h.path l.pointer);
@@ -45,7 +45,7 @@ module _ (o : ℕ) (m : ℕ → ℕ) (n : ℕ) (chains : ℕ → List ℕ) (h : 
   }
 
   -- the chain ends here
-  passed_on : (k : ℕ) → k ≡ n + 1 → m (here o n chains) ≡ 0 → Passed o m k chains
+  passed_on : (k : ℕ) → k ≡ n + 1 → m (pointer_cell o n chains) ≡ 0 → HasPassed o m k chains
   passed_on k is e =
       let none : chains k ≡ [] = h.others k (omega (arith, is)) in
       record {
@@ -63,56 +63,56 @@ module _ (o : ℕ) (m : ℕ → ℕ) (n : ℕ) (chains : ℕ → List ℕ) (h : 
       }
 
 -- there is nothing to count behind the first chains
-pub counted_few : (o : ℕ) (m : ℕ → ℕ) (k : ℕ) (chains : ℕ → List ℕ) → k < 33 → Counted o m k chains
+pub counted_few : (o : ℕ) (m : ℕ → ℕ) (k : ℕ) (chains : ℕ → List ℕ) → k < 33 → HasRightCounts o m k chains
 counted_few o m k chains l = record { keys = λ h. absurd (omega arith); tails = λ q h. absurd (omega arith); lengths = λ q h. absurd (omega arith) }
 
-counted_step : (o : ℕ) (m : ℕ → ℕ) (k n : ℕ) (chains : ℕ → List ℕ) (l : List ℕ) → k ≤ n → Counted o m k chains → Counted o m k (changed chains n l)
+counted_step : (o : ℕ) (m : ℕ → ℕ) (k n : ℕ) (chains : ℕ → List ℕ) (l : List ℕ) → k ≤ n → HasRightCounts o m k chains → HasRightCounts o m k (with_value chains n l)
 counted_step o m k n chains l below h = record {
-  keys = λ p. let e : changed chains n l 0 ≡ chains 0 = changed_other chains n l 0 (λ q. omega (arith, q)) in ap (λ (x : List ℕ). m (keys_at o) + length x) e ∙ h.keys p ∙ sym (total_changed_past chains n l 33 (omega (arith, p)));
-  tails = λ q p. let e : changed chains n l (33 + q) ≡ chains (33 + q) = changed_other chains n l (33 + q) (λ i. omega (arith, i, p)) in rw e (h.tails q p);
-  lengths = λ q p. let e : changed chains n l (33 + q) ≡ chains (33 + q) = changed_other chains n l (33 + q) (λ i. omega (arith, i, p)) in rw e (h.lengths q p);
+  keys = λ p. let e : with_value chains n l 0 ≡ chains 0 = changed_other chains n l 0 (λ q. omega (arith, q)) in ap (λ (x : List ℕ). m (keys_at o) + length x) e ∙ h.keys p ∙ sym (total_changed_past chains n l 33 (omega (arith, p)));
+  tails = λ q p. let e : with_value chains n l (33 + q) ≡ chains (33 + q) = changed_other chains n l (33 + q) (λ i. omega (arith, i, p)) in rw e (h.tails q p);
+  lengths = λ q p. let e : with_value chains n l (33 + q) ≡ chains (33 + q) = changed_other chains n l (33 + q) (λ i. omega (arith, i, p)) in rw e (h.lengths q p);
 }
 
-module _ (p : Plot) (cells : List ℕ) (n k : ℕ) (chains : ℕ → List ℕ) (owners : List ℕ) (w : Walked p cells n k chains owners) where
+module _ (p : Plot) (cells : List ℕ) (n k : ℕ) (chains : ℕ → List ℕ) (owners : List ℕ) (w : HasWalked p cells n k chains owners) where
   -- a pointer that was followed
-  pub leads_on : (cell chain b : ℕ) (after : List ℕ) → cell ≡ here (base p) n chains → Stepped cells cell chain owners after (Some b) → LeadsOn (base p) (memory cells) n chains b
+  pub leads_on : (cell chain b : ℕ) (after : List ℕ) → cell ≡ pointer_cell (base p) n chains → LinkLeadsOn cells cell chain owners after (Some b) → LeadsToNewBlock (base p) (memory_of cells) n chains b
   leads_on cell chain b after e s = record {
-    pointer = ap (memory cells) (sym e) ∙ s.0;
+    pointer = ap (memory_of cells) (sym e) ∙ s.0;
     below = subst (λ (x : ℕ). b < x) w.painted.sized s.1;
-    unmet = not_met (memory cells (fresh_at (base p))) chains owners w.painted b s.2;
+    unmet = not_met (memory_of cells (fresh_at (base p))) chains owners w.painted b s.2;
   }
 
-  pub walked_step : (chain b : ℕ) (after : List ℕ) → chain ≡ n → n < 37 → k ≤ n → b < length owners → get_or owners b 0 ≡ 0 → after ≡ set owners b (chain + 1) → LeadsOn (base p) (memory cells) n chains b → Fits (base p) (memory cells) n chains b
-      → Walked p cells n k (with_block chains n b) after
+  pub walked_step : (chain b : ℕ) (after : List ℕ) → chain ≡ n → n < 37 → k ≤ n → b < length owners → get_or owners b 0 ≡ 0 → after ≡ set owners b (chain + 1) → LeadsToNewBlock (base p) (memory_of cells) n chains b → Fits (base p) (memory_of cells) n chains b
+      → HasWalked p cells n k (with_block chains n b) after
   walked_step chain b after is n_in k_in b_in free e l f =
-      let painted = painted_step (memory cells (fresh_at (base p))) chains owners w.painted n b n_in b_in free in
+      let painted = painted_step (memory_of cells (fresh_at (base p))) chains owners w.painted n b n_in b_in free in
       let e' : after ≡ set owners b (n + 1) = e ∙ ap (λ (x : ℕ). set owners b (x + 1)) is in
-      subst (λ (x : List ℕ). Walked p cells n k (with_block chains n b) x) (sym e') (record {
+      subst (λ (x : List ℕ). HasWalked p cells n k (with_block chains n b) x) (sym e') (record {
         begun = w.begun;
-        passed = passed_step (base p) (memory cells) n chains w.passed b (set owners b (n + 1)) painted l f;
-        counted = counted_step (base p) (memory cells) k n chains (chains n ++ b ∷ []) k_in w.counted;
+        passed = passed_step (base p) (memory_of cells) n chains w.passed b (set owners b (n + 1)) painted l f;
+        counted = counted_step (base p) (memory_of cells) k n chains (chains n ++ b ∷ []) k_in w.counted;
         painted = painted;
       })
 
-  pub walked_on : (j cell : ℕ) → j ≡ n + 1 → cell ≡ here (base p) n chains → memory cells cell ≡ 0 → Walked p cells j k chains owners
+  pub walked_on : (j cell : ℕ) → j ≡ n + 1 → cell ≡ pointer_cell (base p) n chains → memory_of cells cell ≡ 0 → HasWalked p cells j k chains owners
   walked_on j cell is e z = record {
     begun = w.begun;
-    passed = passed_on (base p) (memory cells) n chains w.passed j is (ap (memory cells) (sym e) ∙ z);
+    passed = passed_on (base p) (memory_of cells) n chains w.passed j is (ap (memory_of cells) (sym e) ∙ z);
     counted = w.counted;
     painted = w.painted;
   }
 
-  pub chain_fault : (cell : ℕ) → Counted (base p) (memory cells) n chains → ChainFault (base p) (memory cells) n chains cell → IsFirstFault p.callers p.instrs p.blocks (memory cells) cell
+  pub chain_fault : (cell : ℕ) → HasRightCounts (base p) (memory_of cells) n chains → ChainFault (base p) (memory_of cells) n chains cell → IsFirstFault p.callers p.instrs p.blocks (memory_of cells) cell
   chain_fault cell c f = Chain w.begun n chains w.passed c f
 
-  pub pointer_fault : (cell : ℕ) (e : LawErr) → n < 37 → Counted (base p) (memory cells) n chains → cell ≡ here (base p) n chains → StoppedAt cells cell owners e → NamesFault p cells e
+  pub pointer_fault : (cell : ℕ) (e : LawErr) → n < 37 → HasRightCounts (base p) (memory_of cells) n chains → cell ≡ pointer_cell (base p) n chains → LinkIsAtFault cells cell owners e → NamesFault p cells e
   pointer_fault cell Memory l c is s = tt
-  pointer_fault cell (Unlawful at) l c is s = chain_fault at c (Pointer l s.1.0 (ap (memory cells) (sym is) ∙ s.1.1) (bad s.1.2) (s.0 ∙ is))
+  pointer_fault cell (Unlawful at) l c is s = chain_fault at c (Pointer l s.1.0 (ap (memory_of cells) (sym is) ∙ s.1.1) (bad s.1.2) (s.0 ∙ is))
     where
-      bad : (length owners ≤ s.1.0) ⊎ (get_or owners s.1.0 0 ≢ 0) → (memory cells (fresh_at (base p)) ≤ s.1.0) ⊎ IsMet chains s.1.0
+      bad : (length owners ≤ s.1.0) ⊎ (get_or owners s.1.0 0 ≢ 0) → (memory_of cells (fresh_at (base p)) ≤ s.1.0) ⊎ IsMet chains s.1.0
       bad (inl q) = inl (subst (λ (x : ℕ). x ≤ s.1.0) w.painted.sized q)
       bad (inr q) = inr (w.painted.met s.1.0 q)
 
   -- the pointer cell behind one block more
-  pub here_push : (b : ℕ) → here (base p) n (with_block chains n b) ≡ link_at (base p) b
+  pub here_push : (b : ℕ) → pointer_cell (base p) n (with_block chains n b) ≡ link_at (base p) b
   here_push b = ap (λ (l : List ℕ). cell_after (base p) (front_at (base p) n) l) (changed_same chains n (chains n ++ b ∷ [])) ∙ cell_push (base p) (front_at (base p) n) b (chains n)

@@ -4,29 +4,29 @@ use Rattle.std.proofs.lemmas.Bool.{cases_eq}
 use Rattle.of_mem.specs.declared.plot.Plot.{Plot}
 use Rattle.of_mem.specs.Places.{fresh_at, tail_at, length_at}
 use Rattle.of_mem.specs.Plots.{base}
-use Rattle.of_mem.specs.ProgramWork.{memory}
+use Rattle.of_mem.specs.ProgramWork.{memory_of}
 use Rattle.of_mem.specs.Stores.{first_at, last_pointer}
 use Rattle.of_mem.proofs.Changes.{changed_same}
 use Rattle.of_queue.proofs.Pushes.{last_pointer-append}
 use Rattle.of_script.specs.Language.{greatest}
-use Rattle.of_store.specs.State.{State, kept, queue, with_queue}
-use Rattle.of_eval.specs.Faults.{LeadsOn, Counted, IsFirstFault, here}
+use Rattle.of_store.specs.State.{Store, stored_count, queue, with_queue}
+use Rattle.of_eval.specs.Faults.{LeadsToNewBlock, HasRightCounts, IsFirstFault, pointer_cell}
 use Rattle.of_eval.specs.Faults.ChainFault.{Item}
 use Rattle.of_eval.specs.Faults.CountFault.{Tail, Length}
 use Rattle.of_eval.specs.Faults.IsFirstFault.{Count}
-use Rattle.of_eval.specs.Walking.{Walked, Kept, Before, Stepped}
+use Rattle.of_eval.specs.Walking.{HasWalked, HoldsWhatWasMet, IsBeforeChain, LinkLeadsOn}
 use Rattle.of_eval.proofs.Paintings.{room_left}
 use Rattle.of_eval.proofs.Passing.{Fits, with_block, leads_on, walked_step, walked_on, chain_fault}
 use Rattle.of_eval.proofs.Filling.{queue_kept, kept_blocks, lengths}
 
-module _ (p : Plot) (cells : List ℕ) (q : ℕ) (chains : ℕ → List ℕ) (owners : List ℕ) (s : State) (q_in : q < 4) (w : Walked p cells (33 + q) (33 + q) chains owners) (h : Kept p cells chains s) where
-  module _ (cell b : ℕ) (after : List ℕ) (is : cell ≡ here (base p) (33 + q) chains) (st : Stepped cells cell (33 + q) owners after (Some b)) where
-    leads : LeadsOn (base p) (memory cells) (33 + q) chains b
+module _ (p : Plot) (cells : List ℕ) (q : ℕ) (chains : ℕ → List ℕ) (owners : List ℕ) (s : Store) (q_in : q < 4) (w : HasWalked p cells (33 + q) (33 + q) chains owners) (h : HoldsWhatWasMet p cells chains s) where
+  module _ (cell b : ℕ) (after : List ℕ) (is : cell ≡ pointer_cell (base p) (33 + q) chains) (st : LinkLeadsOn cells cell (33 + q) owners after (Some b)) where
+    leads : LeadsToNewBlock (base p) (memory_of cells) (33 + q) chains b
     leads = leads_on p cells (33 + q) (33 + q) chains owners w cell (33 + q) b after is st
 
-    pub item_room : kept s < s.room
+    pub item_room : stored_count s < s.room
     item_room =
-        let r = room_left (memory cells (fresh_at (base p))) chains owners w.painted (33 + q) b (omega (arith, q_in)) st.1 st.2 in
+        let r = room_left (memory_of cells (fresh_at (base p))) chains owners w.painted (33 + q) b (omega (arith, q_in)) st.1 st.2 in
         omega (arith, r, kept_blocks p cells chains s h, w.begun.few, h.room)
 
     -- behind one block more the last pointer is that of the block
@@ -34,40 +34,40 @@ module _ (p : Plot) (cells : List ℕ) (q : ℕ) (chains : ℕ → List ℕ) (ow
     last_push = ap (last_pointer 0) (changed_same chains (33 + q) (chains (33 + q) ++ b ∷ [])) ∙ last_pointer-append 0 b (chains (33 + q))
 
     module _ (first : ℕ) (first_is : first ≡ first_at (base p) b) where
-      pub item_fault : greatest < memory cells first → IsFirstFault p.callers p.instrs p.blocks (memory cells) first
+      pub item_fault : greatest < memory_of cells first → IsFirstFault p.callers p.instrs p.blocks (memory_of cells) first
       item_fault bad = chain_fault p cells (33 + q) (33 + q) chains owners w first w.counted
-          (Item q b q_in refl leads (λ n. let great : greatest < memory cells (first_at (base p) b) = subst (λ a. greatest < memory cells a) first_is bad in omega (arith, n, great)) first_is)
+          (Item q b q_in refl leads (λ n. let great : greatest < memory_of cells (first_at (base p) b) = subst (λ a. greatest < memory_of cells a) first_is bad in omega (arith, n, great)) first_is)
 
-      pub met_item : (t : State) → memory cells first ≤ greatest → t ≡ with_queue s q (queue s q ++ memory cells first ∷ []) → Walked p cells (33 + q) (33 + q) (with_block chains (33 + q) b) after × Kept p cells (with_block chains (33 + q) b) t
+      pub met_item : (t : Store) → memory_of cells first ≤ greatest → t ≡ with_queue s q (queue s q ++ memory_of cells first ∷ []) → HasWalked p cells (33 + q) (33 + q) (with_block chains (33 + q) b) after × HoldsWhatWasMet p cells (with_block chains (33 + q) b) t
       met_item t good t_is = (
         walked_step p cells (33 + q) (33 + q) chains owners w (33 + q) b after refl (omega (arith, q_in)) (omega arith) st.1 st.2 st.3 leads fits,
-        subst (λ (x : State). Kept p cells (with_block chains (33 + q) b) x) (sym (t_is ∙ ap (λ a. with_queue s q (queue s q ++ memory cells a ∷ [])) first_is)) (queue_kept p cells chains s h (33 + q) q b q_in refl good' item_room),
+        subst (λ (x : Store). HoldsWhatWasMet p cells (with_block chains (33 + q) b) x) (sym (t_is ∙ ap (λ a. with_queue s q (queue s q ++ memory_of cells a ∷ [])) first_is)) (queue_kept p cells chains s h (33 + q) q b q_in refl good' item_room),
       )
         where
-          good' : memory cells (first_at (base p) b) ≤ greatest
-          good' = subst (λ a. memory cells a ≤ greatest) first_is good
+          good' : memory_of cells (first_at (base p) b) ≤ greatest
+          good' = subst (λ a. memory_of cells a ≤ greatest) first_is good
 
-          fits : Fits (base p) (memory cells) (33 + q) chains b
+          fits : Fits (base p) (memory_of cells) (33 + q) chains b
           fits = record { bucket = λ j j_in e. absurd (omega (arith, e, j_in)); item = λ r r_in e. omega (arith, good') }
 
-  module _ (cell : ℕ) (after : List ℕ) (is : cell ≡ here (base p) (33 + q) chains) (zero_is : memory cells cell ≡ 0) (same : after ≡ owners) (tail last : ℕ) (tail_is : tail ≡ tail_at (base p) q) (last_is : last ≡ last_pointer 0 (chains (33 + q))) where
-    ended : Walked p cells (1 + (33 + q)) (33 + q) chains owners
+  module _ (cell : ℕ) (after : List ℕ) (is : cell ≡ pointer_cell (base p) (33 + q) chains) (zero_is : memory_of cells cell ≡ 0) (same : after ≡ owners) (tail last : ℕ) (tail_is : tail ≡ tail_at (base p) q) (last_is : last ≡ last_pointer 0 (chains (33 + q))) where
+    ended : HasWalked p cells (1 + (33 + q)) (33 + q) chains owners
     ended = walked_on p cells (33 + q) (33 + q) chains owners w (1 + (33 + q)) cell (omega arith) is zero_is
 
-    pub tail_fault : memory cells tail ≢ last → IsFirstFault p.callers p.instrs p.blocks (memory cells) tail
+    pub tail_fault : memory_of cells tail ≢ last → IsFirstFault p.callers p.instrs p.blocks (memory_of cells) tail
     tail_fault bad = Count w.begun (33 + q) chains ended.passed w.counted (w.passed.others (1 + (33 + q)) (omega arith))
-        (Tail q q_in (omega arith) (λ e. bad (ap (memory cells) tail_is ∙ e ∙ sym last_is)) tail_is)
+        (Tail q q_in (omega arith) (λ e. bad (ap (memory_of cells) tail_is ∙ e ∙ sym last_is)) tail_is)
 
-    module _ (good : memory cells tail ≡ last) (count : ℕ) (count_is : count ≡ length_at (base p) q) where
-      right_tail : memory cells (tail_at (base p) q) ≡ last_pointer 0 (chains (33 + q))
-      right_tail = ap (memory cells) (sym tail_is) ∙ good ∙ last_is
+    module _ (good : memory_of cells tail ≡ last) (count : ℕ) (count_is : count ≡ length_at (base p) q) where
+      right_tail : memory_of cells (tail_at (base p) q) ≡ last_pointer 0 (chains (33 + q))
+      right_tail = ap (memory_of cells) (sym tail_is) ∙ good ∙ last_is
 
-      pub length_fault : memory cells count ≢ length (queue s q) → IsFirstFault p.callers p.instrs p.blocks (memory cells) count
+      pub length_fault : memory_of cells count ≢ length (queue s q) → IsFirstFault p.callers p.instrs p.blocks (memory_of cells) count
       length_fault bad = Count w.begun (33 + q) chains ended.passed w.counted (w.passed.others (1 + (33 + q)) (omega arith))
-          (Length q q_in (omega arith) right_tail (λ e. bad (ap (memory cells) count_is ∙ e ∙ lengths p cells chains s h q q_in)) count_is)
+          (Length q q_in (omega arith) right_tail (λ e. bad (ap (memory_of cells) count_is ∙ e ∙ lengths p cells chains s h q q_in)) count_is)
 
-      pub queue_ends : memory cells count ≡ length (queue s q) → Before p cells (34 + q) (34 + q) after s
-      queue_ends right = subst (λ (x : List ℕ). Before p cells (34 + q) (34 + q) x s) (sym same) (
+      pub queue_ends : memory_of cells count ≡ length (queue s q) → IsBeforeChain p cells (34 + q) (34 + q) after s
+      queue_ends right = subst (λ (x : List ℕ). IsBeforeChain p cells (34 + q) (34 + q) x s) (sym same) (
           let on = walked_on p cells (33 + q) (33 + q) chains owners w (34 + q) cell (omega arith) is zero_is in
           record {
             chains = chains;
@@ -76,15 +76,15 @@ module _ (p : Plot) (cells : List ℕ) (q : ℕ) (chains : ℕ → List ℕ) (ow
             start = w.passed.others (34 + q) (omega arith);
           })
         where
-          counted : Counted (base p) (memory cells) (34 + q) chains
+          counted : HasRightCounts (base p) (memory_of cells) (34 + q) chains
           counted = record {
             keys = λ l. w.counted.keys (omega arith);
             tails = λ r l. elim (cases_eq r q) [
-              | inl e ↦ subst (λ x. memory cells (tail_at (base p) x) ≡ last_pointer 0 (chains (33 + x))) (sym e) right_tail
+              | inl e ↦ subst (λ x. memory_of cells (tail_at (base p) x) ≡ last_pointer 0 (chains (33 + x))) (sym e) right_tail
               | inr e ↦ w.counted.tails r (omega (arith, e, l))
             ];
             lengths = λ r l. elim (cases_eq r q) [
-              | inl e ↦ subst (λ x. memory cells (length_at (base p) x) ≡ length (chains (33 + x))) (sym e) (ap (memory cells) (sym count_is) ∙ right ∙ sym (lengths p cells chains s h q q_in))
+              | inl e ↦ subst (λ x. memory_of cells (length_at (base p) x) ≡ length (chains (33 + x))) (sym e) (ap (memory_of cells) (sym count_is) ∙ right ∙ sym (lengths p cells chains s h q q_in))
               | inr e ↦ w.counted.lengths r (omega (arith, e, l))
             ];
           }

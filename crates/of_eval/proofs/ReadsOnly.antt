@@ -5,7 +5,7 @@ use Rattle.std.proofs.lemmas.Bool.{false≢true, leb-true}
 use Rattle.std.proofs.lemmas.List.{length-map}
 use Rattle.of_script.specs.declared.instr.TheConstants.{MOST_INSTRS}
 use Rattle.of_script.specs.declared.instr.Instr.{Instr}
-use Rattle.of_script.specs.Language.{IsScript, InRange, instr_word, reads_only}
+use Rattle.of_script.specs.Language.{IsScript, IsInstrInRange, instr_word, reads_only}
 use Rattle.of_script.specs.Reading.{instr_at}
 use Rattle.of_script.proofs.Numbers.{both}
 use Rattle.of_script.proofs.WordLaws.{instr_at_takes}
@@ -15,7 +15,7 @@ use Rattle.of_eval.specs.Scripts.{instr_reads, words_read, script_reads}
 pub record OfScript (ws : List ℕ) : Type 0 where
   pub script : List Instr
   pub words : map instr_word script ≡ ws
-  pub range : Each InRange script
+  pub range : Each IsInstrInRange script
   pub reads : Each (λ i. reads_only i ≡ true) script
 
 one_more : (w : ℕ) (ws : List ℕ) (o : Option Instr) → instr_at w ≡ o → instr_reads o ≡ true → OfScript ws → OfScript (w ∷ ws)

@@ -5,24 +5,24 @@ use Rattle.std.proofs.lemmas.List.{length-replicate}
 use Rattle.std.proofs.lemmas.Option.{none-some}
 use Rattle.of_mem.specs.declared.plot.Plot.{Plot}
 use Rattle.of_mem.specs.declared.plot.TheConstants.{MOST_BLOCKS}
-use Rattle.of_mem.specs.Pad.{Pad, Extends}
+use Rattle.of_mem.specs.Pad.{Part, Extends}
 use Rattle.of_mem.specs.Places.{base_of}
 use Rattle.of_mem.specs.Plots.{base}
-use Rattle.of_mem.specs.Programs.{Lacks, Ends, run}
+use Rattle.of_mem.specs.Programs.{Lacks, Ends, run_program}
 use Rattle.of_mem.specs.Calls.{HasStore}
-use Rattle.of_mem.specs.Remains.{Remains, begun, IsOf}
+use Rattle.of_mem.specs.Remains.{SuspendedRun, begin, IsRunOf}
 use Rattle.of_mem.proofs.Extended.{ends_again}
 use Rattle.of_map.specs.MapPrograms.{seek_program}
 use Rattle.of_script.specs.declared.instr.TheConstants.{MOST_INSTRS}
 use Rattle.of_store.specs.Replies.{IsSmall}
 use Rattle.of_store.proofs.Values.{small_values, none_left}
 use Rattle.of_eval.specs.ScriptPrograms.{word_program, words_program, script_program}
-use Rattle.of_eval.specs.Stopped.{pad, IsOfStore, LooksFor, GoesOn, HoldsScript}
-use Rattle.of_eval.specs.Stored.{plain, HasState}
+use Rattle.of_eval.specs.Stopped.{part_with, IsOfStore, LooksFor, MayResume, HoldsScript}
+use Rattle.of_eval.specs.Stored.{cell_store, HasState}
 use Rattle.of_eval.proofs.Walks.{script_is, ran_more, ran_lacks, word_leaves}
 
 -- nothing has run yet
-pub begun_goes : (o blocks room callers n : ℕ) (words : List ℕ) (p : Pad) → 1 ≤ length words → GoesOn o blocks (begun room callers n words) p
+pub begun_goes : (o blocks room callers n : ℕ) (words : List ℕ) (p : Part) → 1 ≤ length words → MayResume o blocks (begin room callers n words) p
 begun_goes o blocks room callers n words p some = record {
   runs = λ more e. refl;
   stands = λ more e h. h;
@@ -38,21 +38,21 @@ begun_goes o blocks room callers n words p some = record {
     none_there (suc n) zero = refl
     none_there (suc n) (suc i) = none_there n i
 
-module _ (o blocks : ℕ) (few : blocks ≤ MOST_BLOCKS) (k : Remains) (p : Pad) (g : GoesOn o blocks k p) where
+module _ (o blocks : ℕ) (few : blocks ≤ MOST_BLOCKS) (k : SuspendedRun) (p : Part) (g : MayResume o blocks k p) where
   -- the next word in this memory, and in one where more is known
-  module _ (q : Pad) (v : Option ℕ) (e : run (word_program o blocks (get_or k.words k.done 0)) (pad p.known p.batch k.writes) ≡ Ends (Ok v) q) (same : q.batch ≡ p.batch) where
-    word_again : (more : List (Option ℕ)) → Extends more p.known → run (word_program o blocks (get_or k.words k.done 0)) (pad more p.batch k.writes) ≡ Ends (Ok v) (pad more p.batch q.script)
-    word_again more h = ends_again more (word_program o blocks (get_or k.words k.done 0)) (pad p.known p.batch k.writes) q (Ok v) h e ∙ ap (λ (es : List (ℕ × ℕ)). Ends (Ok v) (pad more es q.script)) same
+  module _ (q : Part) (v : Option ℕ) (e : run_program (word_program o blocks (get_or k.words k.done 0)) (part_with p.known p.batch k.writes) ≡ Ends (Ok v) q) (same : q.batch ≡ p.batch) where
+    word_again : (more : List (Option ℕ)) → Extends more p.known → run_program (word_program o blocks (get_or k.words k.done 0)) (part_with more p.batch k.writes) ≡ Ends (Ok v) (part_with more p.batch q.script)
+    word_again more h = ends_again more (word_program o blocks (get_or k.words k.done 0)) (part_with p.known p.batch k.writes) q (Ok v) h e ∙ ap (λ (es : List (ℕ × ℕ)). Ends (Ok v) (part_with more es q.script)) same
 
     -- what it leaves stands for a store, and its value is small
-    pub after_word : (more : List (Option ℕ)) → Extends more p.known → IsOfStore o blocks (pad more p.batch []) → IsOfStore o blocks (pad more p.batch q.script) × IsSmall v
-    after_word more x y = word_leaves o blocks few (get_or k.words k.done 0) (pad more p.batch k.writes) (pad more p.batch q.script) v (g.stands more x y) (word_again more x)
+    pub after_word : (more : List (Option ℕ)) → Extends more p.known → IsOfStore o blocks (part_with more p.batch []) → IsOfStore o blocks (part_with more p.batch q.script) × IsSmall v
+    after_word more x y = word_leaves o blocks few (get_or k.words k.done 0) (part_with more p.batch k.writes) (part_with more p.batch q.script) v (g.stands more x y) (word_again more x)
 
     -- one word more has run, and another one is left
-    pub goes_more : IsOfStore o blocks (pad p.known p.batch []) → k.done + 1 < length k.words → length k.words ≤ MOST_INSTRS
-        → GoesOn o blocks (record k { done = k.done + 1; values = set k.values k.done v; writes = q.script; sought = None }) p
+    pub goes_more : IsOfStore o blocks (part_with p.known p.batch []) → k.done + 1 < length k.words → length k.words ≤ MOST_INSTRS
+        → MayResume o blocks (record k { done = k.done + 1; values = set k.values k.done v; writes = q.script; sought = None }) p
     goes_more h l most = record {
-      runs = λ more x. g.runs more x ∙ ran_more o blocks (length k.words) k.words k.done g.left k.values (pad more p.batch k.writes) (pad more p.batch q.script) v (omega (arith, g.width, most, l)) (word_again more x);
+      runs = λ more x. g.runs more x ∙ ran_more o blocks (length k.words) k.words k.done g.left k.values (part_with more p.batch k.writes) (part_with more p.batch q.script) v (omega (arith, g.width, most, l)) (word_again more x);
       stands = λ more x y. (after_word more x y).0;
       left = l;
       width = length-set k.values k.done v ∙ g.width;
@@ -62,26 +62,26 @@ module _ (o blocks : ℕ) (few : blocks ≤ MOST_BLOCKS) (k : Remains) (p : Pad)
     }
 
   -- the script from its first word, in the memory in which the words have run
-  pub ran_so : p.script ≡ [] → (op : List ℕ) → k.words ≡ op → length op ≤ MOST_INSTRS → (i : ℕ) → k.done ≡ i → (q : Pad) → q ≡ pad p.known p.batch k.writes
-      → run (script_program o blocks op) p ≡ run (words_program o blocks (length op) (take i k.values) (drop i op)) q
+  pub ran_so : p.script ≡ [] → (op : List ℕ) → k.words ≡ op → length op ≤ MOST_INSTRS → (i : ℕ) → k.done ≡ i → (q : Part) → q ≡ part_with p.known p.batch k.writes
+      → run_program (script_program o blocks op) p ≡ run_program (words_program o blocks (length op) (take i k.values) (drop i op)) q
   ran_so none op is most i at q here =
       script_is o blocks op p most
-      ∙ ap (λ (es : List (ℕ × ℕ)). run (words_program o blocks (length op) [] op) (pad p.known p.batch es)) none
-      ∙ subst (λ (ws : List ℕ). run (words_program o blocks (length ws) [] ws) (pad p.known p.batch []) ≡ run (words_program o blocks (length ws) (take k.done k.values) (drop k.done ws)) (pad p.known p.batch k.writes)) is (g.runs p.known (λ a w x. x))
-      ∙ ap (λ (j : ℕ). run (words_program o blocks (length op) (take j k.values) (drop j op)) (pad p.known p.batch k.writes)) at
-      ∙ ap (λ (x : Pad). run (words_program o blocks (length op) (take i k.values) (drop i op)) x) (sym here)
+      ∙ ap (λ (es : List (ℕ × ℕ)). run_program (words_program o blocks (length op) [] op) (part_with p.known p.batch es)) none
+      ∙ subst (λ (ws : List ℕ). run_program (words_program o blocks (length ws) [] ws) (part_with p.known p.batch []) ≡ run_program (words_program o blocks (length ws) (take k.done k.values) (drop k.done ws)) (part_with p.known p.batch k.writes)) is (g.runs p.known (λ a w x. x))
+      ∙ ap (λ (j : ℕ). run_program (words_program o blocks (length op) (take j k.values) (drop j op)) (part_with p.known p.batch k.writes)) at
+      ∙ ap (λ (x : Part). run_program (words_program o blocks (length op) (take i k.values) (drop i op)) x) (sym here)
 
-pub of_store : (plot : Plot) (p : Pad) → HasState plot p → p.script ≡ [] → IsOfStore (base plot) plot.blocks (pad p.known p.batch [])
-of_store plot p h none = subst (λ (es : List (ℕ × ℕ)). IsOfStore (base plot) plot.blocks (pad p.known p.batch es)) none (h.memory, (h.state, h.stored), h.part)
+pub of_store : (plot : Plot) (p : Part) → HasState plot p → p.script ≡ [] → IsOfStore (base plot) plot.blocks (part_with p.known p.batch [])
+of_store plot p h none = subst (λ (es : List (ℕ × ℕ)). IsOfStore (base plot) plot.blocks (part_with p.known p.batch es)) none (h.memory, (h.state, h.stored), h.part)
 
 -- the memory in which the words have run stands for a store
-pub has_store : (plot : Plot) (k : Remains) (p q : Pad) → GoesOn (base plot) plot.blocks k p → HasState plot p → p.script ≡ [] → q ≡ pad p.known p.batch k.writes → HasStore plot q
+pub has_store : (plot : Plot) (k : SuspendedRun) (p q : Part) → MayResume (base plot) plot.blocks k p → HasState plot p → p.script ≡ [] → q ≡ part_with p.known p.batch k.writes → HasStore plot q
 has_store plot k p q g h none here =
     let s = g.stands p.known (λ a w x. x) (of_store plot p h none) in
-    subst (HasStore plot) (sym here) (record { fits = h.fits; memory = s.0; store = plain s.1.0; part = s.2; stands = s.1.1.stands })
+    subst (HasStore plot) (sym here) (record { fits = h.fits; memory = s.0; store = cell_store s.1.0; part = s.2; stands = s.1.1.stands })
 
 -- a key that the next word looks for
-pub goes_sought : (o blocks : ℕ) (k : Remains) (p : Pad) → GoesOn o blocks k p → (r : Option ℕ) → IfSome r (λ key. LooksFor o blocks (get_or k.words k.done 0) key) → GoesOn o blocks (record k { sought = r }) p
+pub goes_sought : (o blocks : ℕ) (k : SuspendedRun) (p : Part) → MayResume o blocks k p → (r : Option ℕ) → IfSome r (λ key. LooksFor o blocks (get_or k.words k.done 0) key) → MayResume o blocks (record k { sought = r }) p
 goes_sought o blocks k p g r h = record {
   runs = g.runs;
   stands = g.stands;
@@ -97,20 +97,20 @@ looks_word o blocks w x None e h = tt
 looks_word o blocks w x (Some key) e h = subst (λ (y : ℕ). LooksFor o blocks y key) e (h o blocks)
 
 -- where the walk to the key that is kept lacks a cell, the script lacks it
-pub reaches : (o blocks : ℕ) (few : blocks ≤ MOST_BLOCKS) (k : Remains) (p q : Pad) → GoesOn o blocks k p → p.script ≡ [] → (op : List ℕ) → k.words ≡ op → length op ≤ MOST_INSTRS → q ≡ pad p.known p.batch k.writes
-    → (key a : ℕ) → k.sought ≡ Some key → run (seek_program o blocks key) q ≡ Lacks a → run (script_program o blocks op) p ≡ Lacks a
+pub reaches : (o blocks : ℕ) (few : blocks ≤ MOST_BLOCKS) (k : SuspendedRun) (p q : Part) → MayResume o blocks k p → p.script ≡ [] → (op : List ℕ) → k.words ≡ op → length op ≤ MOST_INSTRS → q ≡ part_with p.known p.batch k.writes
+    → (key a : ℕ) → k.sought ≡ Some key → run_program (seek_program o blocks key) q ≡ Lacks a → run_program (script_program o blocks op) p ≡ Lacks a
 reaches o blocks few k p q g none op is most here key a e lacks =
     let left : k.done < length op = omega (arith, g.left, ap length is) in
-    let word : run (word_program o blocks (get_or op k.done 0)) q ≡ Lacks a = subst (λ (ws : List ℕ). run (word_program o blocks (get_or ws k.done 0)) q ≡ Lacks a) is (g.looks key e q a lacks) in
+    let word : run_program (word_program o blocks (get_or op k.done 0)) q ≡ Lacks a = subst (λ (ws : List ℕ). run_program (word_program o blocks (get_or ws k.done 0)) q ≡ Lacks a) is (g.looks key e q a lacks) in
     ran_so o blocks few k p g none op is most k.done refl q here ∙ ran_lacks o blocks (length op) op k.done left k.values q q a word
 
 -- how the call reads and leaves what is kept
-module _ (plot : Plot) (k : Remains) (p : Pad) (words : List ℕ) (is : IsOf k plot.callers plot.blocks words) (instrs : plot.instrs ≡ MOST_INSTRS) where
+module _ (plot : Plot) (k : SuspendedRun) (p : Part) (words : List ℕ) (is : IsRunOf k plot.callers plot.blocks words) (instrs : plot.instrs ≡ MOST_INSTRS) where
   at : base_of k.callers MOST_INSTRS ≡ base plot
   at i = base_of (is.callers i) (sym instrs i)
 
-  pub goes_there : 1 ≤ length words → HoldsScript k p → GoesOn (base plot) plot.blocks k p
-  goes_there some h = subst (λ (b : ℕ). GoesOn (base plot) b k p) is.blocks (subst (λ (o : ℕ). GoesOn o k.blocks k p) at (h (omega (arith, some, ap length is.words))))
+  pub goes_there : 1 ≤ length words → HoldsScript k p → MayResume (base plot) plot.blocks k p
+  goes_there some h = subst (λ (b : ℕ). MayResume (base plot) b k p) is.blocks (subst (λ (o : ℕ). MayResume o k.blocks k p) at (h (omega (arith, some, ap length is.words))))
 
-  pub holds_so : GoesOn (base plot) plot.blocks k p → HoldsScript k p
-  holds_so g some = subst (λ (o : ℕ). GoesOn o k.blocks k p) (sym at) (subst (λ (b : ℕ). GoesOn (base plot) b k p) (sym is.blocks) g)
+  pub holds_so : MayResume (base plot) plot.blocks k p → HoldsScript k p
+  holds_so g some = subst (λ (o : ℕ). MayResume o k.blocks k p) (sym at) (subst (λ (b : ℕ). MayResume (base plot) b k p) (sym is.blocks) g)

@@ -2,10 +2,10 @@
 use Rattle.std.proofs.Common.{◌≡◌, ℕ, ◌+◌, ◌-◌, ◌<◌, ◌≤◌, refl, sym, ◌∙◌, ap, subst, arith, Option, Some, None, Ok, Err, List, [], ◌∷◌, ◌++◌, length, get_or, set, take, drop, replicate, length-drop, take-append-drop, drop_of_length-le}
 use Rattle.std.proofs.lemmas.List.{drop_more, take_more_set, take_all, get_or-drop, length-take-le}
 use Rattle.of_mem.specs.declared.work.RawReply.{RawReply}
-use Rattle.of_mem.specs.Pad.{Pad, newest}
+use Rattle.of_mem.specs.Pad.{Part, newest_at}
 use Rattle.of_mem.specs.Places.{register_at, cells_at}
 use Rattle.of_mem.specs.declared.plot.TheConstants.{MOST_BLOCKS}
-use Rattle.of_mem.specs.Programs.{Program, Lacks, Ends, run, answer, after}
+use Rattle.of_mem.specs.Programs.{Program, Lacks, Ends, run_program, program_answer, memory_after}
 use Rattle.of_mem.specs.declared.plot.Plot.{Plot}
 use Rattle.of_mem.specs.Numbers.{IsNumber}
 use Rattle.of_mem.specs.Plots.{base}
@@ -14,53 +14,53 @@ use Rattle.of_mem.proofs.Runs.{Ended, run_ended, run_then_gives, run_then_needs}
 use Rattle.of_script.specs.declared.instr.TheConstants.{MOST_INSTRS}
 use Rattle.of_script.specs.declared.instr.Cause.{Cause}
 use Rattle.of_script.specs.Reading.{instr_at}
-use Rattle.of_store.specs.State.{Effect, Aborted}
+use Rattle.of_store.specs.State.{InstrEffect, Aborted}
 use Rattle.of_store.specs.Replies.{IsSmall}
 use Rattle.of_store.proofs.Keeps.{Leaves}
 use Rattle.of_store.proofs.Values.{value_of}
-use Rattle.of_eval.specs.Shapes.{cells_of}
+use Rattle.of_eval.specs.Shapes.{reply_cells}
 use Rattle.of_eval.specs.Stopped.{IsOfStore}
 use Rattle.of_eval.specs.Words.{word_effect, reply_to}
-use Rattle.of_eval.specs.ScriptPrograms.{Answer, word_program, go_on, words_program, script_program}
-use Rattle.of_eval.specs.Instructions.{Gives}
+use Rattle.of_eval.specs.ScriptPrograms.{InstrResult, word_program, go_on, words_program, script_program}
+use Rattle.of_eval.specs.Instructions.{GivesEffect}
 use Rattle.of_eval.specs.Scripted.{word_acts, instr_leaves, instr_small}
 use Rattle.of_eval.proofs.Unpacked.{nones}
 
 -- a register that is known holds a number
-pub register_small : (plot : Plot) (p : Pad) (r n a : ℕ) → HasStore plot p → r < 16 → a ≡ register_at (base plot) r → newest p a ≡ Some n → IsNumber n
+pub register_small : (plot : Plot) (p : Part) (r n a : ℕ) → HasStore plot p → r < 16 → a ≡ register_at (base plot) r → newest_at p a ≡ Some n → IsNumber n
 register_small plot p r n a h l at e =
-    let is : h.memory (register_at (base plot) r) ≡ n = h.part (register_at (base plot) r) n (subst (λ (x : ℕ). newest p x ≡ Some n) at e) in
+    let is : h.memory (register_at (base plot) r) ≡ n = h.part (register_at (base plot) r) n (subst (λ (x : ℕ). newest_at p x ≡ Some n) at e) in
     let k = (h.stands.holds.registers r l).1 in omega (arith, is, k)
 
 module _ (o blocks : ℕ) where
-  pub script_is : (op : List ℕ) (p : Pad) → length op ≤ MOST_INSTRS → run (script_program o blocks op) p ≡ run (words_program o blocks (length op) [] op) p
-  script_is op p few = ap (λ (ws : List ℕ). run (words_program o blocks (length ws) [] ws) p) (take_all MOST_INSTRS op few)
+  pub script_is : (op : List ℕ) (p : Part) → length op ≤ MOST_INSTRS → run_program (script_program o blocks op) p ≡ run_program (words_program o blocks (length op) [] op) p
+  script_is op p few = ap (λ (ws : List ℕ). run_program (words_program o blocks (length ws) [] ws) p) (take_all MOST_INSTRS op few)
 
-  module _ (n : ℕ) (op : List ℕ) (i : ℕ) (l : i < length op) (vs : List (Option ℕ)) (p q : Pad) where
-    opened : run (words_program o blocks n (take i vs) (drop i op)) p ≡ run (words_program o blocks n (take i vs) (get_or op i 0 ∷ drop (i + 1) op)) p
-    opened = ap (λ (ws : List ℕ). run (words_program o blocks n (take i vs) ws) p) (drop_more op i 0 l)
+  module _ (n : ℕ) (op : List ℕ) (i : ℕ) (l : i < length op) (vs : List (Option ℕ)) (p q : Part) where
+    opened : run_program (words_program o blocks n (take i vs) (drop i op)) p ≡ run_program (words_program o blocks n (take i vs) (get_or op i 0 ∷ drop (i + 1) op)) p
+    opened = ap (λ (ws : List ℕ). run_program (words_program o blocks n (take i vs) ws) p) (drop_more op i 0 l)
 
-    abbrev next : Answer → Program RawReply
+    abbrev next : InstrResult → Program RawReply
     next = go_on n (take i vs) (λ v. words_program o blocks n (take i vs ++ v ∷ []) (drop (i + 1) op))
 
-    pub ran_more : (v : Option ℕ) → i < length vs → run (word_program o blocks (get_or op i 0)) p ≡ Ends (Ok v) q → run (words_program o blocks n (take i vs) (drop i op)) p ≡ run (words_program o blocks n (take (i + 1) (set vs i v)) (drop (i + 1) op)) q
-    ran_more v k e = opened ∙ run_then_gives (word_program o blocks (get_or op i 0)) next p q (Ok v) e ∙ ap (λ (d : List (Option ℕ)). run (words_program o blocks n d (drop (i + 1) op)) q) (sym (take_more_set vs i v k))
+    pub ran_more : (v : Option ℕ) → i < length vs → run_program (word_program o blocks (get_or op i 0)) p ≡ Ends (Ok v) q → run_program (words_program o blocks n (take i vs) (drop i op)) p ≡ run_program (words_program o blocks n (take (i + 1) (set vs i v)) (drop (i + 1) op)) q
+    ran_more v k e = opened ∙ run_then_gives (word_program o blocks (get_or op i 0)) next p q (Ok v) e ∙ ap (λ (d : List (Option ℕ)). run_program (words_program o blocks n d (drop (i + 1) op)) q) (sym (take_more_set vs i v k))
 
-    pub ran_aborts : (cause : Cause) → i ≤ length vs → run (word_program o blocks (get_or op i 0)) p ≡ Ends (Err cause) q → run (words_program o blocks n (take i vs) (drop i op)) p ≡ Ends (cells_of (reply_to n (Aborted i cause))) q
-    ran_aborts cause k e = opened ∙ run_then_gives (word_program o blocks (get_or op i 0)) next p q (Err cause) e ∙ ap (λ (x : ℕ). Ends (cells_of (reply_to n (Aborted x cause))) q) (length-take-le i vs k)
+    pub ran_aborts : (cause : Cause) → i ≤ length vs → run_program (word_program o blocks (get_or op i 0)) p ≡ Ends (Err cause) q → run_program (words_program o blocks n (take i vs) (drop i op)) p ≡ Ends (reply_cells (reply_to n (Aborted i cause))) q
+    ran_aborts cause k e = opened ∙ run_then_gives (word_program o blocks (get_or op i 0)) next p q (Err cause) e ∙ ap (λ (x : ℕ). Ends (reply_cells (reply_to n (Aborted x cause))) q) (length-take-le i vs k)
 
-    pub ran_lacks : (a : ℕ) → run (word_program o blocks (get_or op i 0)) p ≡ Lacks a → run (words_program o blocks n (take i vs) (drop i op)) p ≡ Lacks a
+    pub ran_lacks : (a : ℕ) → run_program (word_program o blocks (get_or op i 0)) p ≡ Lacks a → run_program (words_program o blocks n (take i vs) (drop i op)) p ≡ Lacks a
     ran_lacks a e = opened ∙ run_then_needs (word_program o blocks (get_or op i 0)) next p a e
 
-module _ (o blocks : ℕ) (few : blocks ≤ MOST_BLOCKS) (w : ℕ) (p q : Pad) (v : Option ℕ) where
-  by_effect : (m : ℕ → ℕ) (e : Effect) → Gives o blocks e (answer (word_program o blocks w) m) (after (word_program o blocks w) m) → Leaves e → IsSmall (value_of e) → Ended (word_program o blocks w) p m (Ok v) q → IsOfStore o blocks q × IsSmall v
+module _ (o blocks : ℕ) (few : blocks ≤ MOST_BLOCKS) (w : ℕ) (p q : Part) (v : Option ℕ) where
+  by_effect : (m : ℕ → ℕ) (e : InstrEffect) → GivesEffect o blocks e (program_answer (word_program o blocks w) m) (memory_after (word_program o blocks w) m) → Leaves e → IsSmall (value_of e) → Ended (word_program o blocks w) p m (Ok v) q → IsOfStore o blocks q × IsSmall v
   by_effect m (Ok x) g l k d =
-      let same : v ≡ x.1 = (let both : ◌≡◌ {A = Answer} (Ok v) (Ok x.1) = d.answers ∙ g.0 in cc) in
-      ((after (word_program o blocks w) m, (x.0, record { state = l; stands = g.1 }), d.part), subst IsSmall (sym same) k)
-  by_effect m (Err cause) g l k d = absurd (let both : ◌≡◌ {A = Answer} (Ok v) (Err cause) = d.answers ∙ g in cc)
+      let same : v ≡ x.1 = (let both : ◌≡◌ {A = InstrResult} (Ok v) (Ok x.1) = d.answers ∙ g.0 in cc) in
+      ((memory_after (word_program o blocks w) m, (x.0, record { state = l; stands = g.1 }), d.part), subst IsSmall (sym same) k)
+  by_effect m (Err cause) g l k d = absurd (let both : ◌≡◌ {A = InstrResult} (Ok v) (Err cause) = d.answers ∙ g in cc)
 
   -- what a word leaves stands for a store, and its value is a number of one
-  pub word_leaves : IsOfStore o blocks p → run (word_program o blocks w) p ≡ Ends (Ok v) q → IsOfStore o blocks q × IsSmall v
+  pub word_leaves : IsOfStore o blocks p → run_program (word_program o blocks w) p ≡ Ends (Ok v) q → IsOfStore o blocks q × IsSmall v
   word_leaves h e =
       let a = word_acts o blocks few h.0 h.1.0 h.1.1 w (instr_at w) refl in
       by_effect h.0 (word_effect h.1.0 w) a.1 (instr_leaves h.1.0 w (instr_at w) refl h.1.1.state) (instr_small h.1.0 w (instr_at w) refl h.1.1.state)
@@ -74,8 +74,8 @@ filled vs n e l past =
     ap (λ (k : ℕ). take n vs ++ replicate k None) (sym many) ∙ ap (λ (ws : List (Option ℕ)). take n vs ++ ws) (sym rest) ∙ take-append-drop n vs
 
 -- all words answered
-pub ran_ends : (o blocks n : ℕ) (op : List ℕ) (i : ℕ) (vs : List (Option ℕ)) (p : Pad) → n ≡ i → length op ≤ i → length vs ≡ MOST_INSTRS → n ≤ MOST_INSTRS → ((k : ℕ) → i ≤ k → get_or vs k None ≡ None)
-    → run (words_program o blocks n (take i vs) (drop i op)) p ≡ Ends (cells_of (record { len = n; values = vs; abort = None })) p
+pub ran_ends : (o blocks n : ℕ) (op : List ℕ) (i : ℕ) (vs : List (Option ℕ)) (p : Part) → n ≡ i → length op ≤ i → length vs ≡ MOST_INSTRS → n ≤ MOST_INSTRS → ((k : ℕ) → i ≤ k → get_or vs k None ≡ None)
+    → run_program (words_program o blocks n (take i vs) (drop i op)) p ≡ Ends (reply_cells (record { len = n; values = vs; abort = None })) p
 ran_ends o blocks n op i vs p is l w few past =
     let none : drop i op ≡ [] = drop_of_length-le op l in
-    ap (λ (ws : List ℕ). run (words_program o blocks n (take i vs) ws) p) none ∙ ap (λ (xs : List (Option ℕ)). Ends (cells_of (record { len = n; values = xs; abort = None })) p) (filled vs i w (omega (arith, is, few)) past)
+    ap (λ (ws : List ℕ). run_program (words_program o blocks n (take i vs) ws) p) none ∙ ap (λ (xs : List (Option ℕ)). Ends (reply_cells (record { len = n; values = xs; abort = None })) p) (filled vs i w (omega (arith, is, few)) past)

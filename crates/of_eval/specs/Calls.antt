@@ -7,13 +7,13 @@ use Rattle.of_mem.specs.Plots.{base}
 use Rattle.of_mem.specs.Programs.{Program}
 use Rattle.of_script.specs.declared.instr.Instr.{Instr}
 use Rattle.of_script.specs.declared.instr.Reply.{Reply}
-use Rattle.of_eval.specs.Shapes.{cells_of}
-use Rattle.of_eval.specs.ScriptPrograms.{Answer, instr_program, word_program, script_program}
+use Rattle.of_eval.specs.Shapes.{reply_cells}
+use Rattle.of_eval.specs.ScriptPrograms.{InstrResult, instr_program, word_program, script_program}
 
-abbrev pub step : Plot → Instr → Program Answer
+abbrev pub step : Plot → Instr → Program InstrResult
 step plot i = instr_program (base plot) plot.blocks i
 
-abbrev pub run_word : Plot → ℕ → Program Answer
+abbrev pub run_word : Plot → ℕ → Program InstrResult
 run_word plot w = word_program (base plot) plot.blocks w
 
 abbrev pub script : Plot → List ℕ → Program RawReply
@@ -21,5 +21,5 @@ script plot op = script_program (base plot) plot.blocks op
 
 -- the same result, with the reply as cells hold it
 abbrev pub in_cells : Result Reply Need → Result RawReply Need
-in_cells (Ok r) = Ok (cells_of r)
+in_cells (Ok r) = Ok (reply_cells r)
 in_cells (Err need) = Err need

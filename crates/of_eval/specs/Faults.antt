@@ -4,24 +4,24 @@ use Rattle.std.specs.List.{AllByRecursion as Each, AllPairs}
 use Rattle.of_script.specs.declared.instr.Reply.{Reply}
 use Rattle.of_script.specs.declared.instr.TheConstants.{MOST_INSTRS, REGISTERS}
 use Rattle.of_mem.specs.declared.work.RawReply.{RawReply}
-use Rattle.of_mem.specs.Places.{base_of, ticket_at, shape_at, reply_at, register_at, fresh_at, keys_at, tail_at, length_at}
+use Rattle.of_mem.specs.Places.{base_of, ticket_cell_at, shape_at, reply_at, register_at, fresh_at, keys_at, tail_at, length_at}
 use Rattle.of_mem.specs.Numbers.{IsNumber}
-use Rattle.of_mem.specs.Stores.{IsChain, IsBucket, front_at, first_at, second_at, link_at, cell_after, last_pointer, total}
+use Rattle.of_mem.specs.Stores.{IsChain, IsBucket, front_at, first_at, second_at, link_at, cell_after, last_pointer, blocks_in_chains}
 use Rattle.of_eval.specs.declared.lawful_cells.LawErr.{LawErr}
 use Rattle.of_eval.specs.declared.lawful_cells.LawErr.TheVariants.{Memory, Unlawful}
 use Rattle.of_eval.specs.Shapes.{IsHeldBy}
-use Rattle.of_store.specs.State.{State}
-use Rattle.of_eval.specs.Lawful.{OwnStand, StandsFor}
+use Rattle.of_store.specs.State.{Store}
+use Rattle.of_eval.specs.Lawful.{OwnCellsAreSound, DataCellsStandFor}
 
 -- ---- the cells of a caller
 
 -- cells of this shape whose numbers are all 0
-abbrev pub bare : ℕ → RawReply
-bare shape = record { shape = shape; values = replicate MOST_INSTRS 0 }
+abbrev pub shape_alone : ℕ → RawReply
+shape_alone shape = record { shape = shape; values = replicate MOST_INSTRS 0 }
 
 -- the shape is that of this reply, to a script of at most so many instructions; which numbers it has is not asked
 pub record IsShapeOf (instrs shape : ℕ) (r : Reply) : Type 0 where
-  pub held : IsHeldBy (bare shape) r
+  pub held : IsHeldBy (shape_alone shape) r
   pub few : r.len ≤ instrs
 
 -- the reply has a number at this place
@@ -31,27 +31,27 @@ HasNumber r j = is_some (slice_index_or r.values j None) ≡ true
 -- the first fault of a caller's own cells
 pub data OwnFault (instrs : ℕ) (m : ℕ → ℕ) (caller cell : ℕ) : Type 0 where
   -- there was no call, and there is a shape
-  Left : m (ticket_at instrs caller) ≡ 0 → m (shape_at instrs caller) ≢ 0 → cell ≡ shape_at instrs caller → OwnFault instrs m caller cell
+  Left : m (ticket_cell_at instrs caller) ≡ 0 → m (shape_at instrs caller) ≢ 0 → cell ≡ shape_at instrs caller → OwnFault instrs m caller cell
   -- there was a call, and the shape is that of no reply
-  NoShape : m (ticket_at instrs caller) ≢ 0 → ((r : Reply) → IsShapeOf instrs (m (shape_at instrs caller)) r → ⊥) → cell ≡ shape_at instrs caller → OwnFault instrs m caller cell
+  NoShape : m (ticket_cell_at instrs caller) ≢ 0 → ((r : Reply) → IsShapeOf instrs (m (shape_at instrs caller)) r → ⊥) → cell ≡ shape_at instrs caller → OwnFault instrs m caller cell
   -- the first number of the reply that is too great
-  GreatReply : m (ticket_at instrs caller) ≢ 0 → (r : Reply) → IsShapeOf instrs (m (shape_at instrs caller)) r
+  GreatReply : m (ticket_cell_at instrs caller) ≢ 0 → (r : Reply) → IsShapeOf instrs (m (shape_at instrs caller)) r
       → (j : ℕ) → j < r.len → HasNumber r j → ((i : ℕ) → i < j → HasNumber r i → IsNumber (m (reply_at instrs caller i))) → (IsNumber (m (reply_at instrs caller j)) → ⊥)
       → cell ≡ reply_at instrs caller j → OwnFault instrs m caller cell
 
 -- ---- what is looked at before the chains
 
 -- the own cells of the first so many callers are sound
-abbrev pub OwnsStand : ℕ → (ℕ → ℕ) → ℕ → Type 0
-OwnsStand instrs m n = (c : ℕ) → c < n → OwnStand instrs m c
+abbrev pub AllOwnCellsAreSound : ℕ → (ℕ → ℕ) → ℕ → Type 0
+AllOwnCellsAreSound instrs m n = (c : ℕ) → c < n → OwnCellsAreSound instrs m c
 
 -- the first so many registers are numbers
 abbrev pub AreNumbers : ℕ → (ℕ → ℕ) → ℕ → Type 0
 AreNumbers o m n = (r : ℕ) → r < n → IsNumber (m (register_at o r))
 
 -- the callers' own cells and the registers are sound, and no more blocks were taken than there are
-pub record Begun (callers instrs blocks : ℕ) (m : ℕ → ℕ) : Type 0 where
-  pub own : OwnsStand instrs m callers
+pub record HasSoundHead (callers instrs blocks : ℕ) (m : ℕ → ℕ) : Type 0 where
+  pub own : AllOwnCellsAreSound instrs m callers
   pub registers : AreNumbers (base_of callers instrs) m REGISTERS
   pub few : m (fresh_at (base_of callers instrs)) ≤ blocks
 
@@ -69,7 +69,7 @@ Has (a ∷ l) x = (x ≡ a) ⊎ Has l x
 
 -- The blocks that were met: all of the chains before chain n, and those of chain n from its front up to here. Each is below fresh and
 -- stands in one chain, and once in it, and what stands in the blocks is sound.
-pub record Passed (o : ℕ) (m : ℕ → ℕ) (n : ℕ) (chains : ℕ → List ℕ) : Type 0 where
+pub record HasPassed (o : ℕ) (m : ℕ → ℕ) (n : ℕ) (chains : ℕ → List ℕ) : Type 0 where
   pub linked : (c : ℕ) → c < n → IsChain o m (front_at o c) (chains c)
   pub path : IsPath o m (front_at o n) (chains n)
   pub others : (c : ℕ) → n < c → chains c ≡ []
@@ -80,22 +80,22 @@ pub record Passed (o : ℕ) (m : ℕ → ℕ) (n : ℕ) (chains : ℕ → List �
   pub items : (q : ℕ) → q < 4 → Each (λ b. IsNumber (m (first_at o b))) (chains (33 + q))
 
 -- what is counted behind the chains before chain n is right: keys behind the buckets, and behind each queue its tail and its length
-pub record Counted (o : ℕ) (m : ℕ → ℕ) (n : ℕ) (chains : ℕ → List ℕ) : Type 0 where
-  pub keys : 33 ≤ n → m (keys_at o) + length (chains 0) ≡ total chains 33
+pub record HasRightCounts (o : ℕ) (m : ℕ → ℕ) (n : ℕ) (chains : ℕ → List ℕ) : Type 0 where
+  pub keys : 33 ≤ n → m (keys_at o) + length (chains 0) ≡ blocks_in_chains chains 33
   pub tails : (q : ℕ) → 33 + q < n → m (tail_at o q) ≡ last_pointer 0 (chains (33 + q))
   pub lengths : (q : ℕ) → 33 + q < n → m (length_at o q) ≡ length (chains (33 + q))
 
 -- the pointer cell behind the blocks of chain n that were met
-abbrev pub here : ℕ → ℕ → (ℕ → List ℕ) → ℕ
-here o n chains = cell_after o (front_at o n) (chains n)
+abbrev pub pointer_cell : ℕ → ℕ → (ℕ → List ℕ) → ℕ
+pointer_cell o n chains = cell_after o (front_at o n) (chains n)
 
 -- the block was met
 abbrev pub IsMet : (ℕ → List ℕ) → ℕ → Type 0
 IsMet chains b = (c : ℕ) × Has (chains c) b
 
 -- the pointer leads to a block that was not met yet
-pub record LeadsOn (o : ℕ) (m : ℕ → ℕ) (n : ℕ) (chains : ℕ → List ℕ) (b : ℕ) : Type 0 where
-  pub pointer : m (here o n chains) ≡ b + 1
+pub record LeadsToNewBlock (o : ℕ) (m : ℕ → ℕ) (n : ℕ) (chains : ℕ → List ℕ) (b : ℕ) : Type 0 where
+  pub pointer : m (pointer_cell o n chains) ≡ b + 1
   pub below : b < m (fresh_at o)
   pub unmet : IsMet chains b → ⊥
 
@@ -106,18 +106,18 @@ IsNoKey o m k bucket key = (IsNumber key → ⊥) ⊎ ((key % 32 ≢ k) ⊎ ((x 
 -- the first fault, where these blocks were met
 pub data ChainFault (o : ℕ) (m : ℕ → ℕ) (n : ℕ) (chains : ℕ → List ℕ) (cell : ℕ) : Type 0 where
   -- the pointer leads to a block that is not below fresh or was met
-  Pointer : n < 37 → (b : ℕ) → m (here o n chains) ≡ b + 1 → (m (fresh_at o) ≤ b) ⊎ IsMet chains b → cell ≡ here o n chains → ChainFault o m n chains cell
+  Pointer : n < 37 → (b : ℕ) → m (pointer_cell o n chains) ≡ b + 1 → (m (fresh_at o) ≤ b) ⊎ IsMet chains b → cell ≡ pointer_cell o n chains → ChainFault o m n chains cell
   -- the key is none of this bucket
-  Key : (k b : ℕ) → k < 32 → n ≡ 1 + k → LeadsOn o m n chains b → IsNoKey o m k (chains n) (m (first_at o b)) → cell ≡ first_at o b → ChainFault o m n chains cell
+  Key : (k b : ℕ) → k < 32 → n ≡ 1 + k → LeadsToNewBlock o m n chains b → IsNoKey o m k (chains n) (m (first_at o b)) → cell ≡ first_at o b → ChainFault o m n chains cell
   -- the value beside a key is too great
-  Value : (k b : ℕ) → k < 32 → n ≡ 1 + k → LeadsOn o m n chains b → (IsNoKey o m k (chains n) (m (first_at o b)) → ⊥) → (IsNumber (m (second_at o b)) → ⊥) → cell ≡ second_at o b → ChainFault o m n chains cell
+  Value : (k b : ℕ) → k < 32 → n ≡ 1 + k → LeadsToNewBlock o m n chains b → (IsNoKey o m k (chains n) (m (first_at o b)) → ⊥) → (IsNumber (m (second_at o b)) → ⊥) → cell ≡ second_at o b → ChainFault o m n chains cell
   -- the item is too great
-  Item : (q b : ℕ) → q < 4 → n ≡ 33 + q → LeadsOn o m n chains b → (IsNumber (m (first_at o b)) → ⊥) → cell ≡ first_at o b → ChainFault o m n chains cell
+  Item : (q b : ℕ) → q < 4 → n ≡ 33 + q → LeadsToNewBlock o m n chains b → (IsNumber (m (first_at o b)) → ⊥) → cell ≡ first_at o b → ChainFault o m n chains cell
 
 -- the first fault of what is counted behind the chains before chain n
 pub data CountFault (o : ℕ) (m : ℕ → ℕ) (n : ℕ) (chains : ℕ → List ℕ) (cell : ℕ) : Type 0 where
   -- there are not so many keys in the buckets
-  Keys : n ≡ 33 → m (keys_at o) + length (chains 0) ≢ total chains 33 → cell ≡ keys_at o → CountFault o m n chains cell
+  Keys : n ≡ 33 → m (keys_at o) + length (chains 0) ≢ blocks_in_chains chains 33 → cell ≡ keys_at o → CountFault o m n chains cell
   -- the tail does not point to the last block
   Tail : (q : ℕ) → q < 4 → n ≡ 34 + q → m (tail_at o q) ≢ last_pointer 0 (chains (33 + q)) → cell ≡ tail_at o q → CountFault o m n chains cell
   -- there are not so many items
@@ -126,32 +126,32 @@ pub data CountFault (o : ℕ) (m : ℕ → ℕ) (n : ℕ) (chains : ℕ → List
 -- The first cell at fault. What is looked at before it is sound.
 pub data IsFirstFault (callers instrs blocks : ℕ) (m : ℕ → ℕ) (cell : ℕ) : Type 0 where
   -- a caller's own cells
-  Own : (c : ℕ) → c < callers → OwnsStand instrs m c → OwnFault instrs m c cell → IsFirstFault callers instrs blocks m cell
+  Own : (c : ℕ) → c < callers → AllOwnCellsAreSound instrs m c → OwnFault instrs m c cell → IsFirstFault callers instrs blocks m cell
   -- a register that is too great
-  Register : OwnsStand instrs m callers → (r : ℕ) → r < REGISTERS → AreNumbers (base_of callers instrs) m r → (IsNumber (m (register_at (base_of callers instrs) r)) → ⊥)
+  Register : AllOwnCellsAreSound instrs m callers → (r : ℕ) → r < REGISTERS → AreNumbers (base_of callers instrs) m r → (IsNumber (m (register_at (base_of callers instrs) r)) → ⊥)
       → cell ≡ register_at (base_of callers instrs) r → IsFirstFault callers instrs blocks m cell
   -- more blocks were taken than there are
-  Fresh : OwnsStand instrs m callers → AreNumbers (base_of callers instrs) m REGISTERS → blocks < m (fresh_at (base_of callers instrs))
+  Fresh : AllOwnCellsAreSound instrs m callers → AreNumbers (base_of callers instrs) m REGISTERS → blocks < m (fresh_at (base_of callers instrs))
       → cell ≡ fresh_at (base_of callers instrs) → IsFirstFault callers instrs blocks m cell
   -- a pointer of a chain, or what stands in a block
-  Chain : Begun callers instrs blocks m → (n : ℕ) (chains : ℕ → List ℕ) → Passed (base_of callers instrs) m n chains → Counted (base_of callers instrs) m n chains
+  Chain : HasSoundHead callers instrs blocks m → (n : ℕ) (chains : ℕ → List ℕ) → HasPassed (base_of callers instrs) m n chains → HasRightCounts (base_of callers instrs) m n chains
       → ChainFault (base_of callers instrs) m n chains cell → IsFirstFault callers instrs blocks m cell
   -- what is counted behind the chains up to chain n; what is counted behind those before it is right
-  Count : Begun callers instrs blocks m → (n : ℕ) (chains : ℕ → List ℕ) → Passed (base_of callers instrs) m (1 + n) chains → Counted (base_of callers instrs) m n chains → chains (1 + n) ≡ []
+  Count : HasSoundHead callers instrs blocks m → (n : ℕ) (chains : ℕ → List ℕ) → HasPassed (base_of callers instrs) m (1 + n) chains → HasRightCounts (base_of callers instrs) m n chains → chains (1 + n) ≡ []
       → CountFault (base_of callers instrs) m (1 + n) chains cell → IsFirstFault callers instrs blocks m cell
   -- a block below fresh was not met
-  Lost : Begun callers instrs blocks m → (chains : ℕ → List ℕ) → Passed (base_of callers instrs) m 37 chains → Counted (base_of callers instrs) m 37 chains → chains 37 ≡ []
-      → total chains 37 ≢ m (fresh_at (base_of callers instrs)) → cell ≡ fresh_at (base_of callers instrs) → IsFirstFault callers instrs blocks m cell
+  Lost : HasSoundHead callers instrs blocks m → (chains : ℕ → List ℕ) → HasPassed (base_of callers instrs) m 37 chains → HasRightCounts (base_of callers instrs) m 37 chains → chains 37 ≡ []
+      → blocks_in_chains chains 37 ≢ m (fresh_at (base_of callers instrs)) → cell ≡ fresh_at (base_of callers instrs) → IsFirstFault callers instrs blocks m cell
 
 -- an error that names a cell says this of it
-abbrev pub AtCell : (ℕ → Type 0) → LawErr → Type 0
-AtCell P Memory = Unit {0}
-AtCell P (Unlawful cell) = P cell
+abbrev pub NamesCellWith : (ℕ → Type 0) → LawErr → Type 0
+NamesCellWith P Memory = Unit {0}
+NamesCellWith P (Unlawful cell) = P cell
 
 -- cells with a first fault stand for no store
-abbrev pub FaultsExclude : Type 0
-FaultsExclude = (callers instrs blocks : ℕ) (m : ℕ → ℕ) (s : State) (cell : ℕ) → StandsFor callers instrs blocks m s → IsFirstFault callers instrs blocks m cell → ⊥
+abbrev pub FaultsExcludeStores : Type 0
+FaultsExcludeStores = (callers instrs blocks : ℕ) (m : ℕ → ℕ) (s : Store) (cell : ℕ) → DataCellsStandFor callers instrs blocks m s → IsFirstFault callers instrs blocks m cell → ⊥
 
 -- the first cell at fault is one
-abbrev pub OneFirstFault : Type 0
-OneFirstFault = (callers instrs blocks : ℕ) (m : ℕ → ℕ) (a b : ℕ) → IsFirstFault callers instrs blocks m a → IsFirstFault callers instrs blocks m b → a ≡ b
+abbrev pub FirstFaultIsOne : Type 0
+FirstFaultIsOne = (callers instrs blocks : ℕ) (m : ℕ → ℕ) (a b : ℕ) → IsFirstFault callers instrs blocks m a → IsFirstFault callers instrs blocks m b → a ≡ b

@@ -2,10 +2,10 @@
 use Rattle.std.specs.Prelude.{◌≡◌, ◌≢◌, ℕ, ◌≤◌, ◌<◌, nat_lt, if◌then◌else◌, map}
 use Rattle.std.specs.List.{range_with_len}
 use Rattle.of_mem.specs.declared.work.RawReply.{RawReply}
-use Rattle.of_mem.specs.Places.{base_of, ticket_at, shape_at, reply_at}
+use Rattle.of_mem.specs.Places.{base_of, ticket_cell_at, shape_at, reply_at}
 use Rattle.of_script.specs.declared.instr.Reply.{Reply}
 use Rattle.of_script.specs.declared.instr.TheConstants.{MOST_INSTRS}
-use Rattle.of_store.specs.State.{State}
+use Rattle.of_store.specs.State.{Store}
 use Rattle.of_eval.specs.Shapes.{IsHeldBy}
 use Rattle.of_eval.specs.Stored.{IsStored}
 
@@ -18,17 +18,17 @@ abbrev pub reply_in : (instrs : ℕ) → (ℕ → ℕ) → (caller : ℕ) → Ra
 reply_in instrs m c = record { shape = m (shape_at instrs c); values = map (reply_number instrs m c) (range_with_len 0 MOST_INSTRS) }
 
 -- a reply to a script of so many instructions at most, which a caller's own cells hold
-pub record HoldsReply (instrs : ℕ) (m : ℕ → ℕ) (caller : ℕ) : Type 0 where
+pub record OwnCellsHoldReply (instrs : ℕ) (m : ℕ → ℕ) (caller : ℕ) : Type 0 where
   pub reply : Reply
   pub held : IsHeldBy (reply_in instrs m caller) reply
   pub few : reply.len ≤ instrs
 
 -- a caller's own cells are those of no call, or hold the reply to its last one
-pub record OwnStand (instrs : ℕ) (m : ℕ → ℕ) (caller : ℕ) : Type 0 where
-  pub none : m (ticket_at instrs caller) ≡ 0 → m (shape_at instrs caller) ≡ 0
-  pub some : m (ticket_at instrs caller) ≢ 0 → HoldsReply instrs m caller
+pub record OwnCellsAreSound (instrs : ℕ) (m : ℕ → ℕ) (caller : ℕ) : Type 0 where
+  pub none : m (ticket_cell_at instrs caller) ≡ 0 → m (shape_at instrs caller) ≡ 0
+  pub some : m (ticket_cell_at instrs caller) ≢ 0 → OwnCellsHoldReply instrs m caller
 
 -- the data cells stand for this store
-pub record StandsFor (callers instrs blocks : ℕ) (m : ℕ → ℕ) (s : State) : Type 0 where
-  pub own : (c : ℕ) → c < callers → OwnStand instrs m c
+pub record DataCellsStandFor (callers instrs blocks : ℕ) (m : ℕ → ℕ) (s : Store) : Type 0 where
+  pub own : (c : ℕ) → c < callers → OwnCellsAreSound instrs m c
   pub stored : IsStored (base_of callers instrs) blocks m s

@@ -7,23 +7,23 @@ use Rattle.std.proofs.lemmas.Bool.{false≢true}
 use Rattle.std.proofs.lemmas.Bool.Decides.{nat_tests}
 use Rattle.std.proofs.lemmas.List.{length-map, length-replicate}
 use Rattle.of_mem.specs.Numbers.{FitsCell}
-use Rattle.of_mem.specs.Meaning.{marked}
-use Rattle.of_mem.specs.ProgramWork.{IsReply}
+use Rattle.of_mem.specs.Meaning.{is_marked}
+use Rattle.of_mem.specs.ProgramWork.{IsReplyTo}
 use Rattle.of_mem.proofs.Writes.{all_each}
-use Rattle.of_store.specs.State.{Outcome, Aborted}
+use Rattle.of_store.specs.State.{ScriptOutcome, Aborted}
 use Rattle.of_store.specs.Replies.{IsSmall}
-use Rattle.of_eval.specs.Shapes.{mark, mask_of, code_of, cells_of, shape_of}
+use Rattle.of_eval.specs.Shapes.{mark_bit, mask_of, code_of, reply_cells, shape_of}
 use Rattle.of_eval.specs.Words.{reply_to}
 use Rattle.of_eval.specs.ShapeLaws.{mark_small, mask_width}
 use Rattle.of_eval.specs.ShapeLaws.{code_some}
-use Rattle.of_eval.specs.Scripted.{behind, Answers}
+use Rattle.of_eval.specs.Scripted.{reply_behind, AnswerInRange}
 use Rattle.of_script.specs.declared.instr.TheConstants.{MOST_INSTRS}
 
 doubled : (x k : ℕ) → x * 2 ^ suc k ≡ 2 * (x * 2 ^ k)
 doubled x k = let p : 2 ^ suc k ≡ 2 * 2 ^ k = grind arith in rw p (grind arith)
 
 -- a mark is the bit at its place, whatever stands above the marks
-bit_of : (vs : List (Option ℕ)) (x k j : ℕ) → j < k → (mask_of vs + x * 2 ^ k) / 2 ^ j % 2 ≡ mark (get_or vs j None)
+bit_of : (vs : List (Option ℕ)) (x k j : ℕ) → j < k → (mask_of vs + x * 2 ^ k) / 2 ^ j % 2 ≡ mark_bit (get_or vs j None)
 bit_of vs x zero j l = absurd (omega arith)
 bit_of [] x (suc k) zero l = let e = doubled x k in rw e (omega arith)
 bit_of (v ∷ vs) x (suc k) zero l = let e = doubled x k in let s = mark_small v in rw e (omega (arith, s))
@@ -40,23 +40,23 @@ bit_of (v ∷ vs) x (suc k) (suc j) l =
     ap (λ (d : ℕ). (mask_of (v ∷ vs) + x * 2 ^ suc k) / d % 2) f ∙ ap (λ (q : ℕ). q % 2) (sym (div-div-eq-div-mul (mask_of (v ∷ vs) + x * 2 ^ suc k) 2 (2 ^ j))) ∙ ap (λ (q : ℕ). q / 2 ^ j % 2) half ∙ bit_of vs x k j (omega arith)
 
 -- a marked place has a number
-marked_has : (vs : List (Option ℕ)) (shape x : ℕ) → shape ≡ mask_of vs + x * 2 ^ MOST_INSTRS → (j : ℕ) → j < MOST_INSTRS → marked shape j ≡ true → mark (get_or vs j None) ≡ 1
-unfolding marked
+marked_has : (vs : List (Option ℕ)) (shape x : ℕ) → shape ≡ mask_of vs + x * 2 ^ MOST_INSTRS → (j : ℕ) → j < MOST_INSTRS → is_marked shape j ≡ true → mark_bit (get_or vs j None) ≡ 1
+unfolding is_marked
 marked_has vs shape x e j l h =
-    let b : shape / 2 ^ j % 2 ≡ mark (get_or vs j None) = ap (λ (q : ℕ). q / 2 ^ j % 2) e ∙ bit_of vs x MOST_INSTRS j l in
+    let b : shape / 2 ^ j % 2 ≡ mark_bit (get_or vs j None) = ap (λ (q : ℕ). q / 2 ^ j % 2) e ∙ bit_of vs x MOST_INSTRS j l in
     let k : shape / 2 ^ j % 2 ≡ 1 = grind (arith, nat_tests) in
     sym b ∙ k
 
-none_of : (o : Option ℕ) → (mark o ≡ 1 → ⊥) → o ≡ None
+none_of : (o : Option ℕ) → (mark_bit o ≡ 1 → ⊥) → o ≡ None
 none_of None h = refl
 none_of (Some v) h = absurd (h refl)
 
 -- an unmarked place has none
-unmarked_none : (vs : List (Option ℕ)) (shape x : ℕ) → shape ≡ mask_of vs + x * 2 ^ MOST_INSTRS → (j : ℕ) → j < MOST_INSTRS → marked shape j ≡ false → get_or vs j None ≡ None
-unfolding marked
+unmarked_none : (vs : List (Option ℕ)) (shape x : ℕ) → shape ≡ mask_of vs + x * 2 ^ MOST_INSTRS → (j : ℕ) → j < MOST_INSTRS → is_marked shape j ≡ false → get_or vs j None ≡ None
+unfolding is_marked
 unmarked_none vs shape x e j l h =
-    let b : shape / 2 ^ j % 2 ≡ mark (get_or vs j None) = ap (λ (q : ℕ). q / 2 ^ j % 2) e ∙ bit_of vs x MOST_INSTRS j l in
-    none_of (get_or vs j None) (λ (m : mark (get_or vs j None) ≡ 1). let k : shape / 2 ^ j % 2 ≡ 1 = b ∙ m in unmarked (shape / 2 ^ j % 2) k h)
+    let b : shape / 2 ^ j % 2 ≡ mark_bit (get_or vs j None) = ap (λ (q : ℕ). q / 2 ^ j % 2) e ∙ bit_of vs x MOST_INSTRS j l in
+    none_of (get_or vs j None) (λ (m : mark_bit (get_or vs j None) ≡ 1). let k : shape / 2 ^ j % 2 ≡ 1 = b ∙ m in unmarked (shape / 2 ^ j % 2) k h)
   where
     unmarked : (n : ℕ) → n ≡ 1 → (n == 1) ≡ false → ⊥
     unmarked n is not = let k : (n == 1) ≡ true = grind (arith, nat_tests) in false≢true (sym not ∙ k)
@@ -66,7 +66,7 @@ zero_there [] j e = refl
 zero_there (v ∷ vs) zero e = ap (λ (o : Option ℕ). unwrap_or o 0) e
 zero_there (v ∷ vs) (suc j) e = zero_there vs j e
 
-none_past : (vs : List (Option ℕ)) (k j : ℕ) → mark (get_or (vs ++ replicate k None) j None) ≡ 1 → j < length vs
+none_past : (vs : List (Option ℕ)) (k j : ℕ) → mark_bit (get_or (vs ++ replicate k None) j None) ≡ 1 → j < length vs
 none_past (v ∷ vs) k zero h = omega arith
 none_past (v ∷ vs) k (suc j) h = let r : j < length vs = none_past vs k j h in omega (arith, r)
 none_past [] zero j h = absurd (omega (arith, h))
@@ -89,7 +89,7 @@ pub mask_all : (vs : List (Option ℕ)) → length vs ≡ MOST_INSTRS → mask_o
 mask_all vs e = let k : mask_of vs < 2 ^ length vs = mask_width vs in let q : mask_of vs < 2 ^ MOST_INSTRS = subst (λ (n : ℕ). mask_of vs < 2 ^ n) e k in omega (arith, q)
 
 -- so many words, the first of an operation
-pub reply_fits : (op ws : List ℕ) (x : Outcome) → length ws ≤ MOST_INSTRS → length ws ≤ length op → Answers ws x → IsReply op (cells_of (reply_to (length ws) (behind [] x)))
+pub reply_fits : (op ws : List ℕ) (x : ScriptOutcome) → length ws ≤ MOST_INSTRS → length ws ≤ length op → AnswerInRange ws x → IsReplyTo op (reply_cells (reply_to (length ws) (reply_behind [] x)))
 reply_fits op ws (Ok e) few part h =
     let vs = e.1 ++ replicate (MOST_INSTRS - length e.1) None in
     let wide : length vs ≡ MOST_INSTRS = full_width e.1 (omega (arith, few, h.0)) in

@@ -1,97 +1,97 @@
 -- The record of a run: what its answers and the cells that recovery finds say of the history, and when the record is lawful.
 use Rattle.std.specs.Prelude.{◌≡◌, ℕ, ◌+◌, ◌==◌, ◌<◌, true, false, Bool, List, [], ◌∷◌, ◌++◌, length, All}
 use Rattle.std.proofs.Common.{get_or}
-use Rattle.of_cell.specs.Words.{seq, pay}
+use Rattle.of_cell.specs.Words.{seq_of, payload_of}
 use Rattle.of_cell.specs.Cells.{durable_place, table_words}
 use Rattle.of_recover.specs.Row.{current_seq}
 use Rattle.of_recover.specs.Recovered.{recovered_data}
-use Rattle.of_mem.specs.Places.{ticket_at}
+use Rattle.of_mem.specs.Places.{ticket_cell_at}
 use Rattle.of_script.specs.declared.instr.Reply.{Reply}
 use Rattle.of_script.specs.declared.instr.TheConstants.{MOST_INSTRS}
-use Rattle.of_store.specs.Replies.{response_of}
+use Rattle.of_store.specs.Replies.{reply_value_of}
 use Rattle.of_plan.specs.declared.answer.Answer.{Answer}
 use Rattle.of_plan.specs.declared.answer.Ending.{Ending}
 use Rattle.of_plan.specs.declared.answer.Ending.TheVariants.{Done, Stopped, Spent}
 use Rattle.of_plan.specs.Plan.{Plan, data_cells}
-use Rattle.of_plan.specs.Ended.{Run, answers_of, ending_of, longest}
+use Rattle.of_plan.specs.Ended.{Ended, answers_of, ending_of, longest_steps}
 use Rattle.of_plan.specs.Report as plain
-use Rattle.of_plan.specs.Report.{CallEntry, EndState, Start, entries_of, line_of, finished_of}
+use Rattle.of_plan.specs.Report.{Entry, EndState, Start, entries_of, caller_line, finished_of}
 use Rattle.of_plan.specs.Legal.{IsLegal}
 use Rattle.of_eval.specs.Shapes.{IsHeldBy, IsWhole}
-use Rattle.of_eval.specs.Lawful.{reply_in, StandsFor}
+use Rattle.of_eval.specs.Lawful.{reply_in, DataCellsStandFor}
 
 -- how many data cells a plan has
-abbrev pub cells_in : Plan → ℕ
-cells_in p = data_cells p.callers p.blocks
+abbrev pub data_cells_of : Plan → ℕ
+data_cells_of p = data_cells p.callers p.blocks
 
 -- the durable words that a run leaves
-abbrev pub durable_of : Plan → Run → ℕ → ℕ
-durable_of p e c = get_or e.words (durable_place p.callers (cells_in p) c) 0
+abbrev pub durable_of : Plan → Ended → ℕ → ℕ
+durable_of p e c = get_or e.words (durable_place p.callers (data_cells_of p) c) 0
 
 -- the sequence that recovery finds
-abbrev pub recovered_seq : Plan → Run → ℕ
+abbrev pub recovered_seq : Plan → Ended → ℕ
 recovered_seq p e = current_seq (durable_of p e)
 
 -- the word of a data cell that recovery finds, and its number
-abbrev pub recovered_word : Plan → Run → ℕ → ℕ
-recovered_word p e a = recovered_data p.callers (cells_in p) (durable_of p e) a
+abbrev pub recovered_data_word : Plan → Ended → ℕ → ℕ
+recovered_data_word p e a = recovered_data p.callers (data_cells_of p) (durable_of p e) a
 
-abbrev pub recovered_number : Plan → Run → ℕ → ℕ
-recovered_number p e a = pay (recovered_word p e a)
+abbrev pub recovered_number : Plan → Ended → ℕ → ℕ
+recovered_number p e a = payload_of (recovered_data_word p e a)
 
 -- the entry of a caller's answer
-abbrev pub answer_entry : (caller index : ℕ) → Answer → CallEntry
-answer_entry c x a = record { seq = a.seq; caller = c; index = x; announced = a.announced; reply = response_of a.reply }
+abbrev pub answer_entry : (caller index : ℕ) → Answer → Entry
+answer_entry c x a = record { seq = a.seq; caller = c; index = x; announced = a.announced; reply = reply_value_of a.reply }
 
 -- the entries of answers from this index on
-abbrev pub answer_entries : (caller index : ℕ) → List Answer → List CallEntry
+abbrev pub answer_entries : (caller index : ℕ) → List Answer → List Entry
 answer_entries c x [] = []
 answer_entries c x (a ∷ others) = answer_entry c x a ∷ answer_entries c (x + 1) others
 
 -- a caller's open call, by what its own cells hold
-abbrev pub open_entry : Plan → Run → (caller index : ℕ) → Reply → CallEntry
-open_entry p e c x r = record { seq = seq (recovered_word p e (ticket_at MOST_INSTRS c)); caller = c; index = x; announced = true; reply = response_of r }
+abbrev pub open_entry : Plan → Ended → (caller index : ℕ) → Reply → Entry
+open_entry p e c x r = record { seq = seq_of (recovered_data_word p e (ticket_cell_at MOST_INSTRS c)); caller = c; index = x; announced = true; reply = reply_value_of r }
 
 -- an open call is an entry where the caller's recovered ticket cell holds its ticket, with the reply that the other own cells hold
-abbrev pub OpenCall : Plan → Run → (caller index : ℕ) → (recovered : Bool) → List CallEntry → Type 0
+abbrev pub OpenCall : Plan → Ended → (caller index : ℕ) → (recovered : Bool) → List Entry → Type 0
 OpenCall p e c x true extra = (r : Reply) × IsHeldBy (reply_in MOST_INSTRS (recovered_number p e) c) r × (extra ≡ open_entry p e c x r ∷ [])
 OpenCall p e c x false extra = extra ≡ []
 
 -- what a caller has beyond its answers: a stopped one may have its open call
-abbrev pub BeyondAnswers : Plan → Run → (caller index : ℕ) → Ending → List CallEntry → Type 0
+abbrev pub BeyondAnswers : Plan → Ended → (caller index : ℕ) → Ending → List Entry → Type 0
 BeyondAnswers p e c x Done extra = extra ≡ []
-BeyondAnswers p e c x (Stopped asked) extra = OpenCall p e c x (recovered_number p e (ticket_at MOST_INSTRS c) == x + 1) extra
+BeyondAnswers p e c x (Stopped asked) extra = OpenCall p e c x (recovered_number p e (ticket_cell_at MOST_INSTRS c) == x + 1) extra
 BeyondAnswers p e c x (Spent s) extra = extra ≡ []
 
 -- the entries of a caller in the record: its answers, and what is beyond them
-pub record OwnEntries (p : Plan) (s : Start) (e : Run) (c : ℕ) (es : List CallEntry) : Type 0 where
-  pub extra : List CallEntry
+pub record OwnEntries (p : Plan) (s : Start) (e : Ended) (c : ℕ) (es : List Entry) : Type 0 where
+  pub extra : List Entry
   pub beyond : BeyondAnswers p e c (finished_of s c + length (answers_of e c)) (ending_of e c) extra
   pub own : es ≡ answer_entries c (finished_of s c) (answers_of e c) ++ extra
 
 -- what was asked and the sequence that was met are not told
-abbrev pub state_of : Ending → EndState
-state_of Done = plain.done
-state_of (Stopped asked) = plain.stopped
-state_of (Spent seq) = plain.spent
+abbrev pub end_state_of : Ending → EndState
+end_state_of Done = plain.done
+end_state_of (Stopped asked) = plain.stopped
+end_state_of (Spent seq_of) = plain.spent
 
 -- the line of a caller with so many entries
-abbrev pub line_for : Run → (caller entries : ℕ) → plain.CallerLine
-line_for e c n = record { state = state_of (ending_of e c); answered = length (answers_of e c); entries = n; longest = longest (answers_of e c) }
+abbrev pub line_for : Ended → (caller entries : ℕ) → plain.Line
+line_for e c n = record { state = end_state_of (ending_of e c); answered = length (answers_of e c); entries = n; longest = longest_steps (answers_of e c) }
 
 -- the report that a record is: its entries, endings and steps, and the sequence and the store that recovery finds
-pub record IsRecord (p : Plan) (s : Start) (e : Run) (r : plain.Report) : Type 0 where
+pub record IsRecordOf (p : Plan) (s : Start) (e : Ended) (r : plain.Report) : Type 0 where
   pub entries : (c : ℕ) → c < p.callers → OwnEntries p s e c (entries_of r c)
   pub each_caller : length r.callers ≡ p.callers
-  pub callers : (c : ℕ) → c < p.callers → line_of r c ≡ line_for e c (length (entries_of r c))
+  pub callers : (c : ℕ) → c < p.callers → caller_line r c ≡ line_for e c (length (entries_of r c))
   pub seq : r.seq ≡ recovered_seq p e
-  pub store : StandsFor p.callers MOST_INSTRS p.blocks (recovered_number p e) r.store
+  pub store : DataCellsStandFor p.callers MOST_INSTRS p.blocks (recovered_number p e) r.store
 
 -- what a run leaves is a record of the plan from the start, whose replies are whole, and whose report is this one and is legal
-pub record IsLawful (p : Plan) (s : Start) (e : Run) (r : plain.Report) : Type 0 where
+pub record IsLawfulRecord (p : Plan) (s : Start) (e : Ended) (r : plain.Report) : Type 0 where
   pub answers : length e.answers ≡ p.callers
   pub endings : length e.endings ≡ p.callers
-  pub words : length e.words ≡ table_words p.callers MOST_INSTRS (cells_in p)
+  pub words : length e.words ≡ table_words p.callers MOST_INSTRS (data_cells_of p)
   pub whole : (c : ℕ) → c < p.callers → All (λ a. IsWhole a.reply) (answers_of e c)
-  pub report : IsRecord p s e r
+  pub report : IsRecordOf p s e r
   pub legal : IsLegal p s r

@@ -3,17 +3,17 @@ use Rattle.std.proofs.Common.{◌≡◌, ℕ, ◌+◌, ◌%◌, ◌<◌, ◌≤�
 use Rattle.std.proofs.lemmas.Bool.{cases_eq}
 use Rattle.std.proofs.lemmas.List.{get_or-set_same, get_or-set_other}
 use Rattle.of_mem.specs.Places.{register_at, keys_at, tail_at, length_at}
-use Rattle.of_mem.specs.Programs.{changed}
+use Rattle.of_mem.specs.Programs.{with_value}
 use Rattle.of_mem.specs.Numbers.{IsNumber}
-use Rattle.of_mem.specs.Stores.{Store, Stands, first_at, second_at}
+use Rattle.of_mem.specs.Stores.{CellStore, StandsForStore, first_at, second_at}
 use Rattle.of_mem.proofs.Changes.{changed_same, changed_other}
 use Rattle.of_mem.proofs.Heaps.{front_below}
 use Rattle.of_mem.proofs.Frames.{SameBlocks, value_same, bucket_same, queue_same}
 use Rattle.of_mem.proofs.Moves.{heap_changed}
 
-module _ (o blocks : ℕ) (m : ℕ → ℕ) (s : Store) (h : Stands o blocks m s) (r v : ℕ) (r_in : r < 16) (v_in : IsNumber v) where
+module _ (o blocks : ℕ) (m : ℕ → ℕ) (s : CellStore) (h : StandsForStore o blocks m s) (r v : ℕ) (r_in : r < 16) (v_in : IsNumber v) where
   abbrev n : ℕ → ℕ
-  n = changed m (register_at o r) v
+  n = with_value m (register_at o r) v
 
   other : (a : ℕ) → o + 16 ≤ a → n a ≡ m a
   other a l = changed_other m (register_at o r) v a (λ e. omega (arith, r_in))
@@ -29,7 +29,7 @@ module _ (o blocks : ℕ) (m : ℕ → ℕ) (s : Store) (h : Stands o blocks m s
         rw (a, get_or-set_other s.registers r x v 0 k) (h.holds.registers x l)
   ]
 
-  pub register_stands : Stands o blocks n (record s { registers = set s.registers r v })
+  pub register_stands : StandsForStore o blocks n (record s { registers = set s.registers r v })
   register_stands = record {
     chains = h.chains;
     owner = h.owner;

@@ -2,10 +2,10 @@
 use Rattle.std.specs.Prelude.{ℕ, ◌+◌, ◌≤◌, ◌<◌, List, [], ◌∷◌, length, drop, All, IsTrue}
 use Rattle.of_plan.specs.declared.answer.Answer.{Answer}
 use Rattle.of_plan.specs.Plan.{Plan}
-use Rattle.of_plan.specs.Ended.{Run, answers_of}
+use Rattle.of_plan.specs.Ended.{Ended, answers_of}
 use Rattle.of_plan.specs.Report.{Report, Start, entries_of, finished_of}
 use Rattle.of_plan.specs.Allowance.{least_steps}
-use Rattle.of_eval.specs.Record.{IsLawful, answer_entry}
+use Rattle.of_eval.specs.Record.{IsLawfulRecord, answer_entry}
 
 -- each of a caller's answers, of which the first is to the script with this index, tells as many steps as such a call makes at least
 abbrev pub MakeLeastSteps : Plan → (caller index : ℕ) → List Answer → Type 0
@@ -13,8 +13,8 @@ MakeLeastSteps p c x [] = Unit {0}
 MakeLeastSteps p c x (a ∷ others) = (least_steps p (answer_entry c x a) ≤ a.steps) × MakeLeastSteps p c (x + 1) others
 
 -- the report is that of the run's lawful record
-pub record ReportsRun (p : Plan) (s : Start) (e : Run) (r : Report) : Type 0 where
-  pub lawful : IsLawful p s e r
+pub record ReportsRun (p : Plan) (s : Start) (e : Ended) (r : Report) : Type 0 where
+  pub lawful : IsLawfulRecord p s e r
   -- its sequence is at most the plan's limit
   pub within_limit : r.seq ≤ p.limit
   -- an entry beyond a caller's answers was announced

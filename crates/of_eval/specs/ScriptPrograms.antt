@@ -16,87 +16,87 @@ use Rattle.of_script.specs.declared.instr.TheConstants.{MOST_INSTRS}
 use Rattle.of_script.specs.Language.{greatest}
 use Rattle.of_script.specs.Reading.{instr_at}
 use Rattle.of_store.specs.State.{is_there, Answered, Aborted}
-use Rattle.of_eval.specs.Shapes.{cells_of}
+use Rattle.of_eval.specs.Shapes.{reply_cells}
 use Rattle.of_eval.specs.Words.{reply_to}
 
 -- a number or none, or the cause for which the script aborts
-abbrev pub Answer : Type 0
-Answer = Result (Option ℕ) Cause
+abbrev pub InstrResult : Type 0
+InstrResult = Result (Option ℕ) Cause
 
-abbrev pub answers : Option ℕ → Program Answer
-answers v = Done (Ok v)
+abbrev pub answer_program : Option ℕ → Program InstrResult
+answer_program v = Done (Ok v)
 
-abbrev pub answers_number : ℕ → Program Answer
+abbrev pub answers_number : ℕ → Program InstrResult
 answers_number v = Done (Ok (Some v))
 
-abbrev pub aborts : Cause → Program Answer
-aborts cause = Done (Err cause)
+abbrev pub abort_program : Cause → Program InstrResult
+abort_program cause = Done (Err cause)
 
 -- Registers: by whether the sum is too great, and whether too much is taken off.
 
-abbrev pub with_register : ℕ → ℕ → ℕ → Program Answer
+abbrev pub with_register : ℕ → ℕ → ℕ → Program InstrResult
 with_register o r v = Write (register_at o r) v (Done (Ok (Some v)))
 
-abbrev pub add_unless : ℕ → ℕ → ℕ → Bool → Program Answer
-add_unless o r v true = aborts Overflow
+abbrev pub add_unless : ℕ → ℕ → ℕ → Bool → Program InstrResult
+add_unless o r v true = abort_program Overflow
 add_unless o r v false = with_register o r v
 
-abbrev pub add_to : ℕ → ℕ → ℕ → ℕ → Program Answer
+abbrev pub add_to : ℕ → ℕ → ℕ → ℕ → Program InstrResult
 add_to o r v n = add_unless o r (n + v) (nat_lt greatest (n + v))
 
-abbrev pub sub_unless : ℕ → ℕ → ℕ → Bool → Program Answer
-sub_unless o r v true = aborts Short
+abbrev pub sub_unless : ℕ → ℕ → ℕ → Bool → Program InstrResult
+sub_unless o r v true = abort_program Short
 sub_unless o r v false = with_register o r v
 
-abbrev pub sub_from : ℕ → ℕ → ℕ → ℕ → Program Answer
+abbrev pub sub_from : ℕ → ℕ → ℕ → ℕ → Program InstrResult
 sub_from o r v n = sub_unless o r (n - v) (nat_lt n v)
 
 -- Keys and queues: no room, and a value that differs.
 
-abbrev pub put_answers : PutAnswer → Program Answer
-put_answers Full = aborts NoRoom
-put_answers New = answers None
-put_answers (Over before) = answers (Some before)
+abbrev pub put_answers : PutAnswer → Program InstrResult
+put_answers Full = abort_program NoRoom
+put_answers New = answer_program None
+put_answers (Over before) = answer_program (Some before)
 
-abbrev pub answers_if : Cause → Bool → Program Answer
-answers_if cause true = answers None
-answers_if cause false = aborts cause
+abbrev pub answers_if : Cause → Bool → Program InstrResult
+answers_if cause true = answer_program None
+answers_if cause false = abort_program cause
 
-abbrev pub need_answers : ℕ → Option ℕ → Program Answer
+abbrev pub need_answers : ℕ → Option ℕ → Program InstrResult
 need_answers v found = answers_if Differs (is_there found v)
 
-abbrev pub instr_program : ℕ → ℕ → Instr → Program Answer
+abbrev pub instr_program : ℕ → ℕ → Instr → Program InstrResult
 instr_program o blocks (Load r) = Read (register_at o r) answers_number
-instr_program o blocks (Store r v) = Write (register_at o r) v (answers None)
+instr_program o blocks (Store r v) = Write (register_at o r) v (answer_program None)
 instr_program o blocks (Add r v) = Read (register_at o r) (add_to o r v)
 instr_program o blocks (Sub r v) = Read (register_at o r) (sub_from o r v)
-instr_program o blocks (Get k) = then_do (get_program o blocks k) answers
+instr_program o blocks (Get k) = then_do (get_program o blocks k) answer_program
 instr_program o blocks (Put k v) = then_do (put_program o blocks k v) put_answers
-instr_program o blocks (Del k) = then_do (del_program o blocks k) answers
+instr_program o blocks (Del k) = then_do (del_program o blocks k) answer_program
 instr_program o blocks (Need k v) = then_do (get_program o blocks k) (need_answers v)
 instr_program o blocks (Push q v) = then_do (push_program o blocks q v) (answers_if NoRoom)
-instr_program o blocks (Pop q) = then_do (pop_program o q) answers
+instr_program o blocks (Pop q) = then_do (pop_program o q) answer_program
 instr_program o blocks (Len q) = then_do (len_program o q) answers_number
 instr_program o blocks Count = then_do (count_program o) answers_number
-instr_program o blocks First = then_do (least_program o blocks 0) answers
-instr_program o blocks (Next k) = then_do (least_program o blocks (k + 1)) answers
+instr_program o blocks First = then_do (least_program o blocks 0) answer_program
+instr_program o blocks (Next k) = then_do (least_program o blocks (k + 1)) answer_program
 instr_program o blocks (DropBelow k) = then_do (drop_program o blocks k) answers_number
 
-abbrev pub program_of : ℕ → ℕ → Option Instr → Program Answer
-program_of o blocks None = aborts BadOp
+abbrev pub program_of : ℕ → ℕ → Option Instr → Program InstrResult
+program_of o blocks None = abort_program BadOp
 program_of o blocks (Some i) = instr_program o blocks i
 
-abbrev pub word_program : ℕ → ℕ → ℕ → Program Answer
+abbrev pub word_program : ℕ → ℕ → ℕ → Program InstrResult
 word_program o blocks w = program_of o blocks (instr_at w)
 
 -- the script goes on behind these values, or aborts
-abbrev pub go_on : ℕ → List (Option ℕ) → (Option ℕ → Program RawReply) → Answer → Program RawReply
+abbrev pub go_on : ℕ → List (Option ℕ) → (Option ℕ → Program RawReply) → InstrResult → Program RawReply
 go_on n done further (Ok v) = further v
-go_on n done further (Err cause) = Done (cells_of (reply_to n (Aborted (length done) cause)))
+go_on n done further (Err cause) = Done (reply_cells (reply_to n (Aborted (length done) cause)))
 
 -- the words of a script of n, behind these values
 abbrev pub words_program : ℕ → ℕ → ℕ → List (Option ℕ) → List ℕ → Program RawReply
-words_program o blocks n done [] = Done (cells_of (reply_to n (Answered done)))
+words_program o blocks n done [] = Done (reply_cells (reply_to n (Answered done)))
 words_program o blocks n done (w ∷ ws) = then_do (word_program o blocks w) (go_on n done (λ v. words_program o blocks n (done ++ v ∷ []) ws))
 
 -- words past the most of a script are not looked at

@@ -4,11 +4,11 @@ use Rattle.of_mem.specs.declared.work.RawReply.{RawReply}
 use Rattle.of_mem.specs.declared.work.TheConstants.{MOST_INSTRS, LEAST_ABORT}
 use Rattle.of_mem.specs.Places.{base_of, cells_at}
 use Rattle.of_mem.specs.Meaning.{Meaning}
-use Rattle.of_mem.specs.ProgramWork.{memory, meaning_of}
+use Rattle.of_mem.specs.ProgramWork.{memory_of, meaning_of}
 use Rattle.of_script.specs.declared.instr.Instr.{Instr}
 use Rattle.of_script.specs.Language.{reads_only}
 use Rattle.of_script.specs.Reading.{instr_at}
-use Rattle.of_store.specs.State.{State}
+use Rattle.of_store.specs.State.{Store}
 use Rattle.of_eval.specs.declared.scripts.Scripts.{Scripts}
 use Rattle.of_eval.specs.Stored.{IsStored}
 use Rattle.of_eval.specs.ScriptPrograms.{script_program}
@@ -17,15 +17,15 @@ use Rattle.of_eval.specs.ScriptPrograms.{script_program}
 abbrev pub store_at : Scripts → ℕ
 store_at w = base_of w.callers MOST_INSTRS
 
-abbrev pub cells_in : Scripts → ℕ
-cells_in w = cells_at (store_at w) w.blocks
+abbrev pub data_cells_of : Scripts → ℕ
+data_cells_of w = cells_at (store_at w) w.blocks
 
 -- a memory stands for some store
 abbrev pub StandsForSome : ℕ → ℕ → (ℕ → ℕ) → Type 0
-StandsForSome o blocks m = (s : State) × IsStored o blocks m s
+StandsForSome o blocks m = (s : Store) × IsStored o blocks m s
 
 abbrev pub LawfulCells : Scripts → List ℕ → Type 0
-LawfulCells w xs = StandsForSome (store_at w) w.blocks (memory xs)
+LawfulCells w xs = StandsForSome (store_at w) w.blocks (memory_of xs)
 
 -- the reply is no abort
 abbrev pub is_success : RawReply → Bool

@@ -2,9 +2,9 @@
 use Rattle.std.proofs.Common.{◌≡◌, ℕ, zero, suc, ◌<◌, ◌≤◌, ◌^◌, List, [], ◌∷◌, length, get_or, Option, Some, None, refl, arith}
 use Rattle.of_script.specs.declared.instr.Cause.{Cause}
 use Rattle.of_script.specs.declared.instr.Cause.TheVariants.{Overflow, Short, NoRoom, Differs, BadOp}
-use Rattle.of_eval.specs.Shapes.{mark, mask_of, code_of}
+use Rattle.of_eval.specs.Shapes.{mark_bit, mask_of, code_of}
 
-pub mark_small : (v : Option ℕ) → mark v ≤ 1
+pub mark_small : (v : Option ℕ) → mark_bit v ≤ 1
 mark_small None = omega arith
 mark_small (Some v) = omega arith
 
@@ -18,7 +18,7 @@ mask_below (v ∷ vs) zero h =
     rw here (omega (arith, again))
 mask_below (v ∷ vs) (suc n) h =
     let again : mask_of vs < 2 ^ n = mask_below vs n (λ i l. h (suc i) (omega arith)) in
-    let small : mark v ≤ 1 = mark_small v in
+    let small : mark_bit v ≤ 1 = mark_small v in
     grind arith
 
 pub mask_width : (vs : List (Option ℕ)) → mask_of vs < 2 ^ length vs

@@ -6,7 +6,7 @@ use Rattle.of_script.specs.declared.instr.Abort.{Abort}
 use Rattle.of_script.specs.declared.instr.Cause.{Cause}
 use Rattle.of_script.specs.declared.instr.Cause.TheVariants.{Overflow, Short, NoRoom, Differs, BadOp}
 use Rattle.of_script.specs.declared.instr.TheConstants.{MOST_INSTRS}
-use Rattle.of_store.specs.Replies.{IsReply}
+use Rattle.of_store.specs.Replies.{IsReplyOfScript}
 use Rattle.of_mem.specs.declared.work.RawReply.{RawReply}
 
 -- a reply to a script of 1 to the most instructions
@@ -14,17 +14,17 @@ pub record IsWhole (r : Reply) : Type 0 where
   pub some : 1 ≤ r.len
   pub few : r.len ≤ MOST_INSTRS
   pub width : length r.values ≡ MOST_INSTRS
-  pub fits : IsReply r.len r
+  pub fits : IsReplyOfScript r.len r
 
 -- 1 for a number, 0 for none
-abbrev pub mark : Option ℕ → ℕ
-mark None = 0
-mark (Some v) = 1
+abbrev pub mark_bit : Option ℕ → ℕ
+mark_bit None = 0
+mark_bit (Some v) = 1
 
 -- bit j is 1 where place j has a number
 abbrev pub mask_of : List (Option ℕ) → ℕ
 mask_of [] = 0
-mask_of (v ∷ vs) = mark v + 2 * mask_of vs
+mask_of (v ∷ vs) = mark_bit v + 2 * mask_of vs
 
 -- 0 is for no abort
 abbrev pub code_of : Cause → ℕ
@@ -44,8 +44,8 @@ abbrev pub shape_of : Reply → ℕ
 shape_of r = mask_of r.values + r.len * 2 ^ 16 + abort_part r.abort
 
 -- a reply as it is written: 0 stands where there is no number
-abbrev pub cells_of : Reply → RawReply
-cells_of r = record { shape = shape_of r; values = map (λ v. unwrap_or v 0) r.values }
+abbrev pub reply_cells : Reply → RawReply
+reply_cells r = record { shape = shape_of r; values = map (λ v. unwrap_or v 0) r.values }
 
 -- The cells hold this reply. What stands at a place with no number does not matter.
 pub record IsLaidOut (raw : RawReply) (r : Reply) : Type 0 where

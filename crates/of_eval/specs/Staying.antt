@@ -24,7 +24,7 @@ use Rattle.of_store.specs.State.{is_there}
 use Rattle.std.specs.Prelude.{nat_lt}
 use Rattle.of_script.specs.Language.{greatest}
 use Rattle.of_eval.specs.Scripts.{instr_reads, words_read}
-use Rattle.of_eval.specs.ScriptPrograms.{Answer, answers, answers_number, put_answers, answers_if, need_answers, add_unless, sub_unless, instr_program, program_of, word_program, go_on, words_program}
+use Rattle.of_eval.specs.ScriptPrograms.{InstrResult, answer_program, answers_number, put_answers, answers_if, need_answers, add_unless, sub_unless, instr_program, program_of, word_program, go_on, words_program}
 
 module _ (o blocks : ℕ) where
   put_after : (r : PutAnswer) → StaysFrom o (put_answers r)
@@ -53,33 +53,33 @@ module _ (o blocks : ℕ) where
   instr_stays (Store r v) = (omega arith, tt)
   instr_stays (Add r v) = (omega arith, λ n. add_after r (n + v) (nat_lt greatest (n + v)))
   instr_stays (Sub r v) = (omega arith, λ n. sub_after r (n - v) (nat_lt n v))
-  instr_stays (Get k) = stays_then o (get_program o blocks k) answers (get_stays o blocks k) (λ r. tt)
+  instr_stays (Get k) = stays_then o (get_program o blocks k) answer_program (get_stays o blocks k) (λ r. tt)
   instr_stays (Put k v) = stays_then o (put_program o blocks k v) put_answers (put_stays o blocks k v) put_after
-  instr_stays (Del k) = stays_then o (del_program o blocks k) answers (del_stays o blocks k) (λ r. tt)
+  instr_stays (Del k) = stays_then o (del_program o blocks k) answer_program (del_stays o blocks k) (λ r. tt)
   instr_stays (Need k v) = stays_then o (get_program o blocks k) (need_answers v) (get_stays o blocks k) (λ r. (need_after (is_there r v)).0)
   instr_stays (Push q v) = stays_then o (push_program o blocks q v) (answers_if NoRoom) (push_stays o q blocks v) room_after
-  instr_stays (Pop q) = stays_then o (pop_program o q) answers (pop_stays o q) (λ r. tt)
+  instr_stays (Pop q) = stays_then o (pop_program o q) answer_program (pop_stays o q) (λ r. tt)
   instr_stays (Len q) = (omega arith, λ v. tt)
   instr_stays Count = (omega arith, λ v. tt)
-  instr_stays First = stays_then o (least_program o blocks 0) answers (least_stays o 0 blocks) (λ r. tt)
-  instr_stays (Next k) = stays_then o (least_program o blocks (k + 1)) answers (least_stays o (k + 1) blocks) (λ r. tt)
+  instr_stays First = stays_then o (least_program o blocks 0) answer_program (least_stays o 0 blocks) (λ r. tt)
+  instr_stays (Next k) = stays_then o (least_program o blocks (k + 1)) answer_program (least_stays o (k + 1) blocks) (λ r. tt)
   instr_stays (DropBelow k) = stays_then o (drop_program o blocks k) answers_number (drop_stays o k blocks) (λ r. tt)
 
   -- the walks over all buckets begin with a read
-  begins : (low : ℕ) → (k : ℕ → Program Answer) × (then_do (least_program o blocks low) answers ≡ Read (bucket_at o 0) k)
-  begins low = let b = least_begins o blocks low in ((λ v. then_do (b.0 v) answers), ap (λ (f : Program (Option ℕ)). then_do f answers) b.1)
+  begins : (low : ℕ) → (k : ℕ → Program InstrResult) × (then_do (least_program o blocks low) answer_program ≡ Read (bucket_at o 0) k)
+  begins low = let b = least_begins o blocks low in ((λ v. then_do (b.0 v) answer_program), ap (λ (f : Program (Option ℕ)). then_do f answer_program) b.1)
 
-  pub first_begins : (k : ℕ → Program Answer) × (instr_program o blocks First ≡ Read (bucket_at o 0) k)
+  pub first_begins : (k : ℕ → Program InstrResult) × (instr_program o blocks First ≡ Read (bucket_at o 0) k)
   first_begins = begins 0
 
-  pub next_begins : (key : ℕ) → (k : ℕ → Program Answer) × (instr_program o blocks (Next key) ≡ Read (bucket_at o 0) k)
+  pub next_begins : (key : ℕ) → (k : ℕ → Program InstrResult) × (instr_program o blocks (Next key) ≡ Read (bucket_at o 0) k)
   next_begins key = begins (key + 1)
 
   word_stays : (i : Option Instr) → StaysFrom o (program_of o blocks i)
   word_stays None = tt
   word_stays (Some i) = instr_stays i
 
-  next_stays : (n : ℕ) (done : List (Option ℕ)) (further : Option ℕ → Program RawReply) → ((v : Option ℕ) → StaysFrom o (further v)) → (r : Answer) → StaysFrom o (go_on n done further r)
+  next_stays : (n : ℕ) (done : List (Option ℕ)) (further : Option ℕ → Program RawReply) → ((v : Option ℕ) → StaysFrom o (further v)) → (r : InstrResult) → StaysFrom o (go_on n done further r)
   next_stays n done further h (Ok v) = h v
   next_stays n done further h (Err cause) = tt
 
@@ -92,7 +92,7 @@ module _ (o blocks : ℕ) where
   instr_only (Store r v) e = absurd (false≢true e)
   instr_only (Add r v) e = absurd (false≢true e)
   instr_only (Sub r v) e = absurd (false≢true e)
-  instr_only (Get k) e = reads_then (get_program o blocks k) answers (get_reads o blocks k) (λ r. tt)
+  instr_only (Get k) e = reads_then (get_program o blocks k) answer_program (get_reads o blocks k) (λ r. tt)
   instr_only (Put k v) e = absurd (false≢true e)
   instr_only (Del k) e = absurd (false≢true e)
   instr_only (Need k v) e = reads_then (get_program o blocks k) (need_answers v) (get_reads o blocks k) (λ r. (need_after (is_there r v)).1)
@@ -100,15 +100,15 @@ module _ (o blocks : ℕ) where
   instr_only (Pop q) e = absurd (false≢true e)
   instr_only (Len q) e = λ v. tt
   instr_only Count e = λ v. tt
-  instr_only First e = reads_then (least_program o blocks 0) answers (least_reads o 0 blocks) (λ r. tt)
-  instr_only (Next k) e = reads_then (least_program o blocks (k + 1)) answers (least_reads o (k + 1) blocks) (λ r. tt)
+  instr_only First e = reads_then (least_program o blocks 0) answer_program (least_reads o 0 blocks) (λ r. tt)
+  instr_only (Next k) e = reads_then (least_program o blocks (k + 1)) answer_program (least_reads o (k + 1) blocks) (λ r. tt)
   instr_only (DropBelow k) e = absurd (false≢true e)
 
   word_only : (i : Option Instr) → instr_reads i ≡ true → OnlyReads (program_of o blocks i)
   word_only None e = absurd (false≢true e)
   word_only (Some i) e = instr_only i e
 
-  next_only : (n : ℕ) (done : List (Option ℕ)) (further : Option ℕ → Program RawReply) → ((v : Option ℕ) → OnlyReads (further v)) → (r : Answer) → OnlyReads (go_on n done further r)
+  next_only : (n : ℕ) (done : List (Option ℕ)) (further : Option ℕ → Program RawReply) → ((v : Option ℕ) → OnlyReads (further v)) → (r : InstrResult) → OnlyReads (go_on n done further r)
   next_only n done further h (Ok v) = h v
   next_only n done further h (Err cause) = tt
 

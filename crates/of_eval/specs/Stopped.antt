@@ -2,10 +2,10 @@
 use Rattle.std.specs.Prelude.{◌≡◌, ℕ, ◌≤◌, ◌<◌, List, [], length, take, drop, Option, Some, None}
 use Rattle.std.proofs.Common.{get_or, arith, ap}
 use Rattle.of_mem.specs.declared.work.TheConstants.{MOST_INSTRS}
-use Rattle.of_mem.specs.Pad.{Pad, Extends, learnt}
+use Rattle.of_mem.specs.Pad.{Part, Extends, learn}
 use Rattle.of_mem.specs.Places.{base_of}
-use Rattle.of_mem.specs.Programs.{Lacks, run, IsPartOf}
-use Rattle.of_mem.specs.Remains.{Remains}
+use Rattle.of_mem.specs.Programs.{Lacks, run_program, IsPartOf}
+use Rattle.of_mem.specs.Remains.{SuspendedRun}
 use Rattle.of_mem.proofs.Extended.{extends_learnt}
 use Rattle.of_map.specs.MapPrograms.{seek_program}
 use Rattle.of_store.specs.Replies.{IsSmall}
@@ -13,22 +13,22 @@ use Rattle.of_eval.specs.ScriptPrograms.{word_program, words_program}
 use Rattle.of_eval.specs.Scripts.{StandsForSome}
 
 -- partial memory with these writes of a script
-abbrev pub pad : List (Option ℕ) → List (ℕ × ℕ) → List (ℕ × ℕ) → Pad
-pad known batch script = record { known = known; batch = batch; script = script }
+abbrev pub part_with : List (Option ℕ) → List (ℕ × ℕ) → List (ℕ × ℕ) → Part
+part_with known batch script = record { known = known; batch = batch; script = script }
 
 -- the partial memory is part of one that stands for some store
-abbrev pub IsOfStore : ℕ → ℕ → Pad → Type 0
+abbrev pub IsOfStore : ℕ → ℕ → Part → Type 0
 IsOfStore o blocks p = (m : ℕ → ℕ) × StandsForSome o blocks m × IsPartOf p m
 
 -- where the walk to the key lacks a cell, the word lacks it too
 abbrev pub LooksFor : ℕ → ℕ → ℕ → ℕ → Type 0
-LooksFor o blocks w key = (p : Pad) (a : ℕ) → run (seek_program o blocks key) p ≡ Lacks a → run (word_program o blocks w) p ≡ Lacks a
+LooksFor o blocks w key = (p : Part) (a : ℕ) → run_program (seek_program o blocks key) p ≡ Lacks a → run_program (word_program o blocks w) p ≡ Lacks a
 
 -- whatever else is known, the script goes on behind the words that have run, with what these answered and wrote
-pub record GoesOn (o blocks : ℕ) (k : Remains) (p : Pad) : Type 0 where
-  pub runs : (more : List (Option ℕ)) → Extends more p.known → run (words_program o blocks (length k.words) [] k.words) (pad more p.batch [])
-      ≡ run (words_program o blocks (length k.words) (take k.done k.values) (drop k.done k.words)) (pad more p.batch k.writes)
-  pub stands : (more : List (Option ℕ)) → Extends more p.known → IsOfStore o blocks (pad more p.batch []) → IsOfStore o blocks (pad more p.batch k.writes)
+pub record MayResume (o blocks : ℕ) (k : SuspendedRun) (p : Part) : Type 0 where
+  pub runs : (more : List (Option ℕ)) → Extends more p.known → run_program (words_program o blocks (length k.words) [] k.words) (part_with more p.batch [])
+      ≡ run_program (words_program o blocks (length k.words) (take k.done k.values) (drop k.done k.words)) (part_with more p.batch k.writes)
+  pub stands : (more : List (Option ℕ)) → Extends more p.known → IsOfStore o blocks (part_with more p.batch []) → IsOfStore o blocks (part_with more p.batch k.writes)
   -- a word is left to run
   pub left : k.done < length k.words
   pub width : length k.values ≡ MOST_INSTRS
@@ -38,13 +38,13 @@ pub record GoesOn (o blocks : ℕ) (k : Remains) (p : Pad) : Type 0 where
   pub looks : (key : ℕ) → k.sought ≡ Some key → LooksFor o blocks (get_or k.words k.done 0) key
 
 -- where a script is kept, it goes on so on the cells of the work that kept it
-abbrev pub HoldsScript : Remains → Pad → Type 0
-HoldsScript k p = 1 ≤ length k.words → GoesOn (base_of k.callers MOST_INSTRS) k.blocks k p
+abbrev pub HoldsScript : SuspendedRun → Part → Type 0
+HoldsScript k p = 1 ≤ length k.words → MayResume (base_of k.callers MOST_INSTRS) k.blocks k p
 
-pub holds_nothing : (k : Remains) (p : Pad) → k.words ≡ [] → HoldsScript k p
+pub holds_nothing : (k : SuspendedRun) (p : Part) → k.words ≡ [] → HoldsScript k p
 holds_nothing k p e l = absurd (omega (arith, l, ap length e))
 
-pub holds_learnt : (k : Remains) (p : Pad) (a v : ℕ) → get_or p.known a None ≡ None → HoldsScript k p → HoldsScript k (learnt p a v)
+pub holds_learnt : (k : SuspendedRun) (p : Part) (a v : ℕ) → get_or p.known a None ≡ None → HoldsScript k p → HoldsScript k (learn p a v)
 holds_learnt k p a v none h l =
     let g = h l in
     record {

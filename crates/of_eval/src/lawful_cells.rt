@@ -1,8 +1,8 @@
 //! The store for which data cells stand.
 
 ghost use Rattle.std.specs.Prelude.{◌≡◌, IfOk, IfErr, MatchResult, length};
-ghost use Rattle.of_mem.specs.Plots.{size};
-ghost use Rattle.of_store.specs.State.{State};
+ghost use Rattle.of_mem.specs.Plots.{data_cell_count};
+ghost use Rattle.of_store.specs.State.{Store};
 ghost use Rattle.of_eval.specs.Walking.{NamesFault, CellsStandFor};
 ghost use Rattle.of_eval.specs.declared.lawful_cells.LawErr.TheVariants.{Memory};
 
@@ -39,7 +39,7 @@ impl From<AllocError> for LawErr {
 
 /// Looks at the cells in their order, and makes the store that they stand for.
 fn looked_at(alloc: Global, plot: &Plot, cells: &[u32]) -> Result<Store, LawErr>
-    requires { length cells.now ≡ size plot.now }
+    requires { length cells.now ≡ data_cell_count plot.now }
     ensures ok { IfOk result (CellsStandFor plot.now cells.now) }
     ensures unlawful { IfErr result (NamesFault plot.now cells.now) }
 {
@@ -64,13 +64,13 @@ fn looked_at(alloc: Global, plot: &Plot, cells: &[u32]) -> Result<Store, LawErr>
 /// a cell says that they stand for no store; the cell is the first at fault: the callers' own cells
 /// are looked at first, then registers, the free list, buckets and queues.
 pub fn lawful(alloc: Global, plot: &Plot, cells: &[u32]) -> Result<Store, LawErr>
-    requires { length cells.now ≡ size plot.now }
+    requires { length cells.now ≡ data_cell_count plot.now }
     // What is answered is what the cells stand for.
     ensures ok { IfOk result (CellsStandFor plot.now cells.now) }
     // A cell that is named is the first at fault.
     ensures unlawful { IfErr result (NamesFault plot.now cells.now) }
     // Cells that stand for a store are answered by it, unless memory runs out.
-    ensures only { (s : State) → CellsStandFor plot.now cells.now s →
+    ensures only { (s : Store) → CellsStandFor plot.now cells.now s →
         MatchResult result (λ t. t ≡ s) (λ e. e ≡ Memory) }
 {
     looked_at(alloc, plot, cells)

@@ -4,7 +4,7 @@ ghost use Rattle.std.specs.Prelude.{◌≡◌, ◌≢◌, ◌≤◌, ◌<◌, �
 ghost use Rattle.of_script.specs.declared.instr.Reply.{Reply as TheReply};
 ghost use Rattle.of_script.specs.declared.instr.Cause.{Cause as TheCause};
 ghost use Rattle.of_store.specs.Replies.{IsSmall};
-ghost use Rattle.of_eval.specs.Shapes.{IsWhole, IsHeldBy, cells_of, code_of, abort_part as the_abort_part};
+ghost use Rattle.of_eval.specs.Shapes.{IsWhole, IsHeldBy, reply_cells, code_of, abort_part as the_abort_part};
 ghost use Rattle.of_eval.specs.Reading.{marked_in};
 
 use of_mem::RawReply;
@@ -53,7 +53,7 @@ fn abort_part(abort: Option<Abort>) -> u32
 /// A reply as cells hold it: its shape, and its number at each place, 0 for none.
 pub fn reply_cells(reply: &Reply) -> RawReply
     requires { IsWhole reply.now }
-    ensures { result ≡ cells_of reply.now }
+    ensures { result ≡ reply_cells reply.now }
 {
     let mut shape = u32::from(reply.len) * (1 << 16) + abort_part(reply.abort);
     let mut values = [0; MOST_INSTRS];

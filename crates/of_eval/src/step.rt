@@ -1,9 +1,9 @@
 //! One instruction over cells.
 
 ghost use Rattle.std.specs.Prelude.{◌≡◌, ℕ, IfSome};
-ghost use Rattle.of_mem.specs.Calls.{RunsOn, HasStore};
+ghost use Rattle.of_mem.specs.Calls.{RunsProgram, HasStore};
 ghost use Rattle.of_mem.specs.Programs.{Done};
-ghost use Rattle.of_script.specs.Language.{InRange};
+ghost use Rattle.of_script.specs.Language.{IsInstrInRange};
 ghost use Rattle.of_script.specs.declared.instr.Instr.TheVariants.{Load, Store, Add, Sub, Get, Put as PutAt, Del, Need as Needs, Push, Pop, Len, Count, First, Next, DropBelow};
 ghost use Rattle.of_eval.specs.ScriptPrograms.{need_answers};
 ghost use Rattle.of_script.specs.Reading.{instr_at};
@@ -22,7 +22,7 @@ pub(crate) type Answer = Result<Option<u32>, Cause>;
 /// isn't known.
 pub(crate) fn run_word(plot: &Plot, part: &mut Part, word: u64) -> Result<Answer, Need>
     requires { HasStore plot.now part.old }
-    ensures { RunsOn (run_word plot.now word) part.old part.new result }
+    ensures { RunsProgram (run_word plot.now word) part.old part.new result }
 {
     match from_word(word) {
         None => Ok(Err(Cause::BadOp)),
@@ -56,8 +56,8 @@ pub(crate) fn word_seeks(word: u64) -> Option<u32>
 /// Runs one instruction.
 fn step(plot: &Plot, part: &mut Part, instr: Instr) -> Result<Answer, Need>
     requires stands { HasStore plot.now part.old }
-    requires range { InRange instr }
-    ensures { RunsOn (step plot.now instr) part.old part.new result }
+    requires range { IsInstrInRange instr }
+    ensures { RunsProgram (step plot.now instr) part.old part.new result }
 {
     match instr {
         Instr::Load { reg } => load(plot, part, reg),
@@ -82,8 +82,8 @@ fn step(plot: &Plot, part: &mut Part, instr: Instr) -> Result<Answer, Need>
 #[tactic(auto, using(of_mem::proofs::Runs::run_then_gives, of_mem::proofs::Runs::run_then_needs))]
 fn load(plot: &Plot, part: &Part, reg: u8) -> Result<Answer, Need>
     requires stands { HasStore plot.now part.now }
-    requires range { InRange (Load reg) }
-    ensures { RunsOn (step plot.now (Load reg)) part.now part.now result }
+    requires range { IsInstrInRange (Load reg) }
+    ensures { RunsProgram (step plot.now (Load reg)) part.now part.now result }
 {
     let value = part.read(plot.register(u32::from(reg)))?;
     Ok(Ok(Some(value)))
@@ -93,8 +93,8 @@ fn load(plot: &Plot, part: &Part, reg: u8) -> Result<Answer, Need>
 #[tactic(auto, using(of_mem::proofs::Runs::run_then_gives, of_mem::proofs::Runs::run_then_needs))]
 fn store(plot: &Plot, part: &mut Part, reg: u8, value: u32) -> Result<Answer, Need>
     requires stands { HasStore plot.now part.old }
-    requires range { InRange (Store reg value) }
-    ensures { RunsOn (step plot.now (Store reg value)) part.old part.new result }
+    requires range { IsInstrInRange (Store reg value) }
+    ensures { RunsProgram (step plot.now (Store reg value)) part.old part.new result }
 {
     part.write(plot.register(u32::from(reg)), value);
     Ok(Ok(None))
@@ -104,8 +104,8 @@ fn store(plot: &Plot, part: &mut Part, reg: u8, value: u32) -> Result<Answer, Ne
 #[tactic(auto, using(of_mem::proofs::Runs::run_then_gives, of_mem::proofs::Runs::run_then_needs))]
 fn add(plot: &Plot, part: &mut Part, reg: u8, value: u32) -> Result<Answer, Need>
     requires stands { HasStore plot.now part.old }
-    requires range { InRange (Add reg value) }
-    ensures { RunsOn (step plot.now (Add reg value)) part.old part.new result }
+    requires range { IsInstrInRange (Add reg value) }
+    ensures { RunsProgram (step plot.now (Add reg value)) part.old part.new result }
 {
     let cell = plot.register(u32::from(reg));
     let sum = part.read(cell)? + value;
@@ -120,8 +120,8 @@ fn add(plot: &Plot, part: &mut Part, reg: u8, value: u32) -> Result<Answer, Need
 #[tactic(auto, using(of_mem::proofs::Runs::run_then_gives, of_mem::proofs::Runs::run_then_needs))]
 fn sub(plot: &Plot, part: &mut Part, reg: u8, value: u32) -> Result<Answer, Need>
     requires stands { HasStore plot.now part.old }
-    requires range { InRange (Sub reg value) }
-    ensures { RunsOn (step plot.now (Sub reg value)) part.old part.new result }
+    requires range { IsInstrInRange (Sub reg value) }
+    ensures { RunsProgram (step plot.now (Sub reg value)) part.old part.new result }
 {
     let cell = plot.register(u32::from(reg));
     let before = part.read(cell)?;
@@ -136,7 +136,7 @@ fn sub(plot: &Plot, part: &mut Part, reg: u8, value: u32) -> Result<Answer, Need
 #[tactic(auto, using(of_mem::proofs::Runs::run_then_gives, of_mem::proofs::Runs::run_then_needs))]
 fn get(plot: &Plot, part: &mut Part, key: u32) -> Result<Answer, Need>
     requires { HasStore plot.now part.old }
-    ensures { RunsOn (step plot.now (Get key)) part.old part.new result }
+    ensures { RunsProgram (step plot.now (Get key)) part.old part.new result }
 {
     let value = of_map::get(plot, part, key)?;
     Ok(Ok(value))
@@ -146,8 +146,8 @@ fn get(plot: &Plot, part: &mut Part, key: u32) -> Result<Answer, Need>
 #[tactic(auto, using(of_mem::proofs::Runs::run_then_gives, of_mem::proofs::Runs::run_then_needs))]
 fn put(plot: &Plot, part: &mut Part, key: u32, value: u32) -> Result<Answer, Need>
     requires stands { HasStore plot.now part.old }
-    requires range { InRange (PutAt key value) }
-    ensures { RunsOn (step plot.now (PutAt key value)) part.old part.new result }
+    requires range { IsInstrInRange (PutAt key value) }
+    ensures { RunsProgram (step plot.now (PutAt key value)) part.old part.new result }
 {
     match of_map::put(plot, part, key, value)? {
         Put::Full => Ok(Err(Cause::NoRoom)),
@@ -160,7 +160,7 @@ fn put(plot: &Plot, part: &mut Part, key: u32, value: u32) -> Result<Answer, Nee
 #[tactic(auto, using(of_mem::proofs::Runs::run_then_gives, of_mem::proofs::Runs::run_then_needs))]
 fn del(plot: &Plot, part: &mut Part, key: u32) -> Result<Answer, Need>
     requires { HasStore plot.now part.old }
-    ensures { RunsOn (step plot.now (Del key)) part.old part.new result }
+    ensures { RunsProgram (step plot.now (Del key)) part.old part.new result }
 {
     let value = of_map::del(plot, part, key)?;
     Ok(Ok(value))
@@ -170,7 +170,7 @@ fn del(plot: &Plot, part: &mut Part, key: u32) -> Result<Answer, Need>
 #[tactic(auto, using(of_mem::proofs::Runs::run_then_gives, of_mem::proofs::Runs::run_then_needs))]
 fn need(plot: &Plot, part: &mut Part, key: u32, value: u32) -> Result<Answer, Need>
     requires { HasStore plot.now part.old }
-    ensures { RunsOn (step plot.now (Needs key value)) part.old part.new result }
+    ensures { RunsProgram (step plot.now (Needs key value)) part.old part.new result }
 {
     let found = of_map::get(plot, part, key)?;
     Ok(compare(found, value))
@@ -190,8 +190,8 @@ fn compare(found: Option<u32>, value: u32) -> Answer
 #[tactic(auto, using(of_mem::proofs::Runs::run_then_gives, of_mem::proofs::Runs::run_then_needs))]
 fn push(plot: &Plot, part: &mut Part, queue: u8, value: u32) -> Result<Answer, Need>
     requires stands { HasStore plot.now part.old }
-    requires range { InRange (Push queue value) }
-    ensures { RunsOn (step plot.now (Push queue value)) part.old part.new result }
+    requires range { IsInstrInRange (Push queue value) }
+    ensures { RunsProgram (step plot.now (Push queue value)) part.old part.new result }
 {
     if of_queue::push(plot, part, u32::from(queue), value)? {
         return Ok(Ok(None));
@@ -203,8 +203,8 @@ fn push(plot: &Plot, part: &mut Part, queue: u8, value: u32) -> Result<Answer, N
 #[tactic(auto, using(of_mem::proofs::Runs::run_then_gives, of_mem::proofs::Runs::run_then_needs))]
 fn pop(plot: &Plot, part: &mut Part, queue: u8) -> Result<Answer, Need>
     requires stands { HasStore plot.now part.old }
-    requires range { InRange (Pop queue) }
-    ensures { RunsOn (step plot.now (Pop queue)) part.old part.new result }
+    requires range { IsInstrInRange (Pop queue) }
+    ensures { RunsProgram (step plot.now (Pop queue)) part.old part.new result }
 {
     let item = of_queue::pop(plot, part, u32::from(queue))?;
     Ok(Ok(item))
@@ -214,8 +214,8 @@ fn pop(plot: &Plot, part: &mut Part, queue: u8) -> Result<Answer, Need>
 #[tactic(auto, using(of_mem::proofs::Runs::run_then_gives, of_mem::proofs::Runs::run_then_needs))]
 fn len(plot: &Plot, part: &Part, queue: u8) -> Result<Answer, Need>
     requires stands { HasStore plot.now part.now }
-    requires range { InRange (Len queue) }
-    ensures { RunsOn (step plot.now (Len queue)) part.now part.now result }
+    requires range { IsInstrInRange (Len queue) }
+    ensures { RunsProgram (step plot.now (Len queue)) part.now part.now result }
 {
     let items = of_queue::len(plot, part, u32::from(queue))?;
     Ok(Ok(Some(items)))
@@ -225,7 +225,7 @@ fn len(plot: &Plot, part: &Part, queue: u8) -> Result<Answer, Need>
 #[tactic(auto, using(of_mem::proofs::Runs::run_then_gives, of_mem::proofs::Runs::run_then_needs))]
 fn count(plot: &Plot, part: &Part) -> Result<Answer, Need>
     requires { HasStore plot.now part.now }
-    ensures { RunsOn (step plot.now Count) part.now part.now result }
+    ensures { RunsProgram (step plot.now Count) part.now part.now result }
 {
     let keys = of_map::count(plot, part)?;
     Ok(Ok(Some(keys)))
@@ -235,7 +235,7 @@ fn count(plot: &Plot, part: &Part) -> Result<Answer, Need>
 #[tactic(auto, using(of_mem::proofs::Runs::run_then_gives, of_mem::proofs::Runs::run_then_needs))]
 fn first(plot: &Plot, part: &Part) -> Result<Answer, Need>
     requires { HasStore plot.now part.now }
-    ensures { RunsOn (step plot.now First) part.now part.now result }
+    ensures { RunsProgram (step plot.now First) part.now part.now result }
 {
     let key = of_order::first(plot, part)?;
     Ok(Ok(key))
@@ -245,7 +245,7 @@ fn first(plot: &Plot, part: &Part) -> Result<Answer, Need>
 #[tactic(auto, using(of_mem::proofs::Runs::run_then_gives, of_mem::proofs::Runs::run_then_needs))]
 fn next(plot: &Plot, part: &Part, key: u32) -> Result<Answer, Need>
     requires { HasStore plot.now part.now }
-    ensures { RunsOn (step plot.now (Next key)) part.now part.now result }
+    ensures { RunsProgram (step plot.now (Next key)) part.now part.now result }
 {
     let next = of_order::next(plot, part, key)?;
     Ok(Ok(next))
@@ -255,7 +255,7 @@ fn next(plot: &Plot, part: &Part, key: u32) -> Result<Answer, Need>
 #[tactic(auto, using(of_mem::proofs::Runs::run_then_gives, of_mem::proofs::Runs::run_then_needs))]
 fn drop_below(plot: &Plot, part: &mut Part, key: u32) -> Result<Answer, Need>
     requires { HasStore plot.now part.old }
-    ensures { RunsOn (step plot.now (DropBelow key)) part.old part.new result }
+    ensures { RunsProgram (step plot.now (DropBelow key)) part.old part.new result }
 {
     let dropped = of_order::drop_below(plot, part, key)?;
     Ok(Ok(Some(dropped)))

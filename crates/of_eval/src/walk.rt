@@ -2,11 +2,11 @@
 
 ghost use Rattle.std.proofs.Common.{set};
 ghost use Rattle.std.specs.Prelude.{◌-◌, ◌≡◌, ◌≤◌, ◌<◌, [], length, IfOk, MatchResult, None};
-ghost use Rattle.of_mem.specs.Pad.{Pad};
+ghost use Rattle.of_mem.specs.Pad.{Part};
 ghost use Rattle.of_mem.specs.Programs.{NeedsAt};
-ghost use Rattle.of_mem.specs.Remains.{IsOf};
+ghost use Rattle.of_mem.specs.Remains.{IsRunOf};
 ghost use Rattle.of_mem.specs.declared.work.TheConstants.{MOST_INSTRS};
-ghost use Rattle.of_mem.specs.Calls.{RunsOn};
+ghost use Rattle.of_mem.specs.Calls.{RunsProgram};
 ghost use Rattle.of_eval.specs.Calls.{script, in_cells};
 ghost use Rattle.of_eval.specs.Shapes.{IsWhole};
 ghost use Rattle.of_eval.specs.Stopped.{HoldsScript};
@@ -60,9 +60,9 @@ pub(crate) fn run_words(
     requires empty { part.old.script ≡ [] }
     requires holds { HoldsScript kept.old part.old }
     requires room { kept.old.room ≡ length part.old.known }
-    ensures runs { RunsOn (script plot.now op.now) part.old part.new (in_cells result) }
+    ensures runs { RunsProgram (script plot.now op.now) part.old part.new (in_cells result) }
     ensures whole { IfOk result IsWhole }
-    ensures of { IsOf kept.new plot.now.callers plot.now.blocks op.now }
+    ensures of { IsRunOf kept.new plot.now.callers plot.now.blocks op.now }
     ensures holds { HoldsScript kept.new part.old }
     ensures room { kept.new.room ≡ kept.old.room }
 {
@@ -86,7 +86,7 @@ pub(crate) fn run_words(
 /// Keeps the key that the next of these words looks for, if it does so before all else.
 pub(crate) fn keep_sought(kept: &mut Kept, op: &[u64])
     requires { kept.old.words ≡ op.now }
-    ensures holds { (p : Pad) → HoldsScript kept.old p → HoldsScript kept.new p }
+    ensures holds { (p : Part) → HoldsScript kept.old p → HoldsScript kept.new p }
     ensures room { kept.new.room ≡ kept.old.room }
 {
     let next = kept.done();

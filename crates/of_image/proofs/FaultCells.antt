@@ -5,7 +5,7 @@ use Rattle.std.proofs.lemmas.Nat.{mul-add-lt}
 use Rattle.std.proofs.lemmas.Bool.Decides.{nat_tests}
 use Rattle.of_mem.specs.Places.{base_of, cells_at, fresh_at}
 use Rattle.of_mem.specs.Stores.{front_at, link_at, cell_after}
-use Rattle.of_eval.specs.Faults.{OwnFault, Passed, ChainFault, CountFault, IsFirstFault}
+use Rattle.of_eval.specs.Faults.{OwnFault, HasPassed, ChainFault, CountFault, IsFirstFault}
 use Rattle.of_eval.specs.Faults.OwnFault.{Left, NoShape, GreatReply}
 use Rattle.of_eval.specs.Faults.ChainFault.{Pointer, Key, Value, Item}
 use Rattle.of_eval.specs.Faults.CountFault.{Keys, Tail, Length}
@@ -40,7 +40,7 @@ each_below : (fresh blocks c : ℕ) (owner : ℕ → ℕ) (bs : List ℕ) → fr
 each_below fresh blocks c owner [] l h = tt
 each_below fresh blocks c owner (b ∷ bs) l h = (omega (arith, h.0.0), each_below fresh blocks c owner bs l h.1)
 
-chain_fault : (o blocks n cell : ℕ) (m : ℕ → ℕ) (chains : ℕ → List ℕ) → m (fresh_at o) ≤ blocks → Passed o m n chains → ChainFault o m n chains cell → cell < cells_at o blocks
+chain_fault : (o blocks n cell : ℕ) (m : ℕ → ℕ) (chains : ℕ → List ℕ) → m (fresh_at o) ≤ blocks → HasPassed o m n chains → ChainFault o m n chains cell → cell < cells_at o blocks
 chain_fault o blocks n cell m chains few p (Pointer l b leads bad e) =
     subst (λ (x : ℕ). x < cells_at o blocks) (sym e) (after_below o blocks (front_at o n) (chains n) (omega (arith, front_below o n l)) (each_below (m (fresh_at o)) blocks n p.owner (chains n) few (p.owned n)))
 chain_fault o blocks n cell m chains few p (Key k b l is on bad e) = omega (arith, e, on.below, few)

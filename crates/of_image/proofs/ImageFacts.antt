@@ -4,32 +4,32 @@ use Rattle.std.specs.Prelude.{Result, IfOk, IfErr, MatchResult, nat_lt, ◌==◌
 use Rattle.std.specs.Option.{option_map}
 use Rattle.std.proofs.lemmas.Bool.{cases_lt}
 use Rattle.std.proofs.lemmas.List.{get_or_past}
-use Rattle.of_cell.specs.Words.{word, seq}
+use Rattle.of_cell.specs.Words.{pack, seq_of}
 use Rattle.of_cell.specs.Cells.{request_cell, data_cell, durable_cells, table_words}
 use Rattle.of_cell.proofs.Order.{seq_small, pay_small}
 use Rattle.of_recover.specs.Row.{current_seq, current_owner, is_open}
 use Rattle.of_recover.specs.Log.{entry_count, entry_value, first_naming}
-use Rattle.of_recover.specs.Recovered.{recovered, recovered_data, replayed_data, recovered_word, is_data}
+use Rattle.of_recover.specs.Recovered.{recovered_words, recovered_data, replayed_data, recovered_word, is_data}
 use Rattle.of_recover.proofs.Rows.{length-recovered, recovered_at}
 use Rattle.of_recover.proofs.Kept.{others_kept, recovered_twice}
 use Rattle.of_mem.specs.declared.plot.Plot.{Plot}
-use Rattle.of_mem.specs.Plots.{size}
+use Rattle.of_mem.specs.Plots.{data_cell_count}
 use Rattle.of_mem.specs.Places.{base_of, cells_at}
 use Rattle.of_script.specs.declared.instr.TheConstants.{MOST_INSTRS}
 use Rattle.of_report.specs.declared.image.Image.{Image as Held}
 use Rattle.of_image.specs.declared.error.ImageErr.{ImageErr}
 use Rattle.of_image.specs.declared.error.ImageErr.TheVariants.{Memory, Bad, Unlawful}
 use Rattle.of_image.specs.declared.version.Version.{Version}
-use Rattle.of_report.specs.ImageRow.{Row, IsRow, cells_in, row_in}
+use Rattle.of_report.specs.ImageRow.{DurableRow, IsRow, row_cell_count, row_in}
 use Rattle.of_image.specs.Version.{instrs_of}
 use Rattle.of_report.proofs.Recovery.{part_at, part_long, row_long}
 use Rattle.of_image.specs.ImageText.{SpellsImage}
 use Rattle.of_report.specs.ImageLaw.{IsLawfulRow}
 use Rattle.of_image.specs.RowFault.{IsRowFault}
-use Rattle.of_report.specs.Image.{Image, IsImage, image_of, IsRestored}
+use Rattle.of_report.specs.Image.{Image, IsImage, image_value, IsRestored}
 use Rattle.of_image.specs.declared.law.RowErr.{RowErr}
 use Rattle.of_image.specs.declared.law.RowErr.TheVariants.{Memory as NoMemory, Unlawful as UnlawfulRow}
-use Rattle.of_image.specs.Parsed.{ReadsImage, IsRefused, IsUnlawful, IsFaulty, image_err}
+use Rattle.of_image.specs.Parsed.{ReadsImage, ImageIsRefused, IsUnlawful, NamesRowFault, image_err}
 use Rattle.of_report.specs.ImageRow.{recovered_row}
 use Rattle.of_image.proofs.ImageTexts.{one_row}
 use Rattle.of_image.proofs.RowLaw.{fault_excludes, one_lawful, one_row_fault}
@@ -39,8 +39,8 @@ use Rattle.of_image.proofs.RowLaw.{fault_excludes, one_lawful, one_row_fault}
 abbrev Small : ℕ → Type 0
 Small w = w < 18446744073709551616
 
-word_small : (s p : ℕ) → s < 4294967296 → p < 4294967296 → Small (word s p)
-unfolding word
+word_small : (s p : ℕ) → s < 4294967296 → p < 4294967296 → Small (pack s p)
+unfolding pack
 word_small s p h k = omega arith
 
 either : (b : Bool) (x y : ℕ) → Small x → Small y → Small (cond b x y)
@@ -55,8 +55,8 @@ module _ (N M : ℕ) (row : ℕ → ℕ) (small : (c : ℕ) → Small (row c)) w
   data_small : (a : ℕ) → Small (recovered_data N M row a)
   data_small a =
       either (is_open N row) (replayed_data N M row (entry_count N M row) a) (row (data_cell N a))
-      (either (nat_lt (seq (row (data_cell N a))) (current_seq row)) (unwrap_or (option_map (λ j. word (current_seq row) (entry_value N M row j)) (first_naming N M row (entry_count N M row) a)) (row (data_cell N a))) (row (data_cell N a))
-      (some_small (λ j. word (current_seq row) (entry_value N M row j)) (first_naming N M row (entry_count N M row) a) (row (data_cell N a)) (λ j. word_small (current_seq row) (entry_value N M row j) (seq_small (row 0) (small 0)) (pay_small _)) (small (data_cell N a)))
+      (either (nat_lt (seq_of (row (data_cell N a))) (current_seq row)) (unwrap_or (option_map (λ j. pack (current_seq row) (entry_value N M row j)) (first_naming N M row (entry_count N M row) a)) (row (data_cell N a))) (row (data_cell N a))
+      (some_small (λ j. pack (current_seq row) (entry_value N M row j)) (first_naming N M row (entry_count N M row) a) (row (data_cell N a)) (λ j. word_small (current_seq row) (entry_value N M row j) (seq_small (row 0) (small 0)) (pay_small _)) (small (data_cell N a)))
       (small (data_cell N a)))
       (small (data_cell N a))
 
@@ -64,34 +64,34 @@ module _ (N M : ℕ) (row : ℕ → ℕ) (small : (c : ℕ) → Small (row c)) w
   words_small c =
       either (is_data N M c) _ _ (data_small _) (either (is_open N row && (c == request_cell (current_owner row))) _ _ (word_small (current_seq row) 1 (seq_small (row 0) (small 0)) (omega arith)) (small c))
 
-recovered_small : (N M : ℕ) (ws : List ℕ) → ((c : ℕ) → get_or ws c 0 < 2 ^ 64) → (c : ℕ) → get_or (recovered N M ws) c 0 < 2 ^ 64
+recovered_small : (N M : ℕ) (ws : List ℕ) → ((c : ℕ) → get_or ws c 0 < 2 ^ 64) → (c : ℕ) → get_or (recovered_words N M ws) c 0 < 2 ^ 64
 recovered_small N M ws h c = elim (cases_lt c (length ws)) [
   | inl l ↦ (let e = recovered_at N M ws c 0 l in let s = words_small N M (λ k. get_or ws k 0) (λ k. omega (arith, h k)) c in omega (arith, e, s))
-  | inr l ↦ omega (arith, get_or_past (recovered N M ws) c 0 (omega (arith, l, length-recovered N M ws)))
+  | inr l ↦ omega (arith, get_or_past (recovered_words N M ws) c 0 (omega (arith, l, length-recovered N M ws)))
 ]
 
 -- ---- images
 
-pub recovered_is_row : (instrs : ℕ) (r : Row) → IsRow instrs r → IsRow instrs (recovered_row instrs r)
+pub recovered_is_row : (instrs : ℕ) (r : DurableRow) → IsRow instrs r → IsRow instrs (recovered_row instrs r)
 recovered_is_row instrs r h = record {
   some_callers = h.some_callers;
   few_callers = h.few_callers;
   few_blocks = h.few_blocks;
-  size = length-recovered r.callers (cells_in instrs r) r.words ∙ h.size;
-  words = recovered_small r.callers (cells_in instrs r) r.words h.words;
+  size = length-recovered r.callers (row_cell_count instrs r) r.words ∙ h.size;
+  words = recovered_small r.callers (row_cell_count instrs r) r.words h.words;
 }
 
 -- the current transaction is that of the row
-same_current : (instrs : ℕ) (r : Row) → IsRow instrs r → current_seq (λ c. get_or (recovered_row instrs r).words c 0) ≡ current_seq (λ c. get_or r.words c 0)
-same_current instrs r h = ap seq (others_kept r.callers (cells_in instrs r) r.words h.size 0 (omega (arith, h.size)) (inl (omega arith)) (λ e. omega (arith, e)))
+same_current : (instrs : ℕ) (r : DurableRow) → IsRow instrs r → current_seq (λ c. get_or (recovered_row instrs r).words c 0) ≡ current_seq (λ c. get_or r.words c 0)
+same_current instrs r h = ap seq_of (others_kept r.callers (row_cell_count instrs r) r.words h.size 0 (omega (arith, h.size)) (inl (omega arith)) (λ e. omega (arith, e)))
 
-pub restored_is_image : (instrs : ℕ) (r : Row) (i : Image) → IsRow instrs r → IsRestored instrs r i → IsImage instrs i
+pub restored_is_image : (instrs : ℕ) (r : DurableRow) (i : Image) → IsRow instrs r → IsRestored instrs r i → IsImage instrs i
 restored_is_image instrs r i h k =
     let is = sym k.row in
     record {
       row = subst (IsRow instrs) is (recovered_is_row instrs r h);
-      settled = subst (λ (q : Row). recovered_row instrs q ≡ q) is (λ j. record r { words = recovered_twice r.callers (cells_in instrs r) r.words h.size j });
-      seq = k.seq ∙ sym (same_current instrs r h) ∙ ap (λ (q : Row). current_seq (λ c. get_or q.words c 0)) is;
+      settled = subst (λ (q : DurableRow). recovered_row instrs q ≡ q) is (λ j. record r { words = recovered_twice r.callers (row_cell_count instrs r) r.words h.size j });
+      seq = k.seq ∙ sym (same_current instrs r h) ∙ ap (λ (q : DurableRow). current_seq (λ c. get_or q.words c 0)) is;
       lawful = k.lawful;
     }
 
@@ -99,16 +99,16 @@ pub read_is_image : (v : Version) (text : List ℕ) (i : Image) → ReadsImage v
 read_is_image v text i h = restored_is_image (instrs_of v) h.raw i h.spelled.row h.restored
 
 -- a row restores to one image
-one_restored : (instrs : ℕ) (r : Row) (i j : Image) → IsRestored instrs r i → IsRestored instrs r j → i ≡ j
+one_restored : (instrs : ℕ) (r : DurableRow) (i j : Image) → IsRestored instrs r i → IsRestored instrs r j → i ≡ j
 one_restored instrs r i j h k =
     let rows = h.row ∙ sym k.row in
     let seqs = h.seq ∙ sym k.seq in
     let replayed = h.replayed ∙ sym k.replayed in
-    let stores = one_lawful instrs j.row i.store j.store (subst (λ (q : Row). IsLawfulRow instrs q i.store) rows h.lawful) k.lawful in
+    let stores = one_lawful instrs j.row i.store j.store (subst (λ (q : DurableRow). IsLawfulRow instrs q i.store) rows h.lawful) k.lawful in
     λ x. record { row = rows x; seq = seqs x; replayed = replayed x; store = stores x }
 
 pub one_image : (v : Version) (text : List ℕ) (i j : Image) → ReadsImage v text i → ReadsImage v text j → i ≡ j
-one_image v text i j h k = one_restored (instrs_of v) k.raw i j (subst (λ (r : Row). IsRestored (instrs_of v) r i) (one_row v text h.raw k.raw h.spelled k.spelled) h.restored) k.restored
+one_image v text i j h k = one_restored (instrs_of v) k.raw i j (subst (λ (r : DurableRow). IsRestored (instrs_of v) r i) (one_row v text h.raw k.raw h.spelled k.spelled) h.restored) k.restored
 
 -- ---- what is answered
 
@@ -116,40 +116,40 @@ one_image v text i j h k = one_restored (instrs_of v) k.raw i j (subst (λ (r : 
 pub unlawful_excludes : (v : Version) (text : List ℕ) (cell : ℕ) (image : Image) → IsUnlawful v text cell → ReadsImage v text image → ⊥
 unlawful_excludes v text cell image bad h =
     let same = one_row v text bad.raw h.raw bad.spelled h.spelled in
-    fault_excludes (instrs_of v) (recovered_row (instrs_of v) h.raw) image.store cell (subst (λ (q : Row). IsLawfulRow (instrs_of v) q image.store) h.restored.row h.restored.lawful)
-    (subst (λ (q : Row). IsRowFault (instrs_of v) (recovered_row (instrs_of v) q) cell) same bad.fault)
+    fault_excludes (instrs_of v) (recovered_row (instrs_of v) h.raw) image.store cell (subst (λ (q : DurableRow). IsLawfulRow (instrs_of v) q image.store) h.restored.row h.restored.lawful)
+    (subst (λ (q : DurableRow). IsRowFault (instrs_of v) (recovered_row (instrs_of v) q) cell) same bad.fault)
 
 -- and one cell at fault
 pub one_unlawful : (v : Version) (text : List ℕ) (c d : ℕ) → IsUnlawful v text c → IsUnlawful v text d → c ≡ d
 one_unlawful v text c d h k =
     let same = one_row v text h.raw k.raw h.spelled k.spelled in
-    one_row_fault (instrs_of v) (recovered_row (instrs_of v) k.raw) c d (subst (λ (q : Row). IsRowFault (instrs_of v) (recovered_row (instrs_of v) q) c) same h.fault) k.fault
+    one_row_fault (instrs_of v) (recovered_row (instrs_of v) k.raw) c d (subst (λ (q : DurableRow). IsRowFault (instrs_of v) (recovered_row (instrs_of v) q) c) same h.fault) k.fault
 
 -- a text with an image is answered by it
-pub only_image : (v : Version) (text : List ℕ) (r : Result Held ImageErr) → IfOk r (λ i. ReadsImage v text (image_of i)) → IfErr r (IsRefused v text) → (image : Image) → ReadsImage v text image → MatchResult r (λ i. image_of i ≡ image) (λ e. e ≡ Memory)
-only_image v text (Ok i) ok err image h = one_image v text (image_of i) image ok h
+pub only_image : (v : Version) (text : List ℕ) (r : Result Held ImageErr) → IfOk r (λ i. ReadsImage v text (image_value i)) → IfErr r (ImageIsRefused v text) → (image : Image) → ReadsImage v text image → MatchResult r (λ i. image_value i ≡ image) (λ e. e ≡ Memory)
+only_image v text (Ok i) ok err image h = one_image v text (image_value i) image ok h
 only_image v text (Err Memory) ok err image h = refl
 only_image v text (Err (Bad line)) ok err image h = absurd (err.none (h.raw, h.spelled))
 only_image v text (Err (Unlawful cell)) ok err image h = absurd (unlawful_excludes v text cell image err h)
 
 -- a row with a cell at fault is no image's
-pub faulty_refused : (v : Version) (text : List ℕ) (r : Row) → SpellsImage v text r → (e : RowErr) → IsFaulty (instrs_of v) (recovered_row (instrs_of v) r) e → IsRefused v text (image_err e)
+pub faulty_refused : (v : Version) (text : List ℕ) (r : DurableRow) → SpellsImage v text r → (e : RowErr) → NamesRowFault (instrs_of v) (recovered_row (instrs_of v) r) e → ImageIsRefused v text (image_err e)
 faulty_refused v text r s NoMemory h = tt
 faulty_refused v text r s (UnlawfulRow cell law) h = record { raw = r; spelled = s; fault = record { law = law; breaks = h } }
 
 -- the same where the row's data cells stand as a plot says
-pub plot_faulty : (v : Version) (p : Plot) (r : Row) → p.instrs ≡ instrs_of v → row_in p r.words ≡ r → (e : RowErr) → IsFaulty p.instrs (recovered_row p.instrs (row_in p r.words)) e → IsFaulty (instrs_of v) (recovered_row (instrs_of v) r) e
-plot_faulty v p r instrs is e h = subst (λ (n : ℕ). IsFaulty n (recovered_row n r) e) instrs (subst (λ (q : Row). IsFaulty p.instrs (recovered_row p.instrs q) e) is h)
+pub plot_faulty : (v : Version) (p : Plot) (r : DurableRow) → p.instrs ≡ instrs_of v → row_in p r.words ≡ r → (e : RowErr) → NamesRowFault p.instrs (recovered_row p.instrs (row_in p r.words)) e → NamesRowFault (instrs_of v) (recovered_row (instrs_of v) r) e
+plot_faulty v p r instrs is e h = subst (λ (n : ℕ). NamesRowFault n (recovered_row n r) e) instrs (subst (λ (q : DurableRow). NamesRowFault p.instrs (recovered_row p.instrs q) e) is h)
 
-pub plot_refused : (v : Version) (text : List ℕ) (p : Plot) (r : Row) → p.instrs ≡ instrs_of v → row_in p r.words ≡ r → SpellsImage v text r → (e : RowErr) → IsFaulty p.instrs (recovered_row p.instrs (row_in p r.words)) e → IsRefused v text (image_err e)
+pub plot_refused : (v : Version) (text : List ℕ) (p : Plot) (r : DurableRow) → p.instrs ≡ instrs_of v → row_in p r.words ≡ r → SpellsImage v text r → (e : RowErr) → NamesRowFault p.instrs (recovered_row p.instrs (row_in p r.words)) e → ImageIsRefused v text (image_err e)
 plot_refused v text p r instrs is s e h = faulty_refused v text r s e (plot_faulty v p r instrs is e h)
 
 -- what recovery finds in it is the text's image
-pub plot_read : (v : Version) (text : List ℕ) (p : Plot) (r : Row) (i : Image) → p.instrs ≡ instrs_of v → row_in p r.words ≡ r → SpellsImage v text r → IsRestored p.instrs (row_in p r.words) i → ReadsImage v text i
+pub plot_read : (v : Version) (text : List ℕ) (p : Plot) (r : DurableRow) (i : Image) → p.instrs ≡ instrs_of v → row_in p r.words ≡ r → SpellsImage v text r → IsRestored p.instrs (row_in p r.words) i → ReadsImage v text i
 plot_read v text p r i instrs is s h = record {
   raw = r;
   spelled = s;
-  restored = subst (λ (n : ℕ). IsRestored n r i) instrs (subst (λ (q : Row). IsRestored p.instrs q i) is h);
+  restored = subst (λ (n : ℕ). IsRestored n r i) instrs (subst (λ (q : DurableRow). IsRestored p.instrs q i) is h);
 }
 
 -- ---- the durable words of a table are a row
@@ -163,12 +163,12 @@ slice_small ws a n le h c = elim (cases_lt c n) [
 twice_within : (d k : ℕ) → d + d ≤ d + d + k + 1
 twice_within d k = omega arith
 
-pub table_is_row : (p : Plot) (ws : List ℕ) → p.instrs ≡ MOST_INSTRS → length ws ≡ table_words p.callers MOST_INSTRS (size p) → ((c : ℕ) → get_or ws c 0 < 2 ^ 64)
-    → IsRow MOST_INSTRS (row_in p (slice_range ws (durable_cells p.callers (size p)) (durable_cells p.callers (size p) + durable_cells p.callers (size p))))
+pub table_is_row : (p : Plot) (ws : List ℕ) → p.instrs ≡ MOST_INSTRS → length ws ≡ table_words p.callers MOST_INSTRS (data_cell_count p) → ((c : ℕ) → get_or ws c 0 < 2 ^ 64)
+    → IsRow MOST_INSTRS (row_in p (slice_range ws (durable_cells p.callers (data_cell_count p)) (durable_cells p.callers (data_cell_count p) + durable_cells p.callers (data_cell_count p))))
 table_is_row p ws instrs long small = record {
   some_callers = p.some_callers;
   few_callers = p.few_callers;
   few_blocks = p.few_blocks;
-  size = row_long p.callers (size p) ws _ long refl ∙ ap (λ (n : ℕ). durable_cells p.callers (cells_at (base_of p.callers n) p.blocks)) instrs;
-  words = slice_small ws (durable_cells p.callers (size p)) (durable_cells p.callers (size p)) (subst (λ (n : ℕ). durable_cells p.callers (size p) + durable_cells p.callers (size p) ≤ n) (sym long) (twice_within (durable_cells p.callers (size p)) (p.callers * (MOST_INSTRS + 1)))) small;
+  size = row_long p.callers (data_cell_count p) ws _ long refl ∙ ap (λ (n : ℕ). durable_cells p.callers (cells_at (base_of p.callers n) p.blocks)) instrs;
+  words = slice_small ws (durable_cells p.callers (data_cell_count p)) (durable_cells p.callers (data_cell_count p)) (subst (λ (n : ℕ). durable_cells p.callers (data_cell_count p) + durable_cells p.callers (data_cell_count p) ≤ n) (sym long) (twice_within (durable_cells p.callers (data_cell_count p)) (p.callers * (MOST_INSTRS + 1)))) small;
 }

@@ -5,7 +5,7 @@ use Rattle.std.specs.List.{AllByRecursion}
 use Rattle.std.proofs.lemmas.Bool.{eqb-true}
 use Rattle.std.proofs.lemmas.Bool.Decides.{eqb_tells, nat_tests}
 use Rattle.std.proofs.lemmas.List.{append-nil, length-replicate, length-append}
-use Rattle.of_cell.specs.Words.{word, seq, pay}
+use Rattle.of_cell.specs.Words.{pack, seq_of, payload_of}
 use Rattle.of_cell.specs.Cells.{durable_cells}
 use Rattle.of_cell.proofs.Order.{word_eta, seq_word, pay_word, pay_small, seq_small}
 use Rattle.of_script.proofs.Instrs.{bind_some, chosen, some_is}
@@ -16,11 +16,11 @@ use Rattle.of_image.specs.declared.line.Line.{Line}
 use Rattle.of_image.specs.declared.line.Line.TheVariants.{Title, Callers, Blocks, Cell, End}
 use Rattle.of_image.specs.declared.reading.Stage.{Stage}
 use Rattle.of_image.specs.declared.reading.Stage.TheVariants.{Start, Named, Counted, Body, Ended}
-use Rattle.of_report.specs.ImageRow.{Row, IsRow, cells_of}
-use Rattle.of_image.specs.Version.{number_of, instrs_of}
+use Rattle.of_report.specs.ImageRow.{DurableRow, IsRow, data_cell_count_for}
+use Rattle.of_image.specs.Version.{version_number, instrs_of}
 use Rattle.of_image.specs.ImageText.{cell_line, cell_lines, image_lines}
-use Rattle.of_image.specs.ImageReading.{LineInRange, Progress, row_at, start, celled, at_stage, image_language, image_reader}
-use Rattle.of_plan.specs.Reader.{follow}
+use Rattle.of_image.specs.ImageReading.{IsImageLineInRange, Reading, row_read, nothing_read, with_cell, after_line_at, image_language, image_reader}
+use Rattle.of_plan.specs.Reader.{after_lines}
 
 -- ---- the lines of cells
 
@@ -40,44 +40,44 @@ eqb_other : (a b : ℕ) → (a ≡ b → ⊥) → eqb a b ≡ false
 eqb_other a b h = elim (eqb_tells a b) [ inl p ↦ absurd (h p.1) | inr p ↦ p.0 ]
 
 -- a word of a cell from which on all are 0 has the last line
-set_lines : (c : ℕ) (ws : List ℕ) (i w : ℕ) → i < length ws → ((k : ℕ) → i ≤ k → get_or ws k 0 ≡ 0) → (w ≡ 0 → ⊥) → cell_lines c (set ws i w) ≡ cell_lines c ws ++ Cell (c + i) (seq w) (pay w) ∷ []
+set_lines : (c : ℕ) (ws : List ℕ) (i w : ℕ) → i < length ws → ((k : ℕ) → i ≤ k → get_or ws k 0 ≡ 0) → (w ≡ 0 → ⊥) → cell_lines c (set ws i w) ≡ cell_lines c ws ++ Cell (c + i) (seq_of w) (payload_of w) ∷ []
 set_lines c [] i w lt h some = absurd (omega arith)
 set_lines c (x ∷ xs) zero w lt h some =
     let first : x ≡ 0 = h 0 (omega arith) in
     let rest : cell_lines (c + 1) xs ≡ [] = none_lines (c + 1) xs (λ k. h (suc k) (omega arith)) in
     let is : eqb w 0 ≡ false = eqb_other w 0 some in
     let here : c ≡ c + 0 = omega arith in
-    rw (is, first, rest) (ap (λ (n : ℕ). Cell n (seq w) (pay w) ∷ []) here)
+    rw (is, first, rest) (ap (λ (n : ℕ). Cell n (seq_of w) (payload_of w) ∷ []) here)
 set_lines c (x ∷ xs) (suc i) w lt h some =
     let later = set_lines (c + 1) xs i w (omega arith) (λ k le. h (suc k) (omega arith)) some in
     let here : c + 1 + i ≡ c + suc i = omega arith in
-    ap (λ (ls : List Line). cell_line c x ++ ls) (later ∙ ap (λ (n : ℕ). cell_lines (c + 1) xs ++ Cell n (seq w) (pay w) ∷ []) here)
-    ∙ sym (append_assoc (cell_line c x) (cell_lines (c + 1) xs) (Cell (c + suc i) (seq w) (pay w) ∷ []))
+    ap (λ (ls : List Line). cell_line c x ++ ls) (later ∙ ap (λ (n : ℕ). cell_lines (c + 1) xs ++ Cell n (seq_of w) (payload_of w) ∷ []) here)
+    ∙ sym (append_assoc (cell_line c x) (cell_lines (c + 1) xs) (Cell (c + suc i) (seq_of w) (payload_of w) ∷ []))
 
 -- ---- where a reading stands
 
 -- the lines that lead there
-abbrev pub lines_at : Version → Stage → Progress → List Line
+abbrev pub lines_at : Version → Stage → Reading → List Line
 lines_at v Start p = []
-lines_at v Named p = Title (number_of v) ∷ []
-lines_at v Counted p = Title (number_of v) ∷ Callers p.callers ∷ []
-lines_at v Body p = Title (number_of v) ∷ Callers p.callers ∷ Blocks p.blocks ∷ cell_lines 0 p.words
-lines_at v Ended p = image_lines v (row_at p)
+lines_at v Named p = Title (version_number v) ∷ []
+lines_at v Counted p = Title (version_number v) ∷ Callers p.callers ∷ []
+lines_at v Body p = Title (version_number v) ∷ Callers p.callers ∷ Blocks p.blocks ∷ cell_lines 0 p.words
+lines_at v Ended p = image_lines v (row_read p)
 
 -- a row whose words are 0 from some cell on
-pub record IsBegun (v : Version) (p : Progress) : Type 0 where
-  pub row : IsRow (instrs_of v) (row_at p)
+pub record IsBegun (v : Version) (p : Reading) : Type 0 where
+  pub row : IsRow (instrs_of v) (row_read p)
   pub zeros : (c : ℕ) → p.from ≤ c → get_or p.words c 0 ≡ 0
 
-abbrev pub Fits : Version → Stage → Progress → Type 0
+abbrev pub Fits : Version → Stage → Reading → Type 0
 Fits v Start p = Unit {0}
 Fits v Named p = Unit {0}
 Fits v Counted p = (1 ≤ p.callers) × (p.callers ≤ 16)
 Fits v Body p = IsBegun v p
-Fits v Ended p = IsRow (instrs_of v) (row_at p)
+Fits v Ended p = IsRow (instrs_of v) (row_read p)
 
 -- a line has led from p to q
-record Stepped (v : Version) (stage : Stage) (p : Progress) (l : Line) (q : Progress) : Type 0 where
+record Stepped (v : Version) (stage : Stage) (p : Reading) (l : Line) (q : Reading) : Type 0 where
   pub fits : Fits v q.stage q
   pub lines : lines_at v q.stage q ≡ lines_at v stage p ++ l ∷ []
 
@@ -96,42 +96,42 @@ set_words (x ∷ xs) zero w lt h (suc c) = h (suc c)
 set_words (x ∷ xs) (suc i) w lt h zero = h zero
 set_words (x ∷ xs) (suc i) w lt h (suc c) = set_words xs i w lt (λ k. h (suc k)) c
 
-word_fits : (s p : ℕ) → s ≤ 4294967295 → p ≤ 4294967295 → word s p < 2 ^ 64
-unfolding word
+word_fits : (s p : ℕ) → s ≤ 4294967295 → p ≤ 4294967295 → pack s p < 2 ^ 64
+unfolding pack
 word_fits s p h k = omega arith
 
 -- where a test refuses, nothing is taken
-passed : (b : Bool) (o : Option Progress) (q : Progress) → cond b None o ≡ Some q → (b ≡ false) × (o ≡ Some q)
+passed : (b : Bool) (o : Option Reading) (q : Reading) → cond b None o ≡ Some q → (b ≡ false) × (o ≡ Some q)
 passed true o q e = absurd cc
 passed false o q e = (refl, e)
 
-begun : (v : Version) (p : Progress) (b : ℕ) → (1 ≤ p.callers) × (p.callers ≤ 16) → b ≤ 512 → IsBegun v (record p { stage = Body; blocks = b; words = replicate (durable_cells p.callers (cells_of (instrs_of v) p.callers b)) 0 })
+begun : (v : Version) (p : Reading) (b : ℕ) → (1 ≤ p.callers) × (p.callers ≤ 16) → b ≤ 512 → IsBegun v (record p { stage = Body; blocks = b; words = replicate (durable_cells p.callers (data_cell_count_for (instrs_of v) p.callers b)) 0 })
 begun v p b f r = record {
   row = record { some_callers = f.0; few_callers = f.1; few_blocks = r; size = length-replicate {A = ℕ} _ 0; words = zeros_words _ };
   zeros = λ c le. zeros_are 0 _ c;
 }
 
-celled_step : (v : Version) (p q : Progress) (c s x : ℕ) → IsBegun v p → p.stage ≡ Body → (c ≤ 4294967295) × (s ≤ 4294967295) × (x ≤ 4294967295) → celled p c s x ≡ Some q → Stepped v Body p (Cell c s x) q
+celled_step : (v : Version) (p q : Reading) (c s x : ℕ) → IsBegun v p → p.stage ≡ Body → (c ≤ 4294967295) × (s ≤ 4294967295) × (x ≤ 4294967295) → with_cell p c s x ≡ Some q → Stepped v Body p (Cell c s x) q
 celled_step v p q c s x f body r e =
     let one = passed (nat_lt c p.from) _ q e in
     let two = passed (nat_le (length p.words) c) _ q one.1 in
-    let three = passed (word s x == 0) _ q two.1 in
+    let three = passed (pack s x == 0) _ q two.1 in
     let from : p.from ≤ c = (let h = one.0 in grind (arith, nat_tests)) in
     let within : c < length p.words = (let h = two.0 in grind (arith, nat_tests)) in
-    let some : word s x ≡ 0 → ⊥ = (λ z. let h = three.0 in grind (arith, nat_tests)) in
+    let some : pack s x ≡ 0 → ⊥ = (λ z. let h = three.0 in grind (arith, nat_tests)) in
     subst (Stepped v Body p (Cell c s x)) (some_is _ q three.1) (record {
-      fits = subst (λ (t : Stage). Fits v t (record p { words = set p.words c (word s x); from = c + 1 })) (sym body) (record {
-        row = record { some_callers = f.row.some_callers; few_callers = f.row.few_callers; few_blocks = f.row.few_blocks; size = length-set p.words c (word s x) ∙ f.row.size; words = set_words p.words c (word s x) (word_fits s x r.1 r.2) f.row.words };
-        zeros = λ k le. get_or-set_other p.words c k (word s x) 0 (λ z. omega (arith, z, le)) ∙ f.zeros k (omega (arith, from, le));
+      fits = subst (λ (t : Stage). Fits v t (record p { words = set p.words c (pack s x); from = c + 1 })) (sym body) (record {
+        row = record { some_callers = f.row.some_callers; few_callers = f.row.few_callers; few_blocks = f.row.few_blocks; size = length-set p.words c (pack s x) ∙ f.row.size; words = set_words p.words c (pack s x) (word_fits s x r.1 r.2) f.row.words };
+        zeros = λ k le. get_or-set_other p.words c k (pack s x) 0 (λ z. omega (arith, z, le)) ∙ f.zeros k (omega (arith, from, le));
       });
-      lines = subst (λ (t : Stage). lines_at v t (record p { words = set p.words c (word s x); from = c + 1 }) ≡ lines_at v Body p ++ Cell c s x ∷ []) (sym body)
-          (ap (λ (ls : List Line). Title (number_of v) ∷ Callers p.callers ∷ Blocks p.blocks ∷ ls) (set_lines 0 p.words c (word s x) within (λ k le. f.zeros k (omega (arith, from, le))) some
+      lines = subst (λ (t : Stage). lines_at v t (record p { words = set p.words c (pack s x); from = c + 1 }) ≡ lines_at v Body p ++ Cell c s x ∷ []) (sym body)
+          (ap (λ (ls : List Line). Title (version_number v) ∷ Callers p.callers ∷ Blocks p.blocks ∷ ls) (set_lines 0 p.words c (pack s x) within (λ k le. f.zeros k (omega (arith, from, le))) some
           ∙ (λ i. cell_lines 0 p.words ++ Cell (let here : 0 + c ≡ c = omega arith in here i) (seq_word s x (omega (arith, r.2)) i) (pay_word s x (omega (arith, r.2)) i) ∷ [])));
     })
 
-step : (v : Version) (stage : Stage) (p q : Progress) (l : Line) → p.stage ≡ stage → Fits v stage p → LineInRange l → at_stage v stage p l ≡ Some q → Stepped v stage p l q
-step v Start p q (Title x) is f r e = elim (chosen (x == number_of v) (Some (record p { stage = Named })) None (Some q) e) [
-  | inl h ↦ subst (Stepped v Start p (Title x)) (some_is _ q h.1) (record { fits = tt; lines = ap (λ (n : ℕ). Title n ∷ []) (sym (eqb-true x (number_of v) h.0)) })
+step : (v : Version) (stage : Stage) (p q : Reading) (l : Line) → p.stage ≡ stage → Fits v stage p → IsImageLineInRange l → after_line_at v stage p l ≡ Some q → Stepped v stage p l q
+step v Start p q (Title x) is f r e = elim (chosen (x == version_number v) (Some (record p { stage = Named })) None (Some q) e) [
+  | inl h ↦ subst (Stepped v Start p (Title x)) (some_is _ q h.1) (record { fits = tt; lines = ap (λ (n : ℕ). Title n ∷ []) (sym (eqb-true x (version_number v) h.0)) })
   | inr h ↦ absurd (let k = h.1 in cc)
 ]
 step v Named p q (Callers n) is f r e =
@@ -140,31 +140,31 @@ step v Named p q (Callers n) is f r e =
     subst (Stepped v Named p (Callers n)) (some_is _ q t.1) (record { fits = (some, r); lines = refl })
 step v Counted p q (Blocks b) is f r e = subst (Stepped v Counted p (Blocks b)) (some_is _ q e) (record {
   fits = begun v p b f r;
-  lines = ap (λ (ls : List Line). Title (number_of v) ∷ Callers p.callers ∷ Blocks b ∷ ls) (zeros_lines 0 (durable_cells p.callers (cells_of (instrs_of v) p.callers b)));
+  lines = ap (λ (ls : List Line). Title (version_number v) ∷ Callers p.callers ∷ Blocks b ∷ ls) (zeros_lines 0 (durable_cells p.callers (data_cell_count_for (instrs_of v) p.callers b)));
 })
 step v Body p q (Cell c s x) is f r e = celled_step v p q c s x f is r e
 step v Body p q End is f r e = subst (Stepped v Body p End) (some_is _ q e) (record { fits = f.row; lines = refl })
 step v stage p q l is f r e = absurd cc
 
 -- lines that have led to some place are those of that place
-pub record Said (v : Version) (p : Progress) (ls : List Line) (last : Progress) : Type 0 where
+pub record Said (v : Version) (p : Reading) (ls : List Line) (last : Reading) : Type 0 where
   pub fits : Fits v last.stage last
   pub lines : lines_at v last.stage last ≡ lines_at v p.stage p ++ ls
 
-pub said : (v : Version) (p last : Progress) (ls : List Line) → Fits v p.stage p → AllByRecursion LineInRange ls → follow image_language (image_reader v) p ls ≡ Some last → Said v p ls last
+pub said : (v : Version) (p last : Reading) (ls : List Line) → Fits v p.stage p → AllByRecursion IsImageLineInRange ls → after_lines image_language (image_reader v) p ls ≡ Some last → Said v p ls last
 said v p last [] f r e = subst (Said v p []) (some_is p last e) (record { fits = f; lines = sym (append-nil _) })
 said v p last (l ∷ ls) f r e =
-    let q = bind_some (at_stage v p.stage p l) (λ q. follow image_language (image_reader v) q ls) last e in
+    let q = bind_some (after_line_at v p.stage p l) (λ q. after_lines image_language (image_reader v) q ls) last e in
     let one = step v p.stage p q.0 l refl f r.0 q.1 in
     let rest = said v q.0 last ls one.fits r.1 q.2 in
     record { fits = rest.fits; lines = rest.lines ∙ ap (λ (ks : List Line). ks ++ ls) one.lines ∙ append_assoc (lines_at v p.stage p) (l ∷ []) ls }
 
 -- ---- a row's lines
 
-abbrev body : (callers blocks : ℕ) → List ℕ → ℕ → Progress
+abbrev body : (callers blocks : ℕ) → List ℕ → ℕ → Reading
 body c b ws f = record { stage = Body; callers = c; blocks = b; words = ws; from = f }
 
-abbrev ended : (callers blocks : ℕ) → List ℕ → ℕ → Progress
+abbrev ended : (callers blocks : ℕ) → List ℕ → ℕ → Reading
 ended c b ws f = record { stage = Ended; callers = c; blocks = b; words = ws; from = f }
 
 set_at : (front : List ℕ) (x w : ℕ) (back : List ℕ) (k : ℕ) → length front ≡ k → set (front ++ x ∷ back) k w ≡ front ++ w ∷ back
@@ -173,9 +173,9 @@ set_at (y ∷ front) x w back zero e = absurd (omega (arith, e))
 set_at (y ∷ front) x w back (suc k) e = ap (λ (l : List ℕ). y ∷ l) (set_at front x w back k (omega (arith, e)))
 
 -- the lines of the cells from here on, and what they lead to
-record Led (v : Version) (c b : ℕ) (p : Progress) (ls : List Line) (ws : List ℕ) : Type 0 where
+record Led (v : Version) (c b : ℕ) (p : Reading) (ls : List Line) (ws : List ℕ) : Type 0 where
   pub from : ℕ
-  pub leads : follow image_language (image_reader v) p ls ≡ Some (ended c b ws from)
+  pub leads : after_lines image_language (image_reader v) p ls ≡ Some (ended c b ws from)
 
 cells_lead : (v : Version) (c b : ℕ) (front ws : List ℕ) (k f : ℕ) → length front ≡ k → f ≤ k → Led v c b (body c b (front ++ replicate (length ws) 0) f) (cell_lines k ws ++ End ∷ []) (front ++ ws)
 cells_lead v c b front [] k f e le = record { from = f; leads = refl }
@@ -184,57 +184,57 @@ cells_lead v c b front (w ∷ ws) k f e le = elim (eqb_tells w 0) [
       let is = p.1 in
       record {
         from = h.from;
-        leads = rw (is) (ap (λ (l : List ℕ). follow image_language (image_reader v) (body c b l f) (cell_lines (k + 1) ws ++ End ∷ [])) (sym (append_assoc front (0 ∷ []) (replicate (length ws) 0))) ∙ h.leads ∙ ap (λ (l : List ℕ). Some (ended c b l h.from)) (append_assoc front (0 ∷ []) ws));
+        leads = rw (is) (ap (λ (l : List ℕ). after_lines image_language (image_reader v) (body c b l f) (cell_lines (k + 1) ws ++ End ∷ [])) (sym (append_assoc front (0 ∷ []) (replicate (length ws) 0))) ∙ h.leads ∙ ap (λ (l : List ℕ). Some (ended c b l h.from)) (append_assoc front (0 ∷ []) ws));
       })
   | inr p ↦ (let h = cells_lead v c b (front ++ w ∷ []) ws (k + 1) (k + 1) (length-append front (w ∷ []) ∙ ap (λ (n : ℕ). n + 1) e) (omega arith) in
       let one : nat_lt k f ≡ false = grind (arith, nat_tests) in
       let two : nat_le (length (front ++ replicate (suc (length ws)) 0)) k ≡ false = (let n = length-append front (replicate (suc (length ws)) 0) in let m = length-replicate {A = ℕ} (suc (length ws)) 0 in grind (arith, nat_tests)) in
-      let is : word (seq w) (pay w) ≡ w = word_eta w in
+      let is : pack (seq_of w) (payload_of w) ≡ w = word_eta w in
       let some : eqb w 0 ≡ false = p.0 in
       record {
         from = h.from;
-        leads = rw (some, one, two, is, some) (ap (λ (l : List ℕ). follow image_language (image_reader v) (body c b l (k + 1)) (cell_lines (k + 1) ws ++ End ∷ [])) (set_at front 0 w (replicate (length ws) 0) k e ∙ sym (append_assoc front (w ∷ []) (replicate (length ws) 0))) ∙ h.leads ∙ ap (λ (l : List ℕ). Some (ended c b l h.from)) (append_assoc front (w ∷ []) ws));
+        leads = rw (some, one, two, is, some) (ap (λ (l : List ℕ). after_lines image_language (image_reader v) (body c b l (k + 1)) (cell_lines (k + 1) ws ++ End ∷ [])) (set_at front 0 w (replicate (length ws) 0) k e ∙ sym (append_assoc front (w ∷ []) (replicate (length ws) 0))) ∙ h.leads ∙ ap (λ (l : List ℕ). Some (ended c b l h.from)) (append_assoc front (w ∷ []) ws));
       })
 ]
 
-pub record LeadsTo (v : Version) (r : Row) : Type 0 where
+pub record LeadsTo (v : Version) (r : DurableRow) : Type 0 where
   pub from : ℕ
-  pub leads : follow image_language (image_reader v) start (image_lines v r) ≡ Some (ended r.callers r.blocks r.words from)
+  pub leads : after_lines image_language (image_reader v) nothing_read (image_lines v r) ≡ Some (ended r.callers r.blocks r.words from)
 
-pub row_leads : (v : Version) (r : Row) → IsRow (instrs_of v) r → LeadsTo v r
+pub row_leads : (v : Version) (r : DurableRow) → IsRow (instrs_of v) r → LeadsTo v r
 row_leads v r h =
     let cells = cells_lead v r.callers r.blocks [] r.words 0 0 refl (omega arith) in
     let some : eqb r.callers 0 ≡ false = (let k = h.some_callers in grind (arith, nat_tests)) in
-    let own : eqb (number_of v) (number_of v) ≡ true = elim (eqb_tells (number_of v) (number_of v)) [ inl p ↦ p.0 | inr p ↦ absurd (p.1 refl) ] in
+    let own : eqb (version_number v) (version_number v) ≡ true = elim (eqb_tells (version_number v) (version_number v)) [ inl p ↦ p.0 | inr p ↦ absurd (p.1 refl) ] in
     record {
       from = cells.from;
-      leads = rw (own, some) (ap (λ (n : ℕ). follow image_language (image_reader v) (body r.callers r.blocks (replicate n 0) 0) (cell_lines 0 r.words ++ End ∷ [])) (sym h.size) ∙ cells.leads);
+      leads = rw (own, some) (ap (λ (n : ℕ). after_lines image_language (image_reader v) (body r.callers r.blocks (replicate n 0) 0) (cell_lines 0 r.words ++ End ∷ [])) (sym h.size) ∙ cells.leads);
     }
 
 -- ---- the ranges of a row's lines
 
-pub few_cells : (v : Version) (n b : ℕ) → n ≤ 16 → b ≤ 512 → durable_cells n (cells_of (instrs_of v) n b) ≤ 65536
+pub few_cells : (v : Version) (n b : ℕ) → n ≤ 16 → b ≤ 512 → durable_cells n (data_cell_count_for (instrs_of v) n b) ≤ 65536
 few_cells One n b few low =
-    let rows : 2 * cells_of (instrs_of One) n b + 1 ≤ 3903 = omega arith in
+    let rows : 2 * data_cell_count_for (instrs_of One) n b + 1 ≤ 3903 = omega arith in
     omega (arith, mul-le-mul_left n rows)
 few_cells Two n b few low =
-    let rows : 2 * cells_of (instrs_of Two) n b + 1 ≤ 3903 = omega arith in
+    let rows : 2 * data_cell_count_for (instrs_of Two) n b + 1 ≤ 3903 = omega arith in
     omega (arith, mul-le-mul_left n rows)
 
-line_in_range : (c w : ℕ) → c ≤ 4294967295 → w < 2 ^ 64 → AllByRecursion LineInRange (cell_line c w)
+line_in_range : (c w : ℕ) → c ≤ 4294967295 → w < 2 ^ 64 → AllByRecursion IsImageLineInRange (cell_line c w)
 line_in_range c w low h = go (eqb w 0)
   where
-    go : (b : Bool) → AllByRecursion LineInRange (cond b [] (Cell c (seq w) (pay w) ∷ []))
+    go : (b : Bool) → AllByRecursion IsImageLineInRange (cond b [] (Cell c (seq_of w) (payload_of w) ∷ []))
     go true = tt
     go false = ((low, omega (arith, seq_small w (omega arith)), omega (arith, pay_small w)), tt)
 
-lines_in_range : (c : ℕ) (ws : List ℕ) → c + length ws ≤ 65536 → Words ws → AllByRecursion LineInRange (cell_lines c ws)
+lines_in_range : (c : ℕ) (ws : List ℕ) → c + length ws ≤ 65536 → Words ws → AllByRecursion IsImageLineInRange (cell_lines c ws)
 lines_in_range c [] le h = tt
-lines_in_range c (w ∷ ws) le h = all-both LineInRange (cell_line c w) (cell_lines (c + 1) ws) (line_in_range c w (omega arith) (h 0)) (lines_in_range (c + 1) ws (omega arith) (λ k. h (suc k)))
+lines_in_range c (w ∷ ws) le h = all-both IsImageLineInRange (cell_line c w) (cell_lines (c + 1) ws) (line_in_range c w (omega arith) (h 0)) (lines_in_range (c + 1) ws (omega arith) (λ k. h (suc k)))
 
-number_small : (v : Version) → number_of v ≤ 4294967295
+number_small : (v : Version) → version_number v ≤ 4294967295
 number_small One = lit≤ tt
 number_small Two = lit≤ tt
 
-pub image_in_range : (v : Version) (r : Row) → IsRow (instrs_of v) r → AllByRecursion LineInRange (image_lines v r)
-image_in_range v r h = (number_small v, (h.few_callers, (h.few_blocks, all-both LineInRange (cell_lines 0 r.words) (End ∷ []) (lines_in_range 0 r.words (omega (arith, h.size, few_cells v r.callers r.blocks h.few_callers h.few_blocks)) h.words) (tt, tt))))
+pub image_in_range : (v : Version) (r : DurableRow) → IsRow (instrs_of v) r → AllByRecursion IsImageLineInRange (image_lines v r)
+image_in_range v r h = (number_small v, (h.few_callers, (h.few_blocks, all-both IsImageLineInRange (cell_lines 0 r.words) (End ∷ []) (lines_in_range 0 r.words (omega (arith, h.size, few_cells v r.callers r.blocks h.few_callers h.few_blocks)) h.words) (tt, tt))))

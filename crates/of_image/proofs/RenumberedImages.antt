@@ -5,16 +5,16 @@ use Rattle.std.proofs.lemmas.Bool.{cases_lt}
 use Rattle.std.proofs.lemmas.Bool.Decides.{nat_tests}
 use Rattle.std.proofs.lemmas.List.{get_or_past}
 use Rattle.std.proofs.lemmas.List.FromFn.{fill_by_all, length-map-range_with_len, get_or-map-range_with_len}
-use Rattle.of_cell.specs.Words.{word, seq, pay}
+use Rattle.of_cell.specs.Words.{pack, seq_of, payload_of}
 use Rattle.of_cell.specs.Cells.{data_cell}
 use Rattle.of_cell.proofs.Order.{seq_word, pay_word, pay_small}
 use Rattle.of_script.specs.declared.instr.TheConstants.{MOST_INSTRS}
-use Rattle.of_mem.specs.ProgramWork.{memory}
+use Rattle.of_mem.specs.ProgramWork.{memory_of}
 use Rattle.of_recover.specs.Row.{is_open}
-use Rattle.of_recover.specs.Recovered.{is_data, recovered}
-use Rattle.of_recover.specs.Renumbered.{renumbered, BeginsAnew}
-use Rattle.of_eval.specs.Lawful.{StandsFor}
-use Rattle.of_report.specs.ImageRow.{Row, IsRow, cells_in, numbers_in}
+use Rattle.of_recover.specs.Recovered.{is_data, recovered_words}
+use Rattle.of_recover.specs.Renumbered.{renumbered_words, BeginsAnew}
+use Rattle.of_eval.specs.Lawful.{DataCellsStandFor}
+use Rattle.of_report.specs.ImageRow.{DurableRow, IsRow, row_cell_count, numbers_in}
 use Rattle.of_report.specs.Image.{Image, IsImage}
 use Rattle.of_image.specs.declared.version.Version.TheVariants.{Two}
 use Rattle.of_image.specs.ImageText.{image_text}
@@ -22,8 +22,8 @@ use Rattle.of_image.specs.Parsed.{ReadsImage}
 use Rattle.of_image.specs.RenumberedImage.{renumbered_row, renumbered_image, Renumbers}
 use Rattle.of_image.proofs.PrintedImages.{printed_again}
 
-small_word : (p : ℕ) → p < 4294967296 → word 0 p < 2 ^ 64
-unfolding word
+small_word : (p : ℕ) → p < 4294967296 → pack 0 p < 2 ^ 64
+unfolding pack
 small_word p h = omega arith
 
 -- two functions with the same values below a bound
@@ -31,24 +31,24 @@ same_below : (f g : ℕ → ℕ) (n : ℕ) → ((a : ℕ) → a < n → f a ≡ 
 same_below f g n h = fill_by_all g (map f (range_with_len 0 n)) n 0 (length-map-range_with_len f 0 n) (λ k l. get_or-map-range_with_len f 0 n k k 0 l (omega arith) ∙ h k l)
 
 module _ (i : Image) (h : IsImage MOST_INSTRS i) where
-  abbrev r : Row
+  abbrev r : DurableRow
   r = i.row
 
   abbrev M : ℕ
-  M = cells_in MOST_INSTRS r
+  M = row_cell_count MOST_INSTRS r
 
   -- no transaction is open in it
-  pub closed : is_open r.callers (λ c. get_or (recovered r.callers M r.words) c 0) ≡ false → is_open r.callers (λ c. get_or r.words c 0) ≡ false
-  closed shut = subst (λ (q : Row). is_open r.callers (λ c. get_or q.words c 0) ≡ false) h.settled shut
+  pub closed : is_open r.callers (λ c. get_or (recovered_words r.callers M r.words) c 0) ≡ false → is_open r.callers (λ c. get_or r.words c 0) ≡ false
+  closed shut = subst (λ (q : DurableRow). is_open r.callers (λ c. get_or q.words c 0) ≡ false) h.settled shut
 
-  module _ (anew : BeginsAnew r.callers M r.words (renumbered r.callers M r.words)) where
+  module _ (anew : BeginsAnew r.callers M r.words (renumbered_words r.callers M r.words)) where
     abbrev vs : List ℕ
-    vs = renumbered r.callers M r.words
+    vs = renumbered_words r.callers M r.words
 
     data_small : (a : ℕ) → a < M → get_or vs (data_cell r.callers a) 0 < 2 ^ 64
     data_small a l =
         let e = anew.numbers a l in
-        let s = small_word (pay (get_or r.words (data_cell r.callers a) 0)) (pay_small (get_or r.words (data_cell r.callers a) 0)) in
+        let s = small_word (payload_of (get_or r.words (data_cell r.callers a) 0)) (pay_small (get_or r.words (data_cell r.callers a) 0)) in
         omega (arith, e, s)
 
     cell_small : (c : ℕ) → c < length r.words → (b : Bool) → is_data r.callers M c ≡ b → get_or vs c 0 < 2 ^ 64
@@ -69,15 +69,15 @@ module _ (i : Image) (h : IsImage MOST_INSTRS i) where
     renumbered_is_row : IsRow MOST_INSTRS (renumbered_row MOST_INSTRS r)
     renumbered_is_row = record { some_callers = h.row.some_callers; few_callers = h.row.few_callers; few_blocks = h.row.few_blocks; size = anew.size; words = renumbered_small }
 
-    number_same : (a : ℕ) → a < M → pay (get_or vs (data_cell r.callers a) 0) ≡ pay (get_or r.words (data_cell r.callers a) 0)
-    number_same a l = ap pay (anew.numbers a l) ∙ pay_word 0 (pay (get_or r.words (data_cell r.callers a) 0)) (pay_small (get_or r.words (data_cell r.callers a) 0))
+    number_same : (a : ℕ) → a < M → payload_of (get_or vs (data_cell r.callers a) 0) ≡ payload_of (get_or r.words (data_cell r.callers a) 0)
+    number_same a l = ap payload_of (anew.numbers a l) ∙ pay_word 0 (payload_of (get_or r.words (data_cell r.callers a) 0)) (pay_small (get_or r.words (data_cell r.callers a) 0))
 
     numbers_same : numbers_in MOST_INSTRS (renumbered_row MOST_INSTRS r) ≡ numbers_in MOST_INSTRS r
-    numbers_same = same_below (λ a. pay (get_or vs (data_cell r.callers a) 0)) (λ a. pay (get_or r.words (data_cell r.callers a) 0)) M number_same
+    numbers_same = same_below (λ a. payload_of (get_or vs (data_cell r.callers a) 0)) (λ a. payload_of (get_or r.words (data_cell r.callers a) 0)) M number_same
 
-    none_newer : (a : ℕ) → a < M → seq (get_or vs (data_cell r.callers a) 0) ≤ seq (get_or vs 0 0)
+    none_newer : (a : ℕ) → a < M → seq_of (get_or vs (data_cell r.callers a) 0) ≤ seq_of (get_or vs 0 0)
     none_newer a l =
-        let e = ap seq (anew.numbers a l) ∙ seq_word 0 (pay (get_or r.words (data_cell r.callers a) 0)) (pay_small (get_or r.words (data_cell r.callers a) 0)) in
+        let e = ap seq_of (anew.numbers a l) ∙ seq_word 0 (payload_of (get_or r.words (data_cell r.callers a) 0)) (pay_small (get_or r.words (data_cell r.callers a) 0)) in
         omega (arith, e)
 
     none_open : is_open r.callers (λ c. get_or vs c 0) ≡ false
@@ -94,7 +94,7 @@ module _ (i : Image) (h : IsImage MOST_INSTRS i) where
         lawful = record {
           owned = omega (arith, anew.owner, h.row.some_callers);
           none_newer = none_newer;
-          stands = subst (λ (l : List ℕ). StandsFor r.callers MOST_INSTRS r.blocks (memory l) i.store) (sym numbers_same) h.lawful.stands;
+          stands = subst (λ (l : List ℕ). DataCellsStandFor r.callers MOST_INSTRS r.blocks (memory_of l) i.store) (sym numbers_same) h.lawful.stands;
         };
       };
     }

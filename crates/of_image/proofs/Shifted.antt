@@ -3,7 +3,7 @@ use Rattle.std.proofs.Common.{◌≡◌, ◌≢◌, ℕ, ◌+◌, ◌-◌, ◌*�
 use Rattle.std.specs.List.{AllByRecursion as Each}
 use Rattle.std.proofs.lemmas.Bool.Decides.{nat_tests}
 use Rattle.of_mem.specs.Places.{register_at, fresh_at, keys_at, tail_at, length_at}
-use Rattle.of_mem.specs.Stores.{Store, Stands, IsChain, IsBucket, front_at, first_at, second_at, link_at, value_in}
+use Rattle.of_mem.specs.Stores.{CellStore, StandsForStore, IsChain, IsBucket, front_at, first_at, second_at, link_at, value_in}
 use Rattle.of_mem.proofs.Counts.{blocks_below}
 
 -- ---- blocks whose cells are the same, n from u on as m from o on
@@ -50,7 +50,7 @@ front_of o u c l = go (ltb c 1) (ltb c 33) refl refl
 
 -- ---- the store
 
-module _ (o u blocks : ℕ) (m n : ℕ → ℕ) (same : (k : ℕ) → k < 63 + 3 * blocks → n (u + k) ≡ m (o + k)) (s : Store) (h : Stands o blocks m s) where
+module _ (o u blocks : ℕ) (m n : ℕ → ℕ) (same : (k : ℕ) → k < 63 + 3 * blocks → n (u + k) ≡ m (o + k)) (s : CellStore) (h : StandsForStore o blocks m s) where
   -- the cell that stands so far behind
   at : (k x y : ℕ) → k < 63 + 3 * blocks → x ≡ u + k → y ≡ o + k → n x ≡ m y
   at k x y l e f = ap n e ∙ same k l ∙ ap m (sym f)
@@ -70,7 +70,7 @@ module _ (o u blocks : ℕ) (m n : ℕ → ℕ) (same : (k : ℕ) → k < 63 + 3
   chain_same : (c : ℕ) → c < 38 → Same o u m n (h.chains c)
   chain_same c l = blocks_same (h.chains c) (blocks_below o blocks m s h c l)
 
-  pub stands_shifted : Stands u blocks n s
+  pub stands_shifted : StandsForStore u blocks n s
   stands_shifted =
       let fresh : n (fresh_at u) ≡ m (fresh_at o) = at 16 (fresh_at u) (fresh_at o) (omega arith) refl refl in
       record {

@@ -1,27 +1,27 @@
 -- The grammar of images, and the one printed text of a row.
 use Rattle.std.specs.Prelude.{◌≡◌, ℕ, ◌+◌, List, [], ◌∷◌, ◌++◌, map, flat_map, codes, decimal, if◌then◌else◌, ◌==◌, slice_range}
 use Rattle.std.specs.List.{join_with_byte}
-use Rattle.of_cell.specs.Words.{seq, pay}
+use Rattle.of_cell.specs.Words.{seq_of, payload_of}
 use Rattle.of_cell.specs.Cells.{durable_cells}
 use Rattle.of_mem.specs.declared.plot.Plot.{Plot}
-use Rattle.of_mem.specs.Plots.{size}
-use Rattle.of_plan.specs.Lines.{lines, kept}
+use Rattle.of_mem.specs.Plots.{data_cell_count}
+use Rattle.of_plan.specs.Lines.{text_lines, unskipped_words}
 use Rattle.of_image.specs.declared.version.Version.{Version}
 use Rattle.of_image.specs.declared.line.Line.{Line}
 use Rattle.of_image.specs.declared.line.Line.TheVariants.{Title, Callers, Blocks, Cell, End}
-use Rattle.of_report.specs.ImageRow.{Row, IsRow, row_in}
-use Rattle.of_image.specs.Version.{number_of, instrs_of}
+use Rattle.of_report.specs.ImageRow.{DurableRow, IsRow, row_in}
+use Rattle.of_image.specs.Version.{version_number, instrs_of}
 
-abbrev pub line_words : Line → List (List ℕ)
-line_words (Title v) = codes "onefile" ∷ codes "image" ∷ decimal v ∷ []
-line_words (Callers n) = codes "callers" ∷ decimal n ∷ []
-line_words (Blocks n) = codes "blocks" ∷ decimal n ∷ []
-line_words (Cell c s p) = codes "cell" ∷ decimal c ∷ decimal s ∷ decimal p ∷ []
-line_words End = codes "end" ∷ []
+abbrev pub image_line_words : Line → List (List ℕ)
+image_line_words (Title v) = codes "onefile" ∷ codes "image" ∷ decimal v ∷ []
+image_line_words (Callers n) = codes "callers" ∷ decimal n ∷ []
+image_line_words (Blocks n) = codes "blocks" ∷ decimal n ∷ []
+image_line_words (Cell c s p) = codes "cell" ∷ decimal c ∷ decimal s ∷ decimal p ∷ []
+image_line_words End = codes "end" ∷ []
 
 -- the line of a cell; a cell whose word is 0 has none
 abbrev pub cell_line : (cell word : ℕ) → List Line
-cell_line c w = if w == 0 then [] else Cell c (seq w) (pay w) ∷ []
+cell_line c w = if w == 0 then [] else Cell c (seq_of w) (payload_of w) ∷ []
 
 -- the lines of these words, from this cell on
 abbrev pub cell_lines : (cell : ℕ) → List ℕ → List Line
@@ -29,29 +29,29 @@ cell_lines c [] = []
 cell_lines c (w ∷ ws) = cell_line c w ++ cell_lines (c + 1) ws
 
 -- the lines that aren't skipped: version, sizes, a line for each cell whose word isn't 0, in order, and the end
-abbrev pub image_lines : Version → Row → List Line
-image_lines v r = Title (number_of v) ∷ Callers r.callers ∷ Blocks r.blocks ∷ (cell_lines 0 r.words ++ End ∷ [])
+abbrev pub image_lines : Version → DurableRow → List Line
+image_lines v r = Title (version_number v) ∷ Callers r.callers ∷ Blocks r.blocks ∷ (cell_lines 0 r.words ++ End ∷ [])
 
 -- the text is in the grammar, and has this row
-pub record SpellsImage (v : Version) (text : List ℕ) (r : Row) : Type 0 where
+pub record SpellsImage (v : Version) (text : List ℕ) (r : DurableRow) : Type 0 where
   pub row : IsRow (instrs_of v) r
-  pub each : kept (lines text) ≡ map line_words (image_lines v r)
+  pub each : unskipped_words (text_lines text) ≡ map image_line_words (image_lines v r)
 
 -- the text is in the grammar
 abbrev pub IsImageText : Version → List ℕ → Type 0
-IsImageText v text = (r : Row) × SpellsImage v text r
+IsImageText v text = (r : DurableRow) × SpellsImage v text r
 
 -- one space between words
-abbrev pub line_text : Line → List ℕ
-line_text l = join_with_byte 32 (line_words l) ++ codes "\n"
+abbrev pub image_line_text : Line → List ℕ
+image_line_text l = join_with_byte 32 (image_line_words l) ++ codes "\n"
 
-abbrev pub image_text : Version → Row → List ℕ
-image_text v r = flat_map line_text (image_lines v r)
+abbrev pub image_text : Version → DurableRow → List ℕ
+image_text v r = flat_map image_line_text (image_lines v r)
 
 -- what is printed of a cell and its word
-abbrev pub cell_text : ℕ × ℕ → List ℕ
-cell_text (c, w) = flat_map line_text (cell_line c w)
+abbrev pub image_cell_text : ℕ × ℕ → List ℕ
+image_cell_text (c, w) = flat_map image_line_text (cell_line c w)
 
 -- the row of the durable words of a table
-abbrev pub table_row : Plot → List ℕ → Row
-table_row p ws = let cells = durable_cells p.callers (size p) in row_in p (slice_range ws cells (cells + cells))
+abbrev pub table_row : Plot → List ℕ → DurableRow
+table_row p ws = let cells = durable_cells p.callers (data_cell_count p) in row_in p (slice_range ws cells (cells + cells))

@@ -2,7 +2,7 @@
 use Rattle.std.specs.Prelude.{ℕ, ◌-◌, List, ◌++◌, codes, decimal}
 use Rattle.of_image.specs.declared.error.ImageErr.{ImageErr}
 use Rattle.of_image.specs.declared.error.ImageErr.TheVariants.{Memory, Bad, Unlawful}
-use Rattle.of_plan.specs.Lines.{lines}
+use Rattle.of_plan.specs.Lines.{text_lines}
 use Rattle.of_plan.specs.Above.{line_at}
 use Rattle.of_plan.specs.Pointed as pointed
 use Rattle.of_image.specs.declared.refusal.BadPiece.{BadPiece}
@@ -12,10 +12,10 @@ use Rattle.of_image.specs.ReasonText.{reason_text}
 use Rattle.of_image.specs.declared.law.Law.{Law}
 use Rattle.of_image.specs.declared.law.Law.TheVariants.{Owner, Newest, Store}
 
-abbrev pub message : ImageErr → List ℕ
-message Memory = codes "out of memory"
-message (Bad line) = codes "bad image, line " ++ decimal line
-message (Unlawful cell) = codes "unlawful image, cell " ++ decimal cell
+abbrev pub error_text : ImageErr → List ℕ
+error_text Memory = codes "out of memory"
+error_text (Bad line) = codes "bad image, line " ++ decimal line
+error_text (Unlawful cell) = codes "unlawful image, cell " ++ decimal cell
 
 -- what is printed of a law that a cell breaks
 abbrev pub law_text : Law → List ℕ
@@ -29,7 +29,7 @@ cell_message cell law = codes "cell " ++ (decimal cell ++ (codes ": " ++ (law_te
 
 -- what is printed of a bad line
 abbrev pub piece_message : (text : List ℕ) → BadPiece → List ℕ
-piece_message text p = pointed.message p.line (line_at (lines text) (p.line - 1)) p.start p.end (reason_text p.reason)
+piece_message text p = pointed.message p.line (line_at (text_lines text) (p.line - 1)) p.start p.end (reason_text p.reason)
 
 -- what is printed of a fault
 abbrev pub fault_message : (text : List ℕ) → ImageFault → List ℕ

@@ -3,16 +3,16 @@ use Rattle.std.specs.Prelude.{◌≡◌, ℕ, ◌+◌, ◌-◌, ◌*◌, ◌/◌
 use Rattle.std.specs.List.{range_with_len}
 use Rattle.of_cell.specs.Cells.{request_cell, data_cell, durable_cells}
 use Rattle.of_script.specs.declared.instr.TheConstants.{MOST_INSTRS}
-use Rattle.of_mem.specs.Places.{base_of, ticket_at, shape_at, reply_at}
-use Rattle.of_report.specs.ImageRow.{Row, cells_of}
+use Rattle.of_mem.specs.Places.{base_of, ticket_cell_at, shape_at, reply_at}
+use Rattle.of_report.specs.ImageRow.{DurableRow, data_cell_count_for}
 use Rattle.of_image.specs.declared.version.Version.TheVariants.{One, Two}
 use Rattle.of_image.specs.ImageText.{image_text}
 use Rattle.of_report.specs.Image.{Image}
 use Rattle.of_image.specs.Parsed.{ReadsImage}
 
 -- the data cell of the same meaning, where scripts have fewer instructions; a number of a reply that there isn't one for has none
-abbrev pub source : (few many callers addr : ℕ) → Option ℕ
-source few many callers a =
+abbrev pub earlier_address : (few many callers addr : ℕ) → Option ℕ
+earlier_address few many callers a =
     if nat_lt a (base_of callers many) then (if nat_lt (a % (many + 2)) (few + 2) then Some (a / (many + 2) * (few + 2) + a % (many + 2)) else None)
     else Some (base_of callers few + (a - base_of callers many))
 
@@ -25,12 +25,12 @@ word_from callers row (Some a) = row (data_cell callers a)
 abbrev pub moved_word : (few many callers blocks : ℕ) → (ℕ → ℕ) → (cell : ℕ) → ℕ
 moved_word few many callers blocks row c =
     if nat_le c callers then row c
-    else (if nat_lt c (data_cell callers (cells_of many callers blocks)) then word_from callers row (source few many callers (c - (callers + 1))) else 0)
+    else (if nat_lt c (data_cell callers (data_cell_count_for many callers blocks)) then word_from callers row (earlier_address few many callers (c - (callers + 1))) else 0)
 
 unfoldable pub moved_words : (few many callers blocks : ℕ) → List ℕ → List ℕ
-moved_words few many callers blocks words = map (moved_word few many callers blocks (slice_index words)) (range_with_len 0 (durable_cells callers (cells_of many callers blocks)))
+moved_words few many callers blocks words = map (moved_word few many callers blocks (slice_index words)) (range_with_len 0 (durable_cells callers (data_cell_count_for many callers blocks)))
 
-abbrev pub moved_row : (few many : ℕ) → Row → Row
+abbrev pub moved_row : (few many : ℕ) → DurableRow → DurableRow
 moved_row few many r = record r { words = moved_words few many r.callers r.blocks r.words }
 
 -- no transaction is open in a row that was recovered
@@ -38,19 +38,19 @@ abbrev pub moved_image : (few many : ℕ) → Image → Image
 moved_image few many i = record { row = moved_row few many i.row; seq = i.seq; replayed = false; store = i.store }
 
 -- the words of a row in the layout of many instructions are those of the same meaning in a row of few
-pub record HasMoved (few many : ℕ) (old new : Row) : Type 0 where
+pub record HasMoved (few many : ℕ) (old new : DurableRow) : Type 0 where
   pub callers : new.callers ≡ old.callers
   pub blocks : new.blocks ≡ old.blocks
   pub current : slice_index new.words 0 ≡ slice_index old.words 0
   pub requests : (c : ℕ) → c < old.callers → slice_index new.words (request_cell c) ≡ slice_index old.words (request_cell c)
-  pub tickets : (c : ℕ) → c < old.callers → slice_index new.words (data_cell old.callers (ticket_at many c)) ≡ slice_index old.words (data_cell old.callers (ticket_at few c))
+  pub tickets : (c : ℕ) → c < old.callers → slice_index new.words (data_cell old.callers (ticket_cell_at many c)) ≡ slice_index old.words (data_cell old.callers (ticket_cell_at few c))
   pub shapes : (c : ℕ) → c < old.callers → slice_index new.words (data_cell old.callers (shape_at many c)) ≡ slice_index old.words (data_cell old.callers (shape_at few c))
   pub replies : (c j : ℕ) → c < old.callers → j < few → slice_index new.words (data_cell old.callers (reply_at many c j)) ≡ slice_index old.words (data_cell old.callers (reply_at few c j))
   -- a reply has no more numbers than it had
   pub no_more : (c j : ℕ) → c < old.callers → few ≤ j → j < many → slice_index new.words (data_cell old.callers (reply_at many c j)) ≡ 0
   -- the cells of the store, behind those of the callers
   pub store : (k : ℕ) → k < 63 + 3 * old.blocks → slice_index new.words (data_cell old.callers (base_of old.callers many + k)) ≡ slice_index old.words (data_cell old.callers (base_of old.callers few + k))
-  pub logs : (c : ℕ) → data_cell old.callers (cells_of many old.callers old.blocks) ≤ c → slice_index new.words c ≡ 0
+  pub logs : (c : ℕ) → data_cell old.callers (data_cell_count_for many old.callers old.blocks) ≤ c → slice_index new.words c ≡ 0
 
 -- the text is that of a version 1 image's recovered row, moved to the layout of version 2; its image has the same sequence, store and tickets
 pub record Migrates (before after : List ℕ) : Type 0 where

@@ -1,7 +1,7 @@
 -- Which image a text has, and why another text has none.
 use Rattle.std.specs.Prelude.{◌≡◌, ℕ, List}
 use Rattle.of_plan.specs.BadLine.{HasBadLine}
-use Rattle.of_report.specs.ImageRow.{Row, recovered_row}
+use Rattle.of_report.specs.ImageRow.{DurableRow, recovered_row}
 use Rattle.of_report.specs.Image.{Image, IsRestored}
 use Rattle.of_image.specs.declared.error.ImageErr.{ImageErr}
 use Rattle.of_image.specs.declared.error.ImageErr.TheVariants.{Memory, Bad, Unlawful}
@@ -14,21 +14,21 @@ use Rattle.of_image.specs.RowFault.{Breaks, IsRowFault}
 
 -- the text is in the grammar, and what recovery finds in its row is the image
 pub record ReadsImage (v : Version) (text : List ℕ) (i : Image) : Type 0 where
-  pub raw : Row
+  pub raw : DurableRow
   pub spelled : SpellsImage v text raw
   pub restored : IsRestored (instrs_of v) raw i
 
 -- the text is in the grammar, and this is the first cell at fault of what recovery finds in its row
 pub record IsUnlawful (v : Version) (text : List ℕ) (cell : ℕ) : Type 0 where
-  pub raw : Row
+  pub raw : DurableRow
   pub spelled : SpellsImage v text raw
   pub fault : IsRowFault (instrs_of v) (recovered_row (instrs_of v) raw) cell
 
 -- why a text is refused; want of memory says nothing
-abbrev pub IsRefused : Version → List ℕ → ImageErr → Type 0
-IsRefused v text Memory = Unit {0}
-IsRefused v text (Bad line) = HasBadLine (IsImageText v) text line
-IsRefused v text (Unlawful cell) = IsUnlawful v text cell
+abbrev pub ImageIsRefused : Version → List ℕ → ImageErr → Type 0
+ImageIsRefused v text Memory = Unit {0}
+ImageIsRefused v text (Bad line) = HasBadLine (IsImageText v) text line
+ImageIsRefused v text (Unlawful cell) = IsUnlawful v text cell
 
 -- why a text has no row
 abbrev pub IsNoImage : Version → List ℕ → ImageErr → Type 0
@@ -37,9 +37,9 @@ IsNoImage v text (Bad line) = HasBadLine (IsImageText v) text line
 IsNoImage v text (Unlawful cell) = ⊥
 
 -- why no store is found in a row
-abbrev pub IsFaulty : (instrs : ℕ) → Row → RowErr → Type 0
-IsFaulty instrs r NoMemory = Unit {0}
-IsFaulty instrs r (UnlawfulRow cell law) = Breaks law instrs r cell
+abbrev pub NamesRowFault : (instrs : ℕ) → DurableRow → RowErr → Type 0
+NamesRowFault instrs r NoMemory = Unit {0}
+NamesRowFault instrs r (UnlawfulRow cell law) = Breaks law instrs r cell
 
 -- the same as it is answered of a text
 abbrev pub image_err : RowErr → ImageErr
@@ -51,8 +51,8 @@ abbrev pub UnlawfulHaveNone : Type 0
 UnlawfulHaveNone = (v : Version) (text : List ℕ) (cell : ℕ) (image : Image) → IsUnlawful v text cell → ReadsImage v text image → ⊥
 
 -- and one cell at fault
-abbrev pub OneFault : Type 0
-OneFault = (v : Version) (text : List ℕ) (c d : ℕ) → IsUnlawful v text c → IsUnlawful v text d → c ≡ d
+abbrev pub HasOneFault : Type 0
+HasOneFault = (v : Version) (text : List ℕ) (c d : ℕ) → IsUnlawful v text c → IsUnlawful v text d → c ≡ d
 
 -- a text has one image
 abbrev pub OneImage : Type 0

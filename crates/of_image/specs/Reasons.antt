@@ -1,31 +1,31 @@
 -- When a reason is true of a line of an image's text.
 use Rattle.std.specs.Prelude.{◌≡◌, ◌⊎◌, ℕ, ◌+◌, ◌≤◌, List, ◌∷◌, length, slice_range, codes}
 use Rattle.of_cell.specs.Cells.{durable_cells}
-use Rattle.of_script.specs.Text.{words}
+use Rattle.of_script.specs.Text.{text_words}
 use Rattle.of_plan.specs.declared.above.Wanted.TheVariants.{Kept, Callers, Blocks, End, Cell}
 use Rattle.of_plan.specs.Above.{Says, NoneSays}
 use Rattle.of_plan.specs.Flaws.{IsNumber, HasFlaw}
 use Rattle.of_plan.specs.Reasons.{SaidAbove, HasNoEnd}
-use Rattle.of_report.specs.ImageRow.{cells_of}
+use Rattle.of_report.specs.ImageRow.{data_cell_count_for}
 use Rattle.of_image.specs.declared.explaining.Finding.{Finding}
 use Rattle.of_image.specs.declared.reason.Reason.{Reason}
 use Rattle.of_image.specs.declared.reason.Reason.TheVariants.{Flawed, TitleExpected, OtherVersion, CallersExpected, BlocksExpected, AfterEnd, UnknownLine, NoCell, OutOfOrder, EmptyCell, HeadingOver, EndMissing, NotHere}
 use Rattle.of_image.specs.declared.version.Version.{Version}
 use Rattle.of_image.specs.declared.line.Line.TheVariants.{Cell as CellLine}
-use Rattle.of_image.specs.ImageText.{line_words}
-use Rattle.of_image.specs.Version.{number_of, instrs_of}
+use Rattle.of_image.specs.ImageText.{image_line_words}
+use Rattle.of_image.specs.Version.{version_number, instrs_of}
 
 -- no line above is kept, and this one does not begin with the two words of a title
 pub record IsNoTitle (v : Version) (ls : List (List ℕ)) (above : ℕ) (line : List ℕ) (version : ℕ) : Type 0 where
   pub first : NoneSays ls above Kept
-  pub read : version ≡ number_of v
-  pub other : (ws : List (List ℕ)) → words line ≡ codes "onefile" ∷ codes "image" ∷ ws → ⊥
+  pub read : version ≡ version_number v
+  pub other : (ws : List (List ℕ)) → text_words line ≡ codes "onefile" ∷ codes "image" ∷ ws → ⊥
 
 -- no line above is kept, and the number in this one is of another version than is read
 pub record IsOtherVersion (v : Version) (ls : List (List ℕ)) (above : ℕ) (piece : List ℕ) (found read : ℕ) : Type 0 where
   pub first : NoneSays ls above Kept
   pub is : IsNumber piece found
-  pub read_is : read ≡ number_of v
+  pub read_is : read ≡ version_number v
   pub other : found ≡ read → ⊥
 
 -- the piece begins a line of the heading
@@ -45,7 +45,7 @@ pub record IsNoCell (v : Version) (ls : List (List ℕ)) (above : ℕ) (piece : 
   pub blocks : ℕ
   pub said_callers : SaidAbove ls above Callers callers
   pub said_blocks : SaidAbove ls above Blocks blocks
-  pub count : cells ≡ durable_cells callers (cells_of (instrs_of v) callers blocks)
+  pub count : cells ≡ durable_cells callers (data_cell_count_for (instrs_of v) callers blocks)
   pub past : cells ≤ cell
 
 -- the line of this number, which stands above, has the cell that the piece names or a later one
@@ -59,7 +59,7 @@ pub record IsOutOfOrder (ls : List (List ℕ)) (above : ℕ) (piece : List ℕ) 
 
 -- the line is that of a cell whose word is 0
 abbrev pub IsEmptyCell : List ℕ → Type 0
-IsEmptyCell line = (cell : ℕ) × (words line ≡ line_words (CellLine cell 0 0))
+IsEmptyCell line = (cell : ℕ) × (text_words line ≡ image_line_words (CellLine cell 0 0))
 
 -- what a reason says of a line of a text, of the lines above it, and of the piece at fault
 abbrev pub IsTrueOf : Version → Reason → (ls : List (List ℕ)) (above : ℕ) (line piece : List ℕ) → Type 0

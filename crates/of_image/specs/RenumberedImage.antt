@@ -1,16 +1,16 @@
 -- An image whose sequences begin anew.
 use Rattle.std.specs.Prelude.{◌≡◌, ℕ, List, false}
 use Rattle.of_script.specs.declared.instr.TheConstants.{MOST_INSTRS}
-use Rattle.of_recover.specs.Renumbered.{renumbered}
-use Rattle.of_report.specs.ImageRow.{Row, cells_in, numbers_in}
+use Rattle.of_recover.specs.Renumbered.{renumbered_words}
+use Rattle.of_report.specs.ImageRow.{DurableRow, row_cell_count, numbers_in}
 use Rattle.of_report.specs.Image.{Image}
 use Rattle.of_image.specs.declared.version.Version.TheVariants.{Two}
 use Rattle.of_image.specs.ImageText.{image_text}
 use Rattle.of_image.specs.Parsed.{ReadsImage}
 
 -- each data cell keeps its number, at sequence 0, and every other cell is 0
-abbrev pub renumbered_row : (instrs : ℕ) → Row → Row
-renumbered_row instrs r = record r { words = renumbered r.callers (cells_in instrs r) r.words }
+abbrev pub renumbered_row : (instrs : ℕ) → DurableRow → DurableRow
+renumbered_row instrs r = record r { words = renumbered_words r.callers (row_cell_count instrs r) r.words }
 
 -- the sequence is 0, no transaction is open, and the store is the same
 abbrev pub renumbered_image : Image → Image

@@ -5,9 +5,9 @@ use Rattle.of_image.specs.declared.version.Version.{Version}
 use Rattle.of_image.specs.declared.version.Version.TheVariants.{One, Two}
 
 -- the number in the title
-abbrev pub number_of : Version → ℕ
-number_of One = 1
-number_of Two = 2
+abbrev pub version_number : Version → ℕ
+version_number One = 1
+version_number Two = 2
 
 -- the most instructions of a script: a caller's own cells have room for so many numbers of a reply
 abbrev pub instrs_of : Version → ℕ

@@ -44,9 +44,9 @@ impl From<RowErr> for ImageErr {
 
 impl fmt::Display for ImageErr {
     ghost use Rattle.std.specs.Prelude.{Some};
-    ghost use Rattle.of_image.specs.Messages.{message};
+    ghost use Rattle.of_image.specs.Messages.{error_text};
 
-    ghost output = { λ e. Some (message e) };
+    ghost output = { λ e. Some (error_text e) };
 
     fn fmt<W: fmt::Write>(&self, f: &mut fmt::Formatter<W>) -> fmt::Result {
         match self {

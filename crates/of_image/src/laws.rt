@@ -1,6 +1,6 @@
 //! Laws of images.
 
-ghost use Rattle.of_image.specs.Parsed.{OneFault, OneImage, UnlawfulHaveNone};
+ghost use Rattle.of_image.specs.Parsed.{HasOneFault, OneImage, UnlawfulHaveNone};
 ghost use Rattle.of_image.specs.RunImage.{RecordsHaveImages};
 
 /// The text of the durable words that a run leaves has an image, with the sequence and the store of
@@ -17,5 +17,5 @@ pub fn one_image()
 /// A text with a first cell at fault has no image, and no other such cell.
 pub fn unlawful_have_none()
     ensures none { UnlawfulHaveNone }
-    ensures one { OneFault }
+    ensures one { HasOneFault }
 {}

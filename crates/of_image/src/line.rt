@@ -1,11 +1,11 @@
 //! One line of an image.
 
 ghost use Rattle.std.specs.Prelude.{◌≡◌, ◌≤◌, MatchOption, true};
-ghost use Rattle.of_script.specs.Text.{words};
-ghost use Rattle.of_script.specs.Reading.{ended};
+ghost use Rattle.of_script.specs.Text.{text_words};
+ghost use Rattle.of_script.specs.Reading.{at_end_of_words};
 ghost use Rattle.of_plan.specs.Lines.{is_skipped};
-ghost use Rattle.of_plan.specs.Reader.{Spells, SpellsNone};
-ghost use Rattle.of_image.specs.ImageReading.{title_of, cell_of, line_of, counted, image_language};
+ghost use Rattle.of_plan.specs.Reader.{SpellsLine, SpellsNoLine};
+ghost use Rattle.of_image.specs.ImageReading.{title_line, cell_line_of, line_named, line_with_count, image_language};
 ghost use Rattle.of_image.specs.declared.line.Line.TheVariants.{Callers, Blocks};
 
 use of_cell::MOST_CALLERS;
@@ -23,7 +23,7 @@ pub(crate) enum Line {
 }
 
 fn end_of(line: Line, bytes: &[u8]) -> Option<Line>
-    ensures { result ≡ ended line (words bytes.now) }
+    ensures { result ≡ at_end_of_words line (text_words bytes.now) }
 {
     match word(bytes) {
         None => Some(line),
@@ -32,7 +32,7 @@ fn end_of(line: Line, bytes: &[u8]) -> Option<Line>
 }
 
 fn title(bytes: &[u8]) -> Option<Line>
-    ensures { result ≡ title_of (words bytes.now) }
+    ensures { result ≡ title_line (text_words bytes.now) }
 {
     let (kind, rest) = word(bytes)?;
     if kind != b"image".as_slice() {
@@ -43,21 +43,21 @@ fn title(bytes: &[u8]) -> Option<Line>
 }
 
 fn callers(bytes: &[u8]) -> Option<Line>
-    ensures { result ≡ counted Callers MOST_CALLERS (words bytes.now) }
+    ensures { result ≡ line_with_count Callers MOST_CALLERS (text_words bytes.now) }
 {
     let (count, rest) = next_number(bytes, MOST_CALLERS)?;
     end_of(Line::Callers { count }, rest)
 }
 
 fn blocks(bytes: &[u8]) -> Option<Line>
-    ensures { result ≡ counted Blocks MOST_BLOCKS (words bytes.now) }
+    ensures { result ≡ line_with_count Blocks MOST_BLOCKS (text_words bytes.now) }
 {
     let (count, rest) = next_number(bytes, MOST_BLOCKS)?;
     end_of(Line::Blocks { count }, rest)
 }
 
 fn cell(bytes: &[u8]) -> Option<Line>
-    ensures { result ≡ cell_of (words bytes.now) }
+    ensures { result ≡ cell_line_of (text_words bytes.now) }
 {
     let (cell, rest) = next_number(bytes, u32::MAX)?;
     let (seq, rest) = next_number(rest, u32::MAX)?;
@@ -66,9 +66,9 @@ fn cell(bytes: &[u8]) -> Option<Line>
 }
 
 // The line whose first word is the name.
-#[tactic(auto, unfolding(crate::specs::ImageReading::line_of))]
+#[tactic(auto, unfolding(crate::specs::ImageReading::line_named))]
 fn named(name: &[u8], rest: &[u8]) -> Option<Line>
-    ensures { result ≡ line_of name.now (words rest.now) }
+    ensures { result ≡ line_named name.now (text_words rest.now) }
 {
     if name == b"onefile".as_slice() {
         return title(rest);
@@ -90,7 +90,7 @@ fn named(name: &[u8], rest: &[u8]) -> Option<Line>
 
 /// What a line says: `Some(None)` where it is skipped, `None` where it is no line of an image.
 pub(crate) fn read_line(line: &[u8]) -> Option<Option<Line>>
-    ensures { MatchOption result (SpellsNone image_language (words line.now)) (λ o. MatchOption o (is_skipped (words line.now) ≡ true) (Spells image_language (words line.now))) }
+    ensures { MatchOption result (SpellsNoLine image_language (text_words line.now)) (λ o. MatchOption o (is_skipped (text_words line.now) ≡ true) (SpellsLine image_language (text_words line.now))) }
 {
     let Some((first, rest)) = word(line) else {
         return Some(None);

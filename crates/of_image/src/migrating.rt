@@ -4,13 +4,13 @@ ghost use Rattle.std.specs.Prelude.{◌≡◌, ◌≤◌, ◌<◌, IfOk, IfErr, 
 ghost use Rattle.of_cell.specs.Cells.{durable_cells};
 ghost use Rattle.of_recover.specs.Row.{IsDurableRow};
 ghost use Rattle.of_mem.specs.declared.work.TheConstants.{MOST_INSTRS};
-ghost use Rattle.of_mem.specs.Plots.{size};
+ghost use Rattle.of_mem.specs.Plots.{data_cell_count};
 ghost use Rattle.of_image.specs.declared.version.Version.TheVariants.{One, Two};
 ghost use Rattle.of_image.specs.declared.error.ImageErr.TheVariants.{Memory};
 ghost use Rattle.of_image.specs.ImageText.{image_text};
-ghost use Rattle.of_report.specs.Image.{Image as PlainImage, IsImage, image_of};
-ghost use Rattle.of_image.specs.Parsed.{ReadsImage, IsRefused};
-ghost use Rattle.of_image.specs.MovedRow.{source, moved_word, moved_words, moved_row, Migrates};
+ghost use Rattle.of_report.specs.Image.{Image as PlainImage, IsImage, image_value};
+ghost use Rattle.of_image.specs.Parsed.{ReadsImage, ImageIsRefused};
+ghost use Rattle.of_image.specs.MovedRow.{earlier_address, moved_word, moved_words, moved_row, Migrates};
 ghost use Rattle.of_report.specs.ImageRow.{row_in};
 
 use crate::error::ImageErr;
@@ -26,9 +26,9 @@ fn source(old: &Plot, new: &Plot, at: u32) -> Option<u32>
     requires callers { old.now.callers ≡ new.now.callers }
     requires blocks { old.now.blocks ≡ new.now.blocks }
     requires fewer { old.now.instrs ≤ new.now.instrs }
-    requires at { at < size new.now }
-    ensures value { result ≡ source old.now.instrs new.now.instrs old.now.callers at }
-    ensures below { IfSome result (λ a. a < size old.now) }
+    requires at { at < data_cell_count new.now }
+    ensures value { result ≡ earlier_address old.now.instrs new.now.instrs old.now.callers at }
+    ensures below { IfSome result (λ a. a < data_cell_count old.now) }
 {
     if at >= new.base() {
         return Some(old.base() + (at - new.base()));
@@ -46,7 +46,7 @@ fn moved_word(old: &Plot, new: &Plot, words: &[u64], cell: u32) -> u64
     requires callers { old.now.callers ≡ new.now.callers }
     requires blocks { old.now.blocks ≡ new.now.blocks }
     requires fewer { old.now.instrs ≤ new.now.instrs }
-    requires row { IsDurableRow old.now.callers (size old.now) words.now }
+    requires row { IsDurableRow old.now.callers (data_cell_count old.now) words.now }
     ensures { result ≡ moved_word old.now.instrs new.now.instrs old.now.callers old.now.blocks (slice_index words.now) cell }
 {
     let first = old.callers + 1;
@@ -67,7 +67,7 @@ fn moved(alloc: Global, old: &Plot, new: &Plot, words: &[u64]) -> Result<Vec<u64
     requires callers { old.now.callers ≡ new.now.callers }
     requires blocks { old.now.blocks ≡ new.now.blocks }
     requires fewer { old.now.instrs ≤ new.now.instrs }
-    requires row { IsDurableRow old.now.callers (size old.now) words.now }
+    requires row { IsDurableRow old.now.callers (data_cell_count old.now) words.now }
     ensures { IfOk result (λ moved. moved.items ≡ moved_words old.now.instrs new.now.instrs old.now.callers old.now.blocks words.now) }
 {
     let cells = new.cells();
@@ -81,8 +81,8 @@ fn moved(alloc: Global, old: &Plot, new: &Plot, words: &[u64]) -> Result<Vec<u64
 
 /// The version 2 text of a version 1 image.
 fn moved_text(alloc: Global, image: &Image) -> Result<Vec<u8>, AllocError>
-    requires { IsImage 8 (image_of image.now) }
-    ensures { IfOk result (λ text. text.items ≡ image_text Two (moved_row 8 MOST_INSTRS (image_of image.now).row)) }
+    requires { IsImage 8 (image_value image.now) }
+    ensures { IfOk result (λ text. text.items ≡ image_text Two (moved_row 8 MOST_INSTRS (image_value image.now).row)) }
 {
     let old = plot_of(Version::One, image.callers, image.blocks);
     let new = plot_of(Version::Two, image.callers, image.blocks);
@@ -93,7 +93,7 @@ fn moved_text(alloc: Global, image: &Image) -> Result<Vec<u8>, AllocError>
 // The version 2 text of the image that a version 1 text has.
 fn migrated(alloc: Global, text: &[u8]) -> Result<Vec<u8>, ImageErr>
     ensures ok { IfOk result (λ moved. Migrates text.now moved.items) }
-    ensures err { IfErr result (IsRefused One text.now) }
+    ensures err { IfErr result (ImageIsRefused One text.now) }
 {
     let image = read_image(alloc, Version::One, text)?;
     Ok(moved_text(alloc, &image)?)
@@ -105,7 +105,7 @@ pub fn migrate(alloc: Global, text: &[u8]) -> Result<Vec<u8>, ImageErr>
     // What is answered is the text of the moved row, which has the same sequence and the same store.
     ensures ok { IfOk result (λ moved. Migrates text.now moved.items) }
     // A line or a cell that is named is that of the version 1 text.
-    ensures err { IfErr result (IsRefused One text.now) }
+    ensures err { IfErr result (ImageIsRefused One text.now) }
     // A text that has an image is answered by its moved row, unless memory runs out.
     ensures only { (image : PlainImage) → ReadsImage One text.now image →
         MatchResult result

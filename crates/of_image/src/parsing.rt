@@ -2,13 +2,13 @@
 
 ghost use Rattle.std.specs.Prelude.{◌≡◌, ◌≤◌, ◌<◌, length, IfOk, IfErr, Some, None};
 ghost use Rattle.std.specs.Bool.{MatchBool};
-ghost use Rattle.of_script.specs.Text.{words};
+ghost use Rattle.of_script.specs.Text.{text_words};
 ghost use Rattle.of_cell.specs.Cells.{durable_cells};
-ghost use Rattle.of_report.specs.ImageRow.{cells_of};
+ghost use Rattle.of_report.specs.ImageRow.{data_cell_count_for};
 ghost use Rattle.of_image.specs.Version.{instrs_of};
 ghost use Rattle.of_image.specs.ImageText.{SpellsImage};
-ghost use Rattle.of_plan.specs.Reader.{Fed, Stuck};
-ghost use Rattle.of_image.specs.ImageReading.{LineInRange, progress_of, start, celled, image_language, image_reader, row_at, at_stage};
+ghost use Rattle.of_plan.specs.Reader.{ReadsLine, RefusesLine};
+ghost use Rattle.of_image.specs.ImageReading.{IsImageLineInRange, reading_value, nothing_read, with_cell, image_language, image_reader, row_read, after_line_at};
 ghost use Rattle.of_image.specs.Parsed.{IsNoImage};
 
 use crate::error::ImageErr;
@@ -22,7 +22,7 @@ use std::alloc::{AllocError, Global};
 
 // A reading of nothing yet.
 fn begun(alloc: Global) -> Reading
-    ensures { progress_of result ≡ start }
+    ensures { reading_value result ≡ nothing_read }
 {
     Reading {
         stage: Stage::Start,
@@ -37,7 +37,7 @@ fn begun(alloc: Global) -> Reading
 pub(crate) fn cells(version: Version, callers: u32, blocks: u32) -> u32
     requires callers { callers ≤ MOST_CALLERS }
     requires blocks { blocks ≤ MOST_BLOCKS }
-    ensures { result ≡ durable_cells callers (cells_of (instrs_of version) callers blocks) }
+    ensures { result ≡ durable_cells callers (data_cell_count_for (instrs_of version) callers blocks) }
 {
     let data = callers * (version.instrs() + 2) + 63 + 3 * blocks;
     1 + callers + data + callers * (2 * data + 1)
@@ -46,7 +46,7 @@ pub(crate) fn cells(version: Version, callers: u32, blocks: u32) -> u32
 impl Reading {
     // Takes the word of a cell, where it may come next.
     fn take_cell(&mut self, cell: u32, seq: u32, payload: u32) -> bool
-        ensures { MatchBool result (celled (progress_of self.old) cell seq payload ≡ Some (progress_of self.new)) (celled (progress_of self.old) cell seq payload ≡ None) }
+        ensures { MatchBool result (with_cell (reading_value self.old) cell seq payload ≡ Some (reading_value self.new)) (with_cell (reading_value self.old) cell seq payload ≡ None) }
     {
         let place = cell as usize;
         let word = pack(seq, payload);
@@ -66,8 +66,8 @@ impl Reading {
 
     // Takes a line, where it may come next.
     fn take(&mut self, alloc: Global, version: Version, line: Line) -> Result<bool, AllocError>
-        requires range { LineInRange line }
-        ensures { IfOk result (λ b. let p = progress_of self.old in MatchBool b (at_stage version p.stage p line ≡ Some (progress_of self.new)) (at_stage version p.stage p line ≡ None)) }
+        requires range { IsImageLineInRange line }
+        ensures { IfOk result (λ b. let p = reading_value self.old in MatchBool b (after_line_at version p.stage p line ≡ Some (reading_value self.new)) (after_line_at version p.stage p line ≡ None)) }
     {
         match self.stage {
             Stage::Start => match line {
@@ -116,7 +116,7 @@ impl Reading {
 
     // Reads a line, and takes it where it may come next.
     fn feed(&mut self, alloc: Global, version: Version, bytes: &[u8]) -> Result<bool, AllocError>
-        ensures { IfOk result (λ b. MatchBool b (Fed image_language (image_reader version) (words bytes.now) (progress_of self.old) (progress_of self.new)) (Stuck image_language (image_reader version) (words bytes.now) (progress_of self.old))) }
+        ensures { IfOk result (λ b. MatchBool b (ReadsLine image_language (image_reader version) (text_words bytes.now) (reading_value self.old) (reading_value self.new)) (RefusesLine image_language (image_reader version) (text_words bytes.now) (reading_value self.old))) }
     {
         match read_line(bytes) {
             None => Ok(false),
@@ -130,7 +130,7 @@ impl Reading {
 
 /// The row that a text spells.
 pub(crate) fn read_row(alloc: Global, version: Version, text: &[u8]) -> Result<Reading, ImageErr>
-    ensures ok { IfOk result (λ reading. SpellsImage version text.now (row_at (progress_of reading))) }
+    ensures ok { IfOk result (λ reading. SpellsImage version text.now (row_read (reading_value reading))) }
     ensures err { IfErr result (IsNoImage version text.now) }
 {
     let mut reading = begun(alloc);

@@ -3,13 +3,13 @@
 ghost use Rattle.std.specs.Prelude.{◌≡◌, ◌++◌, ◌+◌, ◌<◌, ◌^◌, length, IfOk, OnOk, flat_map, slice_range, string_bytes};
 ghost use Rattle.std.specs.List.{enumerate_from, range_with_len};
 ghost use Rattle.of_cell.specs.Cells.{table_words};
-ghost use Rattle.of_mem.specs.Plots.{size};
+ghost use Rattle.of_mem.specs.Plots.{data_cell_count};
 ghost use Rattle.of_mem.specs.declared.work.TheConstants.{MOST_INSTRS};
 ghost use Rattle.of_image.specs.declared.version.Version.TheVariants.{Two};
 ghost use Rattle.of_report.specs.ImageRow.{row_in};
-ghost use Rattle.of_image.specs.ImageText.{cell_text, line_text, image_text, table_row, SpellsImage};
-ghost use Rattle.of_report.specs.Image.{IsImage, image_of};
-ghost use Rattle.of_report.specs.Image.{ticket_in};
+ghost use Rattle.of_image.specs.ImageText.{image_cell_text, image_line_text, image_text, table_row, SpellsImage};
+ghost use Rattle.of_report.specs.Image.{IsImage, image_value};
+ghost use Rattle.of_report.specs.Image.{image_ticket};
 ghost use Rattle.of_image.specs.RecoveredText.{ticket_line, ticket_lines, recovered_text};
 
 use crate::line::Line;
@@ -23,7 +23,7 @@ use std::fmt::Write;
 
 // Writes a line at the end.
 fn put_line(out: &mut String, line: &Line) -> Result<(), AllocError>
-    ensures { OnOk result (string_bytes out.new ≡ string_bytes out.old ++ line_text line.now) }
+    ensures { OnOk result (string_bytes out.new ≡ string_bytes out.old ++ image_line_text line.now) }
 {
     match line {
         Line::Title { version } => writeln!(out, "onefile image {version}"),
@@ -36,7 +36,7 @@ fn put_line(out: &mut String, line: &Line) -> Result<(), AllocError>
 
 // Writes the line of a cell, if its word is not 0.
 fn put_cell(out: &mut String, cell: u32, word: u64) -> Result<(), AllocError>
-    ensures { OnOk result (string_bytes out.new ≡ string_bytes out.old ++ cell_text (cell, word)) }
+    ensures { OnOk result (string_bytes out.new ≡ string_bytes out.old ++ image_cell_text (cell, word)) }
 {
     if word == 0 {
         return Ok(());
@@ -48,7 +48,7 @@ fn put_cell(out: &mut String, cell: u32, word: u64) -> Result<(), AllocError>
 // Writes the lines of the cells.
 fn put_cells(out: &mut String, words: &[u64]) -> Result<(), AllocError>
     requires { length words.now < 2 ^ 32 }
-    ensures { OnOk result (string_bytes out.new ≡ string_bytes out.old ++ flat_map cell_text (enumerate_from 0 words.now)) }
+    ensures { OnOk result (string_bytes out.new ≡ string_bytes out.old ++ flat_map image_cell_text (enumerate_from 0 words.now)) }
 {
     for (cell, word) in words.iter().enumerate() {
         put_cell(out, cell as u32, *word)?;
@@ -89,7 +89,7 @@ pub(crate) fn print_row(
 /// The text of the durable words of a table. The error is want of memory.
 pub fn image_print(alloc: Global, plot: &Plot, words: &[u64]) -> Result<Vec<u8>, AllocError>
     requires instrs { plot.now.instrs ≡ MOST_INSTRS }
-    requires size { length words.now ≡ table_words plot.now.callers MOST_INSTRS (size plot.now) }
+    requires size { length words.now ≡ table_words plot.now.callers MOST_INSTRS (data_cell_count plot.now) }
     ensures text { IfOk result (λ text.
         text.items ≡ image_text Two (table_row plot.now words.now)) }
     // It is read again as that row.
@@ -117,8 +117,8 @@ fn put_ticket(out: &mut String, caller: u32, ticket: u32) -> Result<(), AllocErr
 
 // Writes the tickets that are not 0.
 fn put_tickets(out: &mut String, image: &Image) -> Result<(), AllocError>
-    requires { IsImage MOST_INSTRS (image_of image.now) }
-    ensures { OnOk result (string_bytes out.new ≡ string_bytes out.old ++ ticket_lines (image_of image.now)) }
+    requires { IsImage MOST_INSTRS (image_value image.now) }
+    ensures { OnOk result (string_bytes out.new ≡ string_bytes out.old ++ ticket_lines (image_value image.now)) }
 {
     for caller in 0..image.callers {
         put_ticket(out, caller, image.ticket(caller))?;
@@ -129,8 +129,8 @@ fn put_tickets(out: &mut String, image: &Image) -> Result<(), AllocError>
 /// The text of what recovery found: the sequence, the tickets that are not 0, and the store. The error
 /// is want of memory.
 pub fn recovered_print(alloc: Global, image: &Image) -> Result<Vec<u8>, AllocError>
-    requires { IsImage MOST_INSTRS (image_of image.now) }
-    ensures { IfOk result (λ text. text.items ≡ recovered_text (image_of image.now)) }
+    requires { IsImage MOST_INSTRS (image_value image.now) }
+    ensures { IfOk result (λ text. text.items ≡ recovered_text (image_value image.now)) }
 {
     let mut out = String::from_str(alloc, "onefile recovered 1\n")?;
     writeln!(out, "seq {}", image.recovered.seq)?;

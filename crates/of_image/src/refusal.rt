@@ -1,7 +1,7 @@
 //! What is wrong with a text that has no image.
 
 ghost use Rattle.std.specs.Prelude.{◌≡◌, ◌≤◌, ◌-◌, length, IfOk, MatchOption};
-ghost use Rattle.of_plan.specs.Lines.{lines};
+ghost use Rattle.of_plan.specs.Lines.{text_lines};
 ghost use Rattle.of_plan.specs.Above.{line_at as the_line};
 ghost use Rattle.of_plan.specs.BadLine.{HasBadLine};
 ghost use Rattle.of_image.specs.ImageText.{IsImageText};
@@ -81,7 +81,7 @@ fn bad_piece(version: Version, text: &[u8], line: u64) -> BadPiece
 fn print_piece(alloc: Global, text: &[u8], piece: &BadPiece) -> Result<Vec<u8>, AllocError>
     requires first { 1 ≤ piece.now.line }
     requires order { piece.now.start ≤ piece.now.end }
-    requires within { piece.now.end ≤ length (the_line (lines text.now) (piece.now.line - 1)) }
+    requires within { piece.now.end ≤ length (the_line (text_lines text.now) (piece.now.line - 1)) }
     ensures { IfOk result (λ out. out.items ≡ piece_message text.now piece.now) }
 {
     let (line, _) = line_at(text, piece.line - 1);

@@ -2,9 +2,9 @@
 
 ghost use Rattle.std.specs.Prelude.{◌≡◌, IfOk, false, slice_index};
 ghost use Rattle.of_recover.specs.Row.{IsDurableRow, is_open};
-ghost use Rattle.of_recover.specs.Renumbered.{renumbered};
+ghost use Rattle.of_recover.specs.Renumbered.{renumbered_words};
 ghost use Rattle.of_mem.specs.declared.work.TheConstants.{MOST_INSTRS};
-ghost use Rattle.of_report.specs.Image.{IsImage, image_of};
+ghost use Rattle.of_report.specs.Image.{IsImage, image_value};
 ghost use Rattle.of_image.specs.RenumberedImage.{Renumbers};
 
 use crate::printing::print_row;
@@ -20,7 +20,7 @@ use std::alloc::{AllocError, Global};
 fn renumbered(alloc: Global, shape: &Shape, durable: &[u64]) -> Result<Vec<u64>, AllocError>
     requires row { IsDurableRow shape.now.callers shape.now.cells durable.now }
     requires closed { is_open shape.now.callers (slice_index durable.now) ≡ false }
-    ensures { IfOk result (λ words. words.items ≡ renumbered shape.now.callers shape.now.cells durable.now) }
+    ensures { IfOk result (λ words. words.items ≡ renumbered_words shape.now.callers shape.now.cells durable.now) }
 {
     let mut words = Vec::from_slice(alloc, durable)?;
     renumber(shape, &mut words);
@@ -30,8 +30,8 @@ fn renumbered(alloc: Global, shape: &Shape, durable: &[u64]) -> Result<Vec<u64>,
 /// The text of an image whose sequences begin anew, with the same store, tickets, shapes and
 /// replies. The error is want of memory.
 pub fn renumbered_print(alloc: Global, image: &Image) -> Result<Vec<u8>, AllocError>
-    requires { IsImage MOST_INSTRS (image_of image.now) }
-    ensures { IfOk result (λ text. Renumbers (image_of image.now) text.items) }
+    requires { IsImage MOST_INSTRS (image_value image.now) }
+    ensures { IfOk result (λ text. Renumbers (image_value image.now) text.items) }
 {
     let plot = Plot {
         callers: image.callers,

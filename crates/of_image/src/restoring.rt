@@ -1,15 +1,15 @@
 //! What recovery finds in a row.
 
 ghost use Rattle.std.specs.Prelude.{◌≡◌, ℕ, ◌≤◌, ◌<◌, ◌+◌, length, map, IfOk, IfErr, MatchOption, slice_index, slice_range};
-ghost use Rattle.of_cell.specs.Words.{seq, pay};
+ghost use Rattle.of_cell.specs.Words.{seq_of, payload_of};
 ghost use Rattle.of_cell.specs.Cells.{data_cell};
 ghost use Rattle.of_recover.specs.Row.{IsDurableRow};
-ghost use Rattle.of_mem.specs.Plots.{size};
+ghost use Rattle.of_mem.specs.Plots.{data_cell_count};
 ghost use Rattle.of_report.specs.ImageRow.{IsRow, row_in};
 ghost use Rattle.of_report.specs.ImageLaw.{IsLawfulRow, NoneNewer};
 ghost use Rattle.of_image.specs.RowFault.{IsFirstNewer};
-ghost use Rattle.of_image.specs.Parsed.{IsFaulty};
-ghost use Rattle.of_report.specs.Image.{image_of, IsRestored};
+ghost use Rattle.of_image.specs.Parsed.{NamesRowFault};
+ghost use Rattle.of_report.specs.Image.{image_value, IsRestored};
 ghost use Rattle.of_report.specs.ImageRow.{recovered_row};
 
 use crate::law::{Law, RowErr};
@@ -24,7 +24,7 @@ use std::alloc::{AllocError, Global};
 /// The shape of a table with these data cells.
 fn shape_of(plot: &Plot) -> Shape
     ensures callers { result.callers ≡ plot.now.callers }
-    ensures cells { result.cells ≡ size plot.now }
+    ensures cells { result.cells ≡ data_cell_count plot.now }
 {
     Shape {
         callers: plot.callers,
@@ -50,7 +50,7 @@ fn newer(shape: &Shape, words: &[u64]) -> Option<u32>
 /// The numbers of the data cells.
 fn numbers(alloc: Global, shape: &Shape, words: &[u64]) -> Result<Vec<u32>, AllocError>
     requires { IsDurableRow shape.now.callers shape.now.cells words.now }
-    ensures { let first = data_cell shape.now.callers 0 in IfOk result (λ numbers. numbers.items ≡ map pay (slice_range words.now first (first + shape.now.cells))) }
+    ensures { let first = data_cell shape.now.callers 0 in IfOk result (λ numbers. numbers.items ≡ map payload_of (slice_range words.now first (first + shape.now.cells))) }
 {
     let first = shape.data_cell(0) as usize;
     words[first..first + shape.cells as usize]
@@ -61,9 +61,9 @@ fn numbers(alloc: Global, shape: &Shape, words: &[u64]) -> Result<Vec<u32>, Allo
 
 /// The store for which a recovered row stands.
 fn law(alloc: Global, plot: &Plot, words: &[u64]) -> Result<Store, RowErr>
-    requires { IsDurableRow plot.now.callers (size plot.now) words.now }
+    requires { IsDurableRow plot.now.callers (data_cell_count plot.now) words.now }
     ensures ok { IfOk result (IsLawfulRow plot.now.instrs (row_in plot.now words.now)) }
-    ensures err { IfErr result (IsFaulty plot.now.instrs (row_in plot.now words.now)) }
+    ensures err { IfErr result (NamesRowFault plot.now.instrs (row_in plot.now words.now)) }
 {
     let shape = shape_of(plot);
     if payload_of(words[shape.cur() as usize]) >= plot.callers {
@@ -94,9 +94,9 @@ fn law(alloc: Global, plot: &Plot, words: &[u64]) -> Result<Store, RowErr>
 
 /// What recovery finds in a row.
 pub(crate) fn restore(alloc: Global, plot: &Plot, words: Vec<u64>) -> Result<Image, RowErr>
-    requires { IsDurableRow plot.now.callers (size plot.now) words.items }
-    ensures ok { IfOk result (λ image. IsRestored plot.now.instrs (row_in plot.now words.items) (image_of image)) }
-    ensures err { IfErr result (IsFaulty plot.now.instrs (recovered_row plot.now.instrs (row_in plot.now words.items))) }
+    requires { IsDurableRow plot.now.callers (data_cell_count plot.now) words.items }
+    ensures ok { IfOk result (λ image. IsRestored plot.now.instrs (row_in plot.now words.items) (image_value image)) }
+    ensures err { IfErr result (NamesRowFault plot.now.instrs (recovered_row plot.now.instrs (row_in plot.now words.items))) }
 {
     let mut durable = words;
     let recovered = recover(&shape_of(plot), &mut durable);

@@ -1,7 +1,7 @@
 //! Versions of the text of images.
 
 ghost use Rattle.std.specs.Prelude.{◌≡◌, ◌≤◌};
-ghost use Rattle.of_image.specs.Version.{number_of, instrs_of};
+ghost use Rattle.of_image.specs.Version.{version_number, instrs_of};
 
 use of_script::MOST_INSTRS;
 
@@ -19,11 +19,11 @@ pub enum Version {
 
 impl Version {
     ghost use Rattle.std.specs.Prelude.{◌≡◌, ◌≤◌};
-    ghost use Rattle.of_image.specs.Version.{number_of, instrs_of};
+    ghost use Rattle.of_image.specs.Version.{version_number, instrs_of};
 
     /// The number in the title.
     pub fn number(self) -> u32
-        ensures { result ≡ number_of self }
+        ensures { result ≡ version_number self }
     {
         match self {
             Version::One => 1,

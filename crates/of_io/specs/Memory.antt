@@ -1,10 +1,10 @@
 -- A source and a sink in memory, and what a call does to each.
 use Rattle.std.specs.Prelude.{◌≡◌, ℕ, ◌-◌, ◌<◌, ◌⊎◌, min, Bool, false, List, ◌++◌, length, take, drop, Contains, Result, Ok, Err}
-use Rattle.of_io.specs.Faults.{counted}
+use Rattle.of_io.specs.Faults.{saturating_next}
 use Rattle.of_io.specs.declared.source.Failed.{Failed}
 
 -- the bytes left, the most that one read gives, the numbers of the reads that fail, and how many were made and have failed
-pub record Memory : Type 0 where
+pub record MemSource : Type 0 where
   pub left : List ℕ
   pub piece : ℕ
   pub fails : List ℕ
@@ -12,17 +12,17 @@ pub record Memory : Type 0 where
   pub faults : ℕ
 
 -- how many bytes a read into a buffer of that length gives
-abbrev pub read_count : Memory → ℕ → ℕ
+abbrev pub read_count : MemSource → ℕ → ℕ
 read_count s len = min (min (length s.left) s.piece) len
 
 -- what a read leaves
-abbrev pub after_read : Memory → Result ℕ Failed → Memory
-after_read s (Ok n) = record s { left = drop n s.left; reads = counted s.reads }
-after_read s (Err e) = record s { reads = counted s.reads; faults = counted s.faults }
+abbrev pub after_read : MemSource → Result ℕ Failed → MemSource
+after_read s (Ok n) = record s { left = drop n s.left; reads = saturating_next s.reads }
+after_read s (Err e) = record s { reads = saturating_next s.reads; faults = saturating_next s.faults }
 
 -- the bytes written, the room for them, the most that one write takes, the numbers of the writes that fail, how many were
 -- made and have failed, and whether what was written is finished
-pub record Page : Type 0 where
+pub record MemSink : Type 0 where
   pub bytes : List ℕ
   pub room : ℕ
   pub piece : ℕ
@@ -32,14 +32,14 @@ pub record Page : Type 0 where
   pub finished : Bool
 
 -- a write fails at the numbers that are listed, and where something is to be written and no room is left
-abbrev pub FailsToWrite : Page → List ℕ → Type 0
+abbrev pub FailsToWrite : MemSink → List ℕ → Type 0
 FailsToWrite s text = Contains s.fails s.writes ⊎ ((s.room ≡ length s.bytes) × (0 < length text))
 
 -- how many bytes a write of so many takes
-abbrev pub write_count : Page → ℕ → ℕ
+abbrev pub write_count : MemSink → ℕ → ℕ
 write_count s len = min (min (s.room - length s.bytes) s.piece) len
 
 -- what a write leaves
-abbrev pub after_write : Page → List ℕ → Result ℕ Failed → Page
-after_write s text (Ok n) = record s { bytes = s.bytes ++ take n text; writes = counted s.writes; finished = false }
-after_write s text (Err e) = record s { writes = counted s.writes; faults = counted s.faults; finished = false }
+abbrev pub after_write : MemSink → List ℕ → Result ℕ Failed → MemSink
+after_write s text (Ok n) = record s { bytes = s.bytes ++ take n text; writes = saturating_next s.writes; finished = false }
+after_write s text (Err e) = record s { writes = saturating_next s.writes; faults = saturating_next s.faults; finished = false }

@@ -6,31 +6,31 @@ use Rattle.std.proofs.lemmas.Bool.{cases_lt}
 use Rattle.std.proofs.lemmas.List.{map-append}
 use Rattle.std.proofs.lemmas.List.Elements.{All-from_recursion, filter-append}
 use Rattle.of_script.specs.declared.instr.Instr.{Instr}
-use Rattle.of_store.specs.State.{State, Response, replies, last_store}
+use Rattle.of_store.specs.State.{Store, Reply, replies_in_order, last_store}
 use Rattle.of_store.proofs.Replays.{replies-append, last_store-append}
-use Rattle.of_plan.specs.Report.{CallEntry, Start, entries_of, finished_of}
-use Rattle.of_plan.specs.Legal.{script_of, IsLegal}
+use Rattle.of_plan.specs.Report.{Entry, Start, entries_of, finished_of}
+use Rattle.of_plan.specs.Legal.{script_of_entry, IsLegal}
 use Rattle.of_plan.specs.Histories.{IsIn}
 use Rattle.of_plan.proofs.HistoriesLists.{each_at, each_from_in, each_weaker, each_append, in_left, in_right, any_in, in_line_append, pairs_in_line, InLine}
 use Rattle.of_lives.specs.Lives.{Life, done_behind, start_behind, start_behind_all, EachLife, AreLives}
-use Rattle.of_lives.specs.OneHistory.{entries_in, scripts_in, own_in, Precedes, GoesOn, IsBetween, IsAnnouncedAt, IsKnownTo, IsBehind, NoneAnnouncedOf, IsCall, HasReads, HasAnswered, LivesAreOneHistory}
+use Rattle.of_lives.specs.OneHistory.{entries_in, life_scripts, own_in, ComesBefore, ComesLater, IsBetween, IsAnnouncedAt, IsKnownTo, IsBehind, NoneAnnouncedOf, IsCall, HasReads, HasAnswered, LivesAreOneHistory}
 use Rattle.of_lives.proofs.Tickets.{done_append, not_done}
 use Rattle.of_lives.proofs.Callers.{is_of}
 use Rattle.of_lives.proofs.OneLife.{IsDoneBehind, Lived, lived}
 
 -- what holds of the entries of lives from a start
 record Joined (s : Start) (ls : List Life) : Type 0 where
-  replies_are : map (λ (e : CallEntry). e.reply) (entries_in ls) ≡ replies s.store (scripts_in ls)
-  final : (start_behind_all s ls).store ≡ last_store s.store (scripts_in ls)
-  order : InLine Precedes (entries_in ls)
-  once : InLine GoesOn (entries_in ls)
+  replies_are : map (λ (e : Entry). e.reply) (entries_in ls) ≡ replies_in_order s.store (life_scripts ls)
+  final : (start_behind_all s ls).store ≡ last_store s.store (life_scripts ls)
+  order : InLine ComesBefore (entries_in ls)
+  once : InLine ComesLater (entries_in ls)
   from : s.seq ≤ (start_behind_all s ls).seq
   sequences : Each (IsBetween s (start_behind_all s ls)) (entries_in ls)
-  each_seq : (k : ℕ) → s.seq < k → k ≤ (start_behind_all s ls).seq → (e : CallEntry) × IsIn e (entries_in ls) × IsAnnouncedAt k e
+  each_seq : (k : ℕ) → s.seq < k → k ≤ (start_behind_all s ls).seq → (e : Entry) × IsIn e (entries_in ls) × IsAnnouncedAt k e
   wider : length s.finished ≤ length (start_behind_all s ls).finished
   known : Each (IsKnownTo (start_behind_all s ls)) (entries_in ls)
   behind : Each (IsBehind s) (entries_in ls)
-  all_done : (c x : ℕ) → finished_of s c ≤ x → x < finished_of (start_behind_all s ls) c → (e : CallEntry) × IsIn e (entries_in ls) × IsCall c x e
+  all_done : (c x : ℕ) → finished_of s c ≤ x → x < finished_of (start_behind_all s ls) c → (e : Entry) × IsIn e (entries_in ls) × IsCall c x e
   tickets : (c : ℕ) → finished_of (start_behind_all s ls) c ≡ done_behind (finished_of s c) (own_in ls c)
 
 -- the element at a place is one of the list
@@ -62,17 +62,17 @@ module _ (s : Start) (l : Life) (ls : List Life) (legal : IsLegal l.plan s l.rep
   abbrev last : Start
   last = start_behind_all t ls
 
-  abbrev first : List CallEntry
+  abbrev first : List Entry
   first = l.report.entries
 
-  abbrev later : List CallEntry
+  abbrev later : List Entry
   later = entries_in ls
 
   one : Lived s l
   one = lived s l legal
 
   -- an entry of the first life stands before all of the later ones
-  earlier : (e f : CallEntry) → IsIn e first → IsIn f later → Precedes e f × GoesOn e f
+  earlier : (e f : Entry) → IsIn e first → IsIn f later → ComesBefore e f × ComesLater e f
   earlier e f here there =
       let low = each_at (IsBetween s t) e first one.sequences here in
       let high = each_at (IsBetween t last) f later rest.sequences there in
@@ -82,18 +82,18 @@ module _ (s : Start) (l : Life) (ls : List Life) (legal : IsLegal l.plan s l.rep
         λ callers is. omega (arith, mine is, theirs, ap (λ (c : ℕ). finished_of t c) callers),
       )
 
-  across : (R : CallEntry → CallEntry → Type 0) → ((e f : CallEntry) → IsIn e first → IsIn f later → R e f) → Each (λ e. Each (R e) later) first
+  across : (R : Entry → Entry → Type 0) → ((e f : Entry) → IsIn e first → IsIn f later → R e f) → Each (λ e. Each (R e) later) first
   across R before = each_from_in (λ e. Each (R e) later) first (λ e here. each_from_in (R e) later (λ f there. before e f here there))
 
   abbrev first_scripts : List (List Instr)
-  first_scripts = map (script_of l.plan) first
+  first_scripts = map (script_of_entry l.plan) first
 
-  replies_are : map (λ (e : CallEntry). e.reply) (entries_in (l ∷ ls)) ≡ replies s.store (scripts_in (l ∷ ls))
+  replies_are : map (λ (e : Entry). e.reply) (entries_in (l ∷ ls)) ≡ replies_in_order s.store (life_scripts (l ∷ ls))
   replies_are =
-      map-append (λ (e : CallEntry). e.reply) first later
-      ∙ ap (λ (rs : List Response). rs ++ map (λ (e : CallEntry). e.reply) later) legal.replies
-      ∙ ap (λ (rs : List Response). replies s.store first_scripts ++ rs) (rest.replies_are ∙ ap (λ (st : State). replies st (scripts_in ls)) legal.final_store)
-      ∙ sym (replies-append s.store first_scripts (scripts_in ls))
+      map-append (λ (e : Entry). e.reply) first later
+      ∙ ap (λ (rs : List Reply). rs ++ map (λ (e : Entry). e.reply) later) legal.replies
+      ∙ ap (λ (rs : List Reply). replies_in_order s.store first_scripts ++ rs) (rest.replies_are ∙ ap (λ (st : Store). replies_in_order st (life_scripts ls)) legal.final_store)
+      ∙ sym (replies-append s.store first_scripts (life_scripts ls))
 
   sequences : Each (IsBetween s last) (entries_in (l ∷ ls))
   sequences = each_append (IsBetween s last) first later
@@ -101,7 +101,7 @@ module _ (s : Start) (l : Life) (ls : List Life) (legal : IsLegal l.plan s l.rep
       (each_weaker (IsBetween t last) (IsBetween s last)
       (λ e has. (omega (arith, has.0, legal.by_sequence.from_start), has.1, λ is. omega (arith, has.2 is, legal.by_sequence.from_start))) later rest.sequences)
 
-  each_seq : (k : ℕ) → s.seq < k → k ≤ last.seq → (e : CallEntry) × IsIn e (entries_in (l ∷ ls)) × IsAnnouncedAt k e
+  each_seq : (k : ℕ) → s.seq < k → k ≤ last.seq → (e : Entry) × IsIn e (entries_in (l ∷ ls)) × IsAnnouncedAt k e
   each_seq k low high = elim (cases_lt l.report.seq k) [
     | inl past ↦ let found = rest.each_seq k past high in (found.0, in_right found.0 first later found.1, found.2)
     | inr here ↦
@@ -109,7 +109,7 @@ module _ (s : Start) (l : Life) (ls : List Life) (legal : IsLegal l.plan s l.rep
         (found.1, in_left found.1 first later (at_in first found.0 found.1 found.2 found.3), found.4)
   ]
 
-  all_done : (c x : ℕ) → finished_of s c ≤ x → x < finished_of last c → (e : CallEntry) × IsIn e (entries_in (l ∷ ls)) × IsCall c x e
+  all_done : (c x : ℕ) → finished_of s c ≤ x → x < finished_of last c → (e : Entry) × IsIn e (entries_in (l ∷ ls)) × IsCall c x e
   all_done c x low high = elim (cases_lt x (finished_of t c)) [
     | inl here ↦ let found = one.all_done c x low here in (found.0, in_left found.0 first later found.1, found.2)
     | inr past ↦ let found = rest.all_done c x past high in (found.0, in_right found.0 first later found.1, found.2)
@@ -125,9 +125,9 @@ module _ (s : Start) (l : Life) (ls : List Life) (legal : IsLegal l.plan s l.rep
   joined_more : Joined s (l ∷ ls)
   joined_more = record {
     replies_are = replies_are;
-    final = rest.final ∙ ap (λ (st : State). last_store st (scripts_in ls)) legal.final_store ∙ sym (last_store-append s.store first_scripts (scripts_in ls));
-    order = in_line_append Precedes first later one.order rest.order (across Precedes (λ e f here there. (earlier e f here there).0));
-    once = in_line_append GoesOn first later one.once rest.once (across GoesOn (λ e f here there. (earlier e f here there).1));
+    final = rest.final ∙ ap (λ (st : Store). last_store st (life_scripts ls)) legal.final_store ∙ sym (last_store-append s.store first_scripts (life_scripts ls));
+    order = in_line_append ComesBefore first later one.order rest.order (across ComesBefore (λ e f here there. (earlier e f here there).0));
+    once = in_line_append ComesLater first later one.once rest.once (across ComesLater (λ e f here there. (earlier e f here there).1));
     from = omega (arith, legal.by_sequence.from_start, rest.from);
     sequences = sequences;
     each_seq = each_seq;
@@ -150,13 +150,13 @@ each_answered : (s : Start) (ls : List Life) → AreLives s ls → EachLife HasA
 each_answered s [] lives = tt
 each_answered s (l ∷ ls) lives = ((lived s l lives.0).answered, each_answered (start_behind s l) ls lives.1)
 
-open_read : (s : Start) (ls : List Life) → Joined s ls → (es fs : List CallEntry) (e : CallEntry) → entries_in ls ≡ es ++ e ∷ fs → NoneAnnouncedOf e.caller (e ∷ fs)
+open_read : (s : Start) (ls : List Life) → Joined s ls → (es fs : List Entry) (e : Entry) → entries_in ls ≡ es ++ e ∷ fs → NoneAnnouncedOf e.caller (e ∷ fs)
     → finished_of (start_behind_all s ls) e.caller ≤ e.index
 open_read s ls all es fs e is none =
     let there : IsIn e (entries_in ls) = subst (IsIn e) (sym is) (in_right e es (e ∷ fs) (inl refl)) in
     let low = each_at (IsBehind s) e (entries_in ls) all.behind there in
-    let line : InLine GoesOn (es ++ e ∷ fs) = subst (InLine GoesOn) is all.once in
-    let same = ap (λ (ds : List CallEntry). done_behind (finished_of s e.caller) (filter (is_of e.caller) ds)) is in
+    let line : InLine ComesLater (es ++ e ∷ fs) = subst (InLine ComesLater) is all.once in
+    let same = ap (λ (ds : List Entry). done_behind (finished_of s e.caller) (filter (is_of e.caller) ds)) is in
     omega (arith, all.tickets e.caller, same, not_done (finished_of s e.caller) es fs e line low none)
 
 pub any_lives : LivesAreOneHistory
@@ -165,11 +165,11 @@ any_lives s ls lives =
     record {
       replies = all.replies_are;
       final_store = all.final;
-      order = pairs_in_line Precedes (entries_in ls) all.order;
+      order = pairs_in_line ComesBefore (entries_in ls) all.order;
       sequences = All-from_recursion (IsBetween s (start_behind_all s ls)) (entries_in ls) all.sequences;
       from_start = all.from;
       none_left_out = λ k low high. let found = all.each_seq k low high in any_in (IsAnnouncedAt k) found.0 (entries_in ls) found.1 found.2;
-      once = pairs_in_line GoesOn (entries_in ls) all.once;
+      once = pairs_in_line ComesLater (entries_in ls) all.once;
       known = All-from_recursion (IsKnownTo (start_behind_all s ls)) (entries_in ls) all.known;
       behind_start = All-from_recursion (IsBehind s) (entries_in ls) all.behind;
       all_done = λ c x low high. let found = all.all_done c x low high in any_in (IsCall c x) found.0 (entries_in ls) found.1 found.2;

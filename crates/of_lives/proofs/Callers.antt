@@ -4,11 +4,11 @@ use Rattle.std.specs.Prelude.{filter}
 use Rattle.std.specs.List.{AllByRecursion as Each}
 use Rattle.std.proofs.lemmas.Bool.{eq-eqb}
 use Rattle.std.proofs.lemmas.Bool.Decides.{eqb_tells}
-use Rattle.of_plan.specs.Report.{CallEntry}
+use Rattle.of_plan.specs.Report.{Entry}
 use Rattle.of_plan.specs.Histories.{IsIn}
 use Rattle.of_plan.proofs.HistoriesLists.{each_at, each_from_in, each_filter, in_filter, InLine}
 
-abbrev pub is_of : ℕ → CallEntry → Bool
+abbrev pub is_of : ℕ → Entry → Bool
 is_of c e = eqb e.caller c
 
 pub is_caller : (a b : ℕ) → eqb a b ≡ true → a ≡ b
@@ -24,32 +24,32 @@ is_other a b lt = elim (eqb_tells a b) [
 ]
 
 -- an entry is one of its caller's
-pub own_entry : (e : CallEntry) (es : List CallEntry) → IsIn e es → IsIn e (filter (is_of e.caller) es)
+pub own_entry : (e : Entry) (es : List Entry) → IsIn e es → IsIn e (filter (is_of e.caller) es)
 own_entry e es here = in_filter (is_of e.caller) e es here (eq-eqb e.caller e.caller refl)
 
 -- an entry of a caller is one of all
-pub among_all : (c : ℕ) (es : List CallEntry) (e : CallEntry) → IsIn e (filter (is_of c) es) → IsIn e es × (e.caller ≡ c)
+pub among_all : (c : ℕ) (es : List Entry) (e : Entry) → IsIn e (filter (is_of c) es) → IsIn e es × (e.caller ≡ c)
 among_all c es e there =
     each_at (λ f. IsIn f es × (f.caller ≡ c)) e (filter (is_of c) es)
     (each_filter (λ f. IsIn f es) (λ f. IsIn f es × (f.caller ≡ c)) (is_of c) (λ f here test. (here, is_caller f.caller c test)) es (each_from_in (λ f. IsIn f es) es (λ f here. here))) there
 
 -- there is none of a caller that is behind all of theirs
-pub none_of : (n c : ℕ) (es : List CallEntry) → Each (λ e. e.caller < n) es → n ≤ c → filter (is_of c) es ≡ []
+pub none_of : (n c : ℕ) (es : List Entry) → Each (λ e. e.caller < n) es → n ≤ c → filter (is_of c) es ≡ []
 none_of n c [] all past = refl
 none_of n c (e ∷ es) all past =
     ap (λ (b : Bool). cond b (e ∷ filter (is_of c) es) (filter (is_of c) es)) (is_other e.caller c (omega (arith, all.0, past)))
     ∙ none_of n c es all.1 past
 
-head_line : (R : CallEntry → CallEntry → Type 0) (b : Bool) (x : CallEntry) (ys : List CallEntry) → b ≡ true → InLine R (cond b (x ∷ ys) ys) → Each (R x) ys
+head_line : (R : Entry → Entry → Type 0) (b : Bool) (x : Entry) (ys : List Entry) → b ≡ true → InLine R (cond b (x ∷ ys) ys) → Each (R x) ys
 head_line R true x ys is line = line.0
 head_line R false x ys is line = absurd (cc)
 
-rest_line : (R : CallEntry → CallEntry → Type 0) (b : Bool) (x : CallEntry) (ys : List CallEntry) → InLine R (cond b (x ∷ ys) ys) → InLine R ys
+rest_line : (R : Entry → Entry → Type 0) (b : Bool) (x : Entry) (ys : List Entry) → InLine R (cond b (x ∷ ys) ys) → InLine R ys
 rest_line R true x ys line = line.1
 rest_line R false x ys line = line
 
 -- what is in line caller by caller is so among all
-pub merged : (R : CallEntry → CallEntry → Type 0) (es : List CallEntry) → ((c : ℕ) → InLine R (filter (is_of c) es)) → InLine (λ e f. e.caller ≡ f.caller → R e f) es
+pub merged : (R : Entry → Entry → Type 0) (es : List Entry) → ((c : ℕ) → InLine R (filter (is_of c) es)) → InLine (λ e f. e.caller ≡ f.caller → R e f) es
 merged R [] lines = tt
 merged R (e ∷ es) lines = (
   each_from_in (λ f. e.caller ≡ f.caller → R e f) es (λ f there same.

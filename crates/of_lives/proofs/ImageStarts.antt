@@ -4,26 +4,26 @@ use Rattle.std.specs.Prelude.{slice_range}
 use Rattle.std.proofs.lemmas.Bool.{cases_lt}
 use Rattle.std.proofs.lemmas.List.{ext_get_or, get_or_past, get_or-map, get_or-take, get_or-drop, length-drop, length-map}
 use Rattle.std.proofs.lemmas.List.FromFn.{get_or-map-range_with_len, length-map-range_with_len}
-use Rattle.of_cell.specs.Words.{seq, pay}
+use Rattle.of_cell.specs.Words.{seq_of, payload_of}
 use Rattle.of_cell.specs.Cells.{data_cell}
 use Rattle.of_cell.proofs.Order.{seq_zero}
 use Rattle.of_recover.specs.Row.{IsDurableRow}
-use Rattle.of_mem.specs.Places.{ticket_at}
-use Rattle.of_mem.specs.ProgramWork.{memory}
+use Rattle.of_mem.specs.Places.{ticket_cell_at}
+use Rattle.of_mem.specs.ProgramWork.{memory_of}
 use Rattle.of_script.specs.declared.instr.TheConstants.{MOST_INSTRS}
-use Rattle.of_eval.specs.Lawful.{StandsFor}
+use Rattle.of_eval.specs.Lawful.{DataCellsStandFor}
 use Rattle.of_plan.specs.Plan.{Plan}
 use Rattle.of_plan.specs.Report.{finished_of}
-use Rattle.of_core.specs.World.{Start as TableStart}
+use Rattle.of_core.specs.World.{TableStart}
 use Rattle.of_core.specs.Shared.{MayStart}
-use Rattle.of_core.specs.Starts.{start_of, IsStartRow}
-use Rattle.of_caller.specs.Tables.{setup_for, lawful_for}
-use Rattle.of_caller.specs.Starts.{number_in, StartsAt}
-use Rattle.of_report.specs.ImageRow.{Row, cells_in, numbers_in}
-use Rattle.of_report.specs.Image.{Image, IsImage, ticket_in}
-use Rattle.of_report.specs.Image.{start_of as image_start}
-use Rattle.of_lives.specs.Restarts.{start_in}
-use Rattle.of_lives.specs.Images.{Fits}
+use Rattle.of_core.specs.Starts.{start_from_durable, IsStartRow}
+use Rattle.of_caller.specs.Tables.{plan_setup, IsLawfulFor}
+use Rattle.of_caller.specs.Starts.{start_number, StartsAtPlan}
+use Rattle.of_report.specs.ImageRow.{DurableRow, row_cell_count, numbers_in}
+use Rattle.of_report.specs.Image.{Image, IsImage, image_ticket}
+use Rattle.of_report.specs.Image.{start_of_image as image_start}
+use Rattle.of_lives.specs.Restarts.{start_of_row}
+use Rattle.of_lives.specs.Images.{PlanFitsImage}
 
 -- a part of a list, place by place
 pub part_at : (ws : List ℕ) (a n i : ℕ) → i < n → get_or (slice_range ws a (a + n)) i 0 ≡ get_or ws (a + i) 0
@@ -34,44 +34,44 @@ part_long ws a n l = let e : a + n - a ≡ n = omega arith in length-take-le (a 
 
 -- ---- the start that a row is
 
-module _ (r : Row) (size : IsDurableRow r.callers (cells_in MOST_INSTRS r) r.words) where
+module _ (r : DurableRow) (size : IsDurableRow r.callers (row_cell_count MOST_INSTRS r) r.words) where
   abbrev n : ℕ
-  n = cells_in MOST_INSTRS r
+  n = row_cell_count MOST_INSTRS r
 
   abbrev C : TableStart
-  C = start_of r.callers n r.words
+  C = start_from_durable r.callers n r.words
 
-  pub cells_long : length (start_of r.callers (cells_in MOST_INSTRS r) r.words).cells ≡ cells_in MOST_INSTRS r
+  pub cells_long : length (start_from_durable r.callers (row_cell_count MOST_INSTRS r) r.words).cells ≡ row_cell_count MOST_INSTRS r
   cells_long = part_long r.words (data_cell r.callers 0) n (omega (arith, size))
 
-  pub word_at : (a : ℕ) → a < cells_in MOST_INSTRS r → get_or (start_of r.callers (cells_in MOST_INSTRS r) r.words).cells a 0 ≡ get_or r.words (data_cell r.callers a) 0
+  pub word_at : (a : ℕ) → a < row_cell_count MOST_INSTRS r → get_or (start_from_durable r.callers (row_cell_count MOST_INSTRS r) r.words).cells a 0 ≡ get_or r.words (data_cell r.callers a) 0
   word_at a l = part_at r.words (data_cell r.callers 0) n a l ∙ ap (λ (k : ℕ). get_or r.words k 0) (let k : data_cell r.callers 0 + a ≡ data_cell r.callers a = omega arith in k)
 
-  pub number_there : (a : ℕ) → a < cells_in MOST_INSTRS r → get_or (numbers_in MOST_INSTRS r) a 0 ≡ pay (get_or r.words (data_cell r.callers a) 0)
-  number_there a l = get_or-map-range_with_len (λ x. pay (get_or r.words (data_cell r.callers x) 0)) 0 n a a 0 l (omega arith)
+  pub number_there : (a : ℕ) → a < row_cell_count MOST_INSTRS r → get_or (numbers_in MOST_INSTRS r) a 0 ≡ payload_of (get_or r.words (data_cell r.callers a) 0)
+  number_there a l = get_or-map-range_with_len (λ x. payload_of (get_or r.words (data_cell r.callers x) 0)) 0 n a a 0 l (omega arith)
 
   -- the numbers of its cells are those of the row
-  pub numbers_are : map pay (start_of r.callers (cells_in MOST_INSTRS r) r.words).cells ≡ numbers_in MOST_INSTRS r
-  numbers_are = ext_get_or 0 (map pay C.cells) (numbers_in MOST_INSTRS r) (length-map C.cells pay ∙ cells_long ∙ sym (length-map-range_with_len (λ x. pay (get_or r.words (data_cell r.callers x) 0)) 0 n))
+  pub numbers_are : map payload_of (start_from_durable r.callers (row_cell_count MOST_INSTRS r) r.words).cells ≡ numbers_in MOST_INSTRS r
+  numbers_are = ext_get_or 0 (map payload_of C.cells) (numbers_in MOST_INSTRS r) (length-map C.cells payload_of ∙ cells_long ∙ sym (length-map-range_with_len (λ x. payload_of (get_or r.words (data_cell r.callers x) 0)) 0 n))
       (λ a l.
-      let below : a < n = omega (arith, l, length-map C.cells pay, cells_long) in
-      get_or-map pay C.cells a 0 0 (omega (arith, below, cells_long))
-      ∙ ap pay (word_at a below)
+      let below : a < n = omega (arith, l, length-map C.cells payload_of, cells_long) in
+      get_or-map payload_of C.cells a 0 0 (omega (arith, below, cells_long))
+      ∙ ap payload_of (word_at a below)
       ∙ sym (number_there a below))
 
-  pub number_is : (a : ℕ) → a < cells_in MOST_INSTRS r → number_in (start_of r.callers (cells_in MOST_INSTRS r) r.words) a ≡ pay (get_or r.words (data_cell r.callers a) 0)
-  number_is a l = ap (λ (xs : List ℕ). memory xs a) numbers_are ∙ number_there a l
+  pub number_is : (a : ℕ) → a < row_cell_count MOST_INSTRS r → start_number (start_from_durable r.callers (row_cell_count MOST_INSTRS r) r.words) a ≡ payload_of (get_or r.words (data_cell r.callers a) 0)
+  number_is a l = ap (λ (xs : List ℕ). memory_of xs a) numbers_are ∙ number_there a l
 
 -- ---- the start that an image is
 
 -- how many of a caller's scripts are done is its ticket
-pub done_is_ticket : (i : Image) (c : ℕ) → c < i.row.callers → finished_of (image_start i) c ≡ ticket_in i c
-done_is_ticket i c lt = get_or-map-range_with_len (ticket_in i) 0 i.row.callers c c 0 lt (omega arith)
+pub done_is_ticket : (i : Image) (c : ℕ) → c < i.row.callers → finished_of (image_start i) c ≡ image_ticket i c
+done_is_ticket i c lt = get_or-map-range_with_len (image_ticket i) 0 i.row.callers c c 0 lt (omega arith)
 
 -- a table starts from the image, for a plan
 pub record Begins (i : Image) (p : Plan) : Type 0 where
-  pub row : IsStartRow (setup_for p) (lawful_for p) i.row.words
-  pub starts : StartsAt p (image_start i) (start_in p i.row.words)
+  pub row : IsStartRow (plan_setup p) (IsLawfulFor p) i.row.words
+  pub starts : StartsAtPlan p (image_start i) (start_of_row p i.row.words)
 
 module _ (i : Image) (is : IsImage MOST_INSTRS i) (p : Plan) (few : i.seq ≤ p.limit) where
   -- the plan, with the sizes of the image
@@ -79,18 +79,18 @@ module _ (i : Image) (is : IsImage MOST_INSTRS i) (p : Plan) (few : i.seq ≤ p.
   q = record p { callers = i.row.callers; blocks = i.row.blocks }
 
   abbrev I : TableStart
-  I = start_in q i.row.words
+  I = start_of_row q i.row.words
 
-  stands : StandsFor q.callers MOST_INSTRS q.blocks (number_in I) i.store
-  stands = subst (λ (xs : List ℕ). StandsFor i.row.callers MOST_INSTRS i.row.blocks (memory xs) i.store) (sym (numbers_are i.row is.row.size)) is.lawful.stands
+  stands : DataCellsStandFor q.callers MOST_INSTRS q.blocks (start_number I) i.store
+  stands = subst (λ (xs : List ℕ). DataCellsStandFor i.row.callers MOST_INSTRS i.row.blocks (memory_of xs) i.store) (sym (numbers_are i.row is.row.size)) is.lawful.stands
 
-  old : (a : ℕ) → seq (get_or I.cells a 0) ≤ I.seq
-  old a = elim (cases_lt a (cells_in MOST_INSTRS i.row)) [
-    | inl l ↦ omega (arith, ap seq (word_at i.row is.row.size a l), is.lawful.none_newer a l)
-    | inr past ↦ omega (arith, ap seq (get_or_past I.cells a 0 (omega (arith, past, cells_long i.row is.row.size))), seq_zero)
+  old : (a : ℕ) → seq_of (get_or I.cells a 0) ≤ I.seq
+  old a = elim (cases_lt a (row_cell_count MOST_INSTRS i.row)) [
+    | inl l ↦ omega (arith, ap seq_of (word_at i.row is.row.size a l), is.lawful.none_newer a l)
+    | inr past ↦ omega (arith, ap seq_of (get_or_past I.cells a 0 (omega (arith, past, cells_long i.row is.row.size))), seq_zero)
   ]
 
-  may_start : MayStart (setup_for q) (lawful_for q) I
+  may_start : MayStart (plan_setup q) (IsLawfulFor q) I
   may_start = record {
     start = record { owner_in = is.lawful.owned; size = cells_long i.row is.row.size; old = old };
     lawful = (i.store, stands.stored);
@@ -99,18 +99,18 @@ module _ (i : Image) (is : IsImage MOST_INSTRS i) (p : Plan) (few : i.seq ≤ p.
 
   begins : Begins i q
   begins = record {
-    row = record { long = is.row.size; recovered = ap (λ (r : Row). r.words) is.settled; may_start = may_start };
+    row = record { long = is.row.size; recovered = ap (λ (r : DurableRow). r.words) is.settled; may_start = may_start };
     starts = record {
       seq = sym is.seq;
       size = cells_long i.row is.row.size;
       stands = stands;
-      each_caller = length-map-range_with_len (ticket_in i) 0 i.row.callers;
-      tickets = λ c l. number_is i.row is.row.size (ticket_at MOST_INSTRS c) (omega (arith, l)) ∙ sym (done_is_ticket i c l);
+      each_caller = length-map-range_with_len (image_ticket i) 0 i.row.callers;
+      tickets = λ c l. number_is i.row is.row.size (ticket_cell_at MOST_INSTRS c) (omega (arith, l)) ∙ sym (done_is_ticket i c l);
     };
   }
 
 -- so it is for a plan that fits
-pub image_begins : (i : Image) (p : Plan) → IsImage MOST_INSTRS i → Fits i p → Begins i p
+pub image_begins : (i : Image) (p : Plan) → IsImage MOST_INSTRS i → PlanFitsImage i p → Begins i p
 image_begins i p is fits =
     let same : q i is p fits.limit ≡ p = (λ j. record p { callers = sym fits.callers j; blocks = sym fits.blocks j }) in
     subst (Begins i) same (begins i is p fits.limit)

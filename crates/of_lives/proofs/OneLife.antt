@@ -8,18 +8,18 @@ use Rattle.std.proofs.lemmas.Bool.{cases_lt}
 use Rattle.std.proofs.lemmas.List.{get_or_past}
 use Rattle.std.proofs.lemmas.List.Elements.{recursion_from_All, All-from_recursion}
 use Rattle.std.proofs.lemmas.List.FromFn.{get_or-map-range_with_len, length-map-range_with_len}
-use Rattle.of_plan.specs.Report.{CallEntry, EndState, done, stopped, spent, Start, entries_of, finished_of, line_of, no_line}
+use Rattle.of_plan.specs.Report.{Entry, EndState, done, stopped, spent, Start, entries_of, finished_of, caller_line, no_line}
 use Rattle.of_plan.specs.Legal.{StandsBefore, StandsBeforeWithin, HasSequence, HasOpenCall, IsLegal}
 use Rattle.of_plan.specs.Histories.{IsIn}
 use Rattle.of_plan.proofs.HistoriesLists.{each_at, each_from_in, each_weaker, any_in, InLine, in_line_pairs, in_line_weaker}
 use Rattle.of_lives.specs.Lives.{Life, done_behind, callers_with, finished_behind, start_behind}
-use Rattle.of_lives.specs.OneHistory.{Precedes, GoesOn, IsBetween, IsKnownTo, IsBehind, IsCall, ReadsOnly, HasReads, HasAnswered}
+use Rattle.of_lives.specs.OneHistory.{ComesBefore, ComesLater, IsBetween, IsKnownTo, IsBehind, IsCall, UnannouncedOnlyReads, HasReads, HasAnswered}
 use Rattle.of_lives.proofs.Indices.{Rises, OneByOne, from_first, rise, upto_last, has_index}
 use Rattle.of_lives.proofs.Tickets.{done_low, done_high, done_above}
 use Rattle.of_lives.proofs.Callers.{own_entry, among_all, none_of, merged}
 
 -- an announced call is done behind the life
-abbrev pub IsDoneBehind : Start → Life → CallEntry → Type 0
+abbrev pub IsDoneBehind : Start → Life → Entry → Type 0
 IsDoneBehind s l e = IsTrue e.announced → e.index < finished_of (start_behind s l) e.caller
 
 pub record Lived (s : Start) (l : Life) : Type 0 where
@@ -28,11 +28,11 @@ pub record Lived (s : Start) (l : Life) : Type 0 where
   pub behind : Each (IsBehind s) l.report.entries
   pub done_then : Each (IsDoneBehind s l) l.report.entries
   pub sequences : Each (IsBetween s (start_behind s l)) l.report.entries
-  pub order : InLine Precedes l.report.entries
-  pub once : InLine GoesOn l.report.entries
+  pub order : InLine ComesBefore l.report.entries
+  pub once : InLine ComesLater l.report.entries
   pub grown : (c : ℕ) → finished_of s c ≤ finished_of (start_behind s l) c
   pub tickets : (c : ℕ) → finished_of (start_behind s l) c ≡ done_behind (finished_of s c) (entries_of l.report c)
-  pub all_done : (c x : ℕ) → finished_of s c ≤ x → x < finished_of (start_behind s l) c → (e : CallEntry) × IsIn e l.report.entries × IsCall c x e
+  pub all_done : (c x : ℕ) → finished_of s c ≤ x → x < finished_of (start_behind s l) c → (e : Entry) × IsIn e l.report.entries × IsCall c x e
   pub reads : HasReads s l
   pub answered : HasAnswered s l
 
@@ -48,12 +48,12 @@ second_of : (a : Bool) (P Q R : Type 0) → MatchBool a P (Q × R) → a ≡ fal
 second_of true P Q R has is = absurd (cc)
 second_of false P Q R has is = has.1
 
-within_one : (a b : Bool) (e f : CallEntry) → b ≡ true → StandsBeforeWithin a b e f → (a ≡ true) × (e.caller < f.caller)
+within_one : (a b : Bool) (e f : Entry) → b ≡ true → StandsBeforeWithin a b e f → (a ≡ true) × (e.caller < f.caller)
 within_one true true e f is before = (refl, before)
 within_one false true e f is before = absurd before
 within_one a false e f is before = absurd (cc)
 
-precedes : (e f : CallEntry) → StandsBefore e f → Precedes e f
+precedes : (e f : Entry) → StandsBefore e f → ComesBefore e f
 precedes e f (inl lt) = (omega (arith, lt), λ is. inl lt)
 precedes e f (inr within) = (
   omega (arith, within.0),
@@ -67,7 +67,7 @@ answered_few spent answers entries is = omega (arith, is)
 answered_few stopped answers entries has = has.0
 
 module _ (s : Start) (l : Life) (legal : IsLegal l.plan s l.report) where
-  abbrev own : ℕ → List CallEntry
+  abbrev own : ℕ → List Entry
   own c = entries_of l.report c
 
   abbrev before : ℕ → ℕ
@@ -98,11 +98,11 @@ module _ (s : Start) (l : Life) (legal : IsLegal l.plan s l.report) where
         get_or_past (finished_behind s l) c 0 (omega (arith, past, as_many)) ∙ sym (ap (done_behind (before c)) none ∙ unknown)
   ]
 
-  behind_one : (e : CallEntry) → IsIn e l.report.entries → IsBehind s e
+  behind_one : (e : Entry) → IsIn e l.report.entries → IsBehind s e
   behind_one e here =
-      each_at (λ (f : CallEntry). before e.caller ≤ f.index) e (own e.caller) (from_first (before e.caller) (own e.caller) (indices e.caller)) (own_entry e l.report.entries here)
+      each_at (λ (f : Entry). before e.caller ≤ f.index) e (own e.caller) (from_first (before e.caller) (own e.caller) (indices e.caller)) (own_entry e l.report.entries here)
 
-  done_one : (e : CallEntry) → IsIn e l.report.entries → IsDoneBehind s l e
+  done_one : (e : Entry) → IsIn e l.report.entries → IsDoneBehind s l e
   done_one e here is =
       let rising = rise (before e.caller) (own e.caller) (indices e.caller) in
       let above = done_above (before e.caller) (own e.caller) rising e (own_entry e l.report.entries here) is in
@@ -110,26 +110,26 @@ module _ (s : Start) (l : Life) (legal : IsLegal l.plan s l.report) where
 
   grown : (c : ℕ) → before c ≤ finished_of (start_behind s l) c
   grown c =
-      let all = each_weaker (λ (f : CallEntry). before c ≤ f.index) (λ (f : CallEntry). before c ≤ f.index + 1) (λ f low. omega (arith, low)) (own c) (from_first (before c) (own c) (indices c)) in
+      let all = each_weaker (λ (f : Entry). before c ≤ f.index) (λ (f : Entry). before c ≤ f.index + 1) (λ f low. omega (arith, low)) (own c) (from_first (before c) (own c) (indices c)) in
       omega (arith, tickets c, done_low (before c) (before c) (own c) (omega arith) all)
 
   -- each index of a caller's entries is one of all
-  found : (c x : ℕ) → before c ≤ x → x < before c + length (own c) → (e : CallEntry) × IsIn e l.report.entries × IsCall c x e
+  found : (c x : ℕ) → before c ≤ x → x < before c + length (own c) → (e : Entry) × IsIn e l.report.entries × IsCall c x e
   found c x low high =
       let there = has_index (before c) x (own c) (indices c) low high in
       let one = among_all c l.report.entries there.0 there.1 in
       (there.0, one.0, (one.1, there.2))
 
-  all_done : (c x : ℕ) → before c ≤ x → x < finished_of (start_behind s l) c → (e : CallEntry) × IsIn e l.report.entries × IsCall c x e
+  all_done : (c x : ℕ) → before c ≤ x → x < finished_of (start_behind s l) c → (e : Entry) × IsIn e l.report.entries × IsCall c x e
   all_done c x low high =
-      let upto = each_weaker (λ (e : CallEntry). e.index + 1 ≤ before c + length (own c)) (λ (e : CallEntry). e.announced ≡ true → e.index + 1 ≤ before c + length (own c))
+      let upto = each_weaker (λ (e : Entry). e.index + 1 ≤ before c + length (own c)) (λ (e : Entry). e.announced ≡ true → e.index + 1 ≤ before c + length (own c))
       (λ e high is. high) (own c) (upto_last (before c) (own c) (indices c)) in
       let most = done_high (before c + length (own c)) (before c) (own c) (omega arith) upto in
       found c x low (omega (arith, high, most, tickets c))
 
   answered : HasAnswered s l
   answered c x of_plan low high =
-      let line = line_of l.report c in
+      let line = caller_line l.report c in
       let open_call = legal.open_calls.open_call c no_line (omega (arith, of_plan, legal.open_calls.each_caller)) in
       let few = answered_few line.state line.answered line.entries open_call in
       let one = found c x low (omega (arith, high, few, legal.open_calls.entries c of_plan)) in
@@ -142,19 +142,19 @@ module _ (s : Start) (l : Life) (legal : IsLegal l.plan s l.report) where
   pub lived : Lived s l
   lived = record {
     wider = omega (arith, as_many, le-max_left (length s.finished) l.plan.callers);
-    known = each_weaker (λ (e : CallEntry). e.caller < l.plan.callers) (IsKnownTo (start_behind s l))
+    known = each_weaker (λ (e : Entry). e.caller < l.plan.callers) (IsKnownTo (start_behind s l))
         (λ e lt. omega (arith, lt, as_many, le-max_right (length s.finished) l.plan.callers)) l.report.entries callers;
     behind = each_from_in (IsBehind s) l.report.entries behind_one;
     done_then = each_from_in (IsDoneBehind s l) l.report.entries done_one;
     sequences = each_weaker (λ e. HasSequence l.plan s e × (e.seq ≤ l.report.seq)) (IsBetween s (start_behind s l))
         (λ e has. let at = seq_of e.announced s.seq e.seq _ has.0 in (at.0, has.1, at.1)) l.report.entries sequences;
-    order = in_line_weaker (λ e. e.caller < l.plan.callers) StandsBefore Precedes (λ e f one other before. precedes e f before) l.report.entries callers (in_line_pairs StandsBefore l.report.entries legal.by_sequence.order);
-    once = in_line_weaker (λ e. e.caller < l.plan.callers) (λ e f. e.caller ≡ f.caller → e.index < f.index) GoesOn (λ e f one other rises same is. rises same) l.report.entries callers
+    order = in_line_weaker (λ e. e.caller < l.plan.callers) StandsBefore ComesBefore (λ e f one other before. precedes e f before) l.report.entries callers (in_line_pairs StandsBefore l.report.entries legal.by_sequence.order);
+    once = in_line_weaker (λ e. e.caller < l.plan.callers) (λ e f. e.caller ≡ f.caller → e.index < f.index) ComesLater (λ e f one other rises same is. rises same) l.report.entries callers
         (merged Rises l.report.entries (λ c. rise (before c) (own c) (indices c)));
     grown = grown;
     tickets = tickets;
     all_done = all_done;
-    reads = All-from_recursion (ReadsOnly l) l.report.entries (each_weaker (λ e. HasSequence l.plan s e × (e.seq ≤ l.report.seq)) (ReadsOnly l)
+    reads = All-from_recursion (UnannouncedOnlyReads l) l.report.entries (each_weaker (λ e. HasSequence l.plan s e × (e.seq ≤ l.report.seq)) (UnannouncedOnlyReads l)
         (λ e has is. second_of e.announced _ _ _ has.0 is) l.report.entries sequences);
     answered = answered;
   }

@@ -5,9 +5,9 @@ use Rattle.std.specs.List.{range_with_len}
 use Rattle.std.proofs.lemmas.List.Elements.{All-nil, All-cons, All-from_recursion}
 use Rattle.of_script.specs.declared.instr.Instr.TheVariants.{Load}
 use Rattle.of_script.specs.Language.{reads_only}
-use Rattle.of_plan.specs.Report.{CallEntry, Report, Start, entries_of, finished_of, line_of}
-use Rattle.of_plan.specs.Legal.{to_do, StandsBefore, HasSequence, HasOpenCall, HasEnded, IsWithinBound, IsLegal}
-use Rattle.of_plan.specs.Worked.{entry}
+use Rattle.of_plan.specs.Report.{Entry, Report, Start, entries_of, finished_of, caller_line}
+use Rattle.of_plan.specs.Legal.{scripts_left, StandsBefore, HasSequence, HasOpenCall, HasEndState, IsWithinBound, IsLegal}
+use Rattle.of_plan.specs.Worked.{worked_entry}
 use Rattle.of_plan.proofs.HistoriesLists.{any_in, pairs_in_line}
 use Rattle.of_lives.specs.Lives.{start_behind}
 use Rattle.of_lives.specs.Worked.{first_life, second_life, one_more_script, worked_start}
@@ -21,22 +21,22 @@ told = second_life.report
 reads : All (λ i. IsTrue (reads_only i)) (Load 0 ∷ [])
 reads = All-cons (λ i. IsTrue (reads_only i)) (Load 0) [] refl (All-nil (λ i. IsTrue (reads_only i)))
 
-one_by_one : (c : ℕ) → c < 2 → map (λ (e : CallEntry). e.index) (entries_of told c) ≡ range_with_len (finished_of middle c) (length (entries_of told c))
+one_by_one : (c : ℕ) → c < 2 → map (λ (e : Entry). e.index) (entries_of told c) ≡ range_with_len (finished_of middle c) (length (entries_of told c))
 one_by_one zero lt = refl
 one_by_one (suc zero) lt = refl
 one_by_one (suc (suc c)) lt = absurd (omega (arith, lt))
 
-of_scripts : (c : ℕ) → c < 2 → length (entries_of told c) ≤ to_do one_more_script middle c
+of_scripts : (c : ℕ) → c < 2 → length (entries_of told c) ≤ scripts_left one_more_script middle c
 of_scripts zero lt = omega arith
 of_scripts (suc zero) lt = omega arith
 of_scripts (suc (suc c)) lt = absurd (omega (arith, lt))
 
-entries : (c : ℕ) → c < 2 → (line_of told c).entries ≡ length (entries_of told c)
+entries : (c : ℕ) → c < 2 → (caller_line told c).entries ≡ length (entries_of told c)
 entries zero lt = refl
 entries (suc zero) lt = refl
 entries (suc (suc c)) lt = absurd (omega (arith, lt))
 
-endings : (c : ℕ) → c < 2 → HasEnded (line_of told c).state (line_of told c).answered (to_do one_more_script middle c) 2 9
+endings : (c : ℕ) → c < 2 → HasEndState (caller_line told c).state (caller_line told c).answered (scripts_left one_more_script middle c) 2 9
 endings zero lt = refl
 endings (suc zero) lt = refl
 endings (suc (suc c)) lt = absurd (omega (arith, lt))
@@ -44,7 +44,7 @@ endings (suc (suc c)) lt = absurd (omega (arith, lt))
 pub second_is_legal : IsLegal one_more_script middle told
 second_is_legal = record {
   in_order = record {
-    of_callers = All-from_recursion (λ (e : CallEntry). e.caller < 2) told.entries (omega arith, (omega arith, tt));
+    of_callers = All-from_recursion (λ (e : Entry). e.caller < 2) told.entries (omega arith, (omega arith, tt));
     one_by_one = one_by_one;
     of_scripts = of_scripts;
   };
@@ -58,7 +58,7 @@ second_is_legal = record {
     sequences = All-from_recursion (λ e. HasSequence one_more_script middle e × (e.seq ≤ 2)) told.entries
         ((omega arith, omega arith), (((omega arith, reads), omega arith), tt));
     from_start = omega arith;
-    none_left_out = λ k low high. any_in (λ (e : CallEntry). IsTrue e.announced × (e.seq ≡ k)) (entry 2 1 2 true (Some 7)) told.entries (inl refl) (refl, omega (arith, low, high));
+    none_left_out = λ k low high. any_in (λ (e : Entry). IsTrue e.announced × (e.seq ≡ k)) (worked_entry 2 1 2 true (Some 7)) told.entries (inl refl) (refl, omega (arith, low, high));
   };
   replies = refl;
   final_store = refl;

@@ -3,32 +3,32 @@ use Rattle.std.specs.Prelude.{◌≡◌, ℕ, ◌<◌}
 use Rattle.of_script.specs.declared.instr.TheConstants.{MOST_INSTRS}
 use Rattle.of_plan.specs.Plan.{Plan}
 use Rattle.of_plan.specs.Report.{Start, Report, entries_of, finished_of}
-use Rattle.of_plan.specs.Ended.{Run}
-use Rattle.of_report.specs.Image.{Image, IsRestored, start_of, durable_row}
-use Rattle.of_core.specs.World.{Start as TableStart}
-use Rattle.of_row.specs.Views.{Sight}
-use Rattle.of_caller.specs.Restarts.{HoldLast}
+use Rattle.of_plan.specs.Ended.{Ended}
+use Rattle.of_report.specs.Image.{Image, IsRestored, start_of_image, durable_row}
+use Rattle.of_core.specs.World.{TableStart}
+use Rattle.of_row.specs.Views.{View}
+use Rattle.of_caller.specs.Restarts.{HoldsLastAnnounced}
 use Rattle.of_caller.specs.Teams.{IsHandedBack}
 use Rattle.of_lives.specs.Lives.{start_behind}
-use Rattle.of_lives.specs.Restarts.{start_in}
-use Rattle.of_lives.specs.Images.{number_of}
+use Rattle.of_lives.specs.Restarts.{start_of_row}
+use Rattle.of_lives.specs.Images.{image_number}
 
 -- A team has run the plan over a table that starts so, and has handed back this run and a pass with
 -- this view; the report is that of its lawful record.
-pub record IsReportOfTeam (p : Plan) (s : Start) (B : TableStart) (e : Run) (w : Sight) (r : Report)
+pub record IsReportOfTeam (p : Plan) (s : Start) (B : TableStart) (e : Ended) (w : View) (r : Report)
     : Type 0 where
   pub handed : IsHandedBack p s B e w
   pub report : handed.report ≡ r
 
 -- so it is over the table that starts from an image's row
-abbrev pub IsLifeOf : Image → Plan → Run → Sight → Report → Type 0
-IsLifeOf i p e w r = IsReportOfTeam p (start_of i) (start_in p i.row.words) e w r
+abbrev pub IsLifeOf : Image → Plan → Ended → View → Report → Type 0
+IsLifeOf i p e w r = IsReportOfTeam p (start_of_image i) (start_of_row p i.row.words) e w r
 
 -- recovery finds this image in the durable words that a life with this report, from this start, has
 -- left: it is where the life ends, so the next one goes on from there
-pub record LeavesImage (p : Plan) (s : Start) (e : Run) (r : Report) (next : Image) : Type 0 where
+pub record LeavesImage (p : Plan) (s : Start) (e : Ended) (r : Report) (next : Image) : Type 0 where
   pub restored : IsRestored MOST_INSTRS (durable_row p e) next
-  pub start : start_of next ≡ start_behind s (record { plan = p; report = r })
+  pub start : start_of_image next ≡ start_behind s (record { plan = p; report = r })
   -- each caller's own cells hold its last announced call, with the reply that the report tells
   pub last_calls : (c : ℕ) → c < p.callers
-      → HoldLast (number_of next) c (finished_of s c) (entries_of r c)
+      → HoldsLastAnnounced (image_number next) c (finished_of s c) (entries_of r c)

@@ -1,27 +1,27 @@
 -- Which plans can go on from an image, and what its callers' own cells hold.
 use Rattle.std.specs.Prelude.{◌≡◌, ℕ, ◌≤◌}
-use Rattle.of_mem.specs.ProgramWork.{memory}
+use Rattle.of_mem.specs.ProgramWork.{memory_of}
 use Rattle.of_script.specs.declared.instr.Reply.{Reply}
 use Rattle.of_script.specs.declared.instr.TheConstants.{MOST_INSTRS}
 use Rattle.of_eval.specs.Shapes.{IsHeldBy}
 use Rattle.of_eval.specs.Lawful.{reply_in}
 use Rattle.of_plan.specs.Plan.{Plan}
 use Rattle.of_report.specs.ImageRow.{numbers_in}
-use Rattle.of_report.specs.Image.{Image, start_of}
+use Rattle.of_report.specs.Image.{Image, start_of_image}
 use Rattle.of_caller.specs.PlanRows.{HasScripts}
 
 -- the plan can go on from the image: it has as many callers and blocks, its limit isn't below the
 -- image's sequence, and each caller has the scripts that are done
-pub record Fits (i : Image) (p : Plan) : Type 0 where
+pub record PlanFitsImage (i : Image) (p : Plan) : Type 0 where
   pub callers : p.callers ≡ i.row.callers
   pub blocks : p.blocks ≡ i.row.blocks
   pub limit : i.seq ≤ p.limit
-  pub scripts : HasScripts p (start_of i)
+  pub scripts : HasScripts p (start_of_image i)
 
 -- the number in a data cell of an image
-abbrev pub number_of : Image → (cell : ℕ) → ℕ
-number_of i = memory (numbers_in MOST_INSTRS i.row)
+abbrev pub image_number : Image → (cell : ℕ) → ℕ
+image_number i = memory_of (numbers_in MOST_INSTRS i.row)
 
 -- a caller's own cells hold this reply
-abbrev pub HoldsReply : Image → (caller : ℕ) → Reply → Type 0
-HoldsReply i c r = IsHeldBy (reply_in MOST_INSTRS (number_of i) c) r
+abbrev pub CallerHoldsReply : Image → (caller : ℕ) → Reply → Type 0
+CallerHoldsReply i c r = IsHeldBy (reply_in MOST_INSTRS (image_number i) c) r

@@ -2,7 +2,7 @@
 use Rattle.std.specs.Prelude.{ℕ, ◌+◌, max, List, [], ◌∷◌, length, map, if◌then◌else◌}
 use Rattle.std.specs.List.{range_with_len}
 use Rattle.of_plan.specs.Plan.{Plan}
-use Rattle.of_plan.specs.Report.{CallEntry, Report, Start, entries_of, finished_of}
+use Rattle.of_plan.specs.Report.{Entry, Report, Start, entries_of, finished_of}
 use Rattle.of_plan.specs.Legal.{IsLegal}
 
 -- a life: a plan, and the report of its run
@@ -12,7 +12,7 @@ pub record Life : Type 0 where
 
 -- how many scripts of a caller are done behind these entries of it, where n were done before:
 -- those up to its last announced one. A read that wasn't announced leaves no ticket
-abbrev pub done_behind : (n : ℕ) → List CallEntry → ℕ
+abbrev pub done_behind : (n : ℕ) → List Entry → ℕ
 done_behind n [] = n
 done_behind n (e ∷ es) = done_behind (if e.announced then e.index + 1 else n) es
 

@@ -1,10 +1,10 @@
 -- Two worked lives, and four that can't be the second, each a number or an entry away from it.
 use Rattle.std.specs.Prelude.{ℕ, true, false, Option, Some, List, [], ◌∷◌, map}
 use Rattle.of_script.specs.declared.instr.Instr.TheVariants.{Load, Store, Add}
-use Rattle.of_store.specs.State.{Response, Answered, empty_store, with_register}
+use Rattle.of_store.specs.State.{Reply, Answered, empty_store, with_register}
 use Rattle.of_plan.specs.Plan.{Plan}
-use Rattle.of_plan.specs.Report.{CallEntry, CallerLine, done, Start, empty_start}
-use Rattle.of_plan.specs.Worked.{two_callers, entry, legal_report}
+use Rattle.of_plan.specs.Report.{Entry, Line, done, Start, empty_start}
+use Rattle.of_plan.specs.Worked.{two_callers, worked_entry, legal_report}
 use Rattle.of_lives.specs.Lives.{Life, start_behind_all, AreLives}
 use Rattle.of_lives.specs.OneHistory.{own_in}
 
@@ -25,7 +25,7 @@ one_more_script = record two_callers {
 }
 
 -- the line of a caller that is done, with so many calls
-abbrev pub done_with : (calls longest : ℕ) → CallerLine
+abbrev pub done_with : (calls longest : ℕ) → Line
 done_with calls longest = record {
   state = done;
   answered = calls;
@@ -34,11 +34,11 @@ done_with calls longest = record {
 }
 
 -- the second caller adds, by its script x at sequence k, and answers v; and then there are reads
-abbrev pub adds : (x k v : ℕ) → List CallEntry → CallerLine → Life
+abbrev pub adds : (x k v : ℕ) → List Entry → Line → Life
 adds x k v reads line = record {
   plan = one_more_script;
   report = record {
-    entries = entry k 1 x true (Some v) ∷ reads;
+    entries = worked_entry k 1 x true (Some v) ∷ reads;
     callers = line ∷ done_with 1 60 ∷ [];
     seq = k;
     store = with_register (empty_store 0) 0 v;
@@ -47,7 +47,7 @@ adds x k v reads line = record {
 
 -- and then the first caller asks for its read again, and is answered the same
 abbrev pub adds_and_reads : (x k v : ℕ) → Life
-adds_and_reads x k v = adds x k v (entry k 0 1 false (Some v) ∷ []) (done_with 1 60)
+adds_and_reads x k v = adds x k v (worked_entry k 0 1 false (Some v) ∷ []) (done_with 1 60)
 
 -- the second life goes on behind the announced calls: with the third script of the second caller
 abbrev pub second_life : Life
@@ -62,7 +62,7 @@ abbrev pub asked_by : (caller : ℕ) → List ℕ
 asked_by c = map (λ e. e.index) (own_in both_lives c)
 
 -- and their replies
-abbrev pub replies_to : (caller : ℕ) → List Response
+abbrev pub replies_to : (caller : ℕ) → List Reply
 replies_to c = map (λ e. e.reply) (own_in both_lives c)
 
 -- how many scripts of each caller are done behind both
@@ -70,8 +70,8 @@ abbrev pub done_in_both : List ℕ
 done_in_both = (start_behind_all worked_start both_lives).finished
 
 -- the answer of a script of one instruction
-abbrev pub answers : Option ℕ → Response
-answers v = Answered (v ∷ [])
+abbrev pub one_number_reply : Option ℕ → Reply
+one_number_reply v = Answered (v ∷ [])
 
 -- a call that was announced is run again
 abbrev pub runs_again : Life

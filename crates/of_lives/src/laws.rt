@@ -3,7 +3,7 @@
 ghost use Rattle.std.specs.Prelude.{◌≡◌, Some, None, [], ◌∷◌};
 ghost use Rattle.of_lives.specs.OneHistory.{LivesAreOneHistory};
 ghost use Rattle.of_lives.specs.Restarts.{LivesRestart};
-ghost use Rattle.of_lives.specs.Worked.{FollowsFirst, second_life, runs_again, begins_anew, forgets_store, skips_read, asked_by, replies_to, answers, done_in_both};
+ghost use Rattle.of_lives.specs.Worked.{FollowsFirst, second_life, runs_again, begins_anew, forgets_store, skips_read, asked_by, replies_to, one_number_reply, done_in_both};
 
 use of_caller::laws::runs_restart;
 use of_plan::laws::worked_reports;
@@ -30,7 +30,7 @@ pub fn lives_restart()
 pub fn worked_lives()
     ensures follows { FollowsFirst second_life }
     ensures asked_again { asked_by 0 ≡ 0 ∷ 1 ∷ 1 ∷ [] }
-    ensures in_its_place { replies_to 0 ≡ answers None ∷ answers (Some 6) ∷ answers (Some 7) ∷ [] }
+    ensures in_its_place { replies_to 0 ≡ one_number_reply None ∷ one_number_reply (Some 6) ∷ one_number_reply (Some 7) ∷ [] }
     ensures not_run_again { asked_by 1 ≡ 0 ∷ 1 ∷ 2 ∷ [] }
     ensures tickets { done_in_both ≡ 1 ∷ 3 ∷ [] }
     ensures call_run_again { FollowsFirst runs_again → ⊥ }

@@ -2,14 +2,14 @@
 
 ghost use Rattle.std.specs.Prelude.{◌≡◌, ◌≤◌, IfOk, All, vec_len};
 ghost use Rattle.of_mem.specs.declared.work.TheConstants.{MOST_INSTRS};
-ghost use Rattle.of_plan.specs.Ended.{run_of};
+ghost use Rattle.of_plan.specs.Ended.{ended_value};
 ghost use Rattle.of_eval.specs.Reported.{ReportsRun};
-ghost use Rattle.of_report.specs.Report.{report_of, HasWholeReplies};
-ghost use Rattle.of_report.specs.Image.{Image as PlainImage, IsImage, image_of, start_of};
+ghost use Rattle.of_report.specs.Report.{report_value, HasWholeReplies};
+ghost use Rattle.of_report.specs.Image.{Image as PlainImage, IsImage, image_value, start_of_image};
 ghost use Rattle.of_caller.specs.Stops.{KeepStops};
 ghost use Rattle.of_caller.specs.Allowances.{KeepAllowances};
 ghost use Rattle.of_lives.specs.OneHistory.{IsBehind};
-ghost use Rattle.of_lives.specs.Images.{Fits};
+ghost use Rattle.of_lives.specs.Images.{PlanFitsImage};
 ghost use Rattle.of_lives.specs.Continuing.{IsLifeOf, LeavesImage};
 
 use of_brake::Brake;
@@ -46,26 +46,26 @@ pub fn continue_from<R: Threads + Sync>(
     plan: &Plan,
     brakes: Vec<Box<dyn Brake + Send>>,
 ) -> Result<Life, AllocError>
-    requires image { IsImage MOST_INSTRS (image_of image.now) }
-    requires fits { Fits (image_of image.now) plan.now }
+    requires image { IsImage MOST_INSTRS (image_value image.now) }
+    requires fits { PlanFitsImage (image_value image.now) plan.now }
     requires brakes { plan.now.callers ≤ vec_len brakes }
     // The report is that of what a team has left, and is legal from the image's start.
-    ensures team { IfOk result (λ l. IsLifeOf (image_of image.now) plan.now
-        (run_of l.ended) l.pass.seat.me.0 (report_of l.report)) }
-    ensures report { IfOk result (λ l. ReportsRun plan.now (start_of (image_of image.now))
-        (run_of l.ended) (report_of l.report)) }
+    ensures team { IfOk result (λ l. IsLifeOf (image_value image.now) plan.now
+        (ended_value l.ended) l.pass.seat.me.0 (report_value l.report)) }
+    ensures report { IfOk result (λ l. ReportsRun plan.now (start_of_image (image_value image.now))
+        (ended_value l.ended) (report_value l.report)) }
     ensures whole { IfOk result (λ l. HasWholeReplies l.report) }
     // No call that the image holds is run again.
     ensures not_again { IfOk result (λ l.
-        All (IsBehind (start_of (image_of image.now))) (report_of l.report).entries) }
+        All (IsBehind (start_of_image (image_value image.now))) (report_value l.report).entries) }
     ensures stops { IfOk result (λ l.
-        KeepStops (λ b. left b) plan.now (run_of l.ended) 0 brakes.items) }
+        KeepStops (λ b. left b) plan.now (ended_value l.ended) 0 brakes.items) }
     // Each caller whose brake tells its steps left keeps its allowance.
     ensures allowances { IfOk result (λ l.
-        KeepAllowances (λ b. left b) plan.now (report_of l.report) 0 brakes.items) }
+        KeepAllowances (λ b. left b) plan.now (report_value l.report) 0 brakes.items) }
     // The next life can be given the image of the durable words, which is where this report ends.
     ensures leaves { IfOk result (λ l. (next : PlainImage) × LeavesImage plan.now
-        (start_of (image_of image.now)) (run_of l.ended) (report_of l.report) next) }
+        (start_of_image (image_value image.now)) (ended_value l.ended) (report_value l.report) next) }
 {
     teams_are_lawful(plan);
     let work = Scripts {

@@ -5,10 +5,10 @@ ghost use Rattle.std.specs.Prelude.{◌≡◌, ◌<◌, ◌≤◌, ◌↔◌, �
 ghost use Rattle.of_mem.specs.declared.work.TheConstants.{MOST_INSTRS};
 ghost use Rattle.of_script.specs.declared.instr.Reply.{Reply as TheReply};
 ghost use Rattle.of_eval.specs.Lawful.{reply_in};
-ghost use Rattle.of_report.specs.ImageRow.{cells_in};
-ghost use Rattle.of_report.specs.Image.{IsImage, image_of, ticket_in, start_of};
+ghost use Rattle.of_report.specs.ImageRow.{row_cell_count};
+ghost use Rattle.of_report.specs.Image.{IsImage, image_value, image_ticket, start_of_image};
 ghost use Rattle.of_caller.specs.PlanRows.{HasScripts};
-ghost use Rattle.of_lives.specs.Images.{number_of, Fits, HoldsReply};
+ghost use Rattle.of_lives.specs.Images.{image_number, PlanFitsImage, CallerHoldsReply};
 
 use of_cell::payload_of;
 use of_eval::reply_of;
@@ -19,7 +19,7 @@ use of_script::Reply;
 
 // Where the data cells of an image stand.
 fn plot(image: &Image) -> Plot
-    requires { IsImage MOST_INSTRS (image_of image.now) }
+    requires { IsImage MOST_INSTRS (image_value image.now) }
     ensures callers { result.callers ≡ image.now.callers }
     ensures instrs { result.instrs ≡ MOST_INSTRS }
     ensures blocks { result.blocks ≡ image.now.blocks }
@@ -33,9 +33,9 @@ fn plot(image: &Image) -> Plot
 
 // The number in a data cell of an image.
 fn number(image: &Image, cell: u32) -> u32
-    requires image { IsImage MOST_INSTRS (image_of image.now) }
-    requires cell { cell < cells_in MOST_INSTRS (image_of image.now).row }
-    ensures { result ≡ number_of (image_of image.now) cell }
+    requires image { IsImage MOST_INSTRS (image_value image.now) }
+    requires cell { cell < row_cell_count MOST_INSTRS (image_value image.now).row }
+    ensures { result ≡ image_number (image_value image.now) cell }
 {
     payload_of(image.durable[(image.callers + 1 + cell) as usize])
 }
@@ -43,9 +43,9 @@ fn number(image: &Image, cell: u32) -> u32
 // Whether each caller has the scripts that are done.
 #[tactic(auto, using(crate::proofs::ImageStarts::done_is_ticket))]
 fn has_scripts(image: &Image, plan: &Plan) -> bool
-    requires image { IsImage MOST_INSTRS (image_of image.now) }
+    requires image { IsImage MOST_INSTRS (image_value image.now) }
     requires callers { plan.now.callers ≡ image.now.callers }
-    ensures { IsTrue result ↔ HasScripts plan.now (start_of (image_of image.now)) }
+    ensures { IsTrue result ↔ HasScripts plan.now (start_of_image (image_value image.now)) }
 {
     for caller in 0..plan.callers() {
         if image.ticket(caller) as usize > plan.scripts(caller).len() {
@@ -58,8 +58,8 @@ fn has_scripts(image: &Image, plan: &Plan) -> bool
 /// Whether a plan can go on from an image: it has as many callers and blocks, its limit is no lower
 /// than the image's sequence, and each caller has at least as many scripts as its ticket says.
 pub fn fits(image: &Image, plan: &Plan) -> bool
-    requires { IsImage MOST_INSTRS (image_of image.now) }
-    ensures { IsTrue result ↔ Fits (image_of image.now) plan.now }
+    requires { IsImage MOST_INSTRS (image_value image.now) }
+    ensures { IsTrue result ↔ PlanFitsImage (image_value image.now) plan.now }
 {
     plan.callers() == image.callers
         && plan.blocks() == image.blocks
@@ -69,9 +69,9 @@ pub fn fits(image: &Image, plan: &Plan) -> bool
 
 // The reply in a caller's own cells.
 fn reply(image: &Image, caller: u32) -> RawReply
-    requires image { IsImage MOST_INSTRS (image_of image.now) }
+    requires image { IsImage MOST_INSTRS (image_value image.now) }
     requires caller { caller < image.now.callers }
-    ensures { result ≡ reply_in MOST_INSTRS (number_of (image_of image.now)) caller }
+    ensures { result ≡ reply_in MOST_INSTRS (image_number (image_value image.now)) caller }
 {
     let plot = plot(image);
     let mut values = [0; MOST_INSTRS];
@@ -88,13 +88,13 @@ fn reply(image: &Image, caller: u32) -> RawReply
 /// stopped before it was answered: no later life runs it again. None where no call of the caller was
 /// announced.
 pub fn last_reply(image: &Image, caller: u32) -> Option<(u32, Reply)>
-    requires image { IsImage MOST_INSTRS (image_of image.now) }
+    requires image { IsImage MOST_INSTRS (image_value image.now) }
     requires caller { caller < image.now.callers }
-    ensures none { IsNone result ↔ (ticket_in (image_of image.now) caller ≡ 0) }
-    ensures ticket { IfSome result (λ r. r.0 ≡ ticket_in (image_of image.now) caller) }
-    ensures reply { IfSome result (λ r. HoldsReply (image_of image.now) caller r.1) }
+    ensures none { IsNone result ↔ (image_ticket (image_value image.now) caller ≡ 0) }
+    ensures ticket { IfSome result (λ r. r.0 ≡ image_ticket (image_value image.now) caller) }
+    ensures reply { IfSome result (λ r. CallerHoldsReply (image_value image.now) caller r.1) }
     // No other reply is held.
-    ensures only { (r : TheReply) → HoldsReply (image_of image.now) caller r
+    ensures only { (r : TheReply) → CallerHoldsReply (image_value image.now) caller r
         → IfSome result (λ given. given.1 ≡ r) }
 {
     let ticket = image.ticket(caller);

@@ -6,22 +6,22 @@ use Rattle.of_mem.proofs.Runs.{stays_then, stays_after, reads_then}
 use Rattle.of_alloc.specs.BlockPrograms.{take_program}
 use Rattle.of_alloc.proofs.Staying.{take_stays}
 use Rattle.of_map.specs.declared.answers.Position.{Position}
-use Rattle.of_map.specs.MapPrograms.{seek_program, got, get_program, put_new, put_found, put_program, del_found, del_program, count_program}
+use Rattle.of_map.specs.MapPrograms.{seek_program, get_at, get_program, put_new, put_found, put_program, del_found, del_program, count_program}
 use Rattle.of_map.proofs.Seeks.{seek_stays, seek_yields, IsFrom}
 
 module _ (o blocks key : ℕ) where
   seeking : StaysFrom o (seek_program o blocks key) × OnlyReads (seek_program o blocks key)
   seeking = seek_stays o key (blocks + 1) (bucket_at o (key % 32)) (omega arith)
 
-  got_stays : (r : Option Position) → StaysFrom o (got o r) × OnlyReads (got o r)
+  got_stays : (r : Option Position) → StaysFrom o (get_at o r) × OnlyReads (get_at o r)
   got_stays None = (tt, tt)
   got_stays (Some r) = ((omega arith, λ v. tt), λ v. tt)
 
   pub get_stays : StaysFrom o (get_program o blocks key)
-  get_stays = stays_then o (seek_program o blocks key) (got o) seeking.0 (λ r. (got_stays r).0)
+  get_stays = stays_then o (seek_program o blocks key) (get_at o) seeking.0 (λ r. (got_stays r).0)
 
   pub get_reads : OnlyReads (get_program o blocks key)
-  get_reads = reads_then (seek_program o blocks key) (got o) seeking.1 (λ r. (got_stays r).1)
+  get_reads = reads_then (seek_program o blocks key) (get_at o) seeking.1 (λ r. (got_stays r).1)
 
   new_stays : (v : ℕ) (r : Option ℕ) → StaysFrom o (put_new o key v r)
   new_stays v None = tt

@@ -4,9 +4,9 @@ use Rattle.std.specs.FinMap as fin
 use Rattle.of_mem.specs.declared.part.Need.{Need}
 use Rattle.of_mem.specs.declared.plot.Plot.{Plot}
 use Rattle.of_mem.specs.Numbers.{IsNumber}
-use Rattle.of_mem.specs.Pad.{Pad}
-use Rattle.of_mem.specs.Stores.{Store, things}
-use Rattle.of_mem.specs.Calls.{Acts}
+use Rattle.of_mem.specs.Pad.{Part}
+use Rattle.of_mem.specs.Stores.{CellStore, thing_count}
+use Rattle.of_mem.specs.Calls.{ActsOnStore}
 use Rattle.of_map.specs.declared.answers.Put.{Put}
 use Rattle.of_map.specs.declared.answers.Put.TheVariants.{Full, New, Over}
 
@@ -14,7 +14,7 @@ use Rattle.of_map.specs.declared.answers.Put.TheVariants.{Full, New, Over}
 abbrev pub IsPair : ℕ → ℕ → Type 0
 IsPair key v = IsNumber key × IsNumber v
 
-abbrev pub with_put : Store → ℕ → ℕ → Store
+abbrev pub with_put : CellStore → ℕ → ℕ → CellStore
 with_put s key v = record s { map = fin.insert s.map key v }
 
 -- what was there before; full for a new key where there is no room
@@ -23,24 +23,24 @@ put_answer (Some w) room = Over w
 put_answer None true = New
 put_answer None false = Full
 
-abbrev pub put_store : Store → ℕ → ℕ → Option ℕ → Bool → Store
+abbrev pub put_store : CellStore → ℕ → ℕ → Option ℕ → Bool → CellStore
 put_store s key v (Some w) room = with_put s key v
 put_store s key v None true = with_put s key v
 put_store s key v None false = s
 
 -- what a put answers, in a store with so many blocks
-abbrev pub answer_of_put : ℕ → ℕ → Store → Put
-answer_of_put blocks key s = put_answer (fin.get s.map key) (ltb (things s) blocks)
+abbrev pub answer_of_put : ℕ → ℕ → CellStore → Put
+answer_of_put blocks key s = put_answer (fin.get s.map key) (ltb (thing_count s) blocks)
 
 -- the store after it
-abbrev pub after_put : ℕ → ℕ → ℕ → Store → Store
-after_put blocks key v s = put_store s key v (fin.get s.map key) (ltb (things s) blocks)
+abbrev pub after_put : ℕ → ℕ → ℕ → CellStore → CellStore
+after_put blocks key v s = put_store s key v (fin.get s.map key) (ltb (thing_count s) blocks)
 
 -- the call put this value at this key, or found no room, and then it wrote nothing
-pub record Puts (plot : Plot) (before after : Pad) (key v : ℕ) (result : Result Put Need) : Type 0 where
-  pub acts : Acts plot before after result (answer_of_put plot.blocks key) (after_put plot.blocks key v)
+pub record PutsValue (plot : Plot) (before after : Part) (key v : ℕ) (result : Result Put Need) : Type 0 where
+  pub acts : ActsOnStore plot before after result (answer_of_put plot.blocks key) (after_put plot.blocks key v)
   pub full : IfOk result (λ r. r ≡ Full → after ≡ before)
 
 -- the store after a del
-abbrev pub after_del : ℕ → Store → Store
+abbrev pub after_del : ℕ → CellStore → CellStore
 after_del key s = record s { map = fin.remove s.map key }

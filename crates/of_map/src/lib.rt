@@ -3,15 +3,15 @@
 
 ghost use Rattle.std.specs.Prelude.{◌≡◌, ◌≢◌, ◌%◌, ◌<◌, ◌≤◌, ℕ, Some, length, IfOk, MatchResult};
 ghost use Rattle.std.specs.FinMap as fin;
-ghost use Rattle.of_mem.specs.Plots.{base, size};
+ghost use Rattle.of_mem.specs.Plots.{base, data_cell_count};
 ghost use Rattle.of_mem.specs.Places.{keys_at};
-ghost use Rattle.of_mem.specs.Pad.{newest};
-ghost use Rattle.of_mem.specs.Calls.{RunsOn, HasStore, Answers, Acts};
+ghost use Rattle.of_mem.specs.Pad.{newest_at};
+ghost use Rattle.of_mem.specs.Calls.{RunsProgram, HasStore, AnswersOfStore, ActsOnStore};
 ghost use Rattle.of_map.specs.declared.answers.Put.TheVariants.{Full};
 ghost use Rattle.of_map.specs.MapPrograms.{seek, get, read_value, put, change, insert, fill, del, unlink, give_back, count_down, count};
 ghost use Rattle.of_mem.specs.Programs.{NeedsAt};
-ghost use Rattle.of_map.specs.Found.{Leads, LeadsFrom, Looks, CanFill, IsKept, IsUnlinked};
-ghost use Rattle.of_map.specs.Means.{IsPair, Puts, after_del};
+ghost use Rattle.of_map.specs.Found.{HasBucketChain, HasChainFrom, Looks, CanFill, IsKept, IsUnlinked};
+ghost use Rattle.of_map.specs.Means.{IsPair, PutsValue, after_del};
 
 mod answers;
 
@@ -21,9 +21,9 @@ use of_mem::{BUCKETS, Need, Part, Plot, Walk};
 
 /// Where the block of a key stands, None where the key is absent.
 fn seek(plot: &Plot, part: &mut Part, key: u32) -> Result<Option<Position>, Need>
-    requires { Leads plot.now part.old key }
+    requires { HasBucketChain plot.now part.old key }
     ensures part { part.new ≡ part.old }
-    ensures runs { RunsOn (seek plot.now key) part.old part.new result }
+    ensures runs { RunsProgram (seek plot.now key) part.old part.new result }
 {
     let start = part.walk(plot, key);
     let mut cell = start.cell;
@@ -49,7 +49,7 @@ fn seek(plot: &Plot, part: &mut Part, key: u32) -> Result<Option<Position>, Need
 
 /// Looks at the block to which a cell points.
 fn look(plot: &Plot, part: &Part, key: u32, cell: u32) -> Result<Look, Need>
-    requires { LeadsFrom plot.now part.now cell }
+    requires { HasChainFrom plot.now part.now cell }
     ensures { Looks plot.now part.now key cell result }
 {
     let pointer = part.read(cell)?;
@@ -82,8 +82,8 @@ pub fn reach(plot: &Plot, part: &mut Part, key: u32) -> Result<(), Need>
 pub fn get(plot: &Plot, part: &mut Part, key: u32) -> Result<Option<u32>, Need>
     requires { HasStore plot.now part.old }
     ensures part { part.new ≡ part.old }
-    ensures runs { RunsOn (get plot.now key) part.old part.new result }
-    ensures answers { Answers plot.now part.old result (λ s. fin.get s.map key) }
+    ensures runs { RunsProgram (get plot.now key) part.old part.new result }
+    ensures answers { AnswersOfStore plot.now part.old result (λ s. fin.get s.map key) }
 {
     match seek(plot, part, key)? {
         None => Ok(None),
@@ -93,9 +93,9 @@ pub fn get(plot: &Plot, part: &mut Part, key: u32) -> Result<Option<u32>, Need>
 
 /// The value in a block.
 fn read_value(plot: &Plot, part: &Part, block: u32) -> Result<Option<u32>, Need>
-    requires fits { length part.now.known ≡ size plot.now }
+    requires fits { length part.now.known ≡ data_cell_count plot.now }
     requires block { block < plot.now.blocks }
-    ensures { RunsOn (read_value plot.now block) part.now part.now result }
+    ensures { RunsProgram (read_value plot.now block) part.now part.now result }
 {
     let value = part.read(plot.block(block, 1))?;
     Ok(Some(value))
@@ -108,8 +108,8 @@ fn read_value(plot: &Plot, part: &Part, block: u32) -> Result<Option<u32>, Need>
 pub fn put(plot: &Plot, part: &mut Part, key: u32, value: u32) -> Result<Put, Need>
     requires stands { HasStore plot.now part.old }
     requires pair { IsPair key value }
-    ensures runs { RunsOn (put plot.now key value) part.old part.new result }
-    ensures puts { Puts plot.now part.old part.new key value result }
+    ensures runs { RunsProgram (put plot.now key value) part.old part.new result }
+    ensures puts { PutsValue plot.now part.old part.new key value result }
 {
     match seek(plot, part, key)? {
         Some(place) => change(plot, part, place.block, value),
@@ -119,9 +119,9 @@ pub fn put(plot: &Plot, part: &mut Part, key: u32, value: u32) -> Result<Put, Ne
 
 /// Changes the value in a block, and answers the value before.
 fn change(plot: &Plot, part: &mut Part, block: u32, value: u32) -> Result<Put, Need>
-    requires fits { length part.old.known ≡ size plot.now }
+    requires fits { length part.old.known ≡ data_cell_count plot.now }
     requires block { block < plot.now.blocks }
-    ensures runs { RunsOn (change plot.now block value) part.old part.new result }
+    ensures runs { RunsProgram (change plot.now block value) part.old part.new result }
     ensures over { IfOk result (λ r. r ≢ Full) }
 {
     let cell = plot.block(block, 1);
@@ -134,7 +134,7 @@ fn change(plot: &Plot, part: &mut Part, block: u32, value: u32) -> Result<Put, N
 #[tactic(auto, using(of_mem::proofs::Runs::run_then_needs))]
 fn insert(plot: &Plot, part: &mut Part, key: u32, value: u32) -> Result<Put, Need>
     requires { HasStore plot.now part.old }
-    ensures runs { RunsOn (insert plot.now key value) part.old part.new result }
+    ensures runs { RunsProgram (insert plot.now key value) part.old part.new result }
     ensures full { IfOk result (λ r. r ≡ Full → part.new ≡ part.old) }
 {
     match of_alloc::take(plot, part)? {
@@ -146,7 +146,7 @@ fn insert(plot: &Plot, part: &mut Part, key: u32, value: u32) -> Result<Put, Nee
 /// Makes a block that was taken the front of its key's bucket.
 fn fill(plot: &Plot, part: &mut Part, key: u32, value: u32, block: u32) -> Result<Put, Need>
     requires { CanFill plot.now part.old block }
-    ensures runs { RunsOn (fill plot.now key value block) part.old part.new result }
+    ensures runs { RunsProgram (fill plot.now key value block) part.old part.new result }
     ensures filled { IfOk result (λ r. r ≢ Full) }
 {
     part.write(plot.block(block, 0), key);
@@ -165,8 +165,8 @@ fn fill(plot: &Plot, part: &mut Part, key: u32, value: u32, block: u32) -> Resul
 #[tactic(auto, using(of_mem::proofs::Runs::run_then_needs))]
 pub fn del(plot: &Plot, part: &mut Part, key: u32) -> Result<Option<u32>, Need>
     requires { HasStore plot.now part.old }
-    ensures runs { RunsOn (del plot.now key) part.old part.new result }
-    ensures acts { Acts plot.now part.old part.new result (λ s. fin.get s.map key) (after_del key) }
+    ensures runs { RunsProgram (del plot.now key) part.old part.new result }
+    ensures acts { ActsOnStore plot.now part.old part.new result (λ s. fin.get s.map key) (after_del key) }
 {
     match seek(plot, part, key)? {
         None => Ok(None),
@@ -177,7 +177,7 @@ pub fn del(plot: &Plot, part: &mut Part, key: u32) -> Result<Option<u32>, Need>
 /// Takes a key's block out of its bucket.
 fn unlink(plot: &Plot, part: &mut Part, key: u32, place: Position) -> Result<Option<u32>, Need>
     requires { IsKept plot.now part.old key place }
-    ensures { RunsOn (unlink plot.now place) part.old part.new result }
+    ensures { RunsProgram (unlink plot.now place) part.old part.new result }
 {
     let value = part.read(plot.block(place.block, 1))?;
     let link = part.read(plot.block(place.block, 2))?;
@@ -189,7 +189,7 @@ fn unlink(plot: &Plot, part: &mut Part, key: u32, place: Position) -> Result<Opt
 #[tactic(auto, using(of_mem::proofs::Runs::run_then_needs))]
 fn give_back(plot: &Plot, part: &mut Part, block: u32, value: u32) -> Result<Option<u32>, Need>
     requires { IsUnlinked plot.now part.old block }
-    ensures { RunsOn (give_back plot.now block value) part.old part.new result }
+    ensures { RunsProgram (give_back plot.now block value) part.old part.new result }
 {
     of_alloc::give(plot, part, block)?;
     count_down(plot, part, value)
@@ -197,9 +197,9 @@ fn give_back(plot: &Plot, part: &mut Part, block: u32, value: u32) -> Result<Opt
 
 /// Counts one key less.
 fn count_down(plot: &Plot, part: &mut Part, value: u32) -> Result<Option<u32>, Need>
-    requires fits { length part.old.known ≡ size plot.now }
-    requires keys { (k : ℕ) → newest part.old (keys_at (base plot.now)) ≡ Some k → 1 ≤ k }
-    ensures { RunsOn (count_down plot.now value) part.old part.new result }
+    requires fits { length part.old.known ≡ data_cell_count plot.now }
+    requires keys { (k : ℕ) → newest_at part.old (keys_at (base plot.now)) ≡ Some k → 1 ≤ k }
+    ensures { RunsProgram (count_down plot.now value) part.old part.new result }
 {
     let keys = part.read(plot.keys())?;
     part.write(plot.keys(), keys - 1);
@@ -209,8 +209,8 @@ fn count_down(plot: &Plot, part: &mut Part, value: u32) -> Result<Option<u32>, N
 /// The number of keys. The error names the cell that counts them where it isn't known.
 pub fn count(plot: &Plot, part: &Part) -> Result<u32, Need>
     requires { HasStore plot.now part.now }
-    ensures runs { RunsOn (count plot.now) part.now part.now result }
-    ensures answers { Answers plot.now part.now result (λ s. fin.len s.map) }
+    ensures runs { RunsProgram (count plot.now) part.now part.now result }
+    ensures answers { AnswersOfStore plot.now part.now result (λ s. fin.len s.map) }
 {
     part.read(plot.keys())
 }

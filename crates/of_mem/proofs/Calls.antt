@@ -4,15 +4,15 @@ use Rattle.std.specs.Prelude.{Result, IfOk}
 use Rattle.std.proofs.lemmas.Result.{MatchResult-weaker}
 use Rattle.of_mem.specs.declared.part.Need.{Need}
 use Rattle.of_mem.specs.declared.plot.Plot.{Plot}
-use Rattle.of_mem.specs.Plots.{base, size}
-use Rattle.of_mem.specs.Pad.{Pad}
-use Rattle.of_mem.specs.Programs.{Program, then_do, RunsAs, IsPartOf, Inside, answer, after}
-use Rattle.of_mem.specs.Stores.{Store}
-use Rattle.of_mem.specs.Calls.{RunsOn, StandsOn, Answers, ActsOn, Acts}
+use Rattle.of_mem.specs.Plots.{base, data_cell_count}
+use Rattle.of_mem.specs.Pad.{Part}
+use Rattle.of_mem.specs.Programs.{Program, then_do, RunsAs, IsPartOf, StaysBetween, program_answer, memory_after}
+use Rattle.of_mem.specs.Stores.{CellStore}
+use Rattle.of_mem.specs.Calls.{RunsProgram, PlotStandsForStore, AnswersOfStore, HasActedOnStore, ActsOnStore}
 use Rattle.of_mem.proofs.Runs.{run_then_at, run_ended, after_ended}
 
 -- the second call goes on where the first one answered r
-pub goes_on : {A B : Type 0} (f : Program A) (g : A → Program B) (p q n : Pad) (x r : A) (result : Result B Need) → RunsOn f p q (Ok x) → x ≡ r → RunsOn (g r) q n result → RunsOn (then_do f g) p n result
+pub goes_on : {A B : Type 0} (f : Program A) (g : A → Program B) (p q n : Part) (x r : A) (result : Result B Need) → RunsProgram f p q (Ok x) → x ≡ r → RunsProgram (g r) q n result → RunsProgram (then_do f g) p n result
 goes_on f g p q n x r result first e second =
     let on = run_then_at f g p q x r first.walk e in
     record {
@@ -22,30 +22,30 @@ goes_on f g p q n x r result first e second =
     }
 
 -- what a run to the end says of the answer
-pub so_ok : {A : Type 0} (f : Program A) (p q : Pad) (R : A → Type 0) (result : Result A Need) → RunsOn f p q result → ((r : A) → RunsAs f p r q → R r) → IfOk result R
+pub so_ok : {A : Type 0} (f : Program A) (p q : Part) (R : A → Type 0) (result : Result A Need) → RunsProgram f p q result → ((r : A) → RunsAs f p r q → R r) → IfOk result R
 so_ok f p q R result h k = MatchResult-weaker result h.walk k (λ _ _. tt)
 
 -- what a program does over each memory that stands for a store
-pub record Means {A : Type 0} (plot : Plot) (m : ℕ → ℕ) (s : Store) (f : Program A) (to_answer : Store → A) (next : Store → Store) : Type 0 where
-  pub inside : Inside (base plot) (size plot) f m
-  pub answers : answer f m ≡ to_answer s
-  pub stands : StandsOn plot (after f m) (next s)
+pub record Means {A : Type 0} (plot : Plot) (m : ℕ → ℕ) (s : CellStore) (f : Program A) (to_answer : CellStore → A) (next : CellStore → CellStore) : Type 0 where
+  pub inside : StaysBetween (base plot) (data_cell_count plot) f m
+  pub answers : program_answer f m ≡ to_answer s
+  pub stands : PlotStandsForStore plot (memory_after f m) (next s)
 
 -- a call acts on the store as its program does
-pub acts : {A : Type 0} (plot : Plot) (f : Program A) (to_answer : Store → A) (next : Store → Store) → ((m : ℕ → ℕ) (s : Store) → StandsOn plot m s → Means plot m s f to_answer next)
-    → (p q : Pad) (result : Result A Need) → RunsOn f p q result → Acts plot p q result to_answer next
-acts plot f to_answer next means p q result h = so_ok f p q (λ r. (m : ℕ → ℕ) (s : Store) → IsPartOf p m → StandsOn plot m s → ActsOn plot m s r q to_answer next) result h (λ r e m s is stands.
+pub acts : {A : Type 0} (plot : Plot) (f : Program A) (to_answer : CellStore → A) (next : CellStore → CellStore) → ((m : ℕ → ℕ) (s : CellStore) → PlotStandsForStore plot m s → Means plot m s f to_answer next)
+    → (p q : Part) (result : Result A Need) → RunsProgram f p q result → ActsOnStore plot p q result to_answer next
+acts plot f to_answer next means p q result h = so_ok f p q (λ r. (m : ℕ → ℕ) (s : CellStore) → IsPartOf p m → PlotStandsForStore plot m s → HasActedOnStore plot m s r q to_answer next) result h (λ r e m s is stands.
     let k = means m s stands in
-    let d = run_ended (base plot) (size plot) f p q m r is k.inside e in
+    let d = run_ended (base plot) (data_cell_count plot) f p q m r is k.inside e in
     let same = after_ended f p q m r is d in
     record {
       answers = d.answers ∙ k.answers;
       part = subst (IsPartOf q) same d.part;
-      stands = subst (λ (n : ℕ → ℕ). StandsOn plot n (next s)) same k.stands;
+      stands = subst (λ (n : ℕ → ℕ). PlotStandsForStore plot n (next s)) same k.stands;
     })
 
 -- a call answers what its program answers
-pub answered : {A : Type 0} (plot : Plot) (f : Program A) (to_answer : Store → A) → ((m : ℕ → ℕ) (s : Store) → StandsOn plot m s → Inside (base plot) (size plot) f m × (answer f m ≡ to_answer s))
-    → (p : Pad) (result : Result A Need) → RunsOn f p p result → Answers plot p result to_answer
-answered plot f to_answer means p result h = so_ok f p p (λ r. (m : ℕ → ℕ) (s : Store) → IsPartOf p m → StandsOn plot m s → r ≡ to_answer s) result h (λ r e m s is stands.
-    let k = means m s stands in (run_ended (base plot) (size plot) f p p m r is k.0 e).answers ∙ k.1)
+pub answered : {A : Type 0} (plot : Plot) (f : Program A) (to_answer : CellStore → A) → ((m : ℕ → ℕ) (s : CellStore) → PlotStandsForStore plot m s → StaysBetween (base plot) (data_cell_count plot) f m × (program_answer f m ≡ to_answer s))
+    → (p : Part) (result : Result A Need) → RunsProgram f p p result → AnswersOfStore plot p result to_answer
+answered plot f to_answer means p result h = so_ok f p p (λ r. (m : ℕ → ℕ) (s : CellStore) → IsPartOf p m → PlotStandsForStore plot m s → r ≡ to_answer s) result h (λ r e m s is stands.
+    let k = means m s stands in (run_ended (base plot) (data_cell_count plot) f p p m r is k.0 e).answers ∙ k.1)

@@ -4,29 +4,29 @@ use Rattle.std.proofs.lemmas.Bool.{cases_lt}
 use Rattle.std.proofs.lemmas.List.{length-map}
 use Rattle.std.specs.List.{AllByRecursion as Each}
 use Rattle.of_mem.specs.Places.{fresh_at, keys_at, tail_at, length_at}
-use Rattle.of_mem.specs.Stores.{Store, Stands, first_at, total, things, last_pointer}
+use Rattle.of_mem.specs.Stores.{CellStore, StandsForStore, first_at, blocks_in_chains, thing_count, last_pointer}
 use Rattle.of_mem.proofs.Heaps.{each_weaker}
 
-length_total : (chains : ℕ → List ℕ) (n c : ℕ) → c < n → length (chains c) ≤ total chains n
+length_total : (chains : ℕ → List ℕ) (n c : ℕ) → c < n → length (chains c) ≤ blocks_in_chains chains n
 length_total chains zero c l = absurd (omega arith)
 length_total chains (suc n) c l = elim (cases_lt c n) [
-  | inl k ↦ let r : length (chains c) ≤ total chains n = length_total chains n c k in omega arith
+  | inl k ↦ let r : length (chains c) ≤ blocks_in_chains chains n = length_total chains n c k in omega arith
   | inr k ↦ let e : c ≡ n = omega arith in rw e (omega arith)
 ]
 
 -- two chains have no more blocks than all
-pub two_total : (chains : ℕ → List ℕ) (n c : ℕ) → 1 ≤ c → c < n → length (chains 0) + length (chains c) ≤ total chains n
+pub two_total : (chains : ℕ → List ℕ) (n c : ℕ) → 1 ≤ c → c < n → length (chains 0) + length (chains c) ≤ blocks_in_chains chains n
 two_total chains zero c k l = absurd (omega arith)
 two_total chains (suc n) c k l = elim (cases_lt c n) [
-  | inl q ↦ let r : length (chains 0) + length (chains c) ≤ total chains n = two_total chains n c k q in omega arith
-  | inr q ↦ let e : c ≡ n = omega arith in let r : length (chains 0) ≤ total chains n = length_total chains n 0 (omega arith) in rw e (omega arith)
+  | inl q ↦ let r : length (chains 0) + length (chains c) ≤ blocks_in_chains chains n = two_total chains n c k q in omega arith
+  | inr q ↦ let e : c ≡ n = omega arith in let r : length (chains 0) ≤ blocks_in_chains chains n = length_total chains n 0 (omega arith) in rw e (omega arith)
 ]
 
 -- the chains of the free list, of the buckets and of the queues, and the blocks that are out
-pub all_chains : (chains : ℕ → List ℕ) → total chains 38 ≡ total chains 33 + length (chains 33) + length (chains 34) + length (chains 35) + length (chains 36) + length (chains 37)
+pub all_chains : (chains : ℕ → List ℕ) → blocks_in_chains chains 38 ≡ blocks_in_chains chains 33 + length (chains 33) + length (chains 34) + length (chains 35) + length (chains 36) + length (chains 37)
 all_chains chains = refl
 
-module _ (o blocks : ℕ) (m : ℕ → ℕ) (s : Store) (h : Stands o blocks m s) where
+module _ (o blocks : ℕ) (m : ℕ → ℕ) (s : CellStore) (h : StandsForStore o blocks m s) where
   pub blocks_below : (c : ℕ) → c < 38 → Each (λ b. b < blocks) (h.chains c)
   blocks_below c l = each_weaker (λ b. (b < m (fresh_at o)) × (h.owner b ≡ c)) (λ b. b < blocks) (λ b k. omega (arith, k.0, h.heap.few)) (h.chains c) (h.heap.owned c l)
 
@@ -37,7 +37,7 @@ module _ (o blocks : ℕ) (m : ℕ → ℕ) (s : Store) (h : Stands o blocks m s
   lengths q l = sym (ap length (sym (h.holds.queues q l).listed) ∙ length-map (h.chains (33 + q)) (λ (b : ℕ). m (first_at o b)))
 
   -- the things and the free list are the blocks that were taken once
-  pub counted : things s + length (h.chains 0) ≡ m (fresh_at o)
+  pub counted : thing_count s + length (h.chains 0) ≡ m (fresh_at o)
   counted = omega (arith, all_chains h.chains, h.heap.counted, h.holds.key_blocks, lengths 0 (omega arith), lengths 1 (omega arith), lengths 2 (omega arith), lengths 3 (omega arith), ap length h.none_out)
 
   pub keys_small : m (keys_at o) ≤ blocks
@@ -50,5 +50,5 @@ last_below : (blocks p : ℕ) (l : List ℕ) → p ≤ blocks → Each (λ b. b 
 last_below blocks p [] h k = h
 last_below blocks p (b ∷ l) h k = last_below blocks (b + 1) l (omega (arith, k.0)) k.1
 
-pub tail_small : (o blocks : ℕ) (m : ℕ → ℕ) (s : Store) (h : Stands o blocks m s) (q : ℕ) → q < 4 → m (tail_at o q) ≤ blocks
+pub tail_small : (o blocks : ℕ) (m : ℕ → ℕ) (s : CellStore) (h : StandsForStore o blocks m s) (q : ℕ) → q < 4 → m (tail_at o q) ≤ blocks
 tail_small o blocks m s h q l = rw ((h.holds.queues q l).ends) (last_below blocks 0 (h.chains (33 + q)) (omega arith) (blocks_below o blocks m s h (33 + q) (omega arith)))

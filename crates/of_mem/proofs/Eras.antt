@@ -3,7 +3,7 @@ use Rattle.std.proofs.Common.{◌≡◌, ℕ, zero, suc, ◌<◌, ◌≤◌, ◌
 use Rattle.std.proofs.lemmas.Bool.Decides.{nat_tests}
 use Rattle.std.proofs.lemmas.List.{length-map, get_or-map, map-set}
 use Rattle.std.proofs.lemmas.List.Elements.{All-set, All-replicate}
-use Rattle.of_mem.specs.Eras.{number_in, numbers_in, IsBy}
+use Rattle.of_mem.specs.Eras.{slot_number, numbers_in, IsUpToEra}
 
 differs : (a b : ℕ) → (a ≡ b → ⊥) → (a == b) ≡ false
 differs a b e = grind (arith, nat_tests)
@@ -13,34 +13,34 @@ equals a = grind (arith, nat_tests)
 
 pub numbers_length : (era : ℕ) (slots : List (ℕ × ℕ)) → length (numbers_in era slots) ≡ length slots
 unfolding numbers_in
-numbers_length era slots = length-map slots (number_in era)
+numbers_length era slots = length-map slots (slot_number era)
 
-pub numbers_at : (era : ℕ) (slots : List (ℕ × ℕ)) (a : ℕ) (d : ℕ × ℕ) → a < length slots → get_or (numbers_in era slots) a None ≡ number_in era (get_or slots a d)
+pub numbers_at : (era : ℕ) (slots : List (ℕ × ℕ)) (a : ℕ) (d : ℕ × ℕ) → a < length slots → get_or (numbers_in era slots) a None ≡ slot_number era (get_or slots a d)
 unfolding numbers_in
-numbers_at era slots a d l = get_or-map (number_in era) slots a d None l
+numbers_at era slots a d l = get_or-map (slot_number era) slots a d None l
 
-pub number_here : (era : ℕ) (s : ℕ × ℕ) → s.0 ≡ era → number_in era s ≡ Some s.1
+pub number_here : (era : ℕ) (s : ℕ × ℕ) → s.0 ≡ era → slot_number era s ≡ Some s.1
 number_here era s e = rw (e, equals era) refl
 
-pub number_gone : (era : ℕ) (s : ℕ × ℕ) → (s.0 ≡ era → ⊥) → number_in era s ≡ None
+pub number_gone : (era : ℕ) (s : ℕ × ℕ) → (s.0 ≡ era → ⊥) → slot_number era s ≡ None
 number_gone era s e = rw (differs s.0 era e) refl
 
 pub numbers_set : (era : ℕ) (slots : List (ℕ × ℕ)) (a v : ℕ) → numbers_in era (set slots a (era, v)) ≡ set (numbers_in era slots) a (Some v)
 unfolding numbers_in
-numbers_set era slots a v = map-set (number_in era) slots a (era, v) ∙ ap (set (map (number_in era) slots) a) (number_here era (era, v) refl)
+numbers_set era slots a v = map-set (slot_number era) slots a (era, v) ∙ ap (set (map (slot_number era) slots) a) (number_here era (era, v) refl)
 
 pub numbers_unset : (era : ℕ) (slots : List (ℕ × ℕ)) (a : ℕ) → 1 ≤ era → numbers_in era (set slots a (0, 0)) ≡ set (numbers_in era slots) a None
 unfolding numbers_in
-numbers_unset era slots a l = map-set (number_in era) slots a (0, 0) ∙ ap (set (map (number_in era) slots) a) (number_gone era (0, 0) (λ q. omega arith))
+numbers_unset era slots a l = map-set (slot_number era) slots a (0, 0) ∙ ap (set (map (slot_number era) slots) a) (number_gone era (0, 0) (λ q. omega arith))
 
 -- what is read at an address
-pub number_read : (era : ℕ) (slots : List (ℕ × ℕ)) (cells : List (Option ℕ)) (a : ℕ) (s : ℕ × ℕ) → numbers_in era slots ≡ cells → a < length cells → s ≡ get_or slots a s → get_or cells a None ≡ number_in era s
+pub number_read : (era : ℕ) (slots : List (ℕ × ℕ)) (cells : List (Option ℕ)) (a : ℕ) (s : ℕ × ℕ) → numbers_in era slots ≡ cells → a < length cells → s ≡ get_or slots a s → get_or cells a None ≡ slot_number era s
 number_read era slots cells a s e l q =
     let size : length slots ≡ length cells = sym (numbers_length era slots) ∙ ap length e in
-    ap (λ (xs : List (Option ℕ)). get_or xs a None) (sym e) ∙ numbers_at era slots a s (omega (arith, l, size)) ∙ ap (number_in era) (sym q)
+    ap (λ (xs : List (Option ℕ)). get_or xs a None) (sym e) ∙ numbers_at era slots a s (omega (arith, l, size)) ∙ ap (slot_number era) (sym q)
 
 -- in a later era
-pub numbers_gone : (era later : ℕ) (slots : List (ℕ × ℕ)) → era < later → IsBy era slots → numbers_in later slots ≡ replicate (length slots) None
+pub numbers_gone : (era later : ℕ) (slots : List (ℕ × ℕ)) → era < later → IsUpToEra era slots → numbers_in later slots ≡ replicate (length slots) None
 unfolding numbers_in
 numbers_gone era later [] l h = refl
 numbers_gone era later (s ∷ slots) l h = let first : s.0 ≤ era = h 0 s (omega arith) in rw (number_gone later s (λ q. omega (arith, first, q, l))) (ap (λ (xs : List (Option ℕ)). None ∷ xs) (numbers_gone era later slots l (λ k d m. h (suc k) d (omega arith))))
@@ -50,13 +50,13 @@ unfolding numbers_in
 numbers_none zero = refl
 numbers_none (suc n) = ap (λ (xs : List (Option ℕ)). None ∷ xs) (numbers_none n)
 
-pub by_zeros : (era n : ℕ) → IsBy era (replicate n (0, 0))
+pub by_zeros : (era n : ℕ) → IsUpToEra era (replicate n (0, 0))
 by_zeros era n = All-replicate (λ (s : ℕ × ℕ). s.0 ≤ era) n (0, 0) (omega arith)
 
-pub by_set : (era : ℕ) (slots : List (ℕ × ℕ)) (a : ℕ) (s : ℕ × ℕ) → s.0 ≤ era → IsBy era slots → IsBy era (set slots a s)
+pub by_set : (era : ℕ) (slots : List (ℕ × ℕ)) (a : ℕ) (s : ℕ × ℕ) → s.0 ≤ era → IsUpToEra era slots → IsUpToEra era (set slots a s)
 by_set era slots a s l h = All-set (λ (t : ℕ × ℕ). t.0 ≤ era) slots a s l h
 
-pub by_later : (era later : ℕ) (slots : List (ℕ × ℕ)) → era ≤ later → IsBy era slots → IsBy later slots
+pub by_later : (era later : ℕ) (slots : List (ℕ × ℕ)) → era ≤ later → IsUpToEra era slots → IsUpToEra later slots
 by_later era later slots l h k d m = let e : (get_or slots k d).0 ≤ era = h k d m in omega (arith, e, l)
 
 pub ruleset era_laws = (numbers_length, numbers_at, numbers_set, numbers_unset, numbers_none, by_zeros, by_set)

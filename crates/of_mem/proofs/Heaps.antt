@@ -6,7 +6,7 @@ use Rattle.std.proofs.lemmas.Bool.Decides.{nat_tests}
 use Rattle.of_mem.specs.Numbers.{FitsCell}
 use Rattle.of_mem.specs.declared.plot.TheConstants.{MOST_BLOCKS}
 use Rattle.of_mem.specs.Places.{free_at, keys_at, bucket_at, head_at}
-use Rattle.of_mem.specs.Programs.{changed}
+use Rattle.of_mem.specs.Programs.{with_value}
 use Rattle.of_mem.specs.Stores.{IsChain, front_at, link_at, cell_after}
 use Rattle.of_mem.proofs.Changes.{changed_same, changed_other}
 
@@ -78,9 +78,9 @@ not_in o m c b (x ∷ xs) k h g s = (
 pub chain_once : (o : ℕ) (m : ℕ → ℕ) (c b : ℕ) (bs : List ℕ) → IsChain o m c (b ∷ bs) → Each (λ x. x ≢ b) bs
 chain_once o m c b bs h = not_in o m (link_at o b) b bs bs h.1 h.1 (omega arith)
 
-pub chain_changed : (o : ℕ) (m : ℕ → ℕ) (a v c : ℕ) (l : List ℕ) → c ≢ a → Each (λ b. link_at o b ≢ a) l → IsChain o m c l → IsChain o (changed m a v) c l
-chain_changed o m a v c l e h k = chain_copy o m (changed m a v) c c l (changed_other m a v c e)
-    (each_weaker (λ b. link_at o b ≢ a) (λ b. changed m a v (link_at o b) ≡ m (link_at o b)) (λ b n. changed_other m a v (link_at o b) n) l h) k
+pub chain_changed : (o : ℕ) (m : ℕ → ℕ) (a v c : ℕ) (l : List ℕ) → c ≢ a → Each (λ b. link_at o b ≢ a) l → IsChain o m c l → IsChain o (with_value m a v) c l
+chain_changed o m a v c l e h k = chain_copy o m (with_value m a v) c c l (changed_other m a v c e)
+    (each_weaker (λ b. link_at o b ≢ a) (λ b. with_value m a v (link_at o b) ≡ m (link_at o b)) (λ b n. changed_other m a v (link_at o b) n) l h) k
 
 -- a fact of the pointer cell behind these blocks
 pub cell_in : (o : ℕ) (P : ℕ → Type 0) (cell : ℕ) (xs : List ℕ) → P cell → Each (λ b. P (link_at o b)) xs → P (cell_after o cell xs)
@@ -91,10 +91,10 @@ pub link_apart : (o a b : ℕ) → a ≢ b → link_at o a ≢ link_at o b
 link_apart o a b n e = n (omega arith)
 
 pub chain_unlink : (o : ℕ) (m : ℕ → ℕ) (cell b : ℕ) (xs ys : List ℕ) → IsChain o m cell (xs ++ b ∷ ys) → Each (λ x. link_at o x ≢ cell) (xs ++ b ∷ ys)
-    → IsChain o (changed m (cell_after o cell xs) (m (link_at o b))) cell (xs ++ ys)
+    → IsChain o (with_value m (cell_after o cell xs) (m (link_at o b))) cell (xs ++ ys)
 chain_unlink o m cell b [] ys h k =
-    chain_copy o m (changed m cell (m (link_at o b))) (link_at o b) cell ys (changed_same m cell (m (link_at o b)))
-    (each_weaker (λ x. link_at o x ≢ cell) (λ x. changed m cell (m (link_at o b)) (link_at o x) ≡ m (link_at o x)) (λ x n. changed_other m cell (m (link_at o b)) (link_at o x) n) ys k.1) h.1
+    chain_copy o m (with_value m cell (m (link_at o b))) (link_at o b) cell ys (changed_same m cell (m (link_at o b)))
+    (each_weaker (λ x. link_at o x ≢ cell) (λ x. with_value m cell (m (link_at o b)) (link_at o x) ≡ m (link_at o x)) (λ x n. changed_other m cell (m (link_at o b)) (link_at o x) n) ys k.1) h.1
 chain_unlink o m cell b (x ∷ xs) ys h k = (
   changed_other m (cell_after o (link_at o x) xs) (m (link_at o b)) cell (cell_in o (λ a. cell ≢ a) (link_at o x) xs (λ (e : cell ≡ link_at o x). k.0 (sym e))
       (each_weaker (λ z. link_at o z ≢ cell) (λ z. cell ≢ link_at o z) (λ z n e. n (sym e)) xs (each_left (λ z. link_at o z ≢ cell) xs (b ∷ ys) k.1))) ∙ h.0,
@@ -102,7 +102,7 @@ chain_unlink o m cell b (x ∷ xs) ys h k = (
 )
 
 pub chain_append : (o : ℕ) (m : ℕ → ℕ) (cell b : ℕ) (l : List ℕ) → IsChain o m cell l → Each (λ x. link_at o x ≢ cell) l → link_at o b ≢ cell → Each (λ x. x ≢ b) l → m (link_at o b) ≡ 0
-    → IsChain o (changed m (cell_after o cell l) (b + 1)) cell (l ++ b ∷ [])
+    → IsChain o (with_value m (cell_after o cell l) (b + 1)) cell (l ++ b ∷ [])
 chain_append o m cell b [] h k n e z = (changed_same m cell (b + 1), changed_other m cell (b + 1) (link_at o b) n ∙ z)
 chain_append o m cell b (x ∷ xs) h k n e z = (
   changed_other m (cell_after o (link_at o x) xs) (b + 1) cell (cell_in o (λ a. cell ≢ a) (link_at o x) xs (λ (q : cell ≡ link_at o x). k.0 (sym q))

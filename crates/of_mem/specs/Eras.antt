@@ -3,13 +3,13 @@ use Rattle.std.specs.Prelude.{ℕ, ◌≤◌, ◌==◌, if◌then◌else◌, Lis
 use Rattle.std.specs.List.{All}
 
 -- the number of a slot in an era, where the slot is of that era
-abbrev pub number_in : ℕ → ℕ × ℕ → Option ℕ
-number_in era s = if s.0 == era then Some s.1 else None
+abbrev pub slot_number : ℕ → ℕ × ℕ → Option ℕ
+slot_number era s = if s.0 == era then Some s.1 else None
 
 -- what slots hold in an era
 unfoldable pub numbers_in : ℕ → List (ℕ × ℕ) → List (Option ℕ)
-numbers_in era slots = map (number_in era) slots
+numbers_in era slots = map (slot_number era) slots
 
 -- no slot is of a later era
-abbrev pub IsBy : ℕ → List (ℕ × ℕ) → Type 0
-IsBy era slots = All (λ (s : ℕ × ℕ). s.0 ≤ era) slots
+abbrev pub IsUpToEra : ℕ → List (ℕ × ℕ) → Type 0
+IsUpToEra era slots = All (λ (s : ℕ × ℕ). s.0 ≤ era) slots

@@ -8,9 +8,9 @@ use Rattle.of_mem.specs.declared.part.Need.{Need}
 use Rattle.of_mem.specs.declared.work.RawReply.{RawReply}
 
 -- how a run on known cells ends: at a cell that it needs and that isn't known, or with its writes in order of first writing and its reply
-pub data Walked : Type 0 where
-  Needs : ℕ → Walked
-  Gives : List (ℕ × ℕ) → RawReply → Walked
+pub data WalkEnd : Type 0 where
+  Needs : ℕ → WalkEnd
+  Gives : List (ℕ × ℕ) → RawReply → WalkEnd
 
 -- all that steps compute with; which lists are lawful is a member of its own
 pub record Meaning : Type 0 where
@@ -18,14 +18,14 @@ pub record Meaning : Type 0 where
   pub cells : List ℕ → List ℕ → List ℕ
   pub reply : List ℕ → List ℕ → RawReply
   -- from what is known of each cell
-  pub walk : List (Option ℕ) → List ℕ → Walked
+  pub walk : List (Option ℕ) → List ℕ → WalkEnd
   -- the operations that are known to write nothing
   pub reads_only : List ℕ → Bool
 
 -- the list with these numbers written, in order
-abbrev pub written : List ℕ → List (ℕ × ℕ) → List ℕ
-written xs [] = xs
-written xs (e ∷ es) = written (set xs e.0 e.1) es
+abbrev pub with_writes_in : List ℕ → List (ℕ × ℕ) → List ℕ
+with_writes_in xs [] = xs
+with_writes_in xs (e ∷ es) = with_writes_in (set xs e.0 e.1) es
 
 -- each cell that is known has the list's number
 abbrev pub Agrees : List (Option ℕ) → List ℕ → Type 0
@@ -47,32 +47,32 @@ abbrev pub SameFrom : ℕ → List ℕ → List ℕ → Type 0
 SameFrom base xs ys = drop base xs ≡ drop base ys
 
 -- whether a reply of this shape has a number at that place
-unfoldable pub marked : ℕ → ℕ → Bool
-marked shape j = shape / 2 ^ j % 2 == 1
+unfoldable pub is_marked : ℕ → ℕ → Bool
+is_marked shape j = shape / 2 ^ j % 2 == 1
 
 -- no cell stands twice in it
-abbrev pub Once : List (ℕ × ℕ) → Type 0
-Once es = (j k : ℕ) → j < length es → k < length es → (get_or es j (0, 0)).0 ≡ (get_or es k (0, 0)).0 → j ≡ k
+abbrev pub HasDistinctCells : List (ℕ × ℕ) → Type 0
+HasDistinctCells es = (j k : ℕ) → j < length es → k < length es → (get_or es j (0, 0)).0 ≡ (get_or es k (0, 0)).0 → j ≡ k
 
 -- what a finished walk says is so of the list
-pub record Finishes (M : Meaning) (base size : ℕ) (xs op : List ℕ) (es : List (ℕ × ℕ)) (r : RawReply) : Type 0 where
+pub record IsFinishedWalk (M : Meaning) (base size : ℕ) (xs op : List ℕ) (es : List (ℕ × ℕ)) (r : RawReply) : Type 0 where
   pub inside : All (λ (e : ℕ × ℕ). (base ≤ e.0) × (e.0 < size) × FitsCell e.1) es
-  pub once : Once es
-  pub cells : M.cells xs op ≡ written xs es
+  pub once : HasDistinctCells es
+  pub cells : M.cells xs op ≡ with_writes_in xs es
   pub reply : M.reply xs op ≡ r
   pub shape : FitsCell r.shape
   pub values : All FitsCell r.values
   -- a number is marked only for an instruction of a script that wasn't aborted
-  pub marks : (j : ℕ) → j < MOST_INSTRS → marked r.shape j ≡ true → (r.shape < LEAST_ABORT) × (j < length op) × (j < length r.values)
+  pub marks : (j : ℕ) → j < MOST_INSTRS → is_marked r.shape j ≡ true → (r.shape < LEAST_ABORT) × (j < length op) × (j < length r.values)
   -- 0 stands where none is marked
-  pub rest : (j : ℕ) → j < MOST_INSTRS → marked r.shape j ≡ false → get_or r.values j 0 ≡ 0
+  pub rest : (j : ℕ) → j < MOST_INSTRS → is_marked r.shape j ≡ false → get_or r.values j 0 ≡ 0
   -- an operation that only reads writes nothing
   pub reads : M.reads_only op ≡ true → es ≡ []
 
 -- what a walk says is so of a list with which the known cells agree
-abbrev pub Fits : Meaning → ℕ → ℕ → List (Option ℕ) → List ℕ → List ℕ → Walked → Type 0
-Fits M base size known xs op (Needs a) = (base ≤ a) × (a < size) × (get_or known a None ≡ None)
-Fits M base size known xs op (Gives es r) = Finishes M base size xs op es r
+abbrev pub WalkFits : Meaning → ℕ → ℕ → List (Option ℕ) → List ℕ → List ℕ → WalkEnd → Type 0
+WalkFits M base size known xs op (Needs a) = (base ≤ a) × (a < size) × (get_or known a None ≡ None)
+WalkFits M base size known xs op (Gives es r) = IsFinishedWalk M base size xs op es r
 
 -- there are as many callers as there may be, and the cells have room for what belongs to them
 pub record HasRoom (many size : ℕ) : Type 0 where
@@ -82,7 +82,7 @@ pub record HasRoom (many size : ℕ) : Type 0 where
   pub small : size ≤ MOST_DATA_CELLS
 
 -- the rules of a meaning
-pub record Sound (M : Meaning) (lawful : List ℕ → Type 0) (base size : ℕ) : Type 0 where
+pub record IsSoundMeaning (M : Meaning) (lawful : List ℕ → Type 0) (base size : ℕ) : Type 0 where
   pub zeros : (xs : List ℕ) → length xs ≡ size → ((a : ℕ) → get_or xs a 0 ≡ 0) → lawful xs
   pub leads : (xs op : List ℕ) → length xs ≡ size → lawful xs → lawful (M.cells xs op)
   pub keeps_length : (xs op : List ℕ) → length xs ≡ size → length (M.cells xs op) ≡ size
@@ -91,4 +91,4 @@ pub record Sound (M : Meaning) (lawful : List ℕ → Type 0) (base size : ℕ) 
   pub cells_from : (xs ys op : List ℕ) → length xs ≡ size → length ys ≡ size → SameFrom base xs ys → SameFrom base (M.cells xs op) (M.cells ys op)
   pub reply_from : (xs ys op : List ℕ) → length xs ≡ size → length ys ≡ size → SameFrom base xs ys → M.reply xs op ≡ M.reply ys op
   pub walk_from : (known others : List (Option ℕ)) (op : List ℕ) → length known ≡ size → length others ≡ size → drop base known ≡ drop base others → M.walk known op ≡ M.walk others op
-  pub walks : (known : List (Option ℕ)) (xs op : List ℕ) → length xs ≡ size → lawful xs → Agrees known xs → Fits M base size known xs op (M.walk known op)
+  pub walks : (known : List (Option ℕ)) (xs op : List ℕ) → length xs ≡ size → lawful xs → Agrees known xs → WalkFits M base size known xs op (M.walk known op)

@@ -6,14 +6,14 @@ use Rattle.of_mem.specs.declared.plot.TheConstants.{FRESH, FREE, KEYS, FIRST_BUC
 abbrev pub base_of : ℕ → ℕ → ℕ
 base_of callers instrs = callers * (instrs + 2)
 
-abbrev pub ticket_at : ℕ → ℕ → ℕ
-ticket_at instrs caller = caller * (instrs + 2)
+abbrev pub ticket_cell_at : ℕ → ℕ → ℕ
+ticket_cell_at instrs caller = caller * (instrs + 2)
 
 abbrev pub shape_at : ℕ → ℕ → ℕ
-shape_at instrs caller = ticket_at instrs caller + 1
+shape_at instrs caller = ticket_cell_at instrs caller + 1
 
 abbrev pub reply_at : ℕ → ℕ → ℕ → ℕ
-reply_at instrs caller place = ticket_at instrs caller + 2 + place
+reply_at instrs caller place = ticket_cell_at instrs caller + 2 + place
 
 abbrev pub register_at : ℕ → ℕ → ℕ
 register_at o r = o + r

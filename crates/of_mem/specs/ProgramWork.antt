@@ -5,46 +5,46 @@ use Rattle.std.proofs.Common.{get_or}
 use Rattle.of_mem.specs.declared.work.RawReply.{RawReply}
 use Rattle.of_mem.specs.declared.work.TheConstants.{MOST_INSTRS, LEAST_ABORT}
 use Rattle.of_mem.specs.Numbers.{FitsCell}
-use Rattle.of_mem.specs.Pad.{Pad}
-use Rattle.of_mem.specs.Programs.{Program, Ran, Lacks, Ends, run, answer, after, writes, Inside, StaysFrom, OnlyReads}
-use Rattle.of_mem.specs.Meaning.{Meaning, Walked, Needs, Gives, written, marked}
+use Rattle.of_mem.specs.Pad.{Part}
+use Rattle.of_mem.specs.Programs.{Program, RunEnd, Lacks, Ends, run_program, program_answer, memory_after, program_writes, StaysBetween, StaysFrom, OnlyReads}
+use Rattle.of_mem.specs.Meaning.{Meaning, WalkEnd, Needs, Gives, with_writes_in, is_marked}
 
 -- a list of cells as a memory
-abbrev pub memory : List ℕ → ℕ → ℕ
-memory xs a = get_or xs a 0
+abbrev pub memory_of : List ℕ → ℕ → ℕ
+memory_of xs a = get_or xs a 0
 
 -- partial memory in which these cells are known
-abbrev pub fresh_pad : List (Option ℕ) → Pad
-fresh_pad known = record { known = known; batch = []; script = [] }
+abbrev pub fresh_part : List (Option ℕ) → Part
+fresh_part known = record { known = known; batch = []; script = [] }
 
 -- the walk that a run makes; a reply that is no success drops the writes
-abbrev pub walked : (RawReply → Bool) → Ran RawReply → Walked
-walked keeps (Lacks a) = Needs a
-walked keeps (Ends r q) = Gives (cond (keeps r) q.script []) r
+abbrev pub walk_of_run : (RawReply → Bool) → RunEnd RawReply → WalkEnd
+walk_of_run keeps (Lacks a) = Needs a
+walk_of_run keeps (Ends r q) = Gives (cond (keeps r) q.script []) r
 
 -- what operations do that are programs; keeps says which replies are a success, reads which operations are known to write nothing
 abbrev pub meaning_of : (RawReply → Bool) → (List ℕ → Bool) → (List ℕ → Program RawReply) → Meaning
 meaning_of keeps reads program = record {
-  cells = λ xs op. cond (keeps (answer (program op) (memory xs))) (written xs (writes (program op) (memory xs))) xs;
-  reply = λ xs op. answer (program op) (memory xs);
-  walk = λ known op. walked keeps (run (program op) (fresh_pad known));
+  cells = λ xs op. cond (keeps (program_answer (program op) (memory_of xs))) (with_writes_in xs (program_writes (program op) (memory_of xs))) xs;
+  reply = λ xs op. program_answer (program op) (memory_of xs);
+  walk = λ known op. walk_of_run keeps (run_program (program op) (fresh_part known));
   reads_only = reads;
 }
 
 -- a reply of words, whose marked numbers belong to instructions of a script that wasn't aborted, and that has 0 elsewhere
-pub record IsReply (op : List ℕ) (r : RawReply) : Type 0 where
+pub record IsReplyTo (op : List ℕ) (r : RawReply) : Type 0 where
   pub shape : FitsCell r.shape
   pub values : All FitsCell r.values
-  pub marks : (j : ℕ) → j < MOST_INSTRS → marked r.shape j ≡ true → (r.shape < LEAST_ABORT) × (j < length op) × (j < length r.values)
-  pub rest : (j : ℕ) → j < MOST_INSTRS → marked r.shape j ≡ false → get_or r.values j 0 ≡ 0
+  pub marks : (j : ℕ) → j < MOST_INSTRS → is_marked r.shape j ≡ true → (r.shape < LEAST_ABORT) × (j < length op) × (j < length r.values)
+  pub rest : (j : ℕ) → j < MOST_INSTRS → is_marked r.shape j ≡ false → get_or r.values j 0 ≡ 0
 
 -- what is asked of the programs, for a work of this size whose operations begin at this cell and keep memory lawful
 pub record AreSound (keeps : RawReply → Bool) (reads : List ℕ → Bool) (program : List ℕ → Program RawReply) (lawful : (ℕ → ℕ) → Type 0) (low size : ℕ) : Type 0 where
   pub zeros : (m : ℕ → ℕ) → ((a : ℕ) → m a ≡ 0) → lawful m
-  pub leads : (m : ℕ → ℕ) (op : List ℕ) → lawful m → keeps (answer (program op) m) ≡ true → lawful (after (program op) m)
+  pub leads : (m : ℕ → ℕ) (op : List ℕ) → lawful m → keeps (program_answer (program op) m) ≡ true → lawful (memory_after (program op) m)
   -- nothing below low matters
   pub lawful_from : (m n : ℕ → ℕ) → ((a : ℕ) → low ≤ a → m a ≡ n a) → lawful m → lawful n
   pub stays : (op : List ℕ) → StaysFrom low (program op)
-  pub inside : (m : ℕ → ℕ) (op : List ℕ) → lawful m → Inside low size (program op) m
-  pub replies : (m : ℕ → ℕ) (op : List ℕ) → lawful m → IsReply op (answer (program op) m)
+  pub inside : (m : ℕ → ℕ) (op : List ℕ) → lawful m → StaysBetween low size (program op) m
+  pub replies : (m : ℕ → ℕ) (op : List ℕ) → lawful m → IsReplyTo op (program_answer (program op) m)
   pub reads_only : (op : List ℕ) → reads op ≡ true → OnlyReads (program op)

@@ -3,7 +3,7 @@ use Rattle.std.specs.Prelude.{◌≡◌, ℕ, List, [], Option, None}
 use Rattle.std.proofs.Common.{replicate}
 use Rattle.of_mem.specs.declared.work.TheConstants.{MOST_INSTRS}
 
-pub record Remains : Type 0 where
+pub record SuspendedRun : Type 0 where
   -- the work's own numbers
   pub callers : ℕ
   pub blocks : ℕ
@@ -19,8 +19,8 @@ pub record Remains : Type 0 where
   pub sought : Option ℕ
 
 -- an operation of which nothing has run
-abbrev pub begun : ℕ → ℕ → ℕ → List ℕ → Remains
-begun room callers blocks words = record {
+abbrev pub begin : ℕ → ℕ → ℕ → List ℕ → SuspendedRun
+begin room callers blocks words = record {
   callers = callers;
   blocks = blocks;
   words = words;
@@ -32,11 +32,11 @@ begun room callers blocks words = record {
 }
 
 -- nothing is kept
-abbrev pub no_remains : ℕ → Remains
-no_remains room = begun room 0 0 []
+abbrev pub nothing_suspended : ℕ → SuspendedRun
+nothing_suspended room = begin room 0 0 []
 
 -- this is kept of an operation with these words, by a work with these numbers
-pub record IsOf (k : Remains) (c b : ℕ) (ws : List ℕ) : Type 0 where
+pub record IsRunOf (k : SuspendedRun) (c b : ℕ) (ws : List ℕ) : Type 0 where
   pub callers : k.callers ≡ c
   pub blocks : k.blocks ≡ b
   pub words : k.words ≡ ws

@@ -1,8 +1,8 @@
 //! A map from cells to numbers, in order of first writing.
 
 ghost use Rattle.std.specs.Prelude.{◌↔◌, IsTrue, ◌≡◌, ◌<◌, [], length, IfOk, MatchOption, slice_index_or};
-ghost use Rattle.of_mem.specs.Pairs.{value_at, put, IsMap};
-ghost use Rattle.of_mem.specs.Indexed.{Finds, Misses};
+ghost use Rattle.of_mem.specs.Pairs.{value_for, put_pair, IsMap};
+ghost use Rattle.of_mem.specs.Indexed.{FindsEntry, MissesEntry};
 
 use std::alloc::{AllocError, Global};
 use std::marker::Model;
@@ -20,9 +20,9 @@ pub struct CellMap {
 }
 
 impl Model for CellMap {
-    ghost use Rattle.of_mem.specs.Pairs.{Pairs};
+    ghost use Rattle.of_mem.specs.Pairs.{CellMap};
 
-    ghost Value = { Pairs };
+    ghost Value = { CellMap };
 
     ghost use Rattle.std.specs.Prelude.{◌≤◌, length, take};
     ghost use Rattle.of_mem.specs.Indexed.{IsIndexed};
@@ -58,7 +58,7 @@ impl CellMap {
 
     /// The place of an address among the entries.
     fn find(&self, addr: u32) -> Option<usize>
-        ensures place { MatchOption result (Misses self.now addr) (Finds self.now addr) }
+        ensures place { MatchOption result (MissesEntry self.now addr) (FindsEntry self.now addr) }
         ensures map { IsMap self.now }
     {
         let place = *self.places.get(addr as usize)?;
@@ -75,7 +75,7 @@ impl CellMap {
 
     /// The number at an address.
     pub fn get(&self, addr: u32) -> Option<u32>
-        ensures { result ≡ value_at self.now.entries addr }
+        ensures { result ≡ value_for self.now.entries addr }
     {
         let place = self.find(addr)?;
         Some(self.entries[place].1)
@@ -84,7 +84,7 @@ impl CellMap {
     /// Writes a number: in its place where the address is there, and else as the last entry.
     pub fn put(&mut self, addr: u32, value: u32)
         requires { addr < self.old.room }
-        ensures entries { self.new.entries ≡ put self.old.entries addr value }
+        ensures entries { self.new.entries ≡ put_pair self.old.entries addr value }
         ensures room { self.new.room ≡ self.old.room }
     {
         match self.find(addr) {

@@ -3,7 +3,7 @@
 ghost use Rattle.std.specs.Prelude.{◌≡◌, ◌≤◌, ◌<◌, ◌+◌, ◌↔◌, IsTrue, length, IfOk, None};
 ghost use Rattle.std.proofs.Common.{set};
 ghost use Rattle.of_mem.specs.declared.work.TheConstants.{MOST_INSTRS};
-ghost use Rattle.of_mem.specs.Remains.{no_remains, begun, IsOf};
+ghost use Rattle.of_mem.specs.Remains.{nothing_suspended, begin, IsRunOf};
 
 use crate::cell_map::CellMap;
 use crate::part::Part;
@@ -28,9 +28,9 @@ pub struct Kept {
 }
 
 impl Model for Kept {
-    ghost use Rattle.of_mem.specs.Remains.{Remains};
+    ghost use Rattle.of_mem.specs.Remains.{SuspendedRun};
 
-    ghost Value = { Remains };
+    ghost Value = { SuspendedRun };
 
     ghost use Rattle.std.specs.Prelude.{◌≡◌, ◌≤◌, ◌-◌, ◌++◌, length, None};
     ghost use Rattle.std.proofs.Common.{take, replicate};
@@ -55,7 +55,7 @@ impl Kept {
     /// Nothing is kept, in room for the writes of cells below `cells`. The error is that there is
     /// no memory.
     pub fn new(alloc: Global, cells: u32) -> Result<Self, AllocError>
-        ensures { IfOk result (λ k. k ≡ no_remains cells) }
+        ensures { IfOk result (λ k. k ≡ nothing_suspended cells) }
     {
         let writes = CellMap::new(alloc, cells)?;
         Ok(Kept {
@@ -72,7 +72,7 @@ impl Kept {
 
     /// Keeps nothing.
     pub fn forget(&mut self)
-        ensures { self.new ≡ no_remains self.old.room }
+        ensures { self.new ≡ nothing_suspended self.old.room }
     {
         self.callers = 0;
         self.blocks = 0;
@@ -85,7 +85,7 @@ impl Kept {
     /// Keeps an operation of at most `MOST_INSTRS` words of which nothing has run.
     pub fn begin(&mut self, callers: u32, blocks: u32, words: &[u64])
         requires { length words.now ≤ MOST_INSTRS }
-        ensures { self.new ≡ begun self.old.room callers blocks words.now }
+        ensures { self.new ≡ begin self.old.room callers blocks words.now }
     {
         self.callers = callers;
         self.blocks = blocks;
@@ -98,7 +98,7 @@ impl Kept {
 
     /// Whether it is kept of this operation, by the work with these numbers.
     pub fn is_of(&self, callers: u32, blocks: u32, words: &[u64]) -> bool
-        ensures { IsTrue result ↔ IsOf self.now callers blocks words.now }
+        ensures { IsTrue result ↔ IsRunOf self.now callers blocks words.now }
     {
         self.callers == callers && self.blocks == blocks && self.words[..self.count] == words[..]
     }
@@ -168,16 +168,16 @@ impl Kept {
 pub trait Keeps: Copy + Send + Sync {
     ghost use Rattle.std.specs.Prelude.{◌≡◌, ℕ, [], None};
     ghost use Rattle.std.proofs.Common.{get_or};
-    ghost use Rattle.of_mem.specs.Remains.{Remains};
-    ghost use Rattle.of_mem.specs.Pad.{Pad, learnt};
+    ghost use Rattle.of_mem.specs.Remains.{SuspendedRun};
+    ghost use Rattle.of_mem.specs.Pad.{Part, learn};
 
     /// What is kept is so of this partial memory, in which the script has written nothing.
-    ghost holds: { Remains → Pad → Type 0 };
+    ghost holds: { SuspendedRun → Part → Type 0 };
 
     /// Where nothing is kept it is so of each.
-    ghost nothing: { (k : Remains) (p : Pad) → k.words ≡ [] → holds k p };
+    ghost nothing: { (k : SuspendedRun) (p : Part) → k.words ≡ [] → holds k p };
 
     /// Learning a cell that wasn't known leaves it so.
-    ghost learns: { (k : Remains) (p : Pad) (a v : ℕ) → get_or p.known a None ≡ None →
-        holds k p → holds k (learnt p a v) };
+    ghost learns: { (k : SuspendedRun) (p : Part) (a v : ℕ) → get_or p.known a None ≡ None →
+        holds k p → holds k (learn p a v) };
 }

@@ -3,8 +3,8 @@
 ghost use Rattle.std.specs.Prelude.{◌≡◌, ◌<◌, ◌≤◌, ◌↔◌, IsTrue, [], length, slice_index_or, IfOk, None};
 ghost use Rattle.std.proofs.Common.{get_or, is_some};
 ghost use Rattle.std.specs.Option.{option_or};
-ghost use Rattle.of_mem.specs.Pairs.{value_at};
-ghost use Rattle.of_mem.specs.Pad.{unknown, learnt, wrote, kept, ReadsAt};
+ghost use Rattle.of_mem.specs.Pairs.{value_for};
+ghost use Rattle.of_mem.specs.Pad.{nothing_known, learn, write, keep, ReadsAt};
 
 use crate::cell_map::CellMap;
 use crate::part::Need;
@@ -24,9 +24,9 @@ pub(crate) struct Layers {
 }
 
 impl Model for Layers {
-    ghost use Rattle.of_mem.specs.Pad.{Pad};
+    ghost use Rattle.of_mem.specs.Pad.{Part};
 
-    ghost Value = { Pad };
+    ghost Value = { Part };
 
     ghost use Rattle.std.specs.Prelude.{◌≡◌, length};
     ghost use Rattle.of_mem.specs.Newest.{HasNewest};
@@ -37,12 +37,12 @@ impl Model for Layers {
         × HasNewest (record { known = p.known; batch = p.batch.entries; script = p.script.entries }) p.newest };
 }
 
-#[tactic(auto, unfolding(crate::specs::Pad::newest, crate::specs::Pad::wrote))]
+#[tactic(auto, unfolding(crate::specs::Pad::newest_at, crate::specs::Pad::write))]
 impl Layers {
     /// A memory of the cells below `cells` of which nothing is known. The error is that there is no
     /// memory.
     pub fn new(alloc: Global, cells: u32) -> Result<Self, AllocError>
-        ensures { IfOk result (λ p. p ≡ unknown cells) }
+        ensures { IfOk result (λ p. p ≡ nothing_known cells) }
     {
         let known = Slots::new(alloc, cells)?;
         let batch = CellMap::new(alloc, cells)?;
@@ -59,7 +59,7 @@ impl Layers {
     /// Makes a cell's number known.
     pub fn learn(&mut self, addr: u32, value: u32)
         requires { addr < length self.old.known }
-        ensures { self.new ≡ learnt self.old addr value }
+        ensures { self.new ≡ learn self.old addr value }
     {
         let over = self.written(addr);
         self.known.set(addr, Some(value));
@@ -69,7 +69,7 @@ impl Layers {
     /// What the script or else the batch wrote into a cell.
     fn written(&self, addr: u32) -> Option<u32>
         requires { addr < length self.now.known }
-        ensures { result ≡ option_or (value_at self.now.script addr) (value_at self.now.batch addr) }
+        ensures { result ≡ option_or (value_for self.now.script addr) (value_for self.now.batch addr) }
     {
         // a cell that was written holds a number
         self.newest.get(addr)?;
@@ -110,7 +110,7 @@ impl Layers {
     /// Writes a number for the script.
     pub fn write(&mut self, addr: u32, value: u32)
         requires { addr < length self.old.known }
-        ensures writes { self.new ≡ wrote self.old addr value }
+        ensures writes { self.new ≡ write self.old addr value }
         ensures known { self.new.known ≡ self.old.known }
         ensures batch { self.new.batch ≡ self.old.batch }
     {
@@ -137,7 +137,7 @@ impl Layers {
 
     /// Hands what the script wrote to the batch.
     pub fn keep(&mut self)
-        ensures { self.new ≡ kept self.old }
+        ensures { self.new ≡ keep self.old }
     {
         for i in 0..self.script.len() {
             let (addr, value) = self.script.entry(i);
@@ -160,7 +160,7 @@ impl Layers {
 
     /// Forgets everything.
     pub fn clear(&mut self)
-        ensures { self.new ≡ unknown (length self.old.known) }
+        ensures { self.new ≡ nothing_known (length self.old.known) }
     {
         self.known.clear();
         self.newest.clear();

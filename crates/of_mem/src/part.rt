@@ -2,7 +2,7 @@
 
 ghost use Rattle.std.specs.Prelude.{◌≡◌, ◌<◌, ◌≤◌, ◌%◌, [], length, slice_index_or, IfOk, None};
 ghost use Rattle.std.proofs.Common.{get_or, is_some};
-ghost use Rattle.of_mem.specs.Pad.{unknown, learnt, wrote, kept, ReadsAt};
+ghost use Rattle.of_mem.specs.Pad.{nothing_known, learn, write, keep, ReadsAt};
 ghost use Rattle.of_mem.specs.declared.plot.TheConstants.{BUCKETS};
 ghost use Rattle.of_mem.specs.Places.{bucket_at};
 ghost use Rattle.of_mem.specs.Plots.{base};
@@ -51,17 +51,17 @@ pub struct Part {
 }
 
 impl Model for Part {
-    ghost use Rattle.of_mem.specs.Pad.{Pad};
+    ghost use Rattle.of_mem.specs.Pad.{Part};
 
-    ghost Value = { Pad };
+    ghost Value = { Part };
 
     ghost use Rattle.std.specs.Prelude.{◌≤◌, ◌%◌};
     ghost use Rattle.of_mem.specs.declared.plot.TheConstants.{BUCKETS};
-    ghost use Rattle.of_mem.specs.Pad.{shown};
+    ghost use Rattle.of_mem.specs.Pad.{visible};
     ghost use Rattle.of_mem.specs.Places.{bucket_at};
     ghost use Rattle.of_mem.specs.Walks.{Passes};
 
-    ghost view = { λ p. shown p.undone p.layers };
+    ghost view = { λ p. visible p.undone p.layers };
 
     ghost invariant = { λ p. 1 ≤ p.last.walk.passed
         → Passes p.last.base p.last.key p.layers p.last.walk.passed (bucket_at p.last.base (p.last.key % BUCKETS)) p.last.walk.cell };
@@ -71,7 +71,7 @@ impl Part {
     /// A memory of the cells below `cells` of which nothing is known. The error is that there is no
     /// memory.
     pub fn new(alloc: Global, cells: u32) -> Result<Self, AllocError>
-        ensures { IfOk result (λ p. p ≡ unknown cells) }
+        ensures { IfOk result (λ p. p ≡ nothing_known cells) }
     {
         let layers = Layers::new(alloc, cells)?;
         Ok(Part {
@@ -88,7 +88,7 @@ impl Part {
     /// Makes a cell's number known.
     pub fn learn(&mut self, addr: u32, value: u32)
         requires { addr < length self.old.known }
-        ensures { self.new ≡ learnt self.old addr value }
+        ensures { self.new ≡ learn self.old addr value }
     {
         if self.last.walk.passed > 0 && self.layers.knows(addr) {
             self.last.walk.passed = 0;
@@ -120,7 +120,7 @@ impl Part {
     /// Writes a number for the script.
     pub fn write(&mut self, addr: u32, value: u32)
         requires { addr < length self.old.known }
-        ensures writes { self.new ≡ wrote self.old addr value }
+        ensures writes { self.new ≡ write self.old addr value }
         ensures known { self.new.known ≡ self.old.known }
         ensures batch { self.new.batch ≡ self.old.batch }
     {
@@ -155,7 +155,7 @@ impl Part {
 
     /// Hands what the script wrote to the batch.
     pub fn keep(&mut self)
-        ensures { self.new ≡ kept self.old }
+        ensures { self.new ≡ keep self.old }
     {
         if self.undone {
             self.layers.undo();
@@ -174,7 +174,7 @@ impl Part {
 
     /// Forgets everything.
     pub fn clear(&mut self)
-        ensures { self.new ≡ unknown (length self.old.known) }
+        ensures { self.new ≡ nothing_known (length self.old.known) }
     {
         self.layers.clear();
         self.undone = false;

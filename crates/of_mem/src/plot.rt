@@ -49,13 +49,13 @@ pub struct Plot {
 }
 
 impl Plot {
-    ghost use Rattle.of_mem.specs.Plots.{base, size};
-    ghost use Rattle.of_mem.specs.Places.{ticket_at, shape_at, reply_at, register_at, fresh_at, free_at, keys_at, bucket_at, head_at, tail_at, length_at, block_at};
+    ghost use Rattle.of_mem.specs.Plots.{base, data_cell_count};
+    ghost use Rattle.of_mem.specs.Places.{ticket_cell_at, shape_at, reply_at, register_at, fresh_at, free_at, keys_at, bucket_at, head_at, tail_at, length_at, block_at};
 
     /// The first cell of a caller.
     fn row(&self, caller: u32) -> u32
         requires { caller ≤ self.now.callers }
-        ensures value { result ≡ ticket_at self.now.instrs caller }
+        ensures value { result ≡ ticket_cell_at self.now.instrs caller }
         ensures small { result ≤ MOST_CALLERS * (MOST_INSTRS + 2) }
     {
         caller * (self.instrs + 2)
@@ -71,7 +71,7 @@ impl Plot {
 
     /// The number of data cells.
     pub fn cells(&self) -> u32
-        ensures { result ≡ size self.now }
+        ensures { result ≡ data_cell_count self.now }
     {
         self.base() + FIRST_BLOCK + 3 * self.blocks
     }
@@ -79,7 +79,7 @@ impl Plot {
     /// The cell of a caller's ticket.
     pub fn ticket(&self, caller: u32) -> u32
         requires { caller < self.now.callers }
-        ensures { result ≡ ticket_at self.now.instrs caller }
+        ensures { result ≡ ticket_cell_at self.now.instrs caller }
     {
         self.row(caller)
     }

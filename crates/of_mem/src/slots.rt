@@ -22,11 +22,11 @@ impl Model for Slots {
     ghost Value = { List (Option ℕ) };
 
     ghost use Rattle.std.specs.Prelude.{◌≤◌};
-    ghost use Rattle.of_mem.specs.Eras.{numbers_in, IsBy};
+    ghost use Rattle.of_mem.specs.Eras.{numbers_in, IsUpToEra};
 
     ghost view = { λ s. numbers_in s.era s.slots.items };
 
-    ghost invariant = { λ s. (1 ≤ s.era) × IsBy s.era s.slots.items };
+    ghost invariant = { λ s. (1 ≤ s.era) × IsUpToEra s.era s.slots.items };
 }
 
 #[tactic(auto, using(crate::proofs::Eras::era_laws))]

@@ -2,8 +2,8 @@
 
 ghost use Rattle.std.specs.Prelude.{◌≡◌, ◌+◌, ◌*◌, ◌≤◌, ℕ, List, [], length};
 ghost use Rattle.of_mem.specs.declared.work.TheConstants.{MOST_INSTRS};
-ghost use Rattle.of_mem.specs.Meaning.{Meaning, Sound, HasRoom, KnowsSome, RunsAsWalked};
-ghost use Rattle.of_mem.specs.Pad.{over};
+ghost use Rattle.of_mem.specs.Meaning.{Meaning, IsSoundMeaning, HasRoom, KnowsSome, RunsAsWalked};
+ghost use Rattle.of_mem.specs.Pad.{overlaid};
 
 use crate::kept::{Keeps, Kept};
 use crate::part::{Need, Part};
@@ -64,7 +64,7 @@ pub trait Work: Keeps {
         out: &mut RawReply,
     ) -> Result<(), Need>
         requires agrees { KnowsSome (lawful self.now) (size self.now)
-            (over part.old.known part.old.batch) }
+            (overlaid part.old.known part.old.batch) }
         requires cells { length part.old.known ≡ size self.now }
         requires empty { part.old.script ≡ [] }
         requires some { 1 ≤ length op.now }
@@ -72,7 +72,7 @@ pub trait Work: Keeps {
         requires holds { Self.holds kept.old part.old }
         requires room { kept.old.room ≡ length part.old.known }
         ensures part { part.new ≡ record part.old { script = part.new.script } }
-        ensures walk { RunsAsWalked (meaning self.now) (over part.old.known part.old.batch)
+        ensures walk { RunsAsWalked (meaning self.now) (overlaid part.old.known part.old.batch)
             op.now result part.new.script out.old out.new }
         ensures holds { Self.holds kept.new part.old }
         ensures room { kept.new.room ≡ kept.old.room };
@@ -87,13 +87,13 @@ pub trait Work: Keeps {
         out: &mut RawReply,
     ) -> Result<(), Need>
         requires agrees { KnowsSome (lawful self.now) (size self.now)
-            (over part.old.known part.old.batch) }
+            (overlaid part.old.known part.old.batch) }
         requires cells { length part.old.known ≡ size self.now }
         requires empty { part.old.script ≡ [] }
         requires some { 1 ≤ length op.now }
         requires few { length op.now ≤ MOST_INSTRS }
         ensures part { part.new ≡ record part.old { script = part.new.script } }
-        ensures walk { RunsAsWalked (meaning self.now) (over part.old.known part.old.batch)
+        ensures walk { RunsAsWalked (meaning self.now) (overlaid part.old.known part.old.batch)
             op.now result part.new.script out.old out.new }
     {
         self.run_on(&mut part.part, &mut part.kept, op, out)
@@ -105,5 +105,5 @@ pub trait Work: Keeps {
 
     ghost fits: { (w : Self) → HasRoom (many w) (size w) };
 
-    ghost sound: { (w : Self) → Sound (meaning w) (lawful w) (many w * (MOST_INSTRS + 2)) (size w) };
+    ghost sound: { (w : Self) → IsSoundMeaning (meaning w) (lawful w) (many w * (MOST_INSTRS + 2)) (size w) };
 }

@@ -1,7 +1,7 @@
 //! Partial memory, and what a work keeps over it.
 
 ghost use Rattle.std.specs.Prelude.{◌≡◌, ◌<◌, ◌≤◌, [], length, slice_index_or, IfOk};
-ghost use Rattle.of_mem.specs.Pad.{unknown, learnt, wrote, kept, ReadsAt};
+ghost use Rattle.of_mem.specs.Pad.{nothing_known, learn, write, keep, ReadsAt};
 
 use crate::kept::{Keeps, Kept};
 use crate::part::{Need, Part};
@@ -18,9 +18,9 @@ pub struct Workspace<W: Keeps> {
 }
 
 impl<W: Keeps> Model for Workspace<W> {
-    ghost use Rattle.of_mem.specs.Pad.{Pad};
+    ghost use Rattle.of_mem.specs.Pad.{Part};
 
-    ghost Value = { Pad };
+    ghost Value = { Part };
 
     ghost use Rattle.std.specs.Prelude.{◌≡◌, [], length};
 
@@ -33,7 +33,7 @@ impl<W: Keeps> Workspace<W> {
     /// A memory of the cells below `cells` of which nothing is known. The error is that there is no
     /// memory.
     pub fn new(alloc: Global, cells: u32) -> Result<Self, AllocError>
-        ensures { IfOk result (λ p. p ≡ unknown cells) }
+        ensures { IfOk result (λ p. p ≡ nothing_known cells) }
     {
         let part = Part::new(alloc, cells)?;
         let kept = Kept::new(alloc, cells)?;
@@ -47,7 +47,7 @@ impl<W: Keeps> Workspace<W> {
     /// Makes a cell's number known. What was kept is forgotten where it was known already.
     pub fn learn(&mut self, addr: u32, value: u32)
         requires { addr < length self.old.known }
-        ensures { self.new ≡ learnt self.old addr value }
+        ensures { self.new ≡ learn self.old addr value }
     {
         if self.part.knows(addr) {
             self.kept.forget();
@@ -67,7 +67,7 @@ impl<W: Keeps> Workspace<W> {
     /// Writes a number for the script.
     pub fn write(&mut self, addr: u32, value: u32)
         requires { addr < length self.old.known }
-        ensures writes { self.new ≡ wrote self.old addr value }
+        ensures writes { self.new ≡ write self.old addr value }
         ensures known { self.new.known ≡ self.old.known }
         ensures batch { self.new.batch ≡ self.old.batch }
     {
@@ -93,7 +93,7 @@ impl<W: Keeps> Workspace<W> {
 
     /// Hands what the script wrote to the batch.
     pub fn keep(&mut self)
-        ensures { self.new ≡ kept self.old }
+        ensures { self.new ≡ keep self.old }
     {
         self.kept.forget();
         self.part.keep();
@@ -108,7 +108,7 @@ impl<W: Keeps> Workspace<W> {
 
     /// Forgets everything.
     pub fn clear(&mut self)
-        ensures { self.new ≡ unknown (length self.old.known) }
+        ensures { self.new ≡ nothing_known (length self.old.known) }
     {
         self.kept.forget();
         self.part.clear();

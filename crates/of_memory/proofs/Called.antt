@@ -4,12 +4,12 @@ use Rattle.std.specs.List.{All}
 use Rattle.std.proofs.Math.Seq.{take-append_seam}
 use Rattle.std.proofs.lemmas.List.{length-map}
 use Rattle.std.proofs.lemmas.List.Elements.{All-push, All-same}
-use Rattle.of_cell.specs.Words.{pay}
+use Rattle.of_cell.specs.Words.{payload_of}
 use Rattle.of_mem.specs.declared.work.RawReply.{RawReply}
 use Rattle.of_script.specs.declared.instr.Instr.{Instr}
 use Rattle.of_script.specs.declared.instr.TheConstants.{MOST_INSTRS}
 use Rattle.of_script.specs.Language.{IsScript, instr_word}
-use Rattle.of_store.specs.Replies.{response_of}
+use Rattle.of_store.specs.Replies.{reply_value_of}
 use Rattle.of_eval.specs.declared.scripts.Scripts.{Scripts}
 use Rattle.of_eval.specs.Scripts.{scripts_meaning}
 use Rattle.of_plan.specs.declared.answer.Answer.{Answer}
@@ -17,23 +17,23 @@ use Rattle.of_plan.specs.Plan.{Plan, IsPlan}
 use Rattle.of_core.specs.declared.place.Outcome.{Outcome}
 use Rattle.of_core.specs.declared.place.Outcome.TheVariants.{Answered, Spent as Over}
 use Rattle.of_core.specs.Table.{Setup}
-use Rattle.of_core.specs.Machine.{Data, IsOpen, TakesPlace}
-use Rattle.of_core.specs.World.{Start}
-use Rattle.of_core.specs.History.{Legal}
+use Rattle.of_core.specs.Machine.{CallState, IsOpen, MayReplace}
+use Rattle.of_core.specs.World.{TableStart}
+use Rattle.of_core.specs.History.{IsLegalHistory}
 use Rattle.of_core.specs.Calls.{IsAnswered}
 use Rattle.of_row.specs.declared.row.Row.{Row}
 use Rattle.of_row.specs.Rows.{key_of, setup_at}
-use Rattle.of_row.specs.Rule.{HasEnded}
-use Rattle.of_row.specs.Turned.{Meant, StandsFor}
-use Rattle.of_row.specs.Views.{Ended, Kept, Sight, last_kept, reach, shown}
+use Rattle.of_row.specs.Rule.{CallHasEnded}
+use Rattle.of_row.specs.Turned.{IsMeantReply, StandsForMachine}
+use Rattle.of_row.specs.Views.{EndedCall, KnownCaller, View, last_caller, seen_seq, seen_history}
 use Rattle.of_caller.specs.declared.caller.Caller.{Caller}
 use Rattle.of_caller.specs.declared.caller.CallErr.{CallErr}
 use Rattle.of_caller.specs.declared.caller.CallErr.TheVariants.{Stopped, Spent as NoneLeft}
-use Rattle.of_caller.specs.Callers.{IsCaller, call_of, sight_of}
-use Rattle.of_caller.specs.CallsTold.{HasClosed, IsOpenStill, ResultTold, HasTold}
-use Rattle.of_caller.specs.Ends.{Tells}
-use Rattle.of_caller.specs.Lanes.{IsHeld}
-use Rattle.of_caller.specs.Tables.{setup_for}
+use Rattle.of_caller.specs.Callers.{IsCaller, caller_call, sight_of}
+use Rattle.of_caller.specs.CallsTold.{HasEndedWith, IsStillOpen, TellsResult, TellsCall}
+use Rattle.of_caller.specs.Ends.{TellsAnswer}
+use Rattle.of_caller.specs.Lanes.{IsHeldAnswer}
+use Rattle.of_caller.specs.Tables.{plan_setup}
 use Rattle.of_caller.proofs.RawReplies.{IsFine, answer_holds}
 use Rattle.of_memory.specs.History.{End, Replied, Spent, Made}
 use Rattle.of_memory.specs.Calls.{IsOperation, EndsAs, IsMade, AreMade, RunsScripts}
@@ -45,13 +45,13 @@ use Rattle.of_memory.proofs.Plans.{plan_of, is_plan}
 
 -- ---- calls that are kept, as calls of scripts
 
-pub made_more : (es : List Ended) (ms : List Made) (e : Ended) (m : Made) → AreMade es ms → IsMade e m → AreMade (es ++ e ∷ []) (ms ++ m ∷ [])
+pub made_more : (es : List EndedCall) (ms : List Made) (e : EndedCall) (m : Made) → AreMade es ms → IsMade e m → AreMade (es ++ e ∷ []) (ms ++ m ∷ [])
 made_more [] [] e m h k = (k, tt)
 made_more [] (n ∷ ms) e m h k = absurd h
 made_more (f ∷ es) [] e m h k = absurd h
 made_more (f ∷ es) (n ∷ ms) e m h k = (h.0, made_more es ms e m h.1 k)
 
-ends_as : (o : Outcome) (a : Answer) → Tells o a → EndsAs o (Replied (response_of a.reply))
+ends_as : (o : Outcome) (a : Answer) → TellsAnswer o a → EndsAs o (Replied (reply_value_of a.reply))
 ends_as (Answered s announced raw steps) a t = (a.reply, t.2, refl)
 ends_as (Over s) a t = absurd t
 
@@ -73,13 +73,13 @@ words_are script count size out rest words =
 
 -- ---- the number of a caller
 
-takes_caller : (S : Setup) (m d : Data) → TakesPlace S m d → d.caller ≡ m.caller
-takes_caller S m d (inl e) = ap (λ (x : Data). x.caller) e
-takes_caller S m d (inr e) = ap (λ (x : Data). x.caller) e.1
+takes_caller : (S : Setup) (m d : CallState) → MayReplace S m d → d.caller ≡ m.caller
+takes_caller S m d (inl e) = ap (λ (x : CallState). x.caller) e
+takes_caller S m d (inr e) = ap (λ (x : CallState). x.caller) e.1
 
-pub stands_caller : (S : Setup) (x : Kept) (d : Data) → StandsFor S x d → d.caller ≡ x.machine.caller
+pub stands_caller : (S : Setup) (x : KnownCaller) (d : CallState) → StandsForMachine S x d → d.caller ≡ x.machine.caller
 stands_caller S x d (inl t) = takes_caller S x.machine d t
-stands_caller S x d (inr o) = ap (λ (y : Data). y.caller) o.is ∙ takes_caller S x.machine o.begins o.takes
+stands_caller S x d (inr o) = ap (λ (y : CallState). y.caller) o.is ∙ takes_caller S x.machine o.begins o.takes
 
 -- ---- what a call leaves
 
@@ -87,50 +87,50 @@ none_or_some : (n : ℕ) → (n ≡ 0) ⊎ (0 < n)
 none_or_some zero = inl refl
 none_or_some (suc n) = inr (omega arith)
 
-module _ (S : Setup) (L : List ℕ → Type 0) (B : Start) (m : Data) (v : Sight) (a : ℕ) (d : Data) (w : Sight) (b : ℕ) (r : Result Outcome CallErr) (told : HasTold S L B m v a d w b r) where
-  abbrev before : Kept
-  before = last_kept v.kept
+module _ (S : Setup) (L : List ℕ → Type 0) (B : TableStart) (m : CallState) (v : View) (a : ℕ) (d : CallState) (w : View) (b : ℕ) (r : Result Outcome CallErr) (told : TellsCall S L B m v a d w b r) where
+  abbrev before : KnownCaller
+  before = last_caller v.kept
 
-  abbrev now : Kept
-  now = last_kept w.kept
+  abbrev now : KnownCaller
+  now = last_caller w.kept
 
   before_is : told.before ≡ before
-  before_is = sym (ap last_kept told.kept_before)
+  before_is = sym (ap last_caller told.kept_before)
 
   now_is : told.kept ≡ now
-  now_is = sym (ap last_kept told.kept_now)
+  now_is = sym (ap last_caller told.kept_now)
 
   -- one call more has ended
-  one_more : (o : Outcome) → HasClosed S L B m v told.before told.steps d w told.kept o → now.ended ≡ before.ended ++ record { op = m.op; outcome = o } ∷ []
+  one_more : (o : Outcome) → HasEndedWith S L B m v told.before told.steps d w told.kept o → now.ended ≡ before.ended ++ record { op = m.op; outcome = o } ∷ []
   one_more o closes =
-      ap (λ (x : Kept). x.ended) (sym now_is) ∙ closes.kept ∙ ap (λ (x : Kept). x.ended ++ record { op = m.op; outcome = o } ∷ []) before_is
+      ap (λ (x : KnownCaller). x.ended) (sym now_is) ∙ closes.kept ∙ ap (λ (x : KnownCaller). x.ended ++ record { op = m.op; outcome = o } ∷ []) before_is
 
   -- or none
-  none_more : IsOpenStill S m told.before told.steps d told.kept → now.ended ≡ before.ended
-  none_more still = ap (λ (x : Kept). x.ended) (sym now_is) ∙ still.kept ∙ ap (λ (x : Kept). x.ended) before_is
+  none_more : IsStillOpen S m told.before told.steps d told.kept → now.ended ≡ before.ended
+  none_more still = ap (λ (x : KnownCaller). x.ended) (sym now_is) ∙ still.kept ∙ ap (λ (x : KnownCaller). x.ended) before_is
 
-  abbrev Scripts_in : List Ended → Type 0
-  Scripts_in es = All (λ (e : Ended). IsOperation e.op) es
+  abbrev Scripts_in : List EndedCall → Type 0
+  Scripts_in es = All (λ (e : EndedCall). IsOperation e.op) es
 
   ended_more : (o : Outcome) → IsOperation m.op → Scripts_in before.ended → now.ended ≡ before.ended ++ record { op = m.op; outcome = o } ∷ [] → Scripts_in now.ended
   ended_more o op all is =
-      All-same (λ (e : Ended). IsOperation e.op) now.ended (before.ended ++ record { op = m.op; outcome = o } ∷ []) is
-      (All-push (λ (e : Ended). IsOperation e.op) before.ended (record { op = m.op; outcome = o }) all op)
+      All-same (λ (e : EndedCall). IsOperation e.op) now.ended (before.ended ++ record { op = m.op; outcome = o } ∷ []) is
+      (All-push (λ (e : EndedCall). IsOperation e.op) before.ended (record { op = m.op; outcome = o }) all op)
 
   abbrev Told : Result Outcome CallErr → Type 0
-  Told z = ResultTold S L B m v told.before told.steps d w told.kept z
+  Told z = TellsResult S L B m v told.before told.steps d w told.kept z
 
   ended_now : (z : Result Outcome CallErr) → Told z → IsOperation m.op → Scripts_in before.ended → Scripts_in now.ended
   ended_now (Ok o) h op all = ended_more o op all (one_more o h.1)
-  ended_now (Err (Stopped asked)) h op all = All-same (λ (e : Ended). IsOperation e.op) now.ended before.ended (none_more h.0) all
+  ended_now (Err (Stopped asked)) h op all = All-same (λ (e : EndedCall). IsOperation e.op) now.ended before.ended (none_more h.0) all
   ended_now (Err (NoneLeft seq)) h op all = ended_more (Over seq) op all (one_more (Over seq) h)
 
   open_now : (told.steps ≡ 0) ⊎ (0 < told.steps) → IsOperation m.op → RunsScripts before → IsOpen now.machine.place → IsOperation now.machine.op
   open_now (inl none) op runs is_open =
-      let same : now ≡ before = ap (λ (x : Sight). last_kept x.kept) (told.none none) in
-      subst (λ (x : Kept). IsOperation x.machine.op) (sym same) (runs.open_call (subst (λ (x : Kept). IsOpen x.machine.place) same is_open))
+      let same : now ≡ before = ap (λ (x : View). last_caller x.kept) (told.none none) in
+      subst (λ (x : KnownCaller). IsOperation x.machine.op) (sym same) (runs.open_call (subst (λ (x : KnownCaller). IsOpen x.machine.place) same is_open))
   open_now (inr some) op runs is_open =
-      subst IsOperation (sym (ap (λ (x : Kept). x.machine.op) (sym now_is) ∙ ap (λ (x : Data). x.op) (told.some some).machine ∙ told.op)) op
+      subst IsOperation (sym (ap (λ (x : KnownCaller). x.machine.op) (sym now_is) ∙ ap (λ (x : CallState). x.op) (told.some some).machine ∙ told.op)) op
 
   pub runs_on : IsOperation m.op → RunsScripts before → RunsScripts now
   runs_on op runs = record {
@@ -139,30 +139,30 @@ module _ (S : Setup) (L : List ℕ → Type 0) (B : Start) (m : Data) (v : Sight
   }
 
   module _ (script : List Instr) (is : IsScript script) (words : m.op ≡ map instr_word script) (ms : List Made) (made : AreMade before.ended ms) where
-    more : (o : Outcome) (end : End) → EndsAs o end → HasClosed S L B m v told.before told.steps d w told.kept o → AreMade now.ended (ms ++ record { script = script; ended = end } ∷ [])
+    more : (o : Outcome) (end : End) → EndsAs o end → HasEndedWith S L B m v told.before told.steps d w told.kept o → AreMade now.ended (ms ++ record { script = script; ended = end } ∷ [])
     more o end held closes =
-        subst (λ (es : List Ended). AreMade es (ms ++ record { script = script; ended = end } ∷ [])) (sym (one_more o closes))
+        subst (λ (es : List EndedCall). AreMade es (ms ++ record { script = script; ended = end } ∷ [])) (sym (one_more o closes))
         (made_more before.ended ms (record { op = m.op; outcome = o }) (record { script = script; ended = end }) made (record { script = is; words = words; ended = held }))
 
-    pub made_answered : (o : Outcome) (x : Answer) → Tells o x → Told (Ok o) → AreMade now.ended (ms ++ record { script = script; ended = Replied (response_of x.reply) } ∷ [])
-    made_answered o x tells h = more o (Replied (response_of x.reply)) (ends_as o x tells) h.1
+    pub made_answered : (o : Outcome) (x : Answer) → TellsAnswer o x → Told (Ok o) → AreMade now.ended (ms ++ record { script = script; ended = Replied (reply_value_of x.reply) } ∷ [])
+    made_answered o x tells h = more o (Replied (reply_value_of x.reply)) (ends_as o x tells) h.1
 
     pub made_spent : (seq : ℕ) → r ≡ Err (NoneLeft seq) → AreMade now.ended (ms ++ record { script = script; ended = Spent } ∷ [])
     made_spent seq is_so = let h : Told (Err (NoneLeft seq)) = subst Told is_so told.result in more (Over seq) Spent tt h
 
     pub made_none : (asked : ℕ) → r ≡ Err (Stopped asked) → AreMade now.ended ms
-    made_none asked is_so = let h : Told (Err (Stopped asked)) = subst Told is_so told.result in subst (λ (es : List Ended). AreMade es ms) (sym (none_more h.0)) made
+    made_none asked is_so = let h : Told (Err (Stopped asked)) = subst Told is_so told.result in subst (λ (es : List EndedCall). AreMade es ms) (sym (none_more h.0)) made
 
   -- a call that has ended has made a step
-  ended_some : (o : Outcome) → HasClosed S L B m v told.before told.steps d w told.kept o → 0 < told.steps
+  ended_some : (o : Outcome) → HasEndedWith S L B m v told.before told.steps d w told.kept o → 0 < told.steps
   ended_some o closes = elim (none_or_some told.steps) [
     | inl none ↦
-        let same : now ≡ before = ap (λ (x : Sight). last_kept x.kept) (told.none none) in
-        absurd (omega (arith, ap length (one_more o closes), length-append before.ended (record { op = m.op; outcome = o } ∷ []), ap (λ (x : Kept). length x.ended) same))
+        let same : now ≡ before = ap (λ (x : View). last_caller x.kept) (told.none none) in
+        absurd (omega (arith, ap length (one_more o closes), length-append before.ended (record { op = m.op; outcome = o } ∷ []), ap (λ (x : KnownCaller). length x.ended) same))
     | inr some ↦ some
   ]
 
-  pub legal_now : (o : Outcome) → HasClosed S L B m v told.before told.steps d w told.kept o → Legal S.meaning (map pay B.cells) (shown w.seen)
+  pub legal_now : (o : Outcome) → HasEndedWith S L B m v told.before told.steps d w told.kept o → IsLegalHistory S.meaning (map payload_of B.cells) (seen_history w.seen)
   legal_now o closes = (told.some (ended_some o closes)).legal.replies
 
 -- ---- a caller of a row of scripts
@@ -177,41 +177,41 @@ module _ (r : Row Scripts) (row : IsScriptsRow r) where
   plan : IsPlan p
   plan = is_plan W (key_of r).limit row.some_limit row.few_limit
 
-  same_setup : setup_at scripts_meaning r ≡ setup_for p
-  same_setup = ap (λ (k : ℕ × ℕ). record (setup_for p) { callers = k.0; cells = k.1 }) (λ i. (row.callers i, row.cells i))
+  same_setup : setup_at scripts_meaning r ≡ plan_setup p
+  same_setup = ap (λ (k : ℕ × ℕ). record (plan_setup p) { callers = k.0; cells = k.1 }) (λ i. (row.callers i, row.cells i))
 
-  start_fine : IsFine p plan (map pay (start_of_row r).cells)
-  start_fine = record { size = length-map (start_of_row r).cells pay ∙ row.size; lawful = (row.store, row.stands) }
+  start_fine : IsFine p plan (map payload_of (start_of_row r).cells)
+  start_fine = record { size = length-map (start_of_row r).cells payload_of ∙ row.size; lawful = (row.store, row.stands) }
 
-  module _ (L : List ℕ → Type 0) (m : Data) (v : Sight) (a : ℕ) (d : Data) (w : Sight) (b : ℕ) (z : Result Outcome CallErr) (told : HasTold (setup_at scripts_meaning r) L (start_of_row r) m v a d w b z) (op : IsOperation m.op) where
+  module _ (L : List ℕ → Type 0) (m : CallState) (v : View) (a : ℕ) (d : CallState) (w : View) (b : ℕ) (z : Result Outcome CallErr) (told : TellsCall (setup_at scripts_meaning r) L (start_of_row r) m v a d w b z) (op : IsOperation m.op) where
     abbrev S : Setup
     S = setup_at scripts_meaning r
 
-    abbrev B : Start
+    abbrev B : TableStart
     B = start_of_row r
 
-    held : (o : Outcome) → HasClosed S L B m v told.before told.steps d w told.kept o → (k : ℕ) (announced : Bool) (raw : RawReply) (steps : ℕ) → o ≡ Answered k announced raw steps → IsHeld o
+    held : (o : Outcome) → HasEndedWith S L B m v told.before told.steps d w told.kept o → (k : ℕ) (announced : Bool) (raw : RawReply) (steps : ℕ) → o ≡ Answered k announced raw steps → IsHeldAnswer o
     held o closes k announced raw steps answer =
         let few = words_few m.op op in
-        let legal = subst (λ (T : Setup). Legal T.meaning (map pay B.cells) (shown w.seen)) same_setup (legal_now S L B m v a d w b z told o closes) in
-        let stands = subst (λ (T : Setup). HasEnded T B (shown w.seen) (reach B w.seen) m.caller m.made m.op (Answered k announced raw steps)) same_setup
-        (subst (λ (u : Outcome). HasEnded S B (shown w.seen) (reach B w.seen) m.caller m.made m.op u) answer closes.stands) in
-        let meant = subst (λ (T : Setup). Meant T B (shown w.seen) m.op (Answered k announced raw steps)) same_setup
-        (subst (λ (u : Outcome). Meant S B (shown w.seen) m.op u) answer closes.meant) in
-        subst IsHeld (sym answer) (answer_holds p plan B start_fine (shown w.seen) legal (reach B w.seen) m.caller m.made m.op few.0 few.1 k announced raw steps stands meant)
+        let legal = subst (λ (T : Setup). IsLegalHistory T.meaning (map payload_of B.cells) (seen_history w.seen)) same_setup (legal_now S L B m v a d w b z told o closes) in
+        let stands = subst (λ (T : Setup). CallHasEnded T B (seen_history w.seen) (seen_seq B w.seen) m.caller m.made m.op (Answered k announced raw steps)) same_setup
+        (subst (λ (u : Outcome). CallHasEnded S B (seen_history w.seen) (seen_seq B w.seen) m.caller m.made m.op u) answer closes.stands) in
+        let meant = subst (λ (T : Setup). IsMeantReply T B (seen_history w.seen) m.op (Answered k announced raw steps)) same_setup
+        (subst (λ (u : Outcome). IsMeantReply S B (seen_history w.seen) m.op u) answer closes.meant) in
+        subst IsHeldAnswer (sym answer) (answer_holds p plan B start_fine (seen_history w.seen) legal (seen_seq B w.seen) m.caller m.made m.op few.0 few.1 k announced raw steps stands meant)
 
     -- the reply of an answer is held
-    pub held_of : (o : Outcome) → IsAnswered o → HasClosed S L B m v told.before told.steps d w told.kept o → IsHeld o
+    pub held_of : (o : Outcome) → IsAnswered o → HasEndedWith S L B m v told.before told.steps d w told.kept o → IsHeldAnswer o
     held_of (Answered k announced raw steps) is closes = held (Answered k announced raw steps) closes k announced raw steps refl
     held_of (Over k) is closes = absurd is
 
   -- the caller serves on
-  pub serves_on : (L : List ℕ → Type 0) (n : ℕ) (c k : Caller Scripts) (m : Data) (a b : ℕ) (z : Result Outcome CallErr) → Serves r n c → m.caller ≡ (call_of c).caller → IsOperation m.op
-      → HasTold (setup_at scripts_meaning r) L (start_of_row r) m (sight_of c) a (call_of k) (sight_of k) b z → IsCaller scripts_meaning r k → Serves r n k
+  pub serves_on : (L : List ℕ → Type 0) (n : ℕ) (c k : Caller Scripts) (m : CallState) (a b : ℕ) (z : Result Outcome CallErr) → Serves r n c → m.caller ≡ (caller_call c).caller → IsOperation m.op
+      → TellsCall (setup_at scripts_meaning r) L (start_of_row r) m (sight_of c) a (caller_call k) (sight_of k) b z → IsCaller scripts_meaning r k → Serves r n k
   serves_on L n c k m a b z s same op told is = record {
     caller = is;
     number = told.caller ∙ same ∙ s.number;
-    runs = runs_on (setup_at scripts_meaning r) L (start_of_row r) m (sight_of c) a (call_of k) (sight_of k) b z told op s.runs;
+    runs = runs_on (setup_at scripts_meaning r) L (start_of_row r) m (sight_of c) a (caller_call k) (sight_of k) b z told op s.runs;
     begun = λ is_open. subst IsOperation (sym told.op) op;
   }
 

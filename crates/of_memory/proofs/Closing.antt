@@ -4,16 +4,16 @@ use Rattle.std.specs.Prelude.{slice_range}
 use Rattle.std.proofs.lemmas.List.{get_or-take, get_or-drop, length-drop, take_at, ext_get_or}
 use Rattle.of_cell.specs.Cells.{durable_cells, table_words}
 use Rattle.of_mem.specs.declared.work.TheConstants.{MOST_INSTRS}
-use Rattle.of_recover.specs.Recovered.{recovered}
-use Rattle.of_store.specs.State.{State}
+use Rattle.of_recover.specs.Recovered.{recovered_words}
+use Rattle.of_store.specs.State.{Store}
 use Rattle.of_eval.specs.declared.scripts.Scripts.{Scripts}
-use Rattle.of_eval.specs.Scripts.{cells_in, LawfulCells, scripts_meaning}
-use Rattle.of_core.specs.Table.{Setup, setup_of, size, table_size}
+use Rattle.of_eval.specs.Scripts.{data_cells_of, LawfulCells, scripts_meaning}
+use Rattle.of_core.specs.Table.{Setup, setup_of, cell_count, words_before_members}
 use Rattle.of_core.specs.Starts.{IsDurable, IsStartRow}
 use Rattle.of_row.specs.declared.member.Pass.{Pass}
 use Rattle.of_row.specs.declared.row.Row.{Row}
-use Rattle.of_row.specs.Rule.{Meets}
-use Rattle.of_row.specs.Rows.{key_of, setup_at, IsOf}
+use Rattle.of_row.specs.Rule.{ViewMeetsRule}
+use Rattle.of_row.specs.Rows.{key_of, setup_at, IsSeatOf}
 use Rattle.of_row.specs.Passes.{ClosesWith}
 use Rattle.of_memory.specs.History.{Entry}
 use Rattle.of_memory.specs.Laws.{setup_with, StandsAt, KeepScripts, HoldsHistory, Leads}
@@ -30,21 +30,21 @@ kept_durable n k old ws room long all same =
     get_or-take n ws i 0 low ∙ same i (omega (arith, low, all)) ∙ sym (get_or-drop n old i 0) ∙ sym (get_or-take (n + n - n) (drop n old) i 0 (omega (arith, low, e))))
 
 -- the durable words stand behind the cells
-durable_row : (S : Setup) (ws row : List ℕ) → length ws ≡ table_size S + 1 → row ≡ slice_range ws (size S) (size S + size S) → IsDurable S ws row
+durable_row : (S : Setup) (ws row : List ℕ) → length ws ≡ words_before_members S + 1 → row ≡ slice_range ws (cell_count S) (cell_count S + cell_count S) → IsDurable S ws row
 durable_row S ws row room is = record {
-  long = ap length is ∙ (let e : size S + size S - size S ≡ size S = omega arith in
-      length-take-le (size S + size S - size S) (drop (size S) ws) (omega (arith, length-drop (size S) ws, room)) ∙ e);
+  long = ap length is ∙ (let e : cell_count S + cell_count S - cell_count S ≡ cell_count S = omega arith in
+      length-take-le (cell_count S + cell_count S - cell_count S) (drop (cell_count S) ws) (omega (arith, length-drop (cell_count S) ws, room)) ∙ e);
   each = λ c l. ap (λ xs. get_or xs c 0) is
-      ∙ get_or-take (size S + size S - size S) (drop (size S) ws) c 0 (omega (arith, l))
-      ∙ get_or-drop (size S) ws c 0;
+      ∙ get_or-take (cell_count S + cell_count S - cell_count S) (drop (cell_count S) ws) c 0 (omega (arith, l))
+      ∙ get_or-drop (cell_count S) ws c 0;
 }
 
 -- what stands in a list of words when recovery, which leaves as many, has been through it
-pub is_left : (callers cells : ℕ) (new given items : List ℕ) (len : ℕ) → new ≡ recovered callers cells given → given ≡ items → len ≡ length items
-    → length (recovered callers cells items) ≡ length items → take len (new ++ drop (length new) items) ≡ recovered callers cells items
-is_left callers cells new given items len row same long size =
-    let is : new ≡ recovered callers cells items = row ∙ ap (recovered callers cells) same in
-    take_at new (drop (length new) items) len (ap length is ∙ size ∙ sym long) ∙ is
+pub is_left : (callers cells : ℕ) (new given items : List ℕ) (len : ℕ) → new ≡ recovered_words callers cells given → given ≡ items → len ≡ length items
+    → length (recovered_words callers cells items) ≡ length items → take len (new ++ drop (length new) items) ≡ recovered_words callers cells items
+is_left callers cells new given items len row same long cell_count =
+    let is : new ≡ recovered_words callers cells items = row ∙ ap (recovered_words callers cells) same in
+    take_at new (drop (length new) items) len (ap length is ∙ cell_count ∙ sym long) ∙ is
 
 module _ (r : Row Scripts) (row : IsScriptsRow r) (p : Pass) (ws : List ℕ) (m : ClosesWith scripts_meaning LawfulCells r p ws)
     (long : length ws ≡ table_words (key_of r).callers MOST_INSTRS (key_of r).cells) where
@@ -57,22 +57,22 @@ module _ (r : Row Scripts) (row : IsScriptsRow r) (p : Pass) (ws : List ℕ) (m 
   abbrev S : Setup
   S = setup_with W limit
 
-  meets : Meets S (LawfulCells W) (start_of_row r) ws p.seat.me.0
-  meets = subst (λ (k : ℕ × ℕ). Meets (setup_of k.0 k.1 limit (scripts_meaning W)) (LawfulCells W) (start_of_row r) ws p.seat.me.0) (λ i. (row.callers i, row.cells i)) m
+  meets : ViewMeetsRule S (LawfulCells W) (start_of_row r) ws p.seat.me.0
+  meets = subst (λ (k : ℕ × ℕ). ViewMeetsRule (setup_of k.0 k.1 limit (scripts_meaning W)) (LawfulCells W) (start_of_row r) ws p.seat.me.0) (λ i. (row.callers i, row.cells i)) m
 
-  room : length ws ≡ table_size S + 1
+  room : length ws ≡ words_before_members S + 1
   room = long ∙ (λ i. table_words (row.callers i) MOST_INSTRS (row.cells i))
 
   -- what recovery makes of them
   pub closed : (callers cells : ℕ) (durable : List ℕ) → callers ≡ (key_of r).callers → cells ≡ (key_of r).cells → durable ≡ slice_range ws (durable_cells callers cells) (durable_cells callers cells + durable_cells callers cells)
-      → HoldsHistory W limit → IsOf r p.seat → KeepScripts (setup_at scripts_meaning r) p.seat.me.0
-      → IsStartRow S (LawfulCells W) (recovered callers cells durable)
-      × ((s : State) → StandsAt W (start_of_row r) s → (h : List Entry) × Leads W limit (start_of_row r) p.seat.me.0 s (recovered callers cells durable) h)
+      → HoldsHistory W limit → IsSeatOf r p.seat → KeepScripts (setup_at scripts_meaning r) p.seat.me.0
+      → IsStartRow S (LawfulCells W) (recovered_words callers cells durable)
+      × ((s : Store) → StandsAt W (start_of_row r) s → (h : List Entry) × Leads W limit (start_of_row r) p.seat.me.0 s (recovered_words callers cells durable) h)
   closed callers cells durable is are part law of keeps =
       let e : callers ≡ W.callers = is ∙ row.callers in
-      let f : cells ≡ cells_in W = are ∙ row.cells in
-      let there : durable ≡ slice_range ws (size S) (size S + size S) = part ∙ ap (λ (n : ℕ). slice_range ws n (n + n)) (λ i. durable_cells (e i) (f i)) in
+      let f : cells ≡ data_cells_of W = are ∙ row.cells in
+      let there : durable ≡ slice_range ws (cell_count S) (cell_count S + cell_count S) = part ∙ ap (λ (n : ℕ). slice_range ws n (n + n)) (λ i. durable_cells (e i) (f i)) in
       let every : KeepScripts S p.seat.me.0 = λ n lt. keeps n (subst (λ (k : ℕ). n < k) (sym row.callers) lt) in
       let found = law (start_of_row r) ws p.seat.me.0 meets of.2 every durable (durable_row S ws durable room there) in
-      subst (λ (xs : List ℕ). IsStartRow S (LawfulCells W) xs × ((s : State) → StandsAt W (start_of_row r) s → (h : List Entry) × Leads W limit (start_of_row r) p.seat.me.0 s xs h))
-      (λ i. recovered (sym e i) (sym f i) durable) found
+      subst (λ (xs : List ℕ). IsStartRow S (LawfulCells W) xs × ((s : Store) → StandsAt W (start_of_row r) s → (h : List Entry) × Leads W limit (start_of_row r) p.seat.me.0 s xs h))
+      (λ i. recovered_words (sym e i) (sym f i) durable) found

@@ -6,17 +6,17 @@ use Rattle.std.proofs.lemmas.List.{length-map, get_or_past, get_or_append_left}
 use Rattle.std.proofs.Math.Seq.{get_or-append_seam}
 use Rattle.std.proofs.Math.ListN.{get_or-map}
 use Rattle.std.proofs.lemmas.List.Elements.{All-from_recursion, recursion_from_All, All-from_get_or}
-use Rattle.of_cell.specs.Words.{pay}
-use Rattle.of_recover.specs.Recovered.{recovered}
+use Rattle.of_cell.specs.Words.{payload_of}
+use Rattle.of_recover.specs.Recovered.{recovered_words}
 use Rattle.of_recover.proofs.Agreeing.{recovered_data-same}
-use Rattle.of_mem.specs.ProgramWork.{memory}
+use Rattle.of_mem.specs.ProgramWork.{memory_of}
 use Rattle.of_mem.proofs.Standing.{stands_from}
 use Rattle.std.specs.Prelude.{IsTrue, if◌then◌else◌}
 use Rattle.std.proofs.lemmas.List.FromFn.{get_or-map-range_with_len}
 use Rattle.std.proofs.lemmas.Bool.{lt-ltb}
 use Rattle.of_mem.specs.declared.work.RawReply.{RawReply}
-use Rattle.of_mem.specs.Meaning.{marked}
-use Rattle.of_mem.specs.Places.{ticket_at, shape_at, reply_at}
+use Rattle.of_mem.specs.Meaning.{is_marked}
+use Rattle.of_mem.specs.Places.{ticket_cell_at, shape_at, reply_at}
 use Rattle.of_script.specs.declared.instr.Instr.{Instr}
 use Rattle.of_script.specs.declared.instr.TheConstants.{MOST_INSTRS}
 use Rattle.of_script.specs.Language.{IsScript, instr_word, reads_only}
@@ -25,23 +25,23 @@ use Rattle.of_eval.specs.Lawful.{reply_in, reply_number}
 use Rattle.of_eval.proofs.ReadsOnly.{reads_of}
 use Rattle.of_caller.proofs.StoresHeld.{has_reply}
 use Rattle.of_core.specs.Linear.{recovered_number, FindsCall}
-use Rattle.of_store.specs.State.{State}
+use Rattle.of_store.specs.State.{Store}
 use Rattle.of_eval.specs.declared.scripts.Scripts.{Scripts}
-use Rattle.of_eval.specs.Scripts.{store_at, cells_in, LawfulCells, scripts_meaning, script_reads}
-use Rattle.of_eval.specs.Stored.{plain}
-use Rattle.of_core.specs.Table.{Setup, size, table_size, durable_at, durable_word, ticket_cell, shape_cell, reply_cell}
-use Rattle.of_core.specs.Machine.{Call, Data, no_call, is_idle, IsOpen}
-use Rattle.of_core.specs.World.{World, Start}
-use Rattle.of_core.specs.History.{after_calls, SameReply}
+use Rattle.of_eval.specs.Scripts.{store_at, data_cells_of, LawfulCells, scripts_meaning, script_reads}
+use Rattle.of_eval.specs.Stored.{cell_store}
+use Rattle.of_core.specs.Table.{Setup, cell_count, words_before_members, durable_at, durable_word, ticket_cell, shape_cell, reply_cell}
+use Rattle.of_core.specs.Machine.{Call, CallState, no_call, is_idle, IsOpen}
+use Rattle.of_core.specs.World.{Moment, TableStart}
+use Rattle.of_core.specs.History.{numbers_after_calls, SameReply}
 use Rattle.of_core.specs.Events.{Event, start_ticket}
-use Rattle.of_core.specs.Calls.{operations}
-use Rattle.of_core.specs.Starts.{IsDurable, IsStartRow, start_of, recovered_start}
-use Rattle.of_core.specs.Invariant.{Good}
+use Rattle.of_core.specs.Calls.{operations_begun}
+use Rattle.of_core.specs.Starts.{IsDurable, IsStartRow, start_from_durable, recovered_start}
+use Rattle.of_core.specs.Invariant.{MeetsInvariant}
 use Rattle.of_core.specs.Grounds.{GoodGrounds}
-use Rattle.of_core.specs.Laws.{StartKept, ScheduleKept, GoodIsSound, Restarts}
-use Rattle.of_row.specs.Views.{Ended, Kept, Sight, no_ended, Each}
-use Rattle.of_row.specs.Rule.{Meets, ticket_at as own_ticket, done_before}
-use Rattle.of_row.specs.Told.{open_op, begun_of}
+use Rattle.of_core.specs.Laws.{StartsMeetInvariant, SchedulesKeepInvariant, InvariantIsSound, RecoveredRowsMayStart}
+use Rattle.of_row.specs.Views.{EndedCall, KnownCaller, View, no_ended, Each}
+use Rattle.of_row.specs.Rule.{ViewMeetsRule, ticket_at as own_ticket, done_before}
+use Rattle.of_row.specs.Told.{open_operation, operations_known}
 use Rattle.of_row.specs.Trail.{first_of, moment, IsRunBy}
 use Rattle.of_row.specs.Moments.{ExplainsAll, StopsLoseNothing, LosesNothing, words_alone}
 use Rattle.of_caller.proofs.StoresReplay.{number_at}
@@ -52,35 +52,35 @@ use Rattle.of_memory.proofs.Replaying.{sizes, Cells, AreScripts, IsEntryOf, entr
 
 -- ---- the operations that a kept caller has begun are scripts'
 
-begun_scripts : (es : List Ended) (os : List (List ℕ)) → Every (λ (e : Ended). IsOperation e.op) es → Every IsOperation os → Every IsOperation (map (λ (e : Ended). e.op) es ++ os)
+begun_scripts : (es : List EndedCall) (os : List (List ℕ)) → Every (λ (e : EndedCall). IsOperation e.op) es → Every IsOperation os → Every IsOperation (map (λ (e : EndedCall). e.op) es ++ os)
 begun_scripts [] os h k = k
 begun_scripts (e ∷ es) os h k = (h.0, begun_scripts es os h.1 k)
 
-open_scripts : (m : Data) (b : Bool) → (b ≡ false → IsOperation m.op) → Every IsOperation (open_op m b)
+open_scripts : (m : CallState) (b : Bool) → (b ≡ false → IsOperation m.op) → Every IsOperation (open_operation m b)
 open_scripts m true h = tt
 open_scripts m false h = (h refl, tt)
 
-begun_are : (x : Kept) → RunsScripts x → All IsOperation (begun_of x)
+begun_are : (x : KnownCaller) → RunsScripts x → All IsOperation (operations_known x)
 begun_are x r =
-    All-from_recursion IsOperation (begun_of x)
-    (begun_scripts x.ended (open_op x.machine (is_idle x.machine.place)) (recursion_from_All (λ (e : Ended). IsOperation e.op) x.ended r.ended) (open_scripts x.machine (is_idle x.machine.place) r.open_call))
+    All-from_recursion IsOperation (operations_known x)
+    (begun_scripts x.ended (open_operation x.machine (is_idle x.machine.place)) (recursion_from_All (λ (e : EndedCall). IsOperation e.op) x.ended r.ended) (open_scripts x.machine (is_idle x.machine.place) r.open_call))
 
-operations_are : (S : Setup) (B : Start) (es : List Event) (n : ℕ) (xs : List Kept) → KeepsSo n RunsScripts xs → Each (IsRunBy S B es) xs → All IsOperation (operations es n)
+operations_are : (S : Setup) (B : TableStart) (es : List Event) (n : ℕ) (xs : List KnownCaller) → KeepsSo n RunsScripts xs → Each (IsRunBy S B es) xs → All IsOperation (operations_begun es n)
 operations_are S B es n [] keeps told = absurd keeps
 operations_are S B es n (x ∷ xs) (inl h) told =
-    subst (λ (m : ℕ). All IsOperation (operations es m)) h.0 (subst (All IsOperation) told.0.told.begun (begun_are x h.1))
+    subst (λ (m : ℕ). All IsOperation (operations_begun es m)) h.0 (subst (All IsOperation) told.0.told.begun (begun_are x h.1))
 operations_are S B es n (x ∷ xs) (inr h) told = operations_are S B es n xs h told.1
 
 -- ---- calls that are kept, as calls of scripts
 
-made_at : (es : List Ended) (ms : List Made) (y : ℕ) → AreMade es ms → y < length ms → (y < length es) × IsMade (get_or es y no_ended) (get_or ms y no_made)
+made_at : (es : List EndedCall) (ms : List Made) (y : ℕ) → AreMade es ms → y < length ms → (y < length es) × IsMade (get_or es y no_ended) (get_or ms y no_made)
 made_at [] [] y h l = absurd (omega arith)
 made_at [] (m ∷ ms) y h l = absurd h
 made_at (e ∷ es) [] y h l = absurd h
 made_at (e ∷ es) (m ∷ ms) zero h l = (omega arith, h.0)
 made_at (e ∷ es) (m ∷ ms) (suc y) h l = let r = made_at es ms y h.1 (omega arith) in (omega (arith, r.0), r.1)
 
-each_of : {P Q : Kept → Type 0} → ((x : Kept) → P x → Q x) → (xs : List Kept) → Each P xs → Each Q xs
+each_of : {P Q : KnownCaller → Type 0} → ((x : KnownCaller) → P x → Q x) → (xs : List KnownCaller) → Each P xs → Each Q xs
 each_of f [] h = tt
 each_of f (x ∷ xs) h = (f x h.0, each_of f xs h.1)
 
@@ -95,59 +95,59 @@ may_write op script words is writes = go (script_reads op) refl
         let same : q.0.script ≡ script = words_injective q.0.script script q.0.range is.in_range (q.0.words ∙ words) in
         absurd (writes (subst OnlyReads same (All-from_recursion (λ (i : Instr). IsTrue (reads_only i)) q.0.script q.0.reads)))
 
-made_long : (es : List Ended) (ms : List Made) → AreMade es ms → length ms ≡ length es
+made_long : (es : List EndedCall) (ms : List Made) → AreMade es ms → length ms ≡ length es
 made_long [] [] h = refl
 made_long [] (m ∷ ms) h = absurd h
 made_long (e ∷ es) [] h = absurd h
 made_long (e ∷ es) (m ∷ ms) h = let r : length ms ≡ length es = made_long es ms h.1 in omega (arith, r)
 
 -- an operation that a kept caller has begun is one of those that have ended, or the open one
-begun_at : (x : Kept) (b : Bool) → is_idle x.machine.place ≡ b → (k : ℕ) → k < length (map (λ (e : Ended). e.op) x.ended ++ open_op x.machine b)
-    → ((k < length x.ended) × (get_or (map (λ (e : Ended). e.op) x.ended ++ open_op x.machine b) k [] ≡ (get_or x.ended k no_ended).op))
-    ⊎ ((k ≡ length x.ended) × IsOpen x.machine.place × (get_or (map (λ (e : Ended). e.op) x.ended ++ open_op x.machine b) k [] ≡ x.machine.op))
+begun_at : (x : KnownCaller) (b : Bool) → is_idle x.machine.place ≡ b → (k : ℕ) → k < length (map (λ (e : EndedCall). e.op) x.ended ++ open_operation x.machine b)
+    → ((k < length x.ended) × (get_or (map (λ (e : EndedCall). e.op) x.ended ++ open_operation x.machine b) k [] ≡ (get_or x.ended k no_ended).op))
+    ⊎ ((k ≡ length x.ended) × IsOpen x.machine.place × (get_or (map (λ (e : EndedCall). e.op) x.ended ++ open_operation x.machine b) k [] ≡ x.machine.op))
 begun_at x b place k lt = elim (cases_lt k (length x.ended)) [
-  | inl low ↦ inl (low, get_or_append_left (map (λ (e : Ended). e.op) x.ended) (open_op x.machine b) [] k (omega (arith, low, long)) ∙ get_or-map (λ (e : Ended). e.op) x.ended k no_ended)
+  | inl low ↦ inl (low, get_or_append_left (map (λ (e : EndedCall). e.op) x.ended) (open_operation x.machine b) [] k (omega (arith, low, long)) ∙ get_or-map (λ (e : EndedCall). e.op) x.ended k no_ended)
   | inr high ↦ inr (behind b place lt high)
 ]
   where
     ops : List (List ℕ)
-    ops = map (λ (e : Ended). e.op) x.ended
+    ops = map (λ (e : EndedCall). e.op) x.ended
 
-    long : length (map (λ (e : Ended). e.op) x.ended) ≡ length x.ended
-    long = length-map x.ended (λ (e : Ended). e.op)
+    long : length (map (λ (e : EndedCall). e.op) x.ended) ≡ length x.ended
+    long = length-map x.ended (λ (e : EndedCall). e.op)
 
-    behind : (b : Bool) → is_idle x.machine.place ≡ b → k < length (map (λ (e : Ended). e.op) x.ended ++ open_op x.machine b) → length x.ended ≤ k
-        → (k ≡ length x.ended) × IsOpen x.machine.place × (get_or (map (λ (e : Ended). e.op) x.ended ++ open_op x.machine b) k [] ≡ x.machine.op)
-    behind true is some high = absurd (omega (arith, length-append (map (λ (e : Ended). e.op) x.ended) [], long, some, high))
+    behind : (b : Bool) → is_idle x.machine.place ≡ b → k < length (map (λ (e : EndedCall). e.op) x.ended ++ open_operation x.machine b) → length x.ended ≤ k
+        → (k ≡ length x.ended) × IsOpen x.machine.place × (get_or (map (λ (e : EndedCall). e.op) x.ended ++ open_operation x.machine b) k [] ≡ x.machine.op)
+    behind true is some high = absurd (omega (arith, length-append (map (λ (e : EndedCall). e.op) x.ended) [], long, some, high))
     behind false is some high =
-        let at : k ≡ length (map (λ (e : Ended). e.op) x.ended) = omega (arith, length-append (map (λ (e : Ended). e.op) x.ended) (x.machine.op ∷ []), long, some, high) in
-        (at ∙ long, is, ap (λ (n : ℕ). get_or (map (λ (e : Ended). e.op) x.ended ++ x.machine.op ∷ []) n []) at ∙ get_or-append_seam (map (λ (e : Ended). e.op) x.ended) x.machine.op [] [])
+        let at : k ≡ length (map (λ (e : EndedCall). e.op) x.ended) = omega (arith, length-append (map (λ (e : EndedCall). e.op) x.ended) (x.machine.op ∷ []), long, some, high) in
+        (at ∙ long, is, ap (λ (n : ℕ). get_or (map (λ (e : EndedCall). e.op) x.ended ++ x.machine.op ∷ []) n []) at ∙ get_or-append_seam (map (λ (e : EndedCall). e.op) x.ended) x.machine.op [] [])
 
-module _ (w : Scripts) (limit : ℕ) (start : StartKept (setup_with w limit) (LawfulCells w)) (runs : ScheduleKept (setup_with w limit) (LawfulCells w)) (grounds : GoodGrounds (setup_with w limit) (LawfulCells w))
-    (sound : GoodIsSound (setup_with w limit) (LawfulCells w)) (restarts : Restarts (setup_with w limit) (LawfulCells w)) (stops : StopsLoseNothing (LawfulCells w) (setup_with w limit)) where
+module _ (w : Scripts) (limit : ℕ) (start : StartsMeetInvariant (setup_with w limit) (LawfulCells w)) (runs : SchedulesKeepInvariant (setup_with w limit) (LawfulCells w)) (grounds : GoodGrounds (setup_with w limit) (LawfulCells w))
+    (sound : InvariantIsSound (setup_with w limit) (LawfulCells w)) (restarts : RecoveredRowsMayStart (setup_with w limit) (LawfulCells w)) (stops : StopsLoseNothing (LawfulCells w) (setup_with w limit)) where
   abbrev S : Setup
   S = setup_with w limit
 
   abbrev L : List ℕ → Type 0
   L = LawfulCells w
 
-  module _ (B : Start) (ws : List ℕ) (v : Sight) (m : Meets S L B ws v) (awake : v.spent ≡ false) (keeps : KeepScripts S v) where
+  module _ (B : TableStart) (ws : List ℕ) (v : View) (m : ViewMeetsRule S L B ws v) (awake : v.spent ≡ false) (keeps : KeepScripts S v) where
     abbrev lost : LosesNothing S L B m.state
     lost = stops B m.state m.rule
 
     -- the moment that has led to the words
-    abbrev u : World
+    abbrev u : Moment
     u = moment S B lost.events
 
-    good : Good S L B u
-    good = runs B (first_of S B) (start B m.rule.from (table_size S + 1) (omega arith)).0 lost.events lost.reached.schedule
+    good : MeetsInvariant S L B u
+    good = runs B (first_of S B) (start B m.rule.from (words_before_members S + 1) (omega arith)).0 lost.events lost.reached.schedule
 
-    durable_same : (c : ℕ) → c < size S → durable_word S m.state.words c ≡ durable_word S u.words c
+    durable_same : (c : ℕ) → c < cell_count S → durable_word S m.state.words c ≡ durable_word S u.words c
     durable_same c low = lost.reached.words (durable_at S c) (omega (arith, low))
 
     -- recovery finds in the words what it finds at that moment
-    number_same : (a : ℕ) → a < cells_in w → recovered_number S (words_alone m.state.words) a ≡ recovered_number S u a
-    number_same a low = ap pay (recovered_data-same S.callers S.cells (durable_word S m.state.words) (durable_word S u.words) durable_same a low (omega (arith, low, (grounds B u good).cells)))
+    number_same : (a : ℕ) → a < data_cells_of w → recovered_number S (words_alone m.state.words) a ≡ recovered_number S u a
+    number_same a low = ap payload_of (recovered_data-same S.callers S.cells (durable_word S m.state.words) (durable_word S u.words) durable_same a low (omega (arith, low, (grounds B u good).cells)))
 
     abbrev order : List Call
     order = lost.order
@@ -163,39 +163,39 @@ module _ (w : Scripts) (limit : ℕ) (start : StartKept (setup_with w limit) (La
         (operations_are S B lost.events c.caller v.kept (keeps c.caller b.0) (lost.reached.callers m.seat v m.view awake) (c.ticket - start_ticket S B c.caller - 1) [] (omega (arith, was.0, was.1)))))
 
     abbrev found_in : List ℕ → List ℕ
-    found_in row = recovered w.callers (cells_in w) row
+    found_in row = recovered_words w.callers (data_cells_of w) row
 
-    starts_again : (row : List ℕ) → IsDurable S ws row → IsStartRow S L (found_in row) × (start_of w.callers (cells_in w) (found_in row) ≡ recovered_start S B u)
+    starts_again : (row : List ℕ) → IsDurable S ws row → IsStartRow S L (found_in row) × (start_from_durable w.callers (data_cells_of w) (found_in row) ≡ recovered_start S B u)
     starts_again row durable = restarts B u good row record {
       long = durable.long;
       each = λ c low. durable.each c low ∙ ap (λ (xs : List ℕ). durable_word S xs c) (sym m.words) ∙ durable_same c low;
     }
 
-    module _ (row : List ℕ) (durable : IsDurable S ws row) (s : State) (stands : StandsAt w B s) where
+    module _ (row : List ℕ) (durable : IsDurable S ws row) (s : Store) (stands : StandsAt w B s) where
       abbrev found : List ℕ
       found = found_in row
 
-      abbrev re : IsStartRow S L found × (start_of w.callers (cells_in w) found ≡ recovered_start S B u)
+      abbrev re : IsStartRow S L found × (start_from_durable w.callers (data_cells_of w) found ≡ recovered_start S B u)
       re = starts_again row durable
 
-      abbrev C : Start
-      C = start_of w.callers (cells_in w) found
+      abbrev C : TableStart
+      C = start_from_durable w.callers (data_cells_of w) found
 
       -- what recovery finds in a data cell
-      recovered_at : (a : ℕ) → a < cells_in w → recovered_number S (words_alone m.state.words) a ≡ pay (get_or C.cells a 0)
-      recovered_at a lt = number_same a lt ∙ ap pay ((sound B u good).recovers a lt) ∙ ap (λ (B : Start). pay (get_or B.cells a 0)) (sym re.1)
+      recovered_at : (a : ℕ) → a < data_cells_of w → recovered_number S (words_alone m.state.words) a ≡ payload_of (get_or C.cells a 0)
+      recovered_at a lt = number_same a lt ∙ ap payload_of ((sound B u good).recovers a lt) ∙ ap (λ (B : TableStart). payload_of (get_or B.cells a 0)) (sym re.1)
 
-      number_found : (a : ℕ) → a < cells_in w → memory (map pay C.cells) a ≡ recovered_number S (words_alone m.state.words) a
+      number_found : (a : ℕ) → a < data_cells_of w → memory_of (map payload_of C.cells) a ≡ recovered_number S (words_alone m.state.words) a
       number_found a lt = number_at C.cells a ∙ sym (recovered_at a lt)
 
       abbrev xs : List ℕ
-      xs = map pay B.cells
+      xs = map payload_of B.cells
 
       abbrev ys : List ℕ
-      ys = after_calls (scripts_meaning w) xs order
+      ys = numbers_after_calls (scripts_meaning w) xs order
 
       started : Cells w xs s
-      started = record { size = length-map B.cells pay ∙ m.rule.from.start.size; stored = stands }
+      started = record { size = length-map B.cells payload_of ∙ m.rule.from.start.size; stored = stands }
 
       abbrev h : List Entry
       h = entries w s order are_scripts
@@ -204,23 +204,23 @@ module _ (w : Scripts) (limit : ℕ) (start : StartKept (setup_with w limit) (La
       led = leads w xs s order are_scripts started
 
       -- the numbers that recovery finds are those behind the order
-      same_cell : (a : ℕ) → store_at w ≤ a → memory ys a ≡ memory (map pay C.cells) a
-      same_cell a low = elim (cases_lt a (cells_in w)) [
+      same_cell : (a : ℕ) → store_at w ≤ a → memory_of ys a ≡ memory_of (map payload_of C.cells) a
+      same_cell a low = elim (cases_lt a (data_cells_of w)) [
         | inl lt ↦
             sym (lost.recovered_so.numbers a low lt) ∙ sym (number_found a lt)
         | inr past ↦
             get_or_past ys a 0 (omega (arith, led.size, past))
-            ∙ sym (get_or_past (map pay C.cells) a 0 (omega (arith, length-map C.cells pay, re.0.may_start.start.size, past)))
+            ∙ sym (get_or_past (map payload_of C.cells) a 0 (omega (arith, length-map C.cells payload_of, re.0.may_start.start.size, past)))
       ]
 
       ends : StandsAt w C (store_after s h)
       ends = record {
         state = led.stored.state;
-        stands = stands_from (store_at w) w.blocks (memory ys) (memory (map pay C.cells)) same_cell (plain (store_after s h)) led.stored.stands;
+        stands = stands_from (store_at w) w.blocks (memory_of ys) (memory_of (map payload_of C.cells)) same_cell (cell_store (store_after s h)) led.stored.stands;
       }
 
       -- the order explains how a kept caller's calls have ended, and so does the history
-      explained : (x : Kept) → ExplainsAll S B order x → ExplainsKept S B h x
+      explained : (x : KnownCaller) → ExplainsAll S B order x → ExplainsKept S B h x
       explained x all ms made y l =
           let at = made_at x.ended ms y made l in
           explains w limit order xs s are_scripts started lost.linearizes.legal (get_or x.ended y no_ended).outcome (get_or ms y no_made).ended
@@ -230,7 +230,7 @@ module _ (w : Scripts) (limit : ℕ) (start : StartKept (setup_with w limit) (La
       entry_of y l = at w limit order xs s are_scripts started lost.linearizes.legal y l
 
       -- each entry of a kept caller is one of its calls
-      owned : (x : Kept) → IsRunBy S B lost.events x → HasOnlyKept S B h x
+      owned : (x : KnownCaller) → IsRunBy S B lost.events x → HasOnlyKept S B h x
       owned x told ms made = All-from_get_or (λ (e : Entry). e.caller ≡ x.machine.caller → IsOneOf (done_before S B x.machine.caller) ms (HasOpenScript x) e) h no_entry (λ y l mine.
           let c : Call = get_or order y no_call in
           let e : Entry = get_or h y no_entry in
@@ -238,11 +238,11 @@ module _ (w : Scripts) (limit : ℕ) (start : StartKept (setup_with w limit) (La
           let own : c.caller ≡ x.machine.caller = sym is.caller ∙ mine in
           let b = (lost.linearizes.begun y no_call (subst (λ (n : ℕ). y < n) (long w s order are_scripts) l)).1 refl in
           let st : ℕ = done_before S B x.machine.caller in
-          let same_ops : operations lost.events c.caller ≡ begun_of x = ap (operations lost.events) own ∙ sym told.told.begun in
+          let same_ops : operations_begun lost.events c.caller ≡ operations_known x = ap (operations_begun lost.events) own ∙ sym told.told.begun in
           let start_is : start_ticket S B c.caller ≡ st = ap (start_ticket S B) own in
-          let op : c.op ≡ get_or (begun_of x) (c.ticket - st - 1) [] = b.2 ∙ (λ i. get_or (same_ops i) (c.ticket - start_is i - 1) []) in
+          let op : c.op ≡ get_or (operations_known x) (c.ticket - st - 1) [] = b.2 ∙ (λ i. get_or (same_ops i) (c.ticket - start_is i - 1) []) in
           let low : st < c.ticket = omega (arith, b.0, start_is) in
-          let high : c.ticket - st - 1 < length (begun_of x) = omega (arith, b.0, b.1, start_is, ap length same_ops) in
+          let high : c.ticket - st - 1 < length (operations_known x) = omega (arith, b.0, b.1, start_is, ap length same_ops) in
           let many : length ms ≡ length x.ended = made_long x.ended ms made in
           elim (begun_at x (is_idle x.machine.place) refl (c.ticket - st - 1) high) [
             | inl before ↦
@@ -261,7 +261,7 @@ module _ (w : Scripts) (limit : ℕ) (start : StartKept (setup_with w limit) (La
           subst (λ (n : ℕ). n < w.callers) (sym (entry_of y l).caller) (lost.linearizes.begun y no_call (subst (λ (n : ℕ). y < n) (long w s order are_scripts) l)).0)
 
       module _ (n : ℕ) (low : n < w.callers) where
-        ticket_low : ticket_at MOST_INSTRS n < cells_in w
+        ticket_low : ticket_cell_at MOST_INSTRS n < data_cells_of w
         ticket_low = omega (arith, low)
 
         found_last : (y : ℕ) → y < length order → (get_or order y no_call).caller ≡ n → FindsCall S (words_alone m.state.words) (get_or order y no_call) → TellsLast S B C h n
@@ -269,28 +269,28 @@ module _ (w : Scripts) (limit : ℕ) (start : StartKept (setup_with w limit) (La
             let c : Call = get_or order y no_call in
             let l : y < length h = subst (λ (k : ℕ). y < k) (sym (long w s order are_scripts)) among in
             let is = entry_of y l in
-            let raw : RawReply = reply_in MOST_INSTRS (memory (map pay C.cells)) n in
+            let raw : RawReply = reply_in MOST_INSTRS (memory_of (map payload_of C.cells)) n in
             let shape : raw.shape ≡ c.raw.shape = number_found (shape_at MOST_INSTRS n) (omega (arith, low)) ∙ ap (λ (i : ℕ). recovered_number S (words_alone m.state.words) (shape_cell S i)) (sym mine) ∙ finds.shape in
             let same : SameReply S raw c.raw = (
               shape,
               λ j k mark.
-                  get_or-map-range_with_len (reply_number MOST_INSTRS (memory (map pay C.cells)) n) 0 MOST_INSTRS j j 0 k (omega arith)
-                  ∙ ap (λ (b : Bool). if b then memory (map pay C.cells) (reply_at MOST_INSTRS n j) else 0) (lt-ltb j MOST_INSTRS k)
+                  get_or-map-range_with_len (reply_number MOST_INSTRS (memory_of (map payload_of C.cells)) n) 0 MOST_INSTRS j j 0 k (omega arith)
+                  ∙ ap (λ (b : Bool). if b then memory_of (map payload_of C.cells) (reply_at MOST_INSTRS n j) else 0) (lt-ltb j MOST_INSTRS k)
                   ∙ number_found (reply_at MOST_INSTRS n j) (omega (arith, low, k))
                   ∙ ap (λ (i : ℕ). recovered_number S (words_alone m.state.words) (reply_cell S i j)) (sym mine)
-                  ∙ finds.replies j k (ap (λ (x : ℕ). marked x j) (sym shape) ∙ mark),
+                  ∙ finds.replies j k (ap (λ (x : ℕ). is_marked x j) (sym shape) ∙ mark),
             ) in
             inr (
               get_or h y no_entry,
               (y, l, refl),
               is.caller ∙ mine,
-              is.ticket ∙ sym finds.ticket ∙ ap (λ (i : ℕ). recovered_number S (words_alone m.state.words) (ticket_cell S i)) mine ∙ recovered_at (ticket_at MOST_INSTRS n) ticket_low,
+              is.ticket ∙ sym finds.ticket ∙ ap (λ (i : ℕ). recovered_number S (words_alone m.state.words) (ticket_cell S i)) mine ∙ recovered_at (ticket_cell_at MOST_INSTRS n) ticket_low,
               has_reply (sizes w limit) raw (length c.op) (get_or h y no_entry).reply is.some is.few is.fits (subst (SameReply S raw) is.raw same),
             )
 
         tells_last : TellsLast S B C h n
         tells_last = elim (lost.recovered_so.own n low).last [
-          | inl none ↦ inl (sym (recovered_at (ticket_at MOST_INSTRS n) ticket_low) ∙ none)
+          | inl none ↦ inl (sym (recovered_at (ticket_cell_at MOST_INSTRS n) ticket_low) ∙ none)
           | inr q ↦ found_last q.0 q.1 q.2 q.3
         ]
 
@@ -300,7 +300,7 @@ module _ (w : Scripts) (limit : ℕ) (start : StartKept (setup_with w limit) (La
             let is = entry_of y l in
             let among : y < length order = subst (λ (k : ℕ). y < k) (long w s order are_scripts) l in
             let few = (lost.recovered_so.own n low).upto y no_call among (sym is.caller ∙ mine) (may_write c.op (get_or h y no_entry).script is.words is.script writes) in
-            let at_end = recovered_at (ticket_at MOST_INSTRS n) ticket_low in
+            let at_end = recovered_at (ticket_cell_at MOST_INSTRS n) ticket_low in
             omega (arith, few, is.ticket, at_end))
 
       leads_there : Leads w limit B v s found h

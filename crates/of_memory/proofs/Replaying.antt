@@ -5,14 +5,14 @@ use Rattle.std.proofs.lemmas.List.{length-map}
 use Rattle.std.proofs.lemmas.List.Elements.{All-from_get_or}
 use Rattle.of_mem.specs.declared.work.RawReply.{RawReply}
 use Rattle.of_mem.specs.Meaning.{Meaning}
-use Rattle.of_mem.specs.ProgramWork.{memory}
+use Rattle.of_mem.specs.ProgramWork.{memory_of}
 use Rattle.of_script.specs.declared.instr.Instr.{Instr}
 use Rattle.of_script.specs.declared.instr.TheConstants.{MOST_INSTRS}
 use Rattle.of_script.specs.Language.{IsScript, instr_word}
 use Rattle.of_script.proofs.WordLaws.{words_injective}
-use Rattle.of_store.specs.State.{State, Response, run}
+use Rattle.of_store.specs.State.{Store, Reply, run}
 use Rattle.of_eval.specs.declared.scripts.Scripts.{Scripts}
-use Rattle.of_eval.specs.Scripts.{store_at, cells_in, scripts_meaning}
+use Rattle.of_eval.specs.Scripts.{store_at, data_cells_of, scripts_meaning}
 use Rattle.of_eval.specs.Stored.{IsStored}
 use Rattle.of_eval.specs.SoundScripts.{scripts_sound}
 use Rattle.of_eval.proofs.Meanings.{means_words, words_mean_script}
@@ -21,10 +21,10 @@ use Rattle.of_core.specs.declared.place.Outcome.{Outcome}
 use Rattle.of_core.specs.declared.place.Outcome.TheVariants.{Answered, Spent as Over}
 use Rattle.of_core.specs.Table.{Setup}
 use Rattle.of_core.specs.Machine.{Call, no_call}
-use Rattle.of_core.specs.History.{after_calls, Replies, SameReply}
+use Rattle.of_core.specs.History.{numbers_after_calls, HaveReplies, SameReply}
 use Rattle.of_core.specs.Claim.{IsNewer}
 use Rattle.of_core.specs.Linear as core
-use Rattle.of_caller.specs.Moments.{raw_of}
+use Rattle.of_caller.specs.Moments.{raw_reply_of}
 use Rattle.of_caller.proofs.StoresHeld.{FitsIn, script_fits, held_response}
 use Rattle.of_memory.specs.History.{Entry, no_entry, End, Replied, Spent, IsSerial, store_after, StandsInOrder, Has, Explains}
 use Rattle.of_memory.specs.Calls.{IsOperation, EndsAs}
@@ -39,19 +39,19 @@ module _ (w : Scripts) where
   M = scripts_meaning w
 
   -- so many cells, which stand for the store
-  pub record Cells (xs : List ℕ) (s : State) : Type 0 where
-    pub size : length xs ≡ cells_in w
-    pub stored : IsStored (store_at w) w.blocks (memory xs) s
+  pub record Cells (xs : List ℕ) (s : Store) : Type 0 where
+    pub size : length xs ≡ data_cells_of w
+    pub stored : IsStored (store_at w) w.blocks (memory_of xs) s
 
   -- a script leads to the next store, and has its reply
-  pub record Runs (xs op : List ℕ) (s : State) (script : List Instr) : Type 0 where
+  pub record Runs (xs op : List ℕ) (s : Store) (script : List Instr) : Type 0 where
     pub cells : Cells (M.cells xs op) (run s script).0
-    pub reply : M.reply xs op ≡ raw_of (length op) (run s script).1
+    pub reply : M.reply xs op ≡ raw_reply_of (length op) (run s script).1
     pub some : 1 ≤ length op
     pub few : length op ≤ MOST_INSTRS
     pub fits : FitsIn (length op) (run s script).1
 
-  words_run : (xs : List ℕ) (s : State) (script : List Instr) → Cells xs s → IsScript script → Runs xs (map instr_word script) s script
+  words_run : (xs : List ℕ) (s : Store) (script : List Instr) → Cells xs s → IsScript script → Runs xs (map instr_word script) s script
   words_run xs s script h k =
       let many = length-map script instr_word in
       let does = means_words w xs (map instr_word script) s h.size (omega (arith, many, k.few)) h.stored in
@@ -59,15 +59,15 @@ module _ (w : Scripts) where
       record {
         cells = record {
           size = (scripts_sound w).keeps_length xs (map instr_word script) h.size;
-          stored = subst (λ (r : State × Response). IsStored (store_at w) w.blocks (memory (M.cells xs (map instr_word script))) r.0) same does.cells;
+          stored = subst (λ (r : Store × Reply). IsStored (store_at w) w.blocks (memory_of (M.cells xs (map instr_word script))) r.0) same does.cells;
         };
-        reply = does.reply ∙ ap (λ (r : State × Response). raw_of (length (map instr_word script)) r.1) same;
+        reply = does.reply ∙ ap (λ (r : Store × Reply). raw_reply_of (length (map instr_word script)) r.1) same;
         some = omega (arith, many, k.some);
         few = omega (arith, many, k.few);
         fits = subst (λ (n : ℕ). FitsIn n (run s script).1) (sym many) (script_fits s script h.stored.state k);
       }
 
-  pub runs : (xs op : List ℕ) (s : State) (script : List Instr) → Cells xs s → op ≡ map instr_word script → IsScript script → Runs xs op s script
+  pub runs : (xs op : List ℕ) (s : Store) (script : List Instr) → Cells xs s → op ≡ map instr_word script → IsScript script → Runs xs op s script
   runs xs op s script h e k = subst (λ (ws : List ℕ). Runs xs ws s script) (sym e) (words_run xs s script h k)
 
   -- the operation of each call is a script's
@@ -75,20 +75,20 @@ module _ (w : Scripts) where
   AreScripts cs = Each (λ (c : Call). IsOperation c.op) cs
 
   -- the entries of the calls, with the replies that they meet from this store on
-  abbrev pub entries : (s : State) (cs : List Call) → AreScripts cs → List Entry
+  abbrev pub entries : (s : Store) (cs : List Call) → AreScripts cs → List Entry
   entries s [] k = []
   entries s (c ∷ cs) k = record { caller = c.caller; ticket = c.ticket; script = k.0.0; reply = (run s k.0.0).1 } ∷ entries (run s k.0.0).0 cs k.1
 
-  pub serial : (s : State) (cs : List Call) (k : AreScripts cs) → IsSerial s (entries s cs k)
+  pub serial : (s : Store) (cs : List Call) (k : AreScripts cs) → IsSerial s (entries s cs k)
   serial s [] k = tt
   serial s (c ∷ cs) k = (refl, serial (run s k.0.0).0 cs k.1)
 
-  pub long : (s : State) (cs : List Call) (k : AreScripts cs) → length (entries s cs k) ≡ length cs
+  pub long : (s : Store) (cs : List Call) (k : AreScripts cs) → length (entries s cs k) ≡ length cs
   long s [] k = refl
   long s (c ∷ cs) k = let h : length (entries (run s k.0.0).0 cs k.1) ≡ length cs = long (run s k.0.0).0 cs k.1 in omega (arith, h)
 
   -- the cells after the calls stand for the store after the entries
-  pub leads : (xs : List ℕ) (s : State) (cs : List Call) (k : AreScripts cs) → Cells xs s → Cells (after_calls M xs cs) (store_after s (entries s cs k))
+  pub leads : (xs : List ℕ) (s : Store) (cs : List Call) (k : AreScripts cs) → Cells xs s → Cells (numbers_after_calls M xs cs) (store_after s (entries s cs k))
   leads xs s [] k h = h
   leads xs s (c ∷ cs) k h = leads (M.cells xs c.op) (run s k.0.0).0 cs k.1 (runs xs c.op s k.0.0 h k.0.2 k.0.1).cells
 
@@ -98,19 +98,19 @@ module _ (w : Scripts) where
     pub ticket : e.ticket ≡ c.ticket
     pub script : IsScript e.script
     pub words : c.op ≡ map instr_word e.script
-    pub raw : c.raw ≡ raw_of (length c.op) e.reply
+    pub raw : c.raw ≡ raw_reply_of (length c.op) e.reply
     pub some : 1 ≤ length c.op
     pub few : length c.op ≤ MOST_INSTRS
     pub fits : FitsIn (length c.op) e.reply
 
-  pub entry_at : (cs : List Call) (y : ℕ) (xs : List ℕ) (s : State) (k : AreScripts cs) → Cells xs s → Replies M xs cs → y < length cs → IsEntryOf (get_or cs y no_call) (get_or (entries s cs k) y no_entry)
+  pub entry_at : (cs : List Call) (y : ℕ) (xs : List ℕ) (s : Store) (k : AreScripts cs) → Cells xs s → HaveReplies M xs cs → y < length cs → IsEntryOf (get_or cs y no_call) (get_or (entries s cs k) y no_entry)
   entry_at [] y xs s k h r l = absurd (omega arith)
   entry_at (c ∷ cs) zero xs s k h r l =
       let first = runs xs c.op s k.0.0 h k.0.2 k.0.1 in
       record { caller = refl; ticket = refl; script = k.0.1; words = k.0.2; raw = sym r.0 ∙ first.reply; some = first.some; few = first.few; fits = first.fits }
   entry_at (c ∷ cs) (suc y) xs s k h r l = entry_at cs y (M.cells xs c.op) (run s k.0.0).0 k.1 (runs xs c.op s k.0.0 h k.0.2 k.0.1).cells r.1 (omega arith)
 
-  module _ (limit : ℕ) (cs : List Call) (xs : List ℕ) (s : State) (k : AreScripts cs) (h : Cells xs s) (r : Replies M xs cs) where
+  module _ (limit : ℕ) (cs : List Call) (xs : List ℕ) (s : Store) (k : AreScripts cs) (h : Cells xs s) (r : HaveReplies M xs cs) where
     abbrev S : Setup
     S = setup_with w limit
 
@@ -128,7 +128,7 @@ module _ (w : Scripts) where
         let newer = rising p q lt l (sym b.caller ∙ same ∙ a.caller) in
         omega (arith, newer, a.ticket, b.ticket)
 
-    has : (i t : ℕ) (op : List ℕ) (raw : RawReply) (script : List Instr) (response : Response) → IsScript script → op ≡ map instr_word script → EndsAs (Answered 0 true raw 0) (Replied response)
+    has : (i t : ℕ) (op : List ℕ) (raw : RawReply) (script : List Instr) (response : Reply) → IsScript script → op ≡ map instr_word script → EndsAs (Answered 0 true raw 0) (Replied response)
         → (place : ℕ) → place < length cs → (get_or cs place no_call).caller ≡ i → (get_or cs place no_call).ticket ≡ t → (get_or cs place no_call).op ≡ op → SameReply S raw (get_or cs place no_call).raw
         → Has hs (record { caller = i; ticket = t; script = script; reply = response })
     has i t op raw script response is words held place among caller ticket same reply =

@@ -13,14 +13,14 @@ use Rattle.of_row.specs.declared.row.Row.{Row}
 use Rattle.of_row.specs.Passes.{HasEnrolled, IsFirst}
 use Rattle.of_row.specs.Rows.{key_of, setup_at, start_at}
 use Rattle.of_row.specs.Rule.{IsAsked}
-use Rattle.of_row.specs.Views.{Kept, Sight, Each, last_kept, reach}
-use Rattle.of_row.specs.Turned.{newcomer, StandsFor}
+use Rattle.of_row.specs.Views.{KnownCaller, View, Each, last_caller, seen_seq}
+use Rattle.of_row.specs.Turned.{new_known_caller, StandsForMachine}
 use Rattle.of_core.specs.Table.{Setup}
-use Rattle.of_core.specs.Machine.{Data, IsOpen, is_idle}
+use Rattle.of_core.specs.Machine.{CallState, IsOpen, is_idle}
 use Rattle.of_core.specs.Turn.{IsIdle}
-use Rattle.of_core.specs.Seen.{setup}
+use Rattle.of_core.specs.Seen.{machine_setup}
 use Rattle.of_caller.specs.declared.caller.Caller.{Caller}
-use Rattle.of_caller.specs.Callers.{IsCaller, call_of, sight_of}
+use Rattle.of_caller.specs.Callers.{IsCaller, caller_call, sight_of}
 use Rattle.of_memory.specs.Calls.{RunsScripts}
 use Rattle.of_memory.specs.Laws.{KeepsSo}
 use Rattle.of_memory.specs.Serving.{IsNew, Serves, ServeAll, Enrols, AllStand, AllHere, IsKeptOf, KeepsThose}
@@ -41,15 +41,15 @@ asked_or_last n r m (x ∷ xs) (inr a) = later (asked_or_last n r m xs a)
 pub enrols_first : (r : Row Scripts) (p : Pass) → IsFirst r p → Enrols r 0 p
 enrols_first r p h = record {
   row = h.0;
-  first = ap (λ (v : Sight). v.first) h.1;
-  below = λ n a. absurd (subst (λ (v : Sight). IsAsked n v.asked) h.1 a);
+  first = ap (λ (v : View). v.first) h.1;
+  below = λ n a. absurd (subst (λ (v : View). IsAsked n v.asked) h.1 a);
 }
 
 pub enrols_next : (r : Row Scripts) (n : ℕ) (before : Pass) (member : Member) (now : Pass) → Enrols r n before → HasEnrolled scripts_meaning r n before member now → Enrols r (n + 1) now
 enrols_next r n before member now h e = record {
   row = e.at_row.1;
-  first = ap (λ (v : Sight). v.first) e.pass_is ∙ h.first;
-  below = λ m a. low m (asked_or_last m e.found n before.seat.me.0.asked (subst (λ (v : Sight). IsAsked m v.asked) e.pass_is a));
+  first = ap (λ (v : View). v.first) e.pass_is ∙ h.first;
+  below = λ m a. low m (asked_or_last m e.found n before.seat.me.0.asked (subst (λ (v : View). IsAsked m v.asked) e.pass_is a));
 }
   where
     low : (m : ℕ) → IsAsked m before.seat.me.0.asked ⊎ (n ≡ m) → m < n + 1
@@ -59,19 +59,19 @@ enrols_next r n before member now h e = record {
 -- ---- a caller that has just been seated
 
 pub new_caller : (r : Row Scripts) (n : ℕ) (before : Pass) (member : Member) (now : Pass) (c : Caller Scripts) → HasEnrolled scripts_meaning r n before member now
-    → IsCaller scripts_meaning r c → c.member ≡ member → IsIdle (call_of c) → IsNew r n c
+    → IsCaller scripts_meaning r c → c.member ≡ member → IsIdle (caller_call c) → IsNew r n c
 new_caller r n before member now c e is same rest = record {
   serves = record {
     caller = is;
-    number = stands_caller (setup scripts_meaning c.machine) is.member.0 (call_of c) is.member.2 ∙ sym is.member.3 ∙ ap (λ (m : Member). m.number) same ∙ e.number;
+    number = stands_caller (machine_setup scripts_meaning c.machine) is.member.0 (caller_call c) is.member.2 ∙ sym is.member.3 ∙ ap (λ (m : Member). m.number) same ∙ e.number;
     runs = subst RunsScripts (sym kept) (record { ended = λ i d lt. absurd (omega (arith, lt)); open_call = λ is_open. absurd (true≢false is_open) });
     begun = λ is_open. absurd (true≢false (sym (ap is_idle rest) ∙ is_open));
   };
-  none = ap (λ (x : Kept). x.ended) kept;
+  none = ap (λ (x : KnownCaller). x.ended) kept;
 }
   where
-    kept : last_kept (sight_of c).kept ≡ newcomer (setup_at scripts_meaning r) (start_at scripts_meaning r) n (reach (start_at scripts_meaning r) before.seat.me.0.seen)
-    kept = ap (λ (m : Member). last_kept m.seat.me.0.kept) same ∙ ap (λ (v : Sight). last_kept v.kept) e.member_is
+    kept : last_caller (sight_of c).kept ≡ new_known_caller (setup_at scripts_meaning r) (start_at scripts_meaning r) n (seen_seq (start_at scripts_meaning r) before.seat.me.0.seen)
+    kept = ap (λ (m : Member). last_caller m.seat.me.0.kept) same ∙ ap (λ (v : View). last_caller v.kept) e.member_is
 
 -- ---- lists of places
 
@@ -129,34 +129,34 @@ serve_some r cs i k lt all s n c is = elim (cases_lt n i) [
 
 -- ---- a caller's number is one of the row's
 
-each_below : (r : Row Scripts) (x : Kept) (xs : List Kept) → xs ≡ x ∷ [] → Each (λ (y : Kept). y.machine.caller < (key_of r).callers) xs → x.machine.caller < (key_of r).callers
-each_below r x xs is all = (subst (Each (λ (y : Kept). y.machine.caller < (key_of r).callers)) is all).0
+each_below : (r : Row Scripts) (x : KnownCaller) (xs : List KnownCaller) → xs ≡ x ∷ [] → Each (λ (y : KnownCaller). y.machine.caller < (key_of r).callers) xs → x.machine.caller < (key_of r).callers
+each_below r x xs is all = (subst (Each (λ (y : KnownCaller). y.machine.caller < (key_of r).callers)) is all).0
 
 pub number_below : (r : Row Scripts) (n : ℕ) (c : Caller Scripts) → Serves r n c → n < (key_of r).callers
 number_below r n c s =
     let is = s.caller in
     let low = each_below r is.member.0 (sight_of c).kept is.member.1 is.row.3 in
-    let at : is.member.0.machine.caller ≡ n = sym (stands_caller (setup scripts_meaning c.machine) is.member.0 (call_of c) is.member.2) ∙ s.number in
+    let at : is.member.0.machine.caller ≡ n = sym (stands_caller (machine_setup scripts_meaning c.machine) is.member.0 (caller_call c) is.member.2) ∙ s.number in
     omega (arith, low, at)
 
 -- ---- what a pass keeps
 
-pub keeps_left : (n : ℕ) (P : Kept → Type 0) (xs ys : List Kept) → KeepsSo n P xs → KeepsSo n P (xs ++ ys)
+pub keeps_left : (n : ℕ) (P : KnownCaller → Type 0) (xs ys : List KnownCaller) → KeepsSo n P xs → KeepsSo n P (xs ++ ys)
 keeps_left n P [] ys k = absurd k
 keeps_left n P (x ∷ xs) ys (inl h) = inl h
 keeps_left n P (x ∷ xs) ys (inr h) = inr (keeps_left n P xs ys h)
 
-pub keeps_right : (n : ℕ) (P : Kept → Type 0) (xs ys : List Kept) → KeepsSo n P ys → KeepsSo n P (xs ++ ys)
+pub keeps_right : (n : ℕ) (P : KnownCaller → Type 0) (xs ys : List KnownCaller) → KeepsSo n P ys → KeepsSo n P (xs ++ ys)
 keeps_right n P [] ys k = k
 keeps_right n P (x ∷ xs) ys k = inr (keeps_right n P xs ys k)
 
-pub keeps_as : (n : ℕ) (P Q : Kept → Type 0) → ((x : Kept) → P x → Q x) → (xs : List Kept) → KeepsSo n P xs → KeepsSo n Q xs
+pub keeps_as : (n : ℕ) (P Q : KnownCaller → Type 0) → ((x : KnownCaller) → P x → Q x) → (xs : List KnownCaller) → KeepsSo n P xs → KeepsSo n Q xs
 keeps_as n P Q f [] k = absurd k
 keeps_as n P Q f (x ∷ xs) (inl h) = inl (h.0, f x h.1)
 keeps_as n P Q f (x ∷ xs) (inr h) = inr (keeps_as n P Q f xs h)
 
 -- the open machine that a member keeps is its caller's
-open_same : (S : Setup) (x : Kept) (d : Data) → StandsFor S x d → IsOpen x.machine.place → x.machine ≡ d
+open_same : (S : Setup) (x : KnownCaller) (d : CallState) → StandsForMachine S x d → IsOpen x.machine.place → x.machine ≡ d
 open_same S x d (inl (inl e)) is_open = sym e
 open_same S x d (inl (inr e)) is_open = absurd (true≢false (sym (ap is_idle e.0) ∙ is_open))
 open_same S x d (inr o) is_open = absurd (true≢false (sym (ap is_idle o.at_rest) ∙ is_open))
@@ -164,14 +164,14 @@ open_same S x d (inr o) is_open = absurd (true≢false (sym (ap is_idle o.at_res
 pub keeps_own : (r : Row Scripts) (n : ℕ) (c : Caller Scripts) → Serves r n c → KeepsSo n (IsKeptOf c) (sight_of c).kept
 keeps_own r n c s =
     let is = s.caller in
-    let S : Setup = setup scripts_meaning c.machine in
-    let at : is.member.0.machine.caller ≡ n = sym (stands_caller S is.member.0 (call_of c) is.member.2) ∙ s.number in
-    let last : last_kept (sight_of c).kept ≡ is.member.0 = ap last_kept is.member.1 in
+    let S : Setup = machine_setup scripts_meaning c.machine in
+    let at : is.member.0.machine.caller ≡ n = sym (stands_caller S is.member.0 (caller_call c) is.member.2) ∙ s.number in
+    let last : last_caller (sight_of c).kept ≡ is.member.0 = ap last_caller is.member.1 in
     subst (KeepsSo n (IsKeptOf c)) (sym is.member.1)
-    (inl (at, record { runs = subst RunsScripts last s.runs; ended = ap (λ (x : Kept). x.ended) (sym last); open_call = open_same S is.member.0 (call_of c) is.member.2 }))
+    (inl (at, record { runs = subst RunsScripts last s.runs; ended = ap (λ (x : KnownCaller). x.ended) (sym last); open_call = open_same S is.member.0 (caller_call c) is.member.2 }))
 
 -- one place more
-pub kept_more : (fs : List (Option (Caller Scripts))) (i : ℕ) (xs ys : List Kept) → KeepsThose fs i xs → ((n : ℕ) (c : Caller Scripts) → KeepsSo n (IsKeptOf c) xs → KeepsSo n (IsKeptOf c) ys)
+pub kept_more : (fs : List (Option (Caller Scripts))) (i : ℕ) (xs ys : List KnownCaller) → KeepsThose fs i xs → ((n : ℕ) (c : Caller Scripts) → KeepsSo n (IsKeptOf c) xs → KeepsSo n (IsKeptOf c) ys)
     → ((c : Caller Scripts) → get_or fs i None ≡ Some c → KeepsSo i (IsKeptOf c) ys) → KeepsThose fs (i + 1) ys
 kept_more fs i xs ys all others own n c lt here = elim (cases_lt n i) [
   | inl low ↦ others n c (all n c low here)

@@ -1,21 +1,21 @@
 -- Where rows of scripts start: empty, or where a closed one has ended.
 use Rattle.std.proofs.Common.{◌≡◌, ℕ, zero, suc, ◌≤◌, ◌<◌, List, [], get_or, replicate, map, refl, sym, ap, subst, ◌∙◌, length}
 use Rattle.std.proofs.lemmas.List.{length-replicate}
-use Rattle.of_cell.specs.Words.{pay}
+use Rattle.of_cell.specs.Words.{payload_of}
 use Rattle.of_cell.proofs.Order.{pay_zero}
 use Rattle.of_cell.specs.declared.shape.Shape.{Shape}
-use Rattle.of_mem.specs.ProgramWork.{memory}
-use Rattle.of_store.specs.State.{State, empty_store}
+use Rattle.of_mem.specs.ProgramWork.{memory_of}
+use Rattle.of_store.specs.State.{Store, empty_store}
 use Rattle.of_plan.specs.declared.plan.TheConstants.{GREATEST_LIMIT}
 use Rattle.of_eval.specs.declared.scripts.Scripts.{Scripts}
-use Rattle.of_eval.specs.Scripts.{store_at, cells_in, LawfulCells, scripts_meaning}
+use Rattle.of_eval.specs.Scripts.{store_at, data_cells_of, LawfulCells, scripts_meaning}
 use Rattle.of_eval.specs.SoundScripts.{empty_is_stored}
 use Rattle.of_core.specs.Table.{Setup, setup_of}
-use Rattle.of_core.specs.World.{Start}
-use Rattle.of_core.specs.Events.{zeros}
-use Rattle.of_core.specs.Starts.{start_of, IsStartRow}
+use Rattle.of_core.specs.World.{TableStart}
+use Rattle.of_core.specs.Events.{zero_start}
+use Rattle.of_core.specs.Starts.{start_from_durable, IsStartRow}
 use Rattle.of_row.specs.declared.row.Row.{Row}
-use Rattle.of_row.specs.Rows.{key_of, setup_at, start_for, HasSizes, MayStartFrom, IsOf}
+use Rattle.of_row.specs.Rows.{key_of, setup_at, start_for, HasSizes, MayStartFrom, IsSeatOf}
 use Rattle.of_row.specs.Rule.{done_before}
 use Rattle.of_caller.proofs.StoresReplay.{number_at}
 use Rattle.of_memory.specs.declared.memory.Memory.{Memory}
@@ -29,78 +29,78 @@ zero_at zero a = refl
 zero_at (suc n) zero = refl
 zero_at (suc n) (suc a) = zero_at n a
 
-number_zero : (n a : ℕ) → memory (map pay (replicate n 0)) a ≡ 0
-number_zero n a = number_at (replicate n 0) a ∙ ap pay (zero_at n a) ∙ pay_zero
+number_zero : (n a : ℕ) → memory_of (map payload_of (replicate n 0)) a ≡ 0
+number_zero n a = number_at (replicate n 0) a ∙ ap payload_of (zero_at n a) ∙ pay_zero
 
-module _ (r : Row Scripts) (shape : Shape) (limit : ℕ) (w : Scripts) (callers : shape.callers ≡ w.callers) (cells : shape.cells ≡ cells_in w) (has : HasSizes r shape limit w) (some : 1 ≤ limit) (few : limit ≤ GREATEST_LIMIT) where
+module _ (r : Row Scripts) (shape : Shape) (limit : ℕ) (w : Scripts) (callers : shape.callers ≡ w.callers) (cells : shape.cells ≡ data_cells_of w) (has : HasSizes r shape limit w) (some : 1 ≤ limit) (few : limit ≤ GREATEST_LIMIT) where
   row_callers : (key_of r).callers ≡ (key_of r).work.callers
   row_callers = has.0 ∙ callers ∙ ap (λ (x : Scripts). x.callers) (sym has.3)
 
-  row_cells : (key_of r).cells ≡ cells_in (key_of r).work
-  row_cells = has.1 ∙ cells ∙ ap cells_in (sym has.3)
+  row_cells : (key_of r).cells ≡ data_cells_of (key_of r).work
+  row_cells = has.1 ∙ cells ∙ ap data_cells_of (sym has.3)
 
-  scripts_row : (s : State) → length (start_of_row r).cells ≡ cells_in w → StandsAt w (start_of_row r) s → IsScriptsRow r
+  scripts_row : (s : Store) → length (start_of_row r).cells ≡ data_cells_of w → StandsAt w (start_of_row r) s → IsScriptsRow r
   scripts_row s size stands = record {
     callers = row_callers;
     cells = row_cells;
     some_limit = subst (λ (n : ℕ). 1 ≤ n) (sym has.2) some;
     few_limit = subst (λ (n : ℕ). n ≤ GREATEST_LIMIT) (sym has.2) few;
-    size = size ∙ ap cells_in (sym has.3);
+    size = size ∙ ap data_cells_of (sym has.3);
     store = s;
     stands = subst (λ (x : Scripts). StandsAt x (start_of_row r) s) (sym has.3) stands;
   }
 
   -- ---- a row of zeros
 
-  module _ (start : start_of_row r ≡ zeros (setup_at scripts_meaning r)) where
+  module _ (start : start_of_row r ≡ zero_start (setup_at scripts_meaning r)) where
     empty_stands : StandsAt w (start_of_row r) (empty_store w.blocks)
     empty_stands =
-        subst (λ (B : Start). StandsAt w B (empty_store w.blocks)) (sym start)
-        (empty_is_stored (store_at w) w.blocks w.few_blocks (memory (map pay (replicate (key_of r).cells 0))) (number_zero (key_of r).cells))
+        subst (λ (B : TableStart). StandsAt w B (empty_store w.blocks)) (sym start)
+        (empty_is_stored (store_at w) w.blocks w.few_blocks (memory_of (map payload_of (replicate (key_of r).cells 0))) (number_zero (key_of r).cells))
 
     pub empty_row : IsScriptsRow r
-    empty_row = scripts_row (empty_store w.blocks) (ap (λ (B : Start). length B.cells) start ∙ length-replicate (key_of r).cells 0 ∙ has.1 ∙ cells) empty_stands
+    empty_row = scripts_row (empty_store w.blocks) (ap (λ (B : TableStart). length B.cells) start ∙ length-replicate (key_of r).cells 0 ∙ has.1 ∙ cells) empty_stands
 
     pub empty_start : StandsAt (key_of r).work (start_of_row r) (empty_store w.blocks)
     empty_start = subst (λ (x : Scripts). StandsAt x (start_of_row r) (empty_store w.blocks)) (sym has.3) empty_stands
 
     pub none_before : (n : ℕ) → made_before r n ≡ 0
-    none_before n = ap (λ (B : Start). done_before (setup_at scripts_meaning r) B n) start ∙ ap pay (zero_at (key_of r).cells _) ∙ pay_zero
+    none_before n = ap (λ (B : TableStart). done_before (setup_at scripts_meaning r) B n) start ∙ ap payload_of (zero_at (key_of r).cells _) ∙ pay_zero
 
   -- ---- a row that goes on
 
   module _ (row : List ℕ) (start : start_of_row r ≡ start_for shape row) where
-    starts_there : start_of_row r ≡ start_of w.callers (cells_in w) row
-    starts_there = start ∙ (λ i. start_of (callers i) (cells i) row)
+    starts_there : start_of_row r ≡ start_from_durable w.callers (data_cells_of w) row
+    starts_there = start ∙ (λ i. start_from_durable (callers i) (cells i) row)
 
-    pub holds_on : (s : State) → StandsAt w (start_of w.callers (cells_in w) row) s → StandsAt (key_of r).work (start_of_row r) s
+    pub holds_on : (s : Store) → StandsAt w (start_from_durable w.callers (data_cells_of w) row) s → StandsAt (key_of r).work (start_of_row r) s
     holds_on s h =
         subst (λ (x : Scripts). StandsAt x (start_of_row r) s) (sym has.3)
-        (subst (λ (B : Start). StandsAt w B s) (sym starts_there) h)
+        (subst (λ (B : TableStart). StandsAt w B s) (sym starts_there) h)
 
     pub goes_on : IsStartRow (setup_with w limit) (LawfulCells w) row → IsScriptsRow r
     goes_on is =
-        scripts_row is.may_start.lawful.0 (ap (λ (B : Start). length B.cells) starts_there ∙ is.may_start.start.size)
-        (subst (λ (B : Start). StandsAt w B is.may_start.lawful.0) (sym starts_there) is.may_start.lawful.1)
+        scripts_row is.may_start.lawful.0 (ap (λ (B : TableStart). length B.cells) starts_there ∙ is.may_start.start.size)
+        (subst (λ (B : TableStart). StandsAt w B is.may_start.lawful.0) (sym starts_there) is.may_start.lawful.1)
 
     same_setup : setup_at scripts_meaning r ≡ setup_with w limit
     same_setup = λ i. setup_of ((has.0 ∙ callers) i) ((has.1 ∙ cells) i) (has.2 i) (scripts_meaning (has.3 i))
 
-    pub ticket_on : (n : ℕ) → made_before r n ≡ done_before (setup_with w limit) (start_of w.callers (cells_in w) row) n
-    ticket_on n = ap (λ (S : Setup). done_before S (start_of_row r) n) same_setup ∙ ap (λ (B : Start). done_before (setup_with w limit) B n) starts_there
+    pub ticket_on : (n : ℕ) → made_before r n ≡ done_before (setup_with w limit) (start_from_durable w.callers (data_cells_of w) row) n
+    ticket_on n = ap (λ (S : Setup). done_before S (start_of_row r) n) same_setup ∙ ap (λ (B : TableStart). done_before (setup_with w limit) B n) starts_there
 
 -- a table of the scripts' shape may start from a row from which one of theirs may
-pub may_start : (shape : Shape) (w : Scripts) (limit : ℕ) (row : List ℕ) → shape.callers ≡ w.callers → shape.cells ≡ cells_in w
+pub may_start : (shape : Shape) (w : Scripts) (limit : ℕ) (row : List ℕ) → shape.callers ≡ w.callers → shape.cells ≡ data_cells_of w
     → IsStartRow (setup_with w limit) (LawfulCells w) row → MayStartFrom scripts_meaning LawfulCells shape limit w row
 may_start shape w limit row callers cells h =
     subst (λ (k : ℕ × ℕ). IsStartRow (setup_of k.0 k.1 limit (scripts_meaning w)) (LawfulCells w) row) (λ i. (sym callers i, sym cells i)) h
 
 -- ---- a memory over a row
 
-pub is_memory : (m : Memory) (r : Row Scripts) → row_of m ≡ r → IsScriptsRow r → IsOf r m.pass.seat → length m.callers.items ≡ (key_of r).callers → ServeAll r m.callers.items → IsMemory m
+pub is_memory : (m : Memory) (r : Row Scripts) → row_of m ≡ r → IsScriptsRow r → IsSeatOf r m.pass.seat → length m.callers.items ≡ (key_of r).callers → ServeAll r m.callers.items → IsMemory m
 is_memory m r is row pass each serve = record {
   row = subst IsScriptsRow (sym is) row;
-  pass = subst (λ (x : Row Scripts). IsOf x m.pass.seat) (sym is) pass;
+  pass = subst (λ (x : Row Scripts). IsSeatOf x m.pass.seat) (sym is) pass;
   each = each ∙ ap (λ (x : Row Scripts). (key_of x).callers) (sym is);
   serve = λ n c here. subst (λ (x : Row Scripts). Serves x n c) (sym is) (serve n c here);
 }

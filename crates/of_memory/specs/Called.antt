@@ -2,19 +2,19 @@
 use Rattle.std.specs.Prelude.{◌≡◌, ◌+◌, ◌<◌, List, [], ◌∷◌, ◌++◌, map, Result, Ok, Err}
 use Rattle.of_script.specs.declared.instr.Instr.{Instr}
 use Rattle.of_script.specs.Language.{IsScript, instr_word}
-use Rattle.of_store.specs.Replies.{response_of}
+use Rattle.of_store.specs.Replies.{reply_value_of}
 use Rattle.of_plan.specs.declared.answer.Answer.{Answer}
 use Rattle.of_eval.specs.declared.scripts.Scripts.{Scripts}
 use Rattle.of_core.specs.Machine.{IsOpen}
 use Rattle.of_caller.specs.declared.caller.Caller.{Caller}
-use Rattle.of_caller.specs.Callers.{call_of}
+use Rattle.of_caller.specs.Callers.{caller_call}
 use Rattle.of_memory.specs.declared.error.RunErr.{RunErr}
 use Rattle.of_memory.specs.declared.error.RunErr.TheVariants.{OutOfMemory, Stopped, Spent as NoneLeft, Open, NoTicket}
 use Rattle.of_memory.specs.History.{Made, Replied, Spent}
 
 -- the calls that have ended after these, where a call of a script has come to this
 abbrev pub made_with : List Instr → Result Answer RunErr → List Made → List Made
-made_with script (Ok a) ms = ms ++ record { script = script; ended = Replied (response_of a.reply) } ∷ []
+made_with script (Ok a) ms = ms ++ record { script = script; ended = Replied (reply_value_of a.reply) } ∷ []
 made_with script (Err OutOfMemory) ms = ms
 made_with script (Err (Stopped asked)) ms = ms
 made_with script (Err (NoneLeft seq)) ms = ms ++ record { script = script; ended = Spent } ∷ []
@@ -23,9 +23,9 @@ made_with script (Err NoTicket) ms = ms
 
 -- the caller's open call is one of this script
 pub record IsOpenAt (script : List Instr) (c : Caller Scripts) : Type 0 where
-  pub open_call : IsOpen (call_of c).place
+  pub open_call : IsOpen (caller_call c).place
   pub is : IsScript script
-  pub words : (call_of c).op ≡ map instr_word script
+  pub words : (caller_call c).op ≡ map instr_word script
 
 -- a stopped call stays open
 abbrev pub LeavesOpen : List Instr → Result Answer RunErr → Caller Scripts → Type 0
@@ -51,5 +51,5 @@ IsRefusedBy c (Ok a) = Unit {0}
 IsRefusedBy c (Err OutOfMemory) = Unit {0}
 IsRefusedBy c (Err (Stopped asked)) = Unit {0}
 IsRefusedBy c (Err (NoneLeft seq)) = Unit {0}
-IsRefusedBy c (Err Open) = IsOpen (call_of c).place
-IsRefusedBy c (Err NoTicket) = (call_of c).made + 1 < 4294967296 → ⊥
+IsRefusedBy c (Err Open) = IsOpen (caller_call c).place
+IsRefusedBy c (Err NoTicket) = (caller_call c).made + 1 < 4294967296 → ⊥

@@ -5,13 +5,13 @@ use Rattle.of_mem.specs.declared.work.RawReply.{RawReply}
 use Rattle.of_script.specs.declared.instr.Instr.{Instr}
 use Rattle.of_script.specs.declared.instr.Reply.{Reply as TheReply}
 use Rattle.of_script.specs.Language.{IsScript, instr_word}
-use Rattle.of_store.specs.State.{Response}
-use Rattle.of_store.specs.Replies.{response_of}
+use Rattle.of_store.specs.State.{Reply}
+use Rattle.of_store.specs.Replies.{reply_value_of}
 use Rattle.of_eval.specs.Shapes.{IsHeldBy}
 use Rattle.of_core.specs.declared.place.Outcome.{Outcome}
 use Rattle.of_core.specs.declared.place.Outcome.TheVariants.{Answered, Spent as Over}
 use Rattle.of_core.specs.Machine.{IsOpen}
-use Rattle.of_row.specs.Views.{Ended, Kept}
+use Rattle.of_row.specs.Views.{EndedCall, KnownCaller}
 use Rattle.of_memory.specs.History.{End, Replied, Spent, Made}
 
 -- the words are a script's
@@ -19,8 +19,8 @@ abbrev pub IsOperation : List ℕ → Type 0
 IsOperation op = (script : List Instr) × IsScript script × (op ≡ map instr_word script)
 
 -- the cells hold a reply that is this response
-abbrev pub HoldsResponse : RawReply → Response → Type 0
-HoldsResponse raw response = (r : TheReply) × IsHeldBy raw r × (response_of r ≡ response)
+abbrev pub HoldsResponse : RawReply → Reply → Type 0
+HoldsResponse raw response = (r : TheReply) × IsHeldBy raw r × (reply_value_of r ≡ response)
 
 -- the outcome is this end
 abbrev pub EndsAs : Outcome → End → Type 0
@@ -30,19 +30,19 @@ EndsAs (Over s) (Replied r) = ⊥
 EndsAs (Over s) Spent = Unit {0}
 
 -- what is kept of a call is this one
-pub record IsMade (e : Ended) (m : Made) : Type 0 where
+pub record IsMade (e : EndedCall) (m : Made) : Type 0 where
   pub script : IsScript m.script
   pub words : e.op ≡ map instr_word m.script
   pub ended : EndsAs e.outcome m.ended
 
 -- and so of each, in order
-abbrev pub AreMade : List Ended → List Made → Type 0
+abbrev pub AreMade : List EndedCall → List Made → Type 0
 AreMade [] [] = Unit {0}
 AreMade [] (m ∷ ms) = ⊥
 AreMade (e ∷ es) [] = ⊥
 AreMade (e ∷ es) (m ∷ ms) = IsMade e m × AreMade es ms
 
 -- each call that the kept caller has made is that of a script, also its open one
-pub record RunsScripts (x : Kept) : Type 0 where
-  pub ended : All (λ (e : Ended). IsOperation e.op) x.ended
+pub record RunsScripts (x : KnownCaller) : Type 0 where
+  pub ended : All (λ (e : EndedCall). IsOperation e.op) x.ended
   pub open_call : IsOpen x.machine.place → IsOperation x.machine.op

@@ -4,7 +4,7 @@ use Rattle.std.specs.List.{All}
 use Rattle.std.proofs.Common.{get_or}
 use Rattle.of_script.specs.declared.instr.Instr.{Instr}
 use Rattle.of_script.specs.Language.{reads_only}
-use Rattle.of_store.specs.State.{State, Response, Answered as Replied, run}
+use Rattle.of_store.specs.State.{Store, Reply, Answered as Replied, run}
 
 -- a call in the history: a script of a caller, the number that the call has among its caller's calls,
 -- and its reply
@@ -12,18 +12,18 @@ pub record Entry : Type 0 where
   pub caller : ℕ
   pub ticket : ℕ
   pub script : List Instr
-  pub reply : Response
+  pub reply : Reply
 
 abbrev pub no_entry : Entry
 no_entry = record { caller = 0; ticket = 0; script = []; reply = Replied [] }
 
 -- the scripts run one after the other from this store, and each has the reply that it meets
-abbrev pub IsSerial : State → List Entry → Type 0
+abbrev pub IsSerial : Store → List Entry → Type 0
 IsSerial s [] = Unit {0}
 IsSerial s (e ∷ es) = ((run s e.script).1 ≡ e.reply) × IsSerial (run s e.script).0 es
 
 -- the store after them
-abbrev pub store_after : State → List Entry → State
+abbrev pub store_after : Store → List Entry → Store
 store_after s [] = s
 store_after s (e ∷ es) = store_after (run s e.script).0 es
 
@@ -37,7 +37,7 @@ StandsInOrder h = (p q : ℕ) → p < q → q < length h → IsLater (get_or h p
 
 -- how a call has ended: with this reply, or with none, since the limit was reached before it
 pub data End : Type 0 where
-  Replied : Response → End
+  Replied : Reply → End
   Spent : End
 
 -- a call that its caller has made, and that has ended

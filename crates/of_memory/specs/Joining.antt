@@ -2,19 +2,19 @@
 use Rattle.std.specs.Prelude.{◌≡◌, ◌++◌, Bool, true, List}
 use Rattle.std.specs.List.{All}
 use Rattle.of_script.specs.declared.instr.Instr.{Instr}
-use Rattle.of_store.specs.State.{State, run}
+use Rattle.of_store.specs.State.{Store, run}
 use Rattle.of_memory.specs.History.{Entry, IsSerial, store_after}
 
 -- a history and one that goes on from its end are one history
 abbrev pub HistoriesJoin : Type 0
 HistoriesJoin =
-    (s : State) (h k : List Entry) → IsSerial s h → IsSerial (store_after s h) k
+    (s : Store) (h k : List Entry) → IsSerial s h → IsSerial (store_after s h) k
     → IsSerial s (h ++ k) × (store_after s (h ++ k) ≡ store_after (store_after s h) k)
 
 -- what each script of a kind keeps of a store holds after a history of such scripts
 abbrev pub InvariantsHold : Type 0
 InvariantsHold =
-    (holds : State → Bool) (kind : List Instr → Bool)
-    → ((s : State) (script : List Instr) → holds s ≡ true → kind script ≡ true → holds (run s script).0 ≡ true)
-    → (s : State) (h : List Entry) → holds s ≡ true → All (λ (e : Entry). kind e.script ≡ true) h
+    (holds : Store → Bool) (kind : List Instr → Bool)
+    → ((s : Store) (script : List Instr) → holds s ≡ true → kind script ≡ true → holds (run s script).0 ≡ true)
+    → (s : Store) (h : List Entry) → holds s ≡ true → All (λ (e : Entry). kind e.script ≡ true) h
     → holds (store_after s h) ≡ true

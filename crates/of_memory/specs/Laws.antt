@@ -1,83 +1,83 @@
 -- What a closed row of scripts holds: one serial history of scripts on the plain store.
 use Rattle.std.specs.Prelude.{◌≡◌, ℕ, ◌<◌, ◌⊎◌, List, [], ◌∷◌, map, false}
 use Rattle.std.specs.List.{All}
-use Rattle.of_cell.specs.Words.{pay}
-use Rattle.of_recover.specs.Recovered.{recovered}
-use Rattle.of_mem.specs.ProgramWork.{memory}
+use Rattle.of_cell.specs.Words.{payload_of}
+use Rattle.of_recover.specs.Recovered.{recovered_words}
+use Rattle.of_mem.specs.ProgramWork.{memory_of}
 use Rattle.of_script.specs.declared.instr.Instr.{Instr}
 use Rattle.of_script.specs.Language.{IsScript, instr_word}
 use Rattle.of_script.specs.declared.instr.TheConstants.{MOST_INSTRS}
-use Rattle.of_store.specs.State.{State, Response}
+use Rattle.of_store.specs.State.{Store, Reply}
 use Rattle.of_eval.specs.declared.scripts.Scripts.{Scripts}
-use Rattle.of_eval.specs.Scripts.{store_at, cells_in, LawfulCells, scripts_meaning}
+use Rattle.of_eval.specs.Scripts.{store_at, data_cells_of, LawfulCells, scripts_meaning}
 use Rattle.of_eval.specs.Stored.{IsStored}
 use Rattle.of_eval.specs.Lawful.{reply_in}
 use Rattle.of_core.specs.Table.{Setup, setup_of}
 use Rattle.of_core.specs.Machine.{IsOpen}
-use Rattle.of_core.specs.World.{Start}
-use Rattle.of_core.specs.Starts.{IsDurable, IsStartRow, start_of}
-use Rattle.of_row.specs.Views.{Kept, Sight, Each}
-use Rattle.of_row.specs.Rule.{Meets, done_before}
+use Rattle.of_core.specs.World.{TableStart}
+use Rattle.of_core.specs.Starts.{IsDurable, IsStartRow, start_from_durable}
+use Rattle.of_row.specs.Views.{KnownCaller, View, Each}
+use Rattle.of_row.specs.Rule.{ViewMeetsRule, done_before}
 use Rattle.of_memory.specs.History.{Entry, Made, IsSerial, store_after, StandsInOrder, ExplainsAll, HasOnly, Has, IsUpTo}
 use Rattle.of_memory.specs.Calls.{RunsScripts, AreMade, HoldsResponse}
 
 -- what the machines on a table for these scripts have in common
 abbrev pub setup_with : Scripts → (limit : ℕ) → Setup
-setup_with w limit = setup_of w.callers (cells_in w) limit (scripts_meaning w)
+setup_with w limit = setup_of w.callers (data_cells_of w) limit (scripts_meaning w)
 
 -- the cells of a start stand for this store
-abbrev pub StandsAt : Scripts → Start → State → Type 0
-StandsAt w B s = IsStored (store_at w) w.blocks (memory (map pay B.cells)) s
+abbrev pub StandsAt : Scripts → TableStart → Store → Type 0
+StandsAt w B s = IsStored (store_at w) w.blocks (memory_of (map payload_of B.cells)) s
 
 -- a caller of this number is kept, of which this holds
-abbrev pub KeepsSo : (n : ℕ) → (Kept → Type 0) → List Kept → Type 0
+abbrev pub KeepsSo : (n : ℕ) → (KnownCaller → Type 0) → List KnownCaller → Type 0
 KeepsSo n P [] = ⊥
 KeepsSo n P (x ∷ xs) = ((x.machine.caller ≡ n) × P x) ⊎ KeepsSo n P xs
 
 -- each number is kept, and has made calls of scripts alone
-abbrev pub KeepScripts : Setup → Sight → Type 0
+abbrev pub KeepScripts : Setup → View → Type 0
 KeepScripts S v = (n : ℕ) → n < S.callers → KeepsSo n RunsScripts v.kept
 
 -- the history has the calls of the kept caller as they have ended
-abbrev pub ExplainsKept : Setup → Start → List Entry → Kept → Type 0
+abbrev pub ExplainsKept : Setup → TableStart → List Entry → KnownCaller → Type 0
 ExplainsKept S B h x =
     (ms : List Made) → AreMade x.ended ms
     → ExplainsAll h x.machine.caller (done_before S B x.machine.caller) ms
 
 -- the kept caller's call of this script is open
-abbrev pub HasOpenScript : Kept → List Instr → Type 0
+abbrev pub HasOpenScript : KnownCaller → List Instr → Type 0
 HasOpenScript x script = IsOpen x.machine.place × IsScript script × (x.machine.op ≡ map instr_word script)
 
 -- and of its calls the history has no others
-abbrev pub HasOnlyKept : Setup → Start → List Entry → Kept → Type 0
+abbrev pub HasOnlyKept : Setup → TableStart → List Entry → KnownCaller → Type 0
 HasOnlyKept S B h x =
     (ms : List Made) → AreMade x.ended ms
     → HasOnly h x.machine.caller (done_before S B x.machine.caller) ms (HasOpenScript x)
 
 -- the cells of a start hold this reply to the last call of caller n
-abbrev pub HoldsReplyAt : Start → (n : ℕ) → Response → Type 0
-HoldsReplyAt C n response = HoldsResponse (reply_in MOST_INSTRS (memory (map pay C.cells)) n) response
+abbrev pub HoldsReplyAt : TableStart → (n : ℕ) → Reply → Type 0
+HoldsReplyAt C n response = HoldsResponse (reply_in MOST_INSTRS (memory_of (map payload_of C.cells)) n) response
 
 -- The last call of caller n that the cells at C hold: none since the start B, or one of the history, with
 -- its reply.
-abbrev pub TellsLast : Setup → (B C : Start) → List Entry → (n : ℕ) → Type 0
+abbrev pub TellsLast : Setup → (B C : TableStart) → List Entry → (n : ℕ) → Type 0
 TellsLast S B C h n =
     (done_before S C n ≡ done_before S B n)
     ⊎ ((e : Entry) × Has h e × (e.caller ≡ n) × (e.ticket ≡ done_before S C n) × HoldsReplyAt C n e.reply)
 
 -- a serial history leads from the store to the one that the row stands for
-pub record Leads (w : Scripts) (limit : ℕ) (B : Start) (v : Sight) (s : State) (row : List ℕ)
+pub record Leads (w : Scripts) (limit : ℕ) (B : TableStart) (v : View) (s : Store) (row : List ℕ)
     (h : List Entry) : Type 0 where
   pub serial : IsSerial s h
-  pub ends : StandsAt w (start_of w.callers (cells_in w) row) (store_after s h)
+  pub ends : StandsAt w (start_from_durable w.callers (data_cells_of w) row) (store_after s h)
   pub order : StandsInOrder h
   pub calls : Each (ExplainsKept (setup_with w limit) B h) v.kept
   pub only : Each (HasOnlyKept (setup_with w limit) B h) v.kept
   pub callers : All (λ (e : Entry). e.caller < w.callers) h
   pub last : (n : ℕ) → n < w.callers
-      → TellsLast (setup_with w limit) B (start_of w.callers (cells_in w) row) h n
+      → TellsLast (setup_with w limit) B (start_from_durable w.callers (data_cells_of w) row) h n
   pub upto : (n : ℕ) → n < w.callers
-      → IsUpTo h n (done_before (setup_with w limit) (start_of w.callers (cells_in w) row) n)
+      → IsUpTo h n (done_before (setup_with w limit) (start_from_durable w.callers (data_cells_of w) row) n)
 
 -- Where words and a view meet the rule of a row of these scripts, and the view keeps each caller,
 -- recovery of the durable words finds a row from which a table may start, and a serial history leads
@@ -85,8 +85,8 @@ pub record Leads (w : Scripts) (limit : ℕ) (B : Start) (v : Sight) (s : State)
 abbrev pub HoldsHistory : Scripts → (limit : ℕ) → Type 0
 HoldsHistory w limit =
     let S : Setup = setup_with w limit in
-    (B : Start) (ws : List ℕ) (v : Sight) → Meets S (LawfulCells w) B ws v → v.spent ≡ false
+    (B : TableStart) (ws : List ℕ) (v : View) → ViewMeetsRule S (LawfulCells w) B ws v → v.spent ≡ false
     → KeepScripts S v → (row : List ℕ) → IsDurable S ws row
-    → IsStartRow S (LawfulCells w) (recovered w.callers (cells_in w) row)
-    × ((s : State) → StandsAt w B s
-    → (h : List Entry) × Leads w limit B v s (recovered w.callers (cells_in w) row) h)
+    → IsStartRow S (LawfulCells w) (recovered_words w.callers (data_cells_of w) row)
+    × ((s : Store) → StandsAt w B s
+    → (h : List Entry) × Leads w limit B v s (recovered_words w.callers (data_cells_of w) row) h)

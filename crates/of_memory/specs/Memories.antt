@@ -4,10 +4,10 @@ use Rattle.std.proofs.Common.{get_or}
 use Rattle.std.specs.Arc.{arc_value}
 use Rattle.std.specs.List.{All}
 use Rattle.of_script.specs.declared.instr.Instr.{Instr}
-use Rattle.of_store.specs.State.{State}
+use Rattle.of_store.specs.State.{Store}
 use Rattle.of_eval.specs.declared.scripts.Scripts.{Scripts}
 use Rattle.of_row.specs.declared.row.Row.{Row}
-use Rattle.of_row.specs.Rows.{key_of, IsOf}
+use Rattle.of_row.specs.Rows.{key_of, IsSeatOf}
 use Rattle.of_caller.specs.declared.caller.Caller.{Caller}
 use Rattle.of_mem.specs.declared.work.TheConstants.{MOST_CALLERS}
 use Rattle.of_mem.specs.declared.plot.TheConstants.{MOST_BLOCKS}
@@ -33,7 +33,7 @@ row_of m = arc_value m.row
 -- it is open, and its callers have run scripts alone
 pub record IsMemory (m : Memory) : Type 0 where
   pub row : IsScriptsRow (row_of m)
-  pub pass : IsOf (row_of m) m.pass.seat
+  pub pass : IsSeatOf (row_of m) m.pass.seat
   pub each : length m.callers.items ≡ (key_of (row_of m)).callers
   pub serve : ServeAll (row_of m) m.callers.items
 
@@ -42,7 +42,7 @@ abbrev pub callers_of : Memory → ℕ
 callers_of m = (key_of (row_of m)).callers
 
 -- the store that it was opened with
-abbrev pub StartsWith : Memory → State → Type 0
+abbrev pub StartsWith : Memory → Store → Type 0
 StartsWith m s = StandsAt (key_of (row_of m)).work (start_of_row (row_of m)) s
 
 -- how many calls of a caller it was opened with
@@ -89,7 +89,7 @@ TellsLastOf m d h n =
 -- the calls of each caller stand in it in the order in which they were made, each once at most. It has
 -- each call that was answered, with its reply, and no call that was spent; beside these it has open
 -- calls alone. What is saved tells the last call of each caller, and no call that may write is later.
-pub record LeadsTo (m : Memory) (s : State) (d : Saved) (h : List Entry) : Type 0 where
+pub record LeadsTo (m : Memory) (s : Store) (d : Saved) (h : List Entry) : Type 0 where
   pub serial : IsSerial s h
   pub ends : Holds d (store_after s h)
   pub order : StandsInOrder h
@@ -101,7 +101,7 @@ pub record LeadsTo (m : Memory) (s : State) (d : Saved) (h : List Entry) : Type 
 
 -- so it is of the store with which it was opened
 abbrev pub HasHistory : Memory → Saved → Type 0
-HasHistory m d = (s : State) → StartsWith m s → (h : List Entry) × LeadsTo m s d h
+HasHistory m d = (s : Store) → StartsWith m s → (h : List Entry) × LeadsTo m s d h
 
 -- why there is no handle
 abbrev pub IsEnrolCause : Memory → ℕ → EnrolErr → Type 0

@@ -1,17 +1,17 @@
 -- What a closed memory leaves.
 use Rattle.std.specs.Prelude.{ℕ, ◌≤◌}
 use Rattle.of_plan.specs.declared.plan.TheConstants.{GREATEST_LIMIT}
-use Rattle.of_store.specs.State.{State, Response}
-use Rattle.of_eval.specs.Scripts.{cells_in, LawfulCells}
-use Rattle.of_core.specs.World.{Start}
-use Rattle.of_core.specs.Starts.{IsStartRow, start_of}
+use Rattle.of_store.specs.State.{Store, Reply}
+use Rattle.of_eval.specs.Scripts.{data_cells_of, LawfulCells}
+use Rattle.of_core.specs.World.{TableStart}
+use Rattle.of_core.specs.Starts.{IsStartRow, start_from_durable}
 use Rattle.of_row.specs.Rule.{done_before}
 use Rattle.of_memory.specs.declared.saved.Saved.{Saved}
 use Rattle.of_memory.specs.Laws.{setup_with, StandsAt, HoldsReplyAt}
 
 -- where a memory starts that goes on from it
-abbrev pub start_in : Saved → Start
-start_in d = start_of d.scripts.callers (cells_in d.scripts) d.row.items
+abbrev pub start_in : Saved → TableStart
+start_in d = start_from_durable d.scripts.callers (data_cells_of d.scripts) d.row.items
 
 -- a memory may go on from it
 pub record IsSaved (d : Saved) : Type 0 where
@@ -20,7 +20,7 @@ pub record IsSaved (d : Saved) : Type 0 where
   pub few_limit : d.limit ≤ GREATEST_LIMIT
 
 -- it holds this store
-abbrev pub Holds : Saved → State → Type 0
+abbrev pub Holds : Saved → Store → Type 0
 Holds d s = StandsAt d.scripts (start_in d) s
 
 -- how many calls of a caller it holds
@@ -28,5 +28,5 @@ abbrev pub ticket_in : Saved → ℕ → ℕ
 ticket_in d n = done_before (setup_with d.scripts d.limit) (start_in d) n
 
 -- it holds this reply to the last of them
-abbrev pub HoldsReply : Saved → ℕ → Response → Type 0
+abbrev pub HoldsReply : Saved → ℕ → Reply → Type 0
 HoldsReply d n response = HoldsReplyAt (start_in d) n response

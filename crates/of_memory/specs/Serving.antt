@@ -1,24 +1,24 @@
 -- A row of scripts, and its callers.
 use Rattle.std.specs.Prelude.{◌≡◌, ℕ, ◌≤◌, ◌<◌, List, [], length, Option, Some, None, true}
 use Rattle.std.proofs.Common.{get_or}
-use Rattle.of_store.specs.State.{State}
+use Rattle.of_store.specs.State.{Store}
 use Rattle.of_plan.specs.declared.plan.TheConstants.{GREATEST_LIMIT}
 use Rattle.of_eval.specs.declared.scripts.Scripts.{Scripts}
-use Rattle.of_eval.specs.Scripts.{cells_in, scripts_meaning}
+use Rattle.of_eval.specs.Scripts.{data_cells_of, scripts_meaning}
 use Rattle.of_core.specs.Machine.{IsOpen}
-use Rattle.of_core.specs.World.{Start}
+use Rattle.of_core.specs.World.{TableStart}
 use Rattle.of_row.specs.declared.row.Row.{Row}
 use Rattle.of_row.specs.declared.member.Pass.{Pass}
-use Rattle.of_row.specs.Rows.{key_of, setup_at, start_at, IsOf}
+use Rattle.of_row.specs.Rows.{key_of, setup_at, start_at, IsSeatOf}
 use Rattle.of_row.specs.Rule.{IsAsked, done_before}
-use Rattle.of_row.specs.Views.{Kept, Ended, last_kept}
+use Rattle.of_row.specs.Views.{KnownCaller, EndedCall, last_caller}
 use Rattle.of_caller.specs.declared.caller.Caller.{Caller}
-use Rattle.of_caller.specs.Callers.{IsCaller, call_of, sight_of}
+use Rattle.of_caller.specs.Callers.{IsCaller, caller_call, sight_of}
 use Rattle.of_memory.specs.Calls.{IsOperation, RunsScripts}
 use Rattle.of_memory.specs.Laws.{StandsAt, KeepsSo}
 
 -- where the row started
-abbrev pub start_of_row : Row Scripts → Start
+abbrev pub start_of_row : Row Scripts → TableStart
 start_of_row r = start_at scripts_meaning r
 
 -- how many calls a caller had made before that
@@ -28,23 +28,23 @@ made_before r n = done_before (setup_at scripts_meaning r) (start_of_row r) n
 -- the row has the sizes of its scripts, and its start stands for some store
 pub record IsScriptsRow (r : Row Scripts) : Type 0 where
   pub callers : (key_of r).callers ≡ (key_of r).work.callers
-  pub cells : (key_of r).cells ≡ cells_in (key_of r).work
+  pub cells : (key_of r).cells ≡ data_cells_of (key_of r).work
   pub some_limit : 1 ≤ (key_of r).limit
   pub few_limit : (key_of r).limit ≤ GREATEST_LIMIT
-  pub size : length (start_of_row r).cells ≡ cells_in (key_of r).work
-  pub store : State
+  pub size : length (start_of_row r).cells ≡ data_cells_of (key_of r).work
+  pub store : Store
   pub stands : StandsAt (key_of r).work (start_of_row r) store
 
 -- the calls of the caller that have ended
-abbrev pub ended_of : Caller Scripts → List Ended
-ended_of c = (last_kept (sight_of c).kept).ended
+abbrev pub ended_of : Caller Scripts → List EndedCall
+ended_of c = (last_caller (sight_of c).kept).ended
 
 -- a caller of the row with this number, which has run scripts alone
 pub record Serves (r : Row Scripts) (n : ℕ) (c : Caller Scripts) : Type 0 where
   pub caller : IsCaller scripts_meaning r c
-  pub number : (call_of c).caller ≡ n
-  pub runs : RunsScripts (last_kept (sight_of c).kept)
-  pub begun : IsOpen (call_of c).place → IsOperation (call_of c).op
+  pub number : (caller_call c).caller ≡ n
+  pub runs : RunsScripts (last_caller (sight_of c).kept)
+  pub begun : IsOpen (caller_call c).place → IsOperation (caller_call c).op
 
 -- it has made no call on this row
 pub record IsNew (r : Row Scripts) (n : ℕ) (c : Caller Scripts) : Type 0 where
@@ -53,7 +53,7 @@ pub record IsNew (r : Row Scripts) (n : ℕ) (c : Caller Scripts) : Type 0 where
 
 -- the row's first pass, which has asked for numbers below the next one alone
 pub record Enrols (r : Row Scripts) (next : ℕ) (p : Pass) : Type 0 where
-  pub row : IsOf r p.seat
+  pub row : IsSeatOf r p.seat
   pub first : p.seat.me.0.first ≡ true
   pub below : (number : ℕ) → IsAsked number p.seat.me.0.asked → number < next
 
@@ -70,12 +70,12 @@ abbrev pub ServeAll : Row Scripts → List (Option (Caller Scripts)) → Type 0
 ServeAll r cs = (n : ℕ) (c : Caller Scripts) → get_or cs n None ≡ Some c → Serves r n c
 
 -- the kept caller is this one's
-pub record IsKeptOf (c : Caller Scripts) (x : Kept) : Type 0 where
+pub record IsKeptOf (c : Caller Scripts) (x : KnownCaller) : Type 0 where
   pub runs : RunsScripts x
   pub ended : x.ended ≡ ended_of c
-  pub open_call : IsOpen x.machine.place → x.machine ≡ call_of c
+  pub open_call : IsOpen x.machine.place → x.machine ≡ caller_call c
 
 -- each caller that stands at a place below the count is kept
-abbrev pub KeepsThose : List (Option (Caller Scripts)) → (count : ℕ) → List Kept → Type 0
+abbrev pub KeepsThose : List (Option (Caller Scripts)) → (count : ℕ) → List KnownCaller → Type 0
 KeepsThose cs count xs =
     (n : ℕ) (c : Caller Scripts) → n < count → get_or cs n None ≡ Some c → KeepsSo n (IsKeptOf c) xs

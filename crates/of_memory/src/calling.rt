@@ -6,9 +6,9 @@ ghost use Rattle.of_script.specs.Language.{IsScript, instr_word};
 ghost use Rattle.std.specs.Prelude.{map};
 ghost use Rattle.of_core.specs.Machine.{IsOpen};
 ghost use Rattle.of_core.specs.Turn.{IsIdle};
-ghost use Rattle.of_caller.specs.Callers.{call_of};
-ghost use Rattle.of_caller.specs.Ends.{Tells};
-ghost use Rattle.of_caller.specs.Lanes.{IsHeld};
+ghost use Rattle.of_caller.specs.Callers.{caller_call};
+ghost use Rattle.of_caller.specs.Ends.{TellsAnswer};
+ghost use Rattle.of_caller.specs.Lanes.{IsHeldAnswer};
 ghost use Rattle.of_memory.specs.History.{Made};
 ghost use Rattle.of_memory.specs.Calls.{AreMade};
 ghost use Rattle.of_memory.specs.Serving.{IsScriptsRow, Serves, ended_of};
@@ -28,8 +28,8 @@ use std::sync::ledger::{Blank, Ledger};
 
 // The answer of an outcome.
 fn answer_of(outcome: Outcome) -> Answer
-    requires { IsHeld outcome }
-    ensures { Tells outcome result }
+    requires { IsHeldAnswer outcome }
+    ensures { TellsAnswer outcome result }
 {
     let Outcome::Answered {
         seq,
@@ -64,8 +64,8 @@ fn call_counted<L: Ledger>(
     requires parts { (blank.parts ≡ L.parts) × (blank.parts ≡ 1) }
     requires row { IsScriptsRow row.now }
     requires serves { Serves row.now number caller.old }
-    requires idle { IsIdle (call_of caller.old) }
-    requires ticket { (call_of caller.old).made + 1 < 4294967296 }
+    requires idle { IsIdle (caller_call caller.old) }
+    requires ticket { (caller_call caller.old).made + 1 < 4294967296 }
     ensures serves { Serves row.now number caller.new }
     ensures made { (ms : List Made) → AreMade (ended_of caller.old) ms
         → AreMade (ended_of caller.new) (made_with script.now result ms) }
@@ -95,13 +95,13 @@ fn go_on_counted<L: Ledger>(
     requires parts { (blank.parts ≡ L.parts) × (blank.parts ≡ 1) }
     requires row { IsScriptsRow row.now }
     requires serves { Serves row.now number caller.old }
-    requires open_call { IsOpen (call_of caller.old).place }
+    requires open_call { IsOpen (caller_call caller.old).place }
     ensures serves { Serves row.now number caller.new }
     ensures made { (script : List TheInstr) (ms : List Made) → IsScript script
-        → (call_of caller.old).op ≡ map instr_word script → AreMade (ended_of caller.old) ms
+        → (caller_call caller.old).op ≡ map instr_word script → AreMade (ended_of caller.old) ms
         → AreMade (ended_of caller.new) (made_with script result ms) }
     ensures open_call { (script : List TheInstr) → IsScript script
-        → (call_of caller.old).op ≡ map instr_word script → LeavesOpen script result caller.new }
+        → (caller_call caller.old).op ≡ map instr_word script → LeavesOpen script result caller.new }
 {
     let mut steps: Steps<L> = Steps::new(blank);
     match caller.go_on(row, brake, &mut steps) {
@@ -129,8 +129,8 @@ pub(crate) fn call_script(
 ) -> Result<Answer, RunErr>
     requires row { IsScriptsRow row.now }
     requires serves { Serves row.now number caller.old }
-    requires idle { IsIdle (call_of caller.old) }
-    requires ticket { (call_of caller.old).made + 1 < 4294967296 }
+    requires idle { IsIdle (caller_call caller.old) }
+    requires ticket { (caller_call caller.old).made + 1 < 4294967296 }
     ensures serves { Serves row.now number caller.new }
     ensures made { (ms : List Made) → AreMade (ended_of caller.old) ms
         → AreMade (ended_of caller.new) (made_with script.now result ms) }
@@ -154,13 +154,13 @@ pub(crate) fn go_on_with(
 ) -> Result<Answer, RunErr>
     requires row { IsScriptsRow row.now }
     requires serves { Serves row.now number caller.old }
-    requires open_call { IsOpen (call_of caller.old).place }
+    requires open_call { IsOpen (caller_call caller.old).place }
     ensures serves { Serves row.now number caller.new }
     ensures made { (script : List TheInstr) (ms : List Made) → IsScript script
-        → (call_of caller.old).op ≡ map instr_word script → AreMade (ended_of caller.old) ms
+        → (caller_call caller.old).op ≡ map instr_word script → AreMade (ended_of caller.old) ms
         → AreMade (ended_of caller.new) (made_with script result ms) }
     ensures open_call { (script : List TheInstr) → IsScript script
-        → (call_of caller.old).op ≡ map instr_word script → LeavesOpen script result caller.new }
+        → (caller_call caller.old).op ≡ map instr_word script → LeavesOpen script result caller.new }
 {
     let Ok(fuel) = Box::new(alloc, fuel_of(stop)) else {
         return Err(RunErr::OutOfMemory);

@@ -24,7 +24,7 @@ pub struct Memory {
 
 impl Memory {
     ghost use Rattle.std.specs.Prelude.{◌≡◌, ◌<◌, ◌≤◌, ℕ, List, [], IfOk, IfErr, length};
-    ghost use Rattle.of_store.specs.State.{State, empty_store};
+    ghost use Rattle.of_store.specs.State.{Store, empty_store};
     ghost use Rattle.of_row.specs.Rows.{key_of};
     ghost use Rattle.of_row.specs.Passes.{IsFirst};
     ghost use Rattle.of_memory.specs.History.{Made};
@@ -85,7 +85,7 @@ impl Memory {
         requires { IsSaved saved.now }
         ensures memory { IfOk result IsMemory }
         ensures callers { IfOk result (λ m. callers_of m ≡ saved.now.scripts.callers) }
-        ensures goes_on { IfOk result (λ m. (s : State) → Holds saved.now s → StartsWith m s) }
+        ensures goes_on { IfOk result (λ m. (s : Store) → Holds saved.now s → StartsWith m s) }
         ensures tickets { IfOk result (λ m. (n : ℕ) → n < saved.now.scripts.callers
             → tickets_before m n ≡ ticket_in saved.now n) }
         ensures none { IfOk result (λ m.

@@ -2,12 +2,12 @@
 
 ghost use Rattle.std.specs.Prelude.{◌≡◌, ◌<◌, ◌≤◌, ◌+◌, ℕ, List, IfOk, IfSome, IsSome, length, map};
 ghost use Rattle.std.specs.Prelude.{slice_index_or, slice_range};
-ghost use Rattle.of_cell.specs.Words.{pay};
+ghost use Rattle.of_cell.specs.Words.{payload_of};
 ghost use Rattle.of_cell.specs.Cells.{data_cell, durable_cells};
 ghost use Rattle.of_mem.specs.declared.work.TheConstants.{MOST_INSTRS};
 ghost use Rattle.of_recover.specs.Row.{IsDurableRow};
-ghost use Rattle.of_recover.specs.Recovered.{recovered};
-ghost use Rattle.of_eval.specs.Scripts.{cells_in};
+ghost use Rattle.of_recover.specs.Recovered.{recovered_words};
+ghost use Rattle.of_eval.specs.Scripts.{data_cells_of};
 
 use crate::error::StoreErr;
 use crate::laws::history_is_held;
@@ -25,7 +25,7 @@ use std::alloc::{AllocError, Global};
 pub(crate) fn shape_of(scripts: Scripts) -> Shape
     ensures callers { result.callers ≡ scripts.callers }
     ensures instrs { result.instrs ≡ MOST_INSTRS }
-    ensures cells { result.cells ≡ cells_in scripts }
+    ensures cells { result.cells ≡ data_cells_of scripts }
 {
     let plot = scripts.plot();
     Shape {
@@ -47,7 +47,7 @@ fn data_words(alloc: Global, shape: &Shape, row: &[u64]) -> Result<Vec<u64>, All
 
 /// The numbers in these words.
 fn numbers(alloc: Global, words: &[u64]) -> Result<Vec<u32>, AllocError>
-    ensures { IfOk result (λ numbers. numbers.items ≡ map pay words.now) }
+    ensures { IfOk result (λ numbers. numbers.items ≡ map payload_of words.now) }
 {
     words.iter().map(|word| payload_of(*word)).collect(alloc)
 }
@@ -66,7 +66,7 @@ fn keep_durable(cells: usize, words: &mut Vec<u64>)
 // Recovers durable words, in place.
 fn recover_words(shape: &Shape, words: &mut Vec<u64>)
     requires { IsDurableRow shape.now.callers shape.now.cells words.old.items }
-    ensures { words.new.items ≡ recovered shape.now.callers shape.now.cells words.old.items }
+    ensures { words.new.items ≡ recovered_words shape.now.callers shape.now.cells words.old.items }
 {
     recovered_cells(shape, words);
     recover(shape, words);
@@ -81,11 +81,11 @@ pub struct Saved {
 }
 
 impl Saved {
-    ghost use Rattle.of_row.specs.Rows.{IsOf, key_of, setup_at};
-    ghost use Rattle.of_mem.specs.ProgramWork.{memory};
+    ghost use Rattle.of_row.specs.Rows.{IsSeatOf, key_of, setup_at};
+    ghost use Rattle.of_mem.specs.ProgramWork.{memory_of};
     ghost use Rattle.of_eval.specs.Lawful.{reply_in};
-    ghost use Rattle.of_store.specs.State.{State, Response};
-    ghost use Rattle.of_store.specs.Replies.{response_of};
+    ghost use Rattle.of_store.specs.State.{Store, Reply};
+    ghost use Rattle.of_store.specs.Replies.{reply_value_of};
     ghost use Rattle.of_memory.specs.History.{Entry};
     ghost use Rattle.of_memory.specs.Laws.{Leads, KeepScripts, StandsAt};
     ghost use Rattle.of_eval.specs.Scripts.{scripts_meaning};
@@ -95,12 +95,12 @@ impl Saved {
     // Closes a row, takes its durable words alone, as a crash does, and recovers them.
     pub(crate) fn close(row: Row<Scripts>, pass: Pass) -> Saved
         requires row { IsScriptsRow row }
-        requires pass { IsOf row pass.seat }
+        requires pass { IsSeatOf row pass.seat }
         requires keeps { KeepScripts (setup_at scripts_meaning row) pass.seat.me.0 }
         ensures scripts { result.scripts ≡ (key_of row).work }
         ensures limit { result.limit ≡ (key_of row).limit }
         ensures saved { IsSaved result }
-        ensures leads { (s : State) → StandsAt (key_of row).work (start_of_row row) s
+        ensures leads { (s : Store) → StandsAt (key_of row).work (start_of_row row) s
             → (h : List Entry) × Leads (key_of row).work (key_of row).limit (start_of_row row)
             pass.seat.me.0 s result.row.items h }
     {
@@ -155,8 +155,8 @@ impl Saved {
     // The number of a data cell.
     fn number(&self, cell: u32) -> u32
         requires saved { IsSaved self.now }
-        requires cell { cell < cells_in self.now.scripts }
-        ensures { result ≡ pay (slice_index_or (start_in self.now).cells cell 0) }
+        requires cell { cell < data_cells_of self.now.scripts }
+        ensures { result ≡ payload_of (slice_index_or (start_in self.now).cells cell 0) }
     {
         let place = shape_of(self.scripts).data_cell(cell);
         payload_of(self.row[place as usize])
@@ -166,7 +166,7 @@ impl Saved {
     fn reply(&self, number: u32) -> RawReply
         requires saved { IsSaved self.now }
         requires number { number < self.now.scripts.callers }
-        ensures { result ≡ reply_in MOST_INSTRS (memory (map pay (start_in self.now).cells)) number }
+        ensures { result ≡ reply_in MOST_INSTRS (memory_of (map payload_of (start_in self.now).cells)) number }
     {
         let plot = self.scripts.plot();
         let mut values = [0; MOST_INSTRS];
@@ -185,8 +185,8 @@ impl Saved {
         requires saved { IsSaved self.now }
         requires number { number < self.now.scripts.callers }
         ensures ticket { IfSome result (λ r. r.0 ≡ ticket_in self.now number) }
-        ensures reply { IfSome result (λ r. HoldsReply self.now number (response_of r.1)) }
-        ensures some { (r : Response) → HoldsReply self.now number r
+        ensures reply { IfSome result (λ r. HoldsReply self.now number (reply_value_of r.1)) }
+        ensures some { (r : Reply) → HoldsReply self.now number r
             → 0 < ticket_in self.now number → IsSome result }
     {
         let ticket = self.ticket(number);

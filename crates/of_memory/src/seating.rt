@@ -2,7 +2,7 @@
 
 ghost use Rattle.std.specs.Prelude.{◌≡◌, ◌+◌, ◌<◌, ℕ, IfOk, IsTrue, Some, None, length, slice_index_or, slice_set};
 ghost use Rattle.of_eval.specs.declared.scripts.Scripts.{Scripts as TheScripts};
-ghost use Rattle.of_row.specs.Rows.{IsOf, key_of};
+ghost use Rattle.of_row.specs.Rows.{IsSeatOf, key_of};
 ghost use Rattle.of_row.specs.Passes.{IsFirst};
 ghost use Rattle.of_caller.specs.declared.caller.Caller.{Caller as TheCaller};
 ghost use Rattle.of_memory.specs.Laws.{KeepsSo};
@@ -44,7 +44,7 @@ pub(crate) fn seat_all(
     mut pass: Pass,
 ) -> Result<(Vec<Option<Caller<Scripts>>>, Pass), AllocError>
     requires { IsFirst row.now pass }
-    ensures pass { IfOk result (λ r. IsOf row.now r.1.seat) }
+    ensures pass { IfOk result (λ r. IsSeatOf row.now r.1.seat) }
     ensures each { IfOk result (λ r. length r.0.items ≡ (key_of row.now).callers) }
     ensures new { IfOk result (λ r.
         AllStand (IsNew row.now) (key_of row.now).callers r.0.items) }
@@ -93,9 +93,9 @@ pub(crate) fn all_here(callers: &[Option<Caller<Scripts>>]) -> bool
 
 // Hands all that a caller has made to the pass, which keeps it.
 fn gather_one(row: &Row<Scripts>, pass: Pass, number: usize, caller: Caller<Scripts>) -> Pass
-    requires pass { IsOf row.now pass.seat }
+    requires pass { IsSeatOf row.now pass.seat }
     requires serves { Serves row.now number caller }
-    ensures pass { IsOf row.now result.seat }
+    ensures pass { IsSeatOf row.now result.seat }
     ensures own { KeepsSo number (IsKeptOf caller) result.seat.me.0.kept }
     ensures others { (n : ℕ) (c : TheCaller TheScripts) → KeepsSo n (IsKeptOf c) pass.seat.me.0.kept
         → KeepsSo n (IsKeptOf c) result.seat.me.0.kept }
@@ -109,9 +109,9 @@ pub(crate) fn gather(
     mut pass: Pass,
     callers: &mut Vec<Option<Caller<Scripts>>>,
 ) -> Pass
-    requires pass { IsOf row.now pass.seat }
+    requires pass { IsSeatOf row.now pass.seat }
     requires serve { ServeAll row.now callers.old.items }
-    ensures pass { IsOf row.now result.seat }
+    ensures pass { IsSeatOf row.now result.seat }
     ensures keeps { KeepsThose callers.old.items (length callers.old.items) result.seat.me.0.kept }
 {
     for number in 0..callers.len() {

@@ -9,7 +9,7 @@ use Rattle.std.specs.FinMap.{contains_key-keys, entries_sorted}
 use Rattle.std.specs.FinMap.Entries.{below_all}
 use Rattle.std.proofs.lemmas.Bool.{eqb-true, eq-eqb}
 use Rattle.std.proofs.lemmas.Bool.Decides.{nat_tests}
-use Rattle.of_order.specs.Means.{least_from, better, lesser}
+use Rattle.of_order.specs.Means.{least_from, better_of, lesser_of}
 
 abbrev pub IsBest : ℕ → (ℕ → Type 0) → Option ℕ → Type 0
 IsBest low P None = (k : ℕ) → P k → low ≤ k → ⊥
@@ -31,15 +31,15 @@ lesser_best : (low k b : ℕ) (P : ℕ → Type 0) → IsBest low P (Some b) →
 lesser_best low k b P h l true e = (inl h.0, h.1, λ q w m. elim w [ inl p ↦ h.2 q p m | inr is ↦ omega (arith, ltb-true b k e, is) ])
 lesser_best low k b P h l false e = (inr refl, l, λ q w m. elim w [ inl p ↦ (let g = h.2 q p m in omega (arith, g, ltb-false b k e)) | inr is ↦ omega (arith, is) ])
 
-more_best : (low k : ℕ) (P : ℕ → Type 0) (r : Option ℕ) → IsBest low P r → low ≤ k → IsBest low (λ q. P q ⊎ (q ≡ k)) (lesser k r)
+more_best : (low k : ℕ) (P : ℕ → Type 0) (r : Option ℕ) → IsBest low P r → low ≤ k → IsBest low (λ q. P q ⊎ (q ≡ k)) (lesser_of k r)
 more_best low k P None h l = (inr refl, l, λ q w m. elim w [ inl p ↦ absurd (h q p m) | inr is ↦ omega (arith, is) ])
 more_best low k P (Some b) h l = lesser_best low k b P h l (ltb b k) refl
 
-better_case : (low k : ℕ) (P : ℕ → Type 0) (r : Option ℕ) → IsBest low P r → (t : Bool) → ltb k low ≡ t → IsBest low (λ q. P q ⊎ (q ≡ k)) (cond t r (lesser k r))
+better_case : (low k : ℕ) (P : ℕ → Type 0) (r : Option ℕ) → IsBest low P r → (t : Bool) → ltb k low ≡ t → IsBest low (λ q. P q ⊎ (q ≡ k)) (cond t r (lesser_of k r))
 better_case low k P r h true e = same_best low P (λ q. P q ⊎ (q ≡ k)) r (λ q l p. inl p) (λ q l w. elim w [ inl p ↦ p | inr is ↦ absurd (omega (arith, is, l, ltb-true k low e)) ]) h
 better_case low k P r h false e = more_best low k P r h (ltb-false k low e)
 
-pub better_best : (low k : ℕ) (P : ℕ → Type 0) (r : Option ℕ) → IsBest low P r → IsBest low (λ q. P q ⊎ (q ≡ k)) (better low k r)
+pub better_best : (low k : ℕ) (P : ℕ → Type 0) (r : Option ℕ) → IsBest low P r → IsBest low (λ q. P q ⊎ (q ≡ k)) (better_of low k r)
 better_best low k P r h = better_case low k P r h (ltb k low) refl
 
 -- ---- lists of keys
@@ -71,11 +71,11 @@ has_either k x ks h = has_case k x ks (eqb k x) refl (ap (λ (b : Bool). b || li
 -- the best after all keys of a list
 abbrev pub best_of : ℕ → Option ℕ → List ℕ → Option ℕ
 best_of low r [] = r
-best_of low r (k ∷ ks) = best_of low (better low k r) ks
+best_of low r (k ∷ ks) = best_of low (better_of low k r) ks
 
 pub list_best : (low : ℕ) (P : ℕ → Type 0) (r : Option ℕ) (ks : List ℕ) → IsBest low P r → IsBest low (λ q. P q ⊎ Has ks q) (best_of low r ks)
 list_best low P r [] h = same_best low P (λ q. P q ⊎ Has [] q) r (λ q l p. inl p) (λ q l w. elim w [ inl p ↦ p | inr e ↦ absurd cc ]) h
-list_best low P r (k ∷ ks) h = same_best low (λ q. (P q ⊎ (q ≡ k)) ⊎ Has ks q) (λ q. P q ⊎ Has (k ∷ ks) q) (best_of low (better low k r) ks)
+list_best low P r (k ∷ ks) h = same_best low (λ q. (P q ⊎ (q ≡ k)) ⊎ Has ks q) (λ q. P q ⊎ Has (k ∷ ks) q) (best_of low (better_of low k r) ks)
     (λ q l w. elim w [
       | inl v ↦ elim v [ inl p ↦ inl p | inr is ↦ inr (subst (λ (x : ℕ). Has (x ∷ ks) q) is (has_first q ks)) ]
       | inr g ↦ inr (has_behind q k ks g)
@@ -84,7 +84,7 @@ list_best low P r (k ∷ ks) h = same_best low (λ q. (P q ⊎ (q ≡ k)) ⊎ Ha
       | inl p ↦ inl (inl p)
       | inr g ↦ elim (has_either q k ks g) [ inl is ↦ inl (inr is) | inr g ↦ inr g ]
     ])
-    (list_best low (λ q. P q ⊎ (q ≡ k)) (better low k r) ks (better_best low k P r h))
+    (list_best low (λ q. P q ⊎ (q ≡ k)) (better_of low k r) ks (better_best low k P r h))
 
 -- ---- a finite map's keys rise
 

@@ -7,18 +7,18 @@ use Rattle.std.specs.FinMap as fin
 use Rattle.std.proofs.lemmas.Bool.{cases_lt}
 use Rattle.std.proofs.lemmas.Bool.Decides.{nat_tests}
 use Rattle.of_mem.specs.Places.{bucket_at, cells_at}
-use Rattle.of_mem.specs.Programs.{Program, Read, answer, after, Inside, StaysFrom, OnlyReads}
-use Rattle.of_mem.specs.Stores.{Store, Stands, IsChain, IsBucket, first_at, second_at, link_at, value_in}
+use Rattle.of_mem.specs.Programs.{Program, Read, program_answer, memory_after, StaysBetween, StaysFrom, OnlyReads}
+use Rattle.of_mem.specs.Stores.{CellStore, StandsForStore, IsChain, IsBucket, first_at, second_at, link_at, value_in}
 use Rattle.of_mem.specs.declared.part.Need.{Need}
 use Rattle.of_mem.specs.declared.plot.Plot.{Plot}
 use Rattle.of_mem.specs.Plots.{base}
-use Rattle.of_mem.specs.Pad.{Pad}
-use Rattle.of_mem.specs.Calls.{RunsOn, Answers}
+use Rattle.of_mem.specs.Pad.{Part}
+use Rattle.of_mem.specs.Calls.{RunsProgram, AnswersOfStore}
 use Rattle.of_mem.proofs.Calls.{answered}
 use Rattle.of_mem.proofs.Counts.{blocks_below, few_blocks}
 use Rattle.of_mem.proofs.Heaps.{front_bucket}
 use Rattle.of_mem.proofs.Runs.{answer_then, after_then, inside_then, stays_then, reads_then}
-use Rattle.of_order.specs.Means.{least_from, better}
+use Rattle.of_order.specs.Means.{least_from, better_of}
 use Rattle.of_order.specs.OrderPrograms.{least_walk, at_pointer, least_in_program, least_buckets, least_program, least}
 use Rattle.of_order.proofs.Best.{IsBest, same_best, one_best, Has, has_either, tie, best_of, list_best, Holds, least_best}
 
@@ -29,7 +29,7 @@ keys_in o m l = map (λ b. m (first_at o b)) l
 
 -- a program answers this, and only reads, inside
 abbrev pub Says : {A : Type 0} → ℕ → ℕ → (ℕ → ℕ) → Program A → A → Type 0
-Says o size m f r = (answer f m ≡ r) × (after f m ≡ m) × Inside o size f m
+Says o size m f r = (program_answer f m ≡ r) × (memory_after f m ≡ m) × StaysBetween o size f m
 
 walk_says : (o blocks low : ℕ) (m : ℕ → ℕ) (n cell : ℕ) (l : List ℕ) (p : ℕ) (best : Option ℕ) → p ≡ m cell → IsChain o m cell l → Each (λ b. b < blocks) l → length l ≤ n
     → Says o (cells_at o blocks) m (least_walk o low n p best) (best_of low best (keys_in o m l))
@@ -37,7 +37,7 @@ walk_says o blocks low m zero cell [] p best is h k few = (refl, refl, tt)
 walk_says o blocks low m zero cell (b ∷ l) p best is h k few = absurd (omega arith)
 walk_says o blocks low m (suc n) cell [] p best is h k few = subst (λ (x : ℕ). Says o (cells_at o blocks) m (at_pointer o low (least_walk o low n) best x) best) (sym (is ∙ h)) (refl, refl, tt)
 walk_says o blocks low m (suc n) cell (b ∷ l) p best is h k few =
-    let r = walk_says o blocks low m n (link_at o b) l (m (link_at o b)) (better low (m (first_at o b)) best) refl h.1 k.1 (omega arith) in
+    let r = walk_says o blocks low m n (link_at o b) l (m (link_at o b)) (better_of low (m (first_at o b)) best) refl h.1 k.1 (omega arith) in
     let room : b < blocks = k.0 in
     let e : p ≡ suc b = omega (arith, is, h.0) in
     subst (λ (x : ℕ). Says o (cells_at o blocks) m (at_pointer o low (least_walk o low n) best x) (best_of low best (keys_in o m (b ∷ l)))) (sym e)
@@ -65,10 +65,10 @@ in_bucket o m n q (b ∷ l) h g = elim (has_either q (m (first_at o b)) (keys_in
 ]
 
 -- the keys of the buckets before this one
-abbrev pub Before : Store → ℕ → ℕ → Type 0
+abbrev pub Before : CellStore → ℕ → ℕ → Type 0
 Before s i q = Holds s.map q × (q % 32 < i)
 
-module _ (o blocks low : ℕ) (m : ℕ → ℕ) (s : Store) (h : Stands o blocks m s) where
+module _ (o blocks low : ℕ) (m : ℕ → ℕ) (s : CellStore) (h : StandsForStore o blocks m s) where
   chain_of : (i : ℕ) → i < 32 → IsChain o m (bucket_at o i) (h.chains (1 + i))
   chain_of i l = subst (λ (a : ℕ). IsChain o m a (h.chains (1 + i))) (front_bucket o i l) (h.heap.linked (1 + i) (omega arith))
 
@@ -96,7 +96,7 @@ module _ (o blocks low : ℕ) (m : ℕ → ℕ) (s : Store) (h : Stands o blocks
 
   -- so many buckets from this one on
   abbrev Ends : ℕ → ℕ → Option ℕ → Type 0
-  Ends j i best = IsBest low (Before s 32) (answer (least_buckets o blocks low j i best) m) × (after (least_buckets o blocks low j i best) m ≡ m) × Inside o (cells_at o blocks) (least_buckets o blocks low j i best) m
+  Ends j i best = IsBest low (Before s 32) (program_answer (least_buckets o blocks low j i best) m) × (memory_after (least_buckets o blocks low j i best) m ≡ m) × StaysBetween o (cells_at o blocks) (least_buckets o blocks low j i best) m
 
   buckets_end : (j i : ℕ) (best : Option ℕ) → i + j ≡ 32 → IsBest low (Before s i) best → Ends j i best
   unfolding least_buckets
@@ -106,22 +106,22 @@ module _ (o blocks low : ℕ) (m : ℕ → ℕ) (s : Store) (h : Stands o blocks
       let f = least_in_program o blocks i low best in
       let g = least_buckets o blocks low j (i + 1) in
       let r = in_says i best l in
-      let t = buckets_end j (i + 1) (answer f m) (omega arith) (subst (λ (x : Option ℕ). IsBest low (Before s (i + 1)) x) (sym r.0) (next_best i best l k)) in (
-        subst (IsBest low (Before s 32)) (sym (answer_then f g m ∙ ap (λ (x : ℕ → ℕ). answer (g (answer f m)) x) r.1)) t.0,
-        after_then f g m ∙ ap (λ (x : ℕ → ℕ). after (g (answer f m)) x) r.1 ∙ t.1,
-        inside_then o (cells_at o blocks) f g m r.2 (subst (λ (x : ℕ → ℕ). Inside o (cells_at o blocks) (g (answer f m)) x) (sym r.1) t.2),
+      let t = buckets_end j (i + 1) (program_answer f m) (omega arith) (subst (λ (x : Option ℕ). IsBest low (Before s (i + 1)) x) (sym r.0) (next_best i best l k)) in (
+        subst (IsBest low (Before s 32)) (sym (answer_then f g m ∙ ap (λ (x : ℕ → ℕ). program_answer (g (program_answer f m)) x) r.1)) t.0,
+        after_then f g m ∙ ap (λ (x : ℕ → ℕ). memory_after (g (program_answer f m)) x) r.1 ∙ t.1,
+        inside_then o (cells_at o blocks) f g m r.2 (subst (λ (x : ℕ → ℕ). StaysBetween o (cells_at o blocks) (g (program_answer f m)) x) (sym r.1) t.2),
       )
 
   -- the answer is the least key of the map from this one on, and nothing is written
-  pub least_means : (answer (least_program o blocks low) m ≡ least_from s.map low) × (after (least_program o blocks low) m ≡ m) × Inside o (cells_at o blocks) (least_program o blocks low) m
+  pub least_means : (program_answer (least_program o blocks low) m ≡ least_from s.map low) × (memory_after (least_program o blocks low) m ≡ m) × StaysBetween o (cells_at o blocks) (least_program o blocks low) m
   least_means =
       let t = buckets_end 32 0 None refl (λ q p l. let none = p.1 in omega arith) in
-      let r = answer (least_program o blocks low) m in
+      let r = program_answer (least_program o blocks low) m in
       let all : IsBest low (Holds s.map) r = same_best low (Before s 32) (Holds s.map) r (λ q _ p. p.0) (λ q _ p. (p, omega arith)) t.0 in
       (one_best low (Holds s.map) r (least_from s.map low) all (least_best s.map low), t.1, t.2)
 
 -- what such a call answers
-pub least_answers : (plot : Plot) (low : ℕ) (p : Pad) (result : Result (Option ℕ) Need) → RunsOn (least plot low) p p result → Answers plot p result (λ s. least_from s.map low)
+pub least_answers : (plot : Plot) (low : ℕ) (p : Part) (result : Result (Option ℕ) Need) → RunsProgram (least plot low) p p result → AnswersOfStore plot p result (λ s. least_from s.map low)
 least_answers plot low p result = answered plot (least plot low) (λ s. least_from s.map low) (λ m s h. let g = least_means (base plot) plot.blocks low m s h in (g.2, g.0)) p result
 
 -- it begins with a read
@@ -134,7 +134,7 @@ least_begins o blocks low = (_, refl)
 module _ (o low : ℕ) where
   at_stays : (n : ℕ) → ((p : ℕ) (best : Option ℕ) → StaysFrom o (least_walk o low n p best) × OnlyReads (least_walk o low n p best)) → (p : ℕ) (best : Option ℕ) → StaysFrom o (at_pointer o low (least_walk o low n) best p) × OnlyReads (at_pointer o low (least_walk o low n) best p)
   at_stays n again zero best = (tt, tt)
-  at_stays n again (suc b) best = ((omega arith, λ k. (omega arith, λ link. (again link (better low k best)).0)), λ k link. (again link (better low k best)).1)
+  at_stays n again (suc b) best = ((omega arith, λ k. (omega arith, λ link. (again link (better_of low k best)).0)), λ k link. (again link (better_of low k best)).1)
 
   walk_stays : (n p : ℕ) (best : Option ℕ) → StaysFrom o (least_walk o low n p best) × OnlyReads (least_walk o low n p best)
   walk_stays zero p best = (tt, tt)

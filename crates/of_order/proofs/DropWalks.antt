@@ -1,31 +1,31 @@
 -- The walk that drops keys, on partial memory.
 use Rattle.std.proofs.Common.{◌≡◌, ℕ, suc, ◌+◌, ◌-◌, ◌<◌, ◌≤◌, ◌≢◌, refl, sym, ◌∙◌, ap, subst, arith, ltb, Some, None, List, ◌∷◌, length, Ok, lt-ltb, le-ltb}
 use Rattle.of_mem.specs.declared.plot.Plot.{Plot}
-use Rattle.of_mem.specs.Plots.{base, size}
+use Rattle.of_mem.specs.Plots.{base, data_cell_count}
 use Rattle.of_mem.specs.Places.{keys_at, bucket_at}
-use Rattle.of_mem.specs.Pad.{Pad, newest, wrote}
-use Rattle.of_mem.specs.Programs.{Inside, Read, Lacks, Ends, run, then_do, changed, after, IsPartOf}
-use Rattle.of_mem.specs.Stores.{Store, first_at, link_at}
-use Rattle.of_mem.specs.Calls.{RunsOn, HasStore}
+use Rattle.of_mem.specs.Pad.{Part, newest_at, write}
+use Rattle.of_mem.specs.Programs.{StaysBetween, Read, Lacks, Ends, run_program, then_do, with_value, memory_after, IsPartOf}
+use Rattle.of_mem.specs.Stores.{CellStore, first_at, link_at}
+use Rattle.of_mem.specs.Calls.{RunsProgram, HasStore}
 use Rattle.of_mem.proofs.Runs.{run_read, run_unknown, run_ended, part_wrote}
 use Rattle.of_alloc.specs.Blocks.{HasOut}
 use Rattle.of_alloc.specs.BlockPrograms.{give, give_program}
-use Rattle.of_order.specs.OrderPrograms.{gave, drop_key, drop_link, drop_or, drop_pointer, drop_walk, drop_in, drop_in_program, drop_buckets, count_program}
-use Rattle.of_order.specs.Dropping.{Between, Within, IsDropping, IsDropped}
+use Rattle.of_order.specs.OrderPrograms.{after_give, drop_key, drop_link, drop_or, drop_pointer, drop_walk, drop_in, drop_in_program, drop_buckets, count_program}
+use Rattle.of_order.specs.Dropping.{IsBetweenBuckets, IsInsideBucket, IsDropping, IsDropped}
 use Rattle.of_order.proofs.Walking.{is_suc}
 use Rattle.of_order.proofs.Dropping.{at_block, block_below, stays, leaves, leaves_inside, list_left, block_out}
 use Rattle.of_order.proofs.Drops.{at_first, in_drops, within_first}
 
 -- the partial memory is part of a memory that stands inside bucket i
-pub record Stays (plot : Plot) (p : Pad) (low i cell pointer gone : ℕ) : Type 0 where
-  pub fits : length p.known ≡ size plot
+pub record Stays (plot : Plot) (p : Part) (low i cell pointer gone : ℕ) : Type 0 where
+  pub fits : length p.known ≡ data_cell_count plot
   pub memory : ℕ → ℕ
-  pub first : Store
+  pub first : CellStore
   pub part : IsPartOf p memory
   pub behind : List ℕ
-  pub within : Within (base plot) plot.blocks low i first memory cell pointer gone behind
+  pub within : IsInsideBucket (base plot) plot.blocks low i first memory cell pointer gone behind
 
-pub stays_first : (plot : Plot) (p : Pad) (low i gone a f : ℕ) → IsDropping plot p low i gone → i < 32 → a ≡ bucket_at (base plot) i → newest p a ≡ Some f → Stays plot p low i a f gone
+pub stays_first : (plot : Plot) (p : Part) (low i gone a f : ℕ) → IsDropping plot p low i gone → i < 32 → a ≡ bucket_at (base plot) i → newest_at p a ≡ Some f → Stays plot p low i a f gone
 stays_first plot p low i gone a f h l is e =
     let w = within_first (base plot) plot.blocks low plot.few_blocks h.first i l h.memory gone h.state in
     let same : h.memory (bucket_at (base plot) i) ≡ f = h.part (bucket_at (base plot) i) f (rw is at e) in
@@ -35,10 +35,10 @@ stays_first plot p low i gone a f h l is e =
       first = h.first;
       part = h.part;
       behind = h.state.stands.chains (1 + i);
-      within = rw is (subst (λ (x : ℕ). Within (base plot) plot.blocks low i h.first h.memory (bucket_at (base plot) i) x gone (h.state.stands.chains (1 + i))) same w);
+      within = rw is (subst (λ (x : ℕ). IsInsideBucket (base plot) plot.blocks low i h.first h.memory (bucket_at (base plot) i) x gone (h.state.stands.chains (1 + i))) same w);
     }
 
-module _ (plot : Plot) (p : Pad) (low i cell f gone : ℕ) (small : i < 32) (h : Stays plot p low i cell f gone) (some : f ≢ 0) where
+module _ (plot : Plot) (p : Part) (low i cell f gone : ℕ) (small : i < 32) (h : Stays plot p low i cell f gone) (some : f ≢ 0) where
   abbrev o : ℕ
   o = base plot
 
@@ -48,14 +48,14 @@ module _ (plot : Plot) (p : Pad) (low i cell f gone : ℕ) (small : i < 32) (h :
   here : (k : List ℕ) × (h.behind ≡ b ∷ k)
   here = at_block o plot.blocks low i small h.first h.memory cell f gone h.behind h.within b (is_suc f some)
 
-  abbrev w : Within o plot.blocks low i h.first h.memory cell f gone (b ∷ here.0)
-  w = subst (λ (l : List ℕ). Within o plot.blocks low i h.first h.memory cell f gone l) here.1 h.within
+  abbrev w : IsInsideBucket o plot.blocks low i h.first h.memory cell f gone (b ∷ here.0)
+  w = subst (λ (l : List ℕ). IsInsideBucket o plot.blocks low i h.first h.memory cell f gone l) here.1 h.within
 
   pub stays_below : b < plot.blocks
   stays_below = block_below o plot.blocks low i small h.first h.memory cell f gone b here.0 w
 
   -- the key stays, and the walk goes on behind the block
-  pub stays_on : (k a c g : ℕ) → a ≡ first_at o b → newest p a ≡ Some k → low ≤ k → c ≡ link_at o b → newest p c ≡ Some g → Stays plot p low i c g gone
+  pub stays_on : (k a c g : ℕ) → a ≡ first_at o b → newest_at p a ≡ Some k → low ≤ k → c ≡ link_at o b → newest_at p c ≡ Some g → Stays plot p low i c g gone
   stays_on k a c g is e le too q =
       let key : h.memory (first_at o b) ≡ k = h.part (first_at o b) k (rw is at e) in
       let link : h.memory (link_at o b) ≡ g = h.part (link_at o b) g (rw too at q) in
@@ -65,21 +65,21 @@ module _ (plot : Plot) (p : Pad) (low i cell f gone : ℕ) (small : i < 32) (h :
         first = h.first;
         part = h.part;
         behind = here.0;
-        within = rw too (subst (λ (x : ℕ). Within o plot.blocks low i h.first h.memory (link_at o b) x gone here.0) link (stays o plot.blocks low i small h.first h.memory cell f gone b here.0 w (omega (arith, key, le))));
+        within = rw too (subst (λ (x : ℕ). IsInsideBucket o plot.blocks low i h.first h.memory (link_at o b) x gone here.0) link (stays o plot.blocks low i small h.first h.memory cell f gone b here.0 w (omega (arith, key, le))));
       }
 
-  module _ (k a c g : ℕ) (is : a ≡ first_at o b) (e : newest p a ≡ Some k) (less : k < low) (too : c ≡ link_at o b) (q : newest p c ≡ Some g) where
+  module _ (k a c g : ℕ) (is : a ≡ first_at o b) (e : newest_at p a ≡ Some k) (less : k < low) (too : c ≡ link_at o b) (q : newest_at p c ≡ Some g) where
     key_less : h.memory (first_at o b) < low
     key_less = let key : h.memory (first_at o b) ≡ k = h.part (first_at o b) k (rw is at e) in omega (arith, key, less)
 
     link_is : h.memory (link_at o b) ≡ g
     link_is = h.part (link_at o b) g (rw too at q)
 
-    part_linked : IsPartOf (wrote p cell g) (changed h.memory cell (h.memory (link_at o b)))
-    part_linked = subst (λ (x : ℕ). IsPartOf (wrote p cell x) (changed h.memory cell (h.memory (link_at o b)))) link_is (part_wrote p h.memory cell (h.memory (link_at o b)) h.part)
+    part_linked : IsPartOf (write p cell g) (with_value h.memory cell (h.memory (link_at o b)))
+    part_linked = subst (λ (x : ℕ). IsPartOf (write p cell x) (with_value h.memory cell (h.memory (link_at o b)))) link_is (part_wrote p h.memory cell (h.memory (link_at o b)) h.part)
 
     -- the pointer cell has the block's link: the block is out
-    pub goes_out : (n : Pad) → n ≡ wrote p cell g → n.known ≡ p.known → HasOut plot n b
+    pub goes_out : (n : Part) → n ≡ write p cell g → n.known ≡ p.known → HasOut plot n b
     goes_out n same known = record {
       fits = ap length known ∙ h.fits;
       memory = _;
@@ -89,64 +89,64 @@ module _ (plot : Plot) (p : Pad) (low i cell f gone : ℕ) (small : i < 32) (h :
       out = block_out o plot.blocks low i small h.first h.memory cell f gone b here.0 w plot.few_blocks key_less;
     }
 
-    given_inside : Inside o (size plot) (give_program o b) (changed h.memory cell (h.memory (link_at o b)))
+    given_inside : StaysBetween o (data_cell_count plot) (give_program o b) (with_value h.memory cell (h.memory (link_at o b)))
     given_inside = let t = leaves_inside o plot.blocks low i small h.first h.memory cell f gone b here.0 w plot.few_blocks key_less in t.3
 
     -- the block is given, and the walk goes on from the same pointer cell
-    pub stays_behind : (n v : Pad) (u : Unit {0}) → n ≡ wrote p cell g → n.known ≡ p.known → RunsOn (give plot b) n v (Ok u) → Stays plot v low i cell g (gone + 1)
+    pub stays_behind : (n v : Part) (u : Unit {0}) → n ≡ write p cell g → n.known ≡ p.known → RunsProgram (give plot b) n v (Ok u) → Stays plot v low i cell g (gone + 1)
     stays_behind n v u same known ran =
-        let d = run_ended o (size plot) (give_program o b) n v (changed h.memory cell (h.memory (link_at o b))) u (rw same part_linked) given_inside ran.walk in
+        let d = run_ended o (data_cell_count plot) (give_program o b) n v (with_value h.memory cell (h.memory (link_at o b))) u (rw same part_linked) given_inside ran.walk in
         record {
           fits = ap length (ran.known ∙ known) ∙ h.fits;
           memory = _;
           first = h.first;
           part = d.part;
           behind = here.0;
-          within = subst (λ (x : ℕ). Within o plot.blocks low i h.first (after (give_program o b) (changed h.memory cell (h.memory (link_at o b)))) cell x (gone + 1) here.0) link_is (leaves o plot.blocks low i small h.first h.memory cell f gone b here.0 w plot.few_blocks key_less);
+          within = subst (λ (x : ℕ). IsInsideBucket o plot.blocks low i h.first (memory_after (give_program o b) (with_value h.memory cell (h.memory (link_at o b)))) cell x (gone + 1) here.0) link_is (leaves o plot.blocks low i small h.first h.memory cell f gone b here.0 w plot.few_blocks key_less);
         }
 
 -- no more keys are gone than there were
-pub gone_small : (plot : Plot) (p : Pad) (low i cell f gone : ℕ) → Stays plot p low i cell f gone → gone ≤ 512
+pub gone_small : (plot : Plot) (p : Part) (low i cell f gone : ℕ) → Stays plot p low i cell f gone → gone ≤ 512
 gone_small plot p low i cell f gone h = omega (arith, h.within.state.fewer.count, h.within.state.few, plot.few_blocks)
 
 -- the pointer cell is a cell of the plot
-pub cell_fits : (plot : Plot) (p : Pad) (low i cell f gone : ℕ) → i < 32 → (h : Stays plot p low i cell f gone) → f ≢ 0 → (k a c g : ℕ) → a ≡ first_at (base plot) (f - 1) → newest p a ≡ Some k → k < low → cell < size plot
+pub cell_fits : (plot : Plot) (p : Part) (low i cell f gone : ℕ) → i < 32 → (h : Stays plot p low i cell f gone) → f ≢ 0 → (k a c g : ℕ) → a ≡ first_at (base plot) (f - 1) → newest_at p a ≡ Some k → k < low → cell < data_cell_count plot
 cell_fits plot p low i cell f gone small h some k a c g is e less =
     let t = leaves_inside (base plot) plot.blocks low i small h.first h.memory cell f gone (f - 1) (here plot p low i cell f gone small h some).0 (w plot p low i cell f gone small h some) plot.few_blocks
     (let key : h.memory (first_at (base plot) (f - 1)) ≡ k = h.part (first_at (base plot) (f - 1)) k (rw is at e) in omega (arith, key, less)) in t.1
 
 -- ---- one turn of the walk
 
-module _ (o low n cell gone : ℕ) (p : Pad) where
-  pub drop_end : (f : ℕ) → f ≡ 0 → run (drop_walk o low (suc n) cell f gone) p ≡ Ends gone p
-  drop_end f z = ap (λ x. run (drop_pointer o low (drop_walk o low n) cell gone x) p) z
+module _ (o low n cell gone : ℕ) (p : Part) where
+  pub drop_end : (f : ℕ) → f ≡ 0 → run_program (drop_walk o low (suc n) cell f gone) p ≡ Ends gone p
+  drop_end f z = ap (λ x. run_program (drop_pointer o low (drop_walk o low n) cell gone x) p) z
 
-  drop_block : (f : ℕ) → f ≢ 0 → run (drop_walk o low (suc n) cell f gone) p ≡ run (Read (first_at o (f - 1)) (drop_key o low (drop_walk o low n) cell (f - 1) gone)) p
-  drop_block f z = ap (λ x. run (drop_pointer o low (drop_walk o low n) cell gone x) p) (is_suc f z)
+  drop_block : (f : ℕ) → f ≢ 0 → run_program (drop_walk o low (suc n) cell f gone) p ≡ run_program (Read (first_at o (f - 1)) (drop_key o low (drop_walk o low n) cell (f - 1) gone)) p
+  drop_block f z = ap (λ x. run_program (drop_pointer o low (drop_walk o low n) cell gone x) p) (is_suc f z)
 
-  pub drop_needs_key : (f a b : ℕ) → f ≢ 0 → a ≡ first_at o (f - 1) → (newest p a ≡ None) × (b ≡ a) → run (drop_walk o low (suc n) cell f gone) p ≡ Lacks b
+  pub drop_needs_key : (f a b : ℕ) → f ≢ 0 → a ≡ first_at o (f - 1) → (newest_at p a ≡ None) × (b ≡ a) → run_program (drop_walk o low (suc n) cell f gone) p ≡ Lacks b
   drop_needs_key f a b z is k = rw (k.1, is) (drop_block f z ∙ run_unknown (first_at o (f - 1)) (drop_key o low (drop_walk o low n) cell (f - 1) gone) p (rw is at k.0))
 
-  drop_at_key : (f a k : ℕ) → f ≢ 0 → a ≡ first_at o (f - 1) → newest p a ≡ Some k → run (drop_walk o low (suc n) cell f gone) p ≡ run (Read (link_at o (f - 1)) (drop_link o low (drop_walk o low n) cell (f - 1) gone k)) p
+  drop_at_key : (f a k : ℕ) → f ≢ 0 → a ≡ first_at o (f - 1) → newest_at p a ≡ Some k → run_program (drop_walk o low (suc n) cell f gone) p ≡ run_program (Read (link_at o (f - 1)) (drop_link o low (drop_walk o low n) cell (f - 1) gone k)) p
   drop_at_key f a k z is h = drop_block f z ∙ run_read (first_at o (f - 1)) (drop_key o low (drop_walk o low n) cell (f - 1) gone) p k (rw is at h)
 
-  pub drop_needs_link : (f a k c b : ℕ) → f ≢ 0 → a ≡ first_at o (f - 1) → newest p a ≡ Some k → c ≡ link_at o (f - 1) → (newest p c ≡ None) × (b ≡ c) → run (drop_walk o low (suc n) cell f gone) p ≡ Lacks b
+  pub drop_needs_link : (f a k c b : ℕ) → f ≢ 0 → a ≡ first_at o (f - 1) → newest_at p a ≡ Some k → c ≡ link_at o (f - 1) → (newest_at p c ≡ None) × (b ≡ c) → run_program (drop_walk o low (suc n) cell f gone) p ≡ Lacks b
   drop_needs_link f a k c b z is h too g = rw (g.1, too) (drop_at_key f a k z is h ∙ run_unknown (link_at o (f - 1)) (drop_link o low (drop_walk o low n) cell (f - 1) gone k) p (rw too at g.0))
 
-  drop_both : (f a k c g : ℕ) → f ≢ 0 → a ≡ first_at o (f - 1) → newest p a ≡ Some k → c ≡ link_at o (f - 1) → newest p c ≡ Some g → run (drop_walk o low (suc n) cell f gone) p ≡ run (drop_or o (drop_walk o low n) cell (f - 1) gone g (ltb k low)) p
+  drop_both : (f a k c g : ℕ) → f ≢ 0 → a ≡ first_at o (f - 1) → newest_at p a ≡ Some k → c ≡ link_at o (f - 1) → newest_at p c ≡ Some g → run_program (drop_walk o low (suc n) cell f gone) p ≡ run_program (drop_or o (drop_walk o low n) cell (f - 1) gone g (ltb k low)) p
   drop_both f a k c g z is h too e = drop_at_key f a k z is h ∙ run_read (link_at o (f - 1)) (drop_link o low (drop_walk o low n) cell (f - 1) gone k) p g (rw too at e)
 
-  pub drop_on : (f a k c d g : ℕ) → f ≢ 0 → a ≡ first_at o (f - 1) → newest p a ≡ Some k → c ≡ link_at o (f - 1) → newest p c ≡ Some g → low ≤ k → d ≡ link_at o (f - 1) → run (drop_walk o low (suc n) cell f gone) p ≡ run (drop_walk o low n d g gone) p
+  pub drop_on : (f a k c d g : ℕ) → f ≢ 0 → a ≡ first_at o (f - 1) → newest_at p a ≡ Some k → c ≡ link_at o (f - 1) → newest_at p c ≡ Some g → low ≤ k → d ≡ link_at o (f - 1) → run_program (drop_walk o low (suc n) cell f gone) p ≡ run_program (drop_walk o low n d g gone) p
   drop_on f a k c d g z is h too e le same =
-      drop_both f a k c g z is h too e ∙ ap (λ t. run (drop_or o (drop_walk o low n) cell (f - 1) gone g t) p) (le-ltb k low le)
-      ∙ ap (λ (x : ℕ). run (drop_walk o low n x g gone) p) (sym same)
+      drop_both f a k c g z is h too e ∙ ap (λ t. run_program (drop_or o (drop_walk o low n) cell (f - 1) gone g t) p) (le-ltb k low le)
+      ∙ ap (λ (x : ℕ). run_program (drop_walk o low n x g gone) p) (sym same)
 
   -- the block leaves
-  pub drop_out : (f a k c g : ℕ) (q : Pad) → f ≢ 0 → a ≡ first_at o (f - 1) → newest p a ≡ Some k → c ≡ link_at o (f - 1) → newest p c ≡ Some g → k < low → q ≡ wrote p cell g
-      → run (drop_walk o low (suc n) cell f gone) p ≡ run (then_do (give_program o (f - 1)) (gave o (drop_walk o low n) cell g gone)) q
+  pub drop_out : (f a k c g : ℕ) (q : Part) → f ≢ 0 → a ≡ first_at o (f - 1) → newest_at p a ≡ Some k → c ≡ link_at o (f - 1) → newest_at p c ≡ Some g → k < low → q ≡ write p cell g
+      → run_program (drop_walk o low (suc n) cell f gone) p ≡ run_program (then_do (give_program o (f - 1)) (after_give o (drop_walk o low n) cell g gone)) q
   drop_out f a k c g q z is h too e less same =
-      drop_both f a k c g z is h too e ∙ ap (λ t. run (drop_or o (drop_walk o low n) cell (f - 1) gone g t) p) (lt-ltb k low less)
-      ∙ ap (λ (x : Pad). run (then_do (give_program o (f - 1)) (gave o (drop_walk o low n) cell g gone)) x) (sym same)
+      drop_both f a k c g z is h too e ∙ ap (λ t. run_program (drop_or o (drop_walk o low n) cell (f - 1) gone g t) p) (lt-ltb k low less)
+      ∙ ap (λ (x : Part). run_program (then_do (give_program o (f - 1)) (after_give o (drop_walk o low n) cell g gone)) x) (sym same)
 
 -- ---- one bucket of so many
 
@@ -171,22 +171,22 @@ pub no_bucket : (o blocks low n i gone : ℕ) → n ≤ i → drop_buckets o blo
 no_bucket o blocks low n i gone l = ap (λ (j : ℕ). drop_buckets o blocks low j i gone) (none_left n i l) ∙ no_more o blocks low i gone
 
 -- where dropping begins, after a bucket, and behind the last
-pub begins : (plot : Plot) (p : Pad) (low : ℕ) → HasStore plot p → IsDropping plot p low 0 0
+pub begins : (plot : Plot) (p : Part) (low : ℕ) → HasStore plot p → IsDropping plot p low 0 0
 begins plot p low h = record { fits = h.fits; memory = h.memory; first = h.store; part = h.part; state = at_first (base plot) plot.blocks low plot.few_blocks h.store h.memory h.stands }
 
-pub next_bucket : (plot : Plot) (p q : Pad) (low i gone g : ℕ) → i < 32 → IsDropping plot p low i gone → RunsOn (drop_in plot i low gone) p q (Ok g) → IsDropping plot q low (i + 1) g
+pub next_bucket : (plot : Plot) (p q : Part) (low i gone g : ℕ) → i < 32 → IsDropping plot p low i gone → RunsProgram (drop_in plot i low gone) p q (Ok g) → IsDropping plot q low (i + 1) g
 next_bucket plot p q low i gone g small h ran =
     let r = in_drops (base plot) plot.blocks low plot.few_blocks h.first i small h.memory gone h.state in
-    let d = run_ended (base plot) (size plot) (drop_in plot i low gone) p q h.memory g h.part r.0 ran.walk in
+    let d = run_ended (base plot) (data_cell_count plot) (drop_in plot i low gone) p q h.memory g h.part r.0 ran.walk in
     record {
       fits = ap length ran.known ∙ h.fits;
       memory = _;
       first = h.first;
       part = d.part;
-      state = subst (λ (x : ℕ). Between (base plot) plot.blocks low (i + 1) h.first (after (drop_in plot i low gone) h.memory) x) (sym d.answers) r.1;
+      state = subst (λ (x : ℕ). IsBetweenBuckets (base plot) plot.blocks low (i + 1) h.first (memory_after (drop_in plot i low gone) h.memory) x) (sym d.answers) r.1;
     }
 
-pub all_dropped : (plot : Plot) (p : Pad) (low i gone : ℕ) → IsDropping plot p low i gone → IsDropped plot p gone
+pub all_dropped : (plot : Plot) (p : Part) (low i gone : ℕ) → IsDropping plot p low i gone → IsDropped plot p gone
 all_dropped plot p low i gone h = record {
   fits = h.fits;
   keys = λ k e. let is : h.memory (keys_at (base plot)) ≡ k = h.part (keys_at (base plot)) k e in omega (arith, is, h.state.counted, h.state.fewer.count);

@@ -7,17 +7,17 @@ use Rattle.std.specs.FinMap as fin
 use Rattle.std.proofs.lemmas.Bool.{ne_eqb, cases_eq, cases_lt}
 use Rattle.of_mem.specs.declared.plot.TheConstants.{MOST_BLOCKS}
 use Rattle.of_mem.specs.Places.{free_at, keys_at, bucket_at, cells_at, fresh_at}
-use Rattle.of_mem.specs.Programs.{Write, changed, Inside}
-use Rattle.of_mem.specs.Stores.{Store, Stands, IsChain, IsBucket, front_at, link_at, first_at, cell_after, value_in}
+use Rattle.of_mem.specs.Programs.{Write, with_value, StaysBetween}
+use Rattle.of_mem.specs.Stores.{CellStore, StandsForStore, IsChain, IsBucket, front_at, link_at, first_at, cell_after, value_in}
 use Rattle.of_mem.proofs.Changes.{changed_same, changed_other}
 use Rattle.of_mem.proofs.Heaps.{front_bucket, front_below, each_weaker, each_right, each_append, cell_in, chain_copy, all_links, same_chain}
 use Rattle.of_mem.proofs.Counts.{blocks_below}
 use Rattle.of_mem.specs.Numbers.{FitsCell}
 use Rattle.of_alloc.specs.Blocks.{IsFreeList, IsOut}
-use Rattle.of_alloc.specs.Found.{Found}
+use Rattle.of_alloc.specs.Found.{HasKeyBlock}
 use Rattle.of_alloc.specs.BlockPrograms.{give_program}
 use Rattle.of_alloc.proofs.Leaving.{keys_tie, m1, m3, m4, chains1, keys3, one_key, list_after, out_after, del_stands, left_chain, one_less, leave_inside, at_place}
-use Rattle.of_order.specs.Dropping.{Between, Within}
+use Rattle.of_order.specs.Dropping.{IsBetweenBuckets, IsInsideBucket}
 
 -- ---- memories that differ in the number of keys alone
 
@@ -25,20 +25,20 @@ module _ (o : ℕ) where
   abbrev pub But : (ℕ → ℕ) → (ℕ → ℕ) → Type 0
   But m n = (a : ℕ) → a ≢ keys_at o → n a ≡ m a
 
-  but_changed : (m n : ℕ → ℕ) (a v w : ℕ) → But m n → v ≡ w → But (changed m a v) (changed n a w)
+  but_changed : (m n : ℕ → ℕ) (a v w : ℕ) → But m n → v ≡ w → But (with_value m a v) (with_value n a w)
   but_changed m n a v w h e x other = elim (cases_eq x a) [
     | inl is ↦ rw is (changed_same n a w ∙ sym e ∙ sym (changed_same m a v))
     | inr not ↦ changed_other n a w x not ∙ h x other ∙ sym (changed_other m a v x not)
   ]
 
-  but_keys : (m : ℕ → ℕ) (v : ℕ) → But m (changed m (keys_at o) v)
+  but_keys : (m : ℕ → ℕ) (v : ℕ) → But m (with_value m (keys_at o) v)
   but_keys m v a other = changed_other m (keys_at o) v a other
 
   -- with the same number of keys they are the same
-  but_same : (m n : ℕ → ℕ) (v w : ℕ) → But m n → v ≡ w → changed m (keys_at o) v ≡ changed n (keys_at o) w
+  but_same : (m n : ℕ → ℕ) (v w : ℕ) → But m n → v ≡ w → with_value m (keys_at o) v ≡ with_value n (keys_at o) w
   but_same m n v w h e = λ i a. at a i
     where
-      at : (a : ℕ) → changed m (keys_at o) v a ≡ changed n (keys_at o) w a
+      at : (a : ℕ) → with_value m (keys_at o) v a ≡ with_value n (keys_at o) w a
       at a = elim (cases_eq a (keys_at o)) [
         | inl is ↦ rw is (changed_same m (keys_at o) v ∙ e ∙ sym (changed_same n (keys_at o) w))
         | inr not ↦ changed_other m (keys_at o) v a not ∙ sym (h a not) ∙ sym (changed_other n (keys_at o) w a not)
@@ -98,9 +98,9 @@ some_chain : (o : ℕ) (m : ℕ → ℕ) (c b : ℕ) (l : List ℕ) → IsChain 
 some_chain o m c b [] h e = absurd (omega (arith, h, e))
 some_chain o m c b (x ∷ l) h e = let is : x ≡ b = omega (arith, h.0, e) in (l, ap (λ (y : ℕ). y ∷ l) is)
 
-module _ (o blocks low i : ℕ) (small : i < 32) (first : Store) (m : ℕ → ℕ) (cell p gone : ℕ) (behind : List ℕ) (w : Within o blocks low i first m cell p gone behind) where
+module _ (o blocks low i : ℕ) (small : i < 32) (first : CellStore) (m : ℕ → ℕ) (cell p gone : ℕ) (behind : List ℕ) (w : IsInsideBucket o blocks low i first m cell p gone behind) where
   abbrev pub M : ℕ → ℕ
-  M = changed m (keys_at o) (fin.len w.state.store.map)
+  M = with_value m (keys_at o) (fin.len w.state.store.map)
 
   same_m : (a : ℕ) → a ≢ keys_at o → M a ≡ m a
   same_m a n = changed_other m (keys_at o) (fin.len w.state.store.map) a n
@@ -140,7 +140,7 @@ module _ (o blocks low i : ℕ) (small : i < 32) (first : Store) (m : ℕ → �
   pub past : (key : ℕ) → key < low → Each (λ x. M (first_at o x) ≢ key) w.before
   past key l = each_weaker (λ x. low ≤ m (first_at o x)) (λ x. M (first_at o x) ≢ key) (λ x k e. omega (arith, first_same x, k, l, e)) w.before w.passed
 
-  pub bucket_done : behind ≡ [] → Between o blocks low (i + 1) first m gone
+  pub bucket_done : behind ≡ [] → IsBetweenBuckets o blocks low (i + 1) first m gone
   bucket_done none = record {
     store = w.state.store;
     stands = w.state.stands;
@@ -155,12 +155,12 @@ module _ (o blocks low i : ℕ) (small : i < 32) (first : Store) (m : ℕ → �
   }
 
 -- the block at the pointer
-module _ (o blocks low i : ℕ) (small : i < 32) (first : Store) (m : ℕ → ℕ) (cell p gone b : ℕ) (l : List ℕ) (w : Within o blocks low i first m cell p gone (b ∷ l)) where
+module _ (o blocks low i : ℕ) (small : i < 32) (first : CellStore) (m : ℕ → ℕ) (cell p gone b : ℕ) (l : List ℕ) (w : IsInsideBucket o blocks low i first m cell p gone (b ∷ l)) where
   pub block_below : b < blocks
   block_below = (each_right (λ x. x < blocks) w.before (b ∷ l) (subst (λ (q : List ℕ). Each (λ x. x < blocks) q) w.split (blocks_below o blocks (M o blocks low i small first m cell p gone (b ∷ l) w) w.state.store w.state.stands (1 + i) (omega (arith, small))))).0
 
   -- its key stays
-  pub stays : low ≤ m (first_at o b) → Within o blocks low i first m (link_at o b) (m (link_at o b)) gone l
+  pub stays : low ≤ m (first_at o b) → IsInsideBucket o blocks low i first m (link_at o b) (m (link_at o b)) gone l
   stays k = record {
     state = w.state;
     before = w.before ++ b ∷ [];
@@ -175,7 +175,7 @@ module _ (o blocks low i : ℕ) (small : i < 32) (first : Store) (m : ℕ → �
     abbrev pub N : ℕ → ℕ
     N = M o blocks low i small first m cell p gone (b ∷ l) w
 
-    abbrev pub s : Store
+    abbrev pub s : CellStore
     s = w.state.store
 
     abbrev pub key : ℕ
@@ -187,7 +187,7 @@ module _ (o blocks low i : ℕ) (small : i < 32) (first : Store) (m : ℕ → �
     pub in_bucket : key % 32 ≡ i
     in_bucket = here_in_bucket o N i b w.before l (subst (λ (q : List ℕ). IsBucket o N i q) w.split (w.state.stands.holds.buckets i small))
 
-    abbrev pub found : Found o N key (bucket_at o (key % 32)) (w.state.stands.chains (1 + key % 32)) cell b
+    abbrev pub found : HasKeyBlock o N key (bucket_at o (key % 32)) (w.state.stands.chains (1 + key % 32)) cell b
     found = record {
       before = w.before;
       behind = l;
@@ -200,12 +200,12 @@ module _ (o blocks low i : ℕ) (small : i < 32) (first : Store) (m : ℕ → �
 
     -- the cells after it, and with the number of keys that are left
     abbrev pub linked : ℕ → ℕ
-    linked = changed m cell (m (link_at o b))
+    linked = with_value m cell (m (link_at o b))
 
     abbrev pub given : ℕ → ℕ
-    given = changed (changed linked (link_at o b) (linked (free_at o))) (free_at o) (b + 1)
+    given = with_value (with_value linked (link_at o b) (linked (free_at o))) (free_at o) (b + 1)
 
-    abbrev pub next : Store
+    abbrev pub next : CellStore
     next = record s { map = fin.remove s.map key }
 
     no_keys_here : keys_at o ≢ cell
@@ -215,17 +215,17 @@ module _ (o blocks low i : ℕ) (small : i < 32) (first : Store) (m : ℕ → �
     link_same = changed_other m (keys_at o) (fin.len s.map) (link_at o b) (λ e. omega arith)
 
     but_linked : But o linked (m1 o blocks N s w.state.stands key b cell found)
-    but_linked = subst (λ (a : ℕ). But o linked (changed N a (N (link_at o b)))) (at_place o blocks N s w.state.stands key b cell found)
+    but_linked = subst (λ (a : ℕ). But o linked (with_value N a (N (link_at o b)))) (at_place o blocks N s w.state.stands key b cell found)
         (but_changed o m N cell (m (link_at o b)) (N (link_at o b)) (but_keys o m (fin.len s.map)) (sym link_same))
 
     but_given : But o given (m3 o blocks N s w.state.stands key b cell found)
     but_given =
         let n1 = m1 o blocks N s w.state.stands key b cell found in
-        but_changed o (changed linked (link_at o b) (linked (free_at o))) (changed n1 (link_at o b) (n1 (free_at o))) (free_at o) (b + 1) (b + 1)
+        but_changed o (with_value linked (link_at o b) (linked (free_at o))) (with_value n1 (link_at o b) (n1 (free_at o))) (free_at o) (b + 1) (b + 1)
         (but_changed o linked n1 (link_at o b) (linked (free_at o)) (n1 (free_at o)) but_linked (sym (but_linked (free_at o) (λ e. omega arith)))) refl
 
     keys_given : given (keys_at o) ≡ m (keys_at o)
-    keys_given = changed_other (changed linked (link_at o b) (linked (free_at o))) (free_at o) (b + 1) (keys_at o) (λ e. omega arith)
+    keys_given = changed_other (with_value linked (link_at o b) (linked (free_at o))) (free_at o) (b + 1) (keys_at o) (λ e. omega arith)
         ∙ changed_other linked (link_at o b) (linked (free_at o)) (keys_at o) (λ e. omega arith) ∙ changed_other m cell (m (link_at o b)) (keys_at o) no_keys_here
 
     less_one : fin.len next.map ≡ fin.len s.map - 1
@@ -234,19 +234,19 @@ module _ (o blocks low i : ℕ) (small : i < 32) (first : Store) (m : ℕ → �
     some_key : 1 ≤ fin.len s.map
     some_key = omega (arith, one_key o blocks N s w.state.stands key b cell found, changed_same m (keys_at o) (fin.len s.map))
 
-    same_cells : changed given (keys_at o) (fin.len next.map) ≡ m4 o blocks N s w.state.stands key b cell found
+    same_cells : with_value given (keys_at o) (fin.len next.map) ≡ m4 o blocks N s w.state.stands key b cell found
     same_cells = but_same o given (m3 o blocks N s w.state.stands key b cell found) (fin.len next.map) (m3 o blocks N s w.state.stands key b cell found (keys_at o) - 1) but_given
         (omega (arith, less_one, keys3 o blocks N s w.state.stands key b cell found, changed_same m (keys_at o) (fin.len s.map)))
 
-    next_stands : Stands o blocks (changed given (keys_at o) (fin.len next.map)) next
-    next_stands = subst (λ (x : ℕ → ℕ). Stands o blocks x next) (sym same_cells) (del_stands o blocks N s w.state.stands key b cell found)
+    next_stands : StandsForStore o blocks (with_value given (keys_at o) (fin.len next.map)) next
+    next_stands = subst (λ (x : ℕ → ℕ). StandsForStore o blocks x next) (sym same_cells) (del_stands o blocks N s w.state.stands key b cell found)
 
-    chain_left : IsChain o (changed given (keys_at o) (fin.len next.map)) (front_at o (1 + i)) (w.before ++ l)
+    chain_left : IsChain o (with_value given (keys_at o) (fin.len next.map)) (front_at o (1 + i)) (w.before ++ l)
     chain_left = subst (λ (x : ℕ → ℕ). IsChain o x (front_at o (1 + i)) (w.before ++ l)) (sym same_cells)
         (subst (λ (x : ℕ). IsChain o (m4 o blocks N s w.state.stands key b cell found) (front_at o (1 + x)) (w.before ++ l)) in_bucket (left_chain o blocks N s w.state.stands key b cell found))
 
     first_given : (x : ℕ) → given (first_at o x) ≡ m (first_at o x)
-    first_given x = changed_other (changed linked (link_at o b) (linked (free_at o))) (free_at o) (b + 1) (first_at o x) (λ e. omega arith)
+    first_given x = changed_other (with_value linked (link_at o b) (linked (free_at o))) (free_at o) (b + 1) (first_at o x) (λ e. omega arith)
         ∙ changed_other linked (link_at o b) (linked (free_at o)) (first_at o x) (λ e. omega arith)
         ∙ changed_other m cell (m (link_at o b)) (first_at o x) (apart o blocks low i small first m cell p gone (b ∷ l) w (first_at o x) (λ e. omega (arith, e, front_below o (1 + i) (omega (arith, small)))) (λ y e. omega arith))
 
@@ -256,13 +256,13 @@ module _ (o blocks low i : ℕ) (small : i < 32) (first : Store) (m : ℕ → �
     still_none : (k : ℕ) → fin.get s.map k ≡ None → fin.get next.map k ≡ None
     still_none k e = fin.get-remove nat_cmp_total s.map key k ∙ ap (cond (eq_by_cmp nat_cmp k key) None) e ∙ none_either (eq_by_cmp nat_cmp k key)
 
-    pub next_state : Between o blocks low i first given (gone + 1)
+    pub next_state : IsBetweenBuckets o blocks low i first given (gone + 1)
     next_state = record {
       store = next;
       stands = next_stands;
       fewer = record {
         stays = λ k le. removed k (λ e. omega (arith, e, key_is, less, le)) ∙ w.state.fewer.stays k le;
-        others = ap (λ (t : Store). record t { map = next.map }) w.state.fewer.others;
+        others = ap (λ (t : CellStore). record t { map = next.map }) w.state.fewer.others;
         count = omega (arith, less_one, some_key, w.state.fewer.count);
       };
       counted = keys_given ∙ w.state.counted;
@@ -270,25 +270,25 @@ module _ (o blocks low i : ℕ) (small : i < 32) (first : Store) (m : ℕ → �
       cleared = λ k less in_it. still_none k (w.state.cleared k less in_it);
     }
 
-    pub leaves : Within o blocks low i first given cell (m (link_at o b)) (gone + 1) l
+    pub leaves : IsInsideBucket o blocks low i first given cell (m (link_at o b)) (gone + 1) l
     unfolding next_state
     leaves = record {
       state = next_state;
       before = w.before;
-      split = same_chain o (changed given (keys_at o) (fin.len next.map)) (front_at o (1 + i)) (next_stands.chains (1 + i)) (w.before ++ l) (next_stands.heap.linked (1 + i) (omega (arith, small))) chain_left;
+      split = same_chain o (with_value given (keys_at o) (fin.len next.map)) (front_at o (1 + i)) (next_stands.chains (1 + i)) (w.before ++ l) (next_stands.heap.linked (1 + i) (omega (arith, small))) chain_left;
       place = w.place;
-      points = sym link_same ∙ same_head o N (changed given (keys_at o) (fin.len next.map)) (link_at o b) cell l (chain o blocks low i small first m cell p gone (b ∷ l) w).1
-          (subst (λ (a : ℕ). IsChain o (changed given (keys_at o) (fin.len next.map)) a l) (sym w.place) (chain_behind o (changed given (keys_at o) (fin.len next.map)) (front_at o (1 + i)) w.before l chain_left))
+      points = sym link_same ∙ same_head o N (with_value given (keys_at o) (fin.len next.map)) (link_at o b) cell l (chain o blocks low i small first m cell p gone (b ∷ l) w).1
+          (subst (λ (a : ℕ). IsChain o (with_value given (keys_at o) (fin.len next.map)) a l) (sym w.place) (chain_behind o (with_value given (keys_at o) (fin.len next.map)) (front_at o (1 + i)) w.before l chain_left))
           ∙ changed_other given (keys_at o) (fin.len next.map) cell (λ e. no_keys_here (sym e));
       passed = each_same o low m given w.before first_given w.passed;
     }
 
     -- the pointer cell takes the link, and the block is given back
-    pub leaves_inside : Inside o (cells_at o blocks) (Write cell (m (link_at o b)) (give_program o b)) m
+    pub leaves_inside : StaysBetween o (cells_at o blocks) (Write cell (m (link_at o b)) (give_program o b)) m
     leaves_inside =
         let t = leave_inside o blocks N s w.state.stands key b cell found few in
         let in_it : b < blocks = block_below in
-        let free : changed N cell (N (link_at o b)) (free_at o) ≡ linked (free_at o) = but_changed o m N cell (m (link_at o b)) (N (link_at o b)) (but_keys o m (fin.len s.map)) (sym link_same) (free_at o) (λ e. omega arith) in
+        let free : with_value N cell (N (link_at o b)) (free_at o) ≡ linked (free_at o) = but_changed o m N cell (m (link_at o b)) (N (link_at o b)) (but_keys o m (fin.len s.map)) (sym link_same) (free_at o) (λ e. omega arith) in
         (t.0, t.1, subst FitsCell link_same t.2, (omega arith, omega arith, (omega arith, omega arith, subst FitsCell free t.3.2.2, (omega arith, omega arith, omega arith, tt))))
 
     pub list_left : IsFreeList o blocks linked (chains1 o blocks N s w.state.stands key b cell found 0)

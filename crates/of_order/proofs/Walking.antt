@@ -5,21 +5,21 @@ use Rattle.std.specs.Prelude.{Result}
 use Rattle.std.proofs.lemmas.Result.{MatchResult-weaker}
 use Rattle.of_mem.specs.declared.part.Need.{Need}
 use Rattle.of_mem.specs.declared.plot.Plot.{Plot}
-use Rattle.of_mem.specs.Plots.{base, size}
+use Rattle.of_mem.specs.Plots.{base, data_cell_count}
 use Rattle.of_mem.specs.Places.{bucket_at}
-use Rattle.of_mem.specs.Pad.{Pad, newest}
-use Rattle.of_mem.specs.Programs.{Program, then_do, Read, Lacks, Ends, run, IsPartOf}
+use Rattle.of_mem.specs.Pad.{Part, newest_at}
+use Rattle.of_mem.specs.Programs.{Program, then_do, Read, Lacks, Ends, run_program, IsPartOf}
 use Rattle.of_mem.specs.Stores.{IsChain, link_at, first_at}
-use Rattle.of_mem.specs.Calls.{HasStore, RunsOn}
+use Rattle.of_mem.specs.Calls.{HasStore, RunsProgram}
 use Rattle.of_mem.proofs.Counts.{blocks_below}
 use Rattle.of_mem.proofs.Heaps.{front_bucket}
 use Rattle.of_mem.proofs.Runs.{run_read, run_unknown}
-use Rattle.of_order.specs.Means.{better}
+use Rattle.of_order.specs.Means.{better_of}
 use Rattle.of_order.specs.OrderPrograms.{least_walk, at_pointer, with_key, with_link, least_in_program, least_buckets}
 
 -- this pointer leads through a chain of blocks of the plot
-pub record Points (plot : Plot) (p : Pad) (pointer : ℕ) : Type 0 where
-  pub fits : length p.known ≡ size plot
+pub record Points (plot : Plot) (p : Part) (pointer : ℕ) : Type 0 where
+  pub fits : length p.known ≡ data_cell_count plot
   pub memory : ℕ → ℕ
   pub part : IsPartOf p memory
   pub cell : ℕ
@@ -31,7 +31,7 @@ pub record Points (plot : Plot) (p : Pad) (pointer : ℕ) : Type 0 where
 pub is_suc : (f : ℕ) → f ≢ 0 → f ≡ suc (f - 1)
 is_suc f n = omega arith
 
-pub points_first : (plot : Plot) (p : Pad) (i a f : ℕ) → HasStore plot p → i < 32 → a ≡ bucket_at (base plot) i → newest p a ≡ Some f → Points plot p f
+pub points_first : (plot : Plot) (p : Part) (i a f : ℕ) → HasStore plot p → i < 32 → a ≡ bucket_at (base plot) i → newest_at p a ≡ Some f → Points plot p f
 points_first plot p i a f h l is e = record {
   fits = h.fits;
   memory = h.memory;
@@ -43,14 +43,14 @@ points_first plot p i a f h l is e = record {
   below = blocks_below (base plot) plot.blocks h.memory h.store h.stands (1 + i) (omega arith);
 }
 
-pub points_below : (plot : Plot) (p : Pad) (f : ℕ) → Points plot p f → f ≢ 0 → f - 1 < plot.blocks
+pub points_below : (plot : Plot) (p : Part) (f : ℕ) → Points plot p f → f ≢ 0 → f - 1 < plot.blocks
 points_below plot p f h n = go h.chain h.linked h.below
   where
     go : (l : List ℕ) → IsChain (base plot) h.memory h.cell l → Each (λ b. b < plot.blocks) l → f - 1 < plot.blocks
     go [] k b = absurd (n (h.is ∙ k))
     go (x ∷ l) k b = omega (arith, h.is, k.0, b.0)
 
-pub points_on : (plot : Plot) (p : Pad) (f a g : ℕ) → Points plot p f → f ≢ 0 → a ≡ link_at (base plot) (f - 1) → newest p a ≡ Some g → Points plot p g
+pub points_on : (plot : Plot) (p : Part) (f a g : ℕ) → Points plot p f → f ≢ 0 → a ≡ link_at (base plot) (f - 1) → newest_at p a ≡ Some g → Points plot p g
 points_on plot p f a g h n too e = go h.chain h.linked h.below
   where
     go : (l : List ℕ) → IsChain (base plot) h.memory h.cell l → Each (λ b. b < plot.blocks) l → Points plot p g
@@ -69,30 +69,30 @@ points_on plot p f a g h n too e = go h.chain h.linked h.below
         }
 
 -- a call that ran as a program which a run comes to
-pub comes_to : {A : Type 0} (f g : Program A) (p n q : Pad) (result : Result A Need) → run f p ≡ run g n → n.known ≡ p.known → n.batch ≡ p.batch → RunsOn g n q result → RunsOn f p q result
+pub comes_to : {A : Type 0} (f g : Program A) (p n q : Part) (result : Result A Need) → run_program f p ≡ run_program g n → n.known ≡ p.known → n.batch ≡ p.batch → RunsProgram g n q result → RunsProgram f p q result
 comes_to f g p n q result e known batch h = record { walk = MatchResult-weaker result h.walk (λ b k. e ∙ k) (λ need k. e ∙ k); known = h.known ∙ known; batch = h.batch ∙ batch }
 
 -- one turn of the walk to the least key
-module _ (o low n : ℕ) (p : Pad) (best : Option ℕ) where
-  pub least_end : (f : ℕ) → f ≡ 0 → run (least_walk o low (suc n) f best) p ≡ Ends best p
-  least_end f z = ap (λ x. run (at_pointer o low (least_walk o low n) best x) p) z
+module _ (o low n : ℕ) (p : Part) (best : Option ℕ) where
+  pub least_end : (f : ℕ) → f ≡ 0 → run_program (least_walk o low (suc n) f best) p ≡ Ends best p
+  least_end f z = ap (λ x. run_program (at_pointer o low (least_walk o low n) best x) p) z
 
-  least_block : (f : ℕ) → f ≢ 0 → run (least_walk o low (suc n) f best) p ≡ run (Read (first_at o (f - 1)) (with_key o low (least_walk o low n) (f - 1) best)) p
-  least_block f z = ap (λ x. run (at_pointer o low (least_walk o low n) best x) p) (is_suc f z)
+  least_block : (f : ℕ) → f ≢ 0 → run_program (least_walk o low (suc n) f best) p ≡ run_program (Read (first_at o (f - 1)) (with_key o low (least_walk o low n) (f - 1) best)) p
+  least_block f z = ap (λ x. run_program (at_pointer o low (least_walk o low n) best x) p) (is_suc f z)
 
-  pub least_needs_key : (f a b : ℕ) → f ≢ 0 → a ≡ first_at o (f - 1) → (newest p a ≡ None) × (b ≡ a) → run (least_walk o low (suc n) f best) p ≡ Lacks b
+  pub least_needs_key : (f a b : ℕ) → f ≢ 0 → a ≡ first_at o (f - 1) → (newest_at p a ≡ None) × (b ≡ a) → run_program (least_walk o low (suc n) f best) p ≡ Lacks b
   least_needs_key f a b z is k = rw (k.1, is) (least_block f z ∙ run_unknown (first_at o (f - 1)) (with_key o low (least_walk o low n) (f - 1) best) p (rw is at k.0))
 
-  least_key : (f a k : ℕ) → f ≢ 0 → a ≡ first_at o (f - 1) → newest p a ≡ Some k → run (least_walk o low (suc n) f best) p ≡ run (Read (link_at o (f - 1)) (with_link low (least_walk o low n) best k)) p
+  least_key : (f a k : ℕ) → f ≢ 0 → a ≡ first_at o (f - 1) → newest_at p a ≡ Some k → run_program (least_walk o low (suc n) f best) p ≡ run_program (Read (link_at o (f - 1)) (with_link low (least_walk o low n) best k)) p
   least_key f a k z is h = least_block f z ∙ run_read (first_at o (f - 1)) (with_key o low (least_walk o low n) (f - 1) best) p k (rw is at h)
 
-  pub least_needs_link : (f a k c b : ℕ) → f ≢ 0 → a ≡ first_at o (f - 1) → newest p a ≡ Some k → c ≡ link_at o (f - 1) → (newest p c ≡ None) × (b ≡ c) → run (least_walk o low (suc n) f best) p ≡ Lacks b
+  pub least_needs_link : (f a k c b : ℕ) → f ≢ 0 → a ≡ first_at o (f - 1) → newest_at p a ≡ Some k → c ≡ link_at o (f - 1) → (newest_at p c ≡ None) × (b ≡ c) → run_program (least_walk o low (suc n) f best) p ≡ Lacks b
   least_needs_link f a k c b z is h too g = rw (g.1, too) (least_key f a k z is h ∙ run_unknown (link_at o (f - 1)) (with_link low (least_walk o low n) best k) p (rw too at g.0))
 
-  pub least_on : (f a k c g : ℕ) (r : Option ℕ) → f ≢ 0 → a ≡ first_at o (f - 1) → newest p a ≡ Some k → c ≡ link_at o (f - 1) → newest p c ≡ Some g → r ≡ better low k best → run (least_walk o low (suc n) f best) p ≡ run (least_walk o low n g r) p
+  pub least_on : (f a k c g : ℕ) (r : Option ℕ) → f ≢ 0 → a ≡ first_at o (f - 1) → newest_at p a ≡ Some k → c ≡ link_at o (f - 1) → newest_at p c ≡ Some g → r ≡ better_of low k best → run_program (least_walk o low (suc n) f best) p ≡ run_program (least_walk o low n g r) p
   least_on f a k c g r z is h too e same =
       least_key f a k z is h ∙ run_read (link_at o (f - 1)) (with_link low (least_walk o low n) best k) p g (rw too at e)
-      ∙ ap (λ (x : Option ℕ). run (least_walk o low n g x) p) (sym same)
+      ∙ ap (λ (x : Option ℕ). run_program (least_walk o low n g x) p) (sym same)
 
 -- one bucket of so many
 turn : (n i : ℕ) → i < n → n - i ≡ suc (n - (i + 1))
@@ -105,12 +105,12 @@ one_more : (o blocks low j i : ℕ) (best : Option ℕ) → least_buckets o bloc
 unfolding least_buckets
 one_more o blocks low j i best = refl
 
-no_more : (o blocks low i : ℕ) (best : Option ℕ) (p : Pad) → run (least_buckets o blocks low 0 i best) p ≡ Ends best p
+no_more : (o blocks low i : ℕ) (best : Option ℕ) (p : Part) → run_program (least_buckets o blocks low 0 i best) p ≡ Ends best p
 unfolding least_buckets
 no_more o blocks low i best p = refl
 
 pub one_bucket : (o blocks low n i : ℕ) (best : Option ℕ) → i < n → least_buckets o blocks low (n - i) i best ≡ then_do (least_in_program o blocks i low best) (least_buckets o blocks low (n - (i + 1)) (i + 1))
 one_bucket o blocks low n i best l = ap (λ (j : ℕ). least_buckets o blocks low j i best) (turn n i l) ∙ one_more o blocks low (n - (i + 1)) i best
 
-pub no_bucket : (o blocks low n i : ℕ) (best : Option ℕ) (p : Pad) → n ≤ i → run (least_buckets o blocks low (n - i) i best) p ≡ Ends best p
-no_bucket o blocks low n i best p l = ap (λ (j : ℕ). run (least_buckets o blocks low j i best) p) (none_left n i l) ∙ no_more o blocks low i best p
+pub no_bucket : (o blocks low n i : ℕ) (best : Option ℕ) (p : Part) → n ≤ i → run_program (least_buckets o blocks low (n - i) i best) p ≡ Ends best p
+no_bucket o blocks low n i best p l = ap (λ (j : ℕ). run_program (least_buckets o blocks low j i best) p) (none_left n i l) ∙ no_more o blocks low i best p

@@ -5,29 +5,29 @@ use Rattle.std.specs.FinMap as fin
 use Rattle.of_mem.specs.declared.plot.Plot.{Plot}
 use Rattle.of_mem.specs.declared.plot.TheConstants.{BUCKETS}
 use Rattle.of_mem.specs.Places.{keys_at}
-use Rattle.of_mem.specs.Plots.{base, size}
-use Rattle.of_mem.specs.Pad.{Pad, newest}
-use Rattle.of_mem.specs.Programs.{changed, IsPartOf}
-use Rattle.of_mem.specs.Stores.{Store, Stands, front_at, first_at, cell_after}
+use Rattle.of_mem.specs.Plots.{base, data_cell_count}
+use Rattle.of_mem.specs.Pad.{Part, newest_at}
+use Rattle.of_mem.specs.Programs.{with_value, IsPartOf}
+use Rattle.of_mem.specs.Stores.{CellStore, StandsForStore, front_at, first_at, cell_after}
 
 -- from the store at first, so many keys below the lowest that stays are gone, and nothing else
-pub record Fewer (low : ℕ) (first s : Store) (gone : ℕ) : Type 0 where
+pub record HasFewerKeys (low : ℕ) (first s : CellStore) (gone : ℕ) : Type 0 where
   pub stays : (key : ℕ) → low ≤ key → fin.get s.map key ≡ fin.get first.map key
   pub others : s ≡ record first { map = s.map }
   pub count : fin.len s.map + gone ≡ fin.len first.map
 
 -- the buckets before this one have no key below the lowest that stays; but for the number of keys, the cells stand for a store
-pub record Between (o blocks low i : ℕ) (first : Store) (m : ℕ → ℕ) (gone : ℕ) : Type 0 where
-  pub store : Store
-  pub stands : Stands o blocks (changed m (keys_at o) (fin.len store.map)) store
-  pub fewer : Fewer low first store gone
+pub record IsBetweenBuckets (o blocks low i : ℕ) (first : CellStore) (m : ℕ → ℕ) (gone : ℕ) : Type 0 where
+  pub store : CellStore
+  pub stands : StandsForStore o blocks (with_value m (keys_at o) (fin.len store.map)) store
+  pub fewer : HasFewerKeys low first store gone
   pub counted : m (keys_at o) ≡ fin.len first.map
   pub few : fin.len first.map ≤ blocks
   pub cleared : (key : ℕ) → key < low → key % BUCKETS < i → fin.get store.map key ≡ None
 
 -- inside bucket i: the blocks before this pointer cell stay, and these are behind it
-pub record Within (o blocks low i : ℕ) (first : Store) (m : ℕ → ℕ) (cell pointer gone : ℕ) (behind : List ℕ) : Type 0 where
-  pub state : Between o blocks low i first m gone
+pub record IsInsideBucket (o blocks low i : ℕ) (first : CellStore) (m : ℕ → ℕ) (cell pointer gone : ℕ) (behind : List ℕ) : Type 0 where
+  pub state : IsBetweenBuckets o blocks low i first m gone
   pub before : List ℕ
   pub split : state.stands.chains (1 + i) ≡ before ++ behind
   pub place : cell ≡ cell_after o (front_at o (1 + i)) before
@@ -35,14 +35,14 @@ pub record Within (o blocks low i : ℕ) (first : Store) (m : ℕ → ℕ) (cell
   pub passed : Each (λ b. low ≤ m (first_at o b)) before
 
 -- the partial memory is part of a memory that stands there
-pub record IsDropping (plot : Plot) (p : Pad) (low i gone : ℕ) : Type 0 where
-  pub fits : length p.known ≡ size plot
+pub record IsDropping (plot : Plot) (p : Part) (low i gone : ℕ) : Type 0 where
+  pub fits : length p.known ≡ data_cell_count plot
   pub memory : ℕ → ℕ
-  pub first : Store
+  pub first : CellStore
   pub part : IsPartOf p memory
-  pub state : Between (base plot) plot.blocks low i first memory gone
+  pub state : IsBetweenBuckets (base plot) plot.blocks low i first memory gone
 
 -- as many keys as are gone are still counted
-pub record IsDropped (plot : Plot) (p : Pad) (gone : ℕ) : Type 0 where
-  pub fits : length p.known ≡ size plot
-  pub keys : (k : ℕ) → newest p (keys_at (base plot)) ≡ Some k → gone ≤ k
+pub record IsDropped (plot : Plot) (p : Part) (gone : ℕ) : Type 0 where
+  pub fits : length p.known ≡ data_cell_count plot
+  pub keys : (k : ℕ) → newest_at p (keys_at (base plot)) ≡ Some k → gone ≤ k

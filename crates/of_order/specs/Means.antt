@@ -2,7 +2,7 @@
 use Rattle.std.specs.Prelude.{ℕ, ◌-◌, nat_lt, nat_le, find, if◌then◌else◌, Option, Some, None}
 use Rattle.std.specs.Ordering.{nat_cmp}
 use Rattle.std.specs.FinMap as fin
-use Rattle.of_mem.specs.Stores.{Store}
+use Rattle.of_mem.specs.Stores.{CellStore}
 
 -- the least key from this one on
 abbrev pub least_from : fin.FinMap nat_cmp ℕ → ℕ → Option ℕ
@@ -13,18 +13,18 @@ abbrev pub keys_from : fin.FinMap nat_cmp ℕ → ℕ → fin.FinMap nat_cmp ℕ
 keys_from m low = fin.retain_keys m (λ k. nat_le low k)
 
 -- the store without the keys below this one
-abbrev pub after_drop : ℕ → Store → Store
+abbrev pub after_drop : ℕ → CellStore → CellStore
 after_drop low s = record s { map = keys_from s.map low }
 
 -- how many keys are below this one
-abbrev pub dropped : ℕ → Store → ℕ
-dropped low s = fin.len s.map - fin.len (keys_from s.map low)
+abbrev pub dropped_count : ℕ → CellStore → ℕ
+dropped_count low s = fin.len s.map - fin.len (keys_from s.map low)
 
 -- the less of a key and the best so far
-abbrev pub lesser : ℕ → Option ℕ → Option ℕ
-lesser k None = Some k
-lesser k (Some b) = if nat_lt b k then Some b else Some k
+abbrev pub lesser_of : ℕ → Option ℕ → Option ℕ
+lesser_of k None = Some k
+lesser_of k (Some b) = if nat_lt b k then Some b else Some k
 
 -- where the key is not below the lowest that is sought
-abbrev pub better : ℕ → ℕ → Option ℕ → Option ℕ
-better low k best = if nat_lt k low then best else lesser k best
+abbrev pub better_of : ℕ → ℕ → Option ℕ → Option ℕ
+better_of low k best = if nat_lt k low then best else lesser_of k best

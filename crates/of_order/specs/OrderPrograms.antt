@@ -7,12 +7,12 @@ use Rattle.of_mem.specs.Places.{bucket_at, keys_at}
 use Rattle.of_mem.specs.Stores.{first_at, link_at}
 use Rattle.of_mem.specs.Programs.{Program, Done, Read, Write, then_do}
 use Rattle.of_alloc.specs.BlockPrograms.{give_program}
-use Rattle.of_order.specs.Means.{better}
+use Rattle.of_order.specs.Means.{better_of}
 
 -- The least key from one on: the front of each bucket, and of each block its key and its link.
 
 abbrev pub with_link : ℕ → (ℕ → Option ℕ → Program (Option ℕ)) → Option ℕ → ℕ → ℕ → Program (Option ℕ)
-with_link low further best k link = further link (better low k best)
+with_link low further best k link = further link (better_of low k best)
 
 abbrev pub with_key : ℕ → ℕ → (ℕ → Option ℕ → Program (Option ℕ)) → ℕ → Option ℕ → ℕ → Program (Option ℕ)
 with_key o low further b best k = Read (link_at o b) (with_link low further best k)
@@ -43,12 +43,12 @@ least_program o blocks low = least_buckets o blocks low BUCKETS 0 None
 
 -- Dropping the keys below one.
 
-abbrev pub gave : ℕ → (ℕ → ℕ → ℕ → Program ℕ) → ℕ → ℕ → ℕ → Unit {0} → Program ℕ
-gave o further cell link gone u = further cell link (gone + 1)
+abbrev pub after_give : ℕ → (ℕ → ℕ → ℕ → Program ℕ) → ℕ → ℕ → ℕ → Unit {0} → Program ℕ
+after_give o further cell link gone u = further cell link (gone + 1)
 
 -- by whether the block's key is below: the pointer cell takes the link and the block is given, or the link is the next pointer cell
 abbrev pub drop_or : ℕ → (ℕ → ℕ → ℕ → Program ℕ) → ℕ → ℕ → ℕ → ℕ → Bool → Program ℕ
-drop_or o further cell b gone link true = Write cell link (then_do (give_program o b) (gave o further cell link gone))
+drop_or o further cell b gone link true = Write cell link (then_do (give_program o b) (after_give o further cell link gone))
 drop_or o further cell b gone link false = further (link_at o b) link gone
 
 abbrev pub drop_link : ℕ → ℕ → (ℕ → ℕ → ℕ → Program ℕ) → ℕ → ℕ → ℕ → ℕ → ℕ → Program ℕ

@@ -4,9 +4,9 @@
 
 ghost use Rattle.std.specs.Prelude.{◌≡◌, ◌+◌, ◌<◌, length};
 ghost use Rattle.of_mem.specs.declared.plot.TheConstants.{BUCKETS};
-ghost use Rattle.of_mem.specs.Calls.{RunsOn, HasStore, Answers, Acts};
+ghost use Rattle.of_mem.specs.Calls.{RunsProgram, HasStore, AnswersOfStore, ActsOnStore};
 ghost use Rattle.of_order.specs.OrderPrograms as program;
-ghost use Rattle.of_order.specs.Means.{least_from, better, dropped, after_drop};
+ghost use Rattle.of_order.specs.Means.{least_from, better_of, dropped_count, after_drop};
 ghost use Rattle.of_order.specs.Dropping.{IsDropping, IsDropped};
 
 use of_mem::{BUCKETS, Need, Part, Plot};
@@ -14,8 +14,8 @@ use of_mem::{BUCKETS, Need, Part, Plot};
 /// The least key, None where there is none. The error names a cell that is read and isn't known.
 pub fn first(plot: &Plot, part: &Part) -> Result<Option<u32>, Need>
     requires { HasStore plot.now part.now }
-    ensures runs { RunsOn (program.first plot.now) part.now part.now result }
-    ensures answers { Answers plot.now part.now result (λ s. least_from s.map 0) }
+    ensures runs { RunsProgram (program.first plot.now) part.now part.now result }
+    ensures answers { AnswersOfStore plot.now part.now result (λ s. least_from s.map 0) }
 {
     least(plot, part, 0)
 }
@@ -24,8 +24,8 @@ pub fn first(plot: &Plot, part: &Part) -> Result<Option<u32>, Need>
 /// isn't known.
 pub fn next(plot: &Plot, part: &Part, key: u32) -> Result<Option<u32>, Need>
     requires { HasStore plot.now part.now }
-    ensures runs { RunsOn (program.next plot.now key) part.now part.now result }
-    ensures answers { Answers plot.now part.now result (λ s. least_from s.map (key + 1)) }
+    ensures runs { RunsProgram (program.next plot.now key) part.now part.now result }
+    ensures answers { AnswersOfStore plot.now part.now result (λ s. least_from s.map (key + 1)) }
 {
     least(plot, part, u64::from(key) + 1)
 }
@@ -33,7 +33,7 @@ pub fn next(plot: &Plot, part: &Part, key: u32) -> Result<Option<u32>, Need>
 /// The least key from this one on, None where there is none.
 fn least(plot: &Plot, part: &Part, low: u64) -> Result<Option<u32>, Need>
     requires { HasStore plot.now part.now }
-    ensures { RunsOn (program.least plot.now low) part.now part.now result }
+    ensures { RunsProgram (program.least plot.now low) part.now part.now result }
 {
     let mut best = None;
     for bucket in 0..BUCKETS {
@@ -52,7 +52,7 @@ fn least_in(
 ) -> Result<Option<u32>, Need>
     requires stands { HasStore plot.now part.now }
     requires bucket { bucket < BUCKETS }
-    ensures { RunsOn (program.least_in plot.now bucket low best) part.now part.now result }
+    ensures { RunsProgram (program.least_in plot.now bucket low best) part.now part.now result }
 {
     let mut best = best;
     let mut pointer = part.read(plot.bucket(bucket))?;
@@ -70,7 +70,7 @@ fn least_in(
 
 /// The less of a key and the best so far, where the key is not below the lowest that is sought.
 fn better(low: u64, key: u32, best: Option<u32>) -> Option<u32>
-    ensures { result ≡ better low key best }
+    ensures { result ≡ better_of low key best }
 {
     if u64::from(key) < low {
         return best;
@@ -85,8 +85,8 @@ fn better(low: u64, key: u32, best: Option<u32>) -> Option<u32>
 /// read and isn't known.
 pub fn drop_below(plot: &Plot, part: &mut Part, key: u32) -> Result<u32, Need>
     requires { HasStore plot.now part.old }
-    ensures runs { RunsOn (program.drop_below plot.now key) part.old part.new result }
-    ensures acts { Acts plot.now part.old part.new result (dropped key) (after_drop key) }
+    ensures runs { RunsProgram (program.drop_below plot.now key) part.old part.new result }
+    ensures acts { ActsOnStore plot.now part.old part.new result (dropped_count key) (after_drop key) }
 {
     let mut gone = 0;
     for bucket in 0..BUCKETS {
@@ -99,7 +99,7 @@ pub fn drop_below(plot: &Plot, part: &mut Part, key: u32) -> Result<u32, Need>
 fn drop_in(plot: &Plot, part: &mut Part, bucket: u32, key: u32, gone: u32) -> Result<u32, Need>
     requires stands { IsDropping plot.now part.old key bucket gone }
     requires bucket { bucket < BUCKETS }
-    ensures { RunsOn (program.drop_in plot.now bucket key gone) part.old part.new result }
+    ensures { RunsProgram (program.drop_in plot.now bucket key gone) part.old part.new result }
 {
     let mut gone = gone;
     let mut cell = plot.bucket(bucket);
@@ -126,7 +126,7 @@ fn drop_in(plot: &Plot, part: &mut Part, bucket: u32, key: u32, gone: u32) -> Re
 /// Counts so many keys less, and answers how many they are.
 fn count_down(plot: &Plot, part: &mut Part, gone: u32) -> Result<u32, Need>
     requires { IsDropped plot.now part.old gone }
-    ensures { RunsOn (program.count_down plot.now gone) part.old part.new result }
+    ensures { RunsProgram (program.count_down plot.now gone) part.old part.new result }
 {
     if gone != 0 {
         let keys = part.read(plot.keys())?;

@@ -13,13 +13,13 @@ use Rattle.of_plan.specs.declared.line.Entry.TheVariants.{Script, Stop, Turns, E
 use Rattle.of_plan.specs.declared.line.Line.TheVariants.{Body}
 use Rattle.of_plan.specs.declared.reading.Stage.{Stage}
 use Rattle.of_plan.specs.Plan.{data_cells}
-use Rattle.of_plan.specs.Grammar.{Heading, AreEntries, stop_at, first_of, stop_in}
-use Rattle.of_plan.specs.LineReading.{LineInRange}
-use Rattle.of_plan.specs.Progress.{Progress, entered}
+use Rattle.of_plan.specs.Grammar.{Heading, AreEntries, stop_at, head_of, stop_in}
+use Rattle.of_plan.specs.LineReading.{IsLineInRange}
+use Rattle.of_plan.specs.Progress.{Reading, with_entry}
 use Rattle.of_plan.proofs.Entries.{after, after_script, after_stop, after_item, Adds, stop_same}
 
 -- a script goes to its caller
-pub script_entered : (p : Progress) (scripts : List (List (List Instr))) (c : ℕ) (script : List Instr) → c < p.callers → p.count < 20000 → scripts ≡ set p.scripts c (get_or p.scripts c [] ++ script ∷ []) → entered p (Script c script) ≡ Some (record p { scripts = scripts; count = p.count + 1 })
+pub script_entered : (p : Reading) (scripts : List (List (List Instr))) (c : ℕ) (script : List Instr) → c < p.callers → p.count < 20000 → scripts ≡ set p.scripts c (get_or p.scripts c [] ++ script ∷ []) → with_entry p (Script c script) ≡ Some (record p { scripts = scripts; count = p.count + 1 })
 script_entered p scripts c script lt few is =
     let one = lt-leb p.callers c lt in
     let two = lt-leb 20000 p.count few in
@@ -28,11 +28,11 @@ script_entered p scripts c script lt few is =
 -- ---- what is taken may come next
 
 -- where a test refuses, nothing is taken
-passed : (b : Bool) (o : Option Progress) (q : Progress) → cond b None o ≡ Some q → (b ≡ false) × (o ≡ Some q)
+passed : (b : Bool) (o : Option Reading) (q : Reading) → cond b None o ≡ Some q → (b ≡ false) × (o ≡ Some q)
 passed true o q e = absurd cc
 passed false o q e = (refl, e)
 
-none_first : (xs : List ℕ) → is_some (first_of xs) ≡ false → xs ≡ []
+none_first : (xs : List ℕ) → is_some (head_of xs) ≡ false → xs ≡ []
 none_first [] e = refl
 none_first (x ∷ xs) e = absurd cc
 
@@ -49,11 +49,11 @@ only_stop h es d x a none c = elim (eqb_tells d c) [
   | inr p ↦ rw p.0 (omega (arith, a.one_stop c))
 ]
 
-pub record Taken (stage : Stage) (h : Heading) (es : List Entry) (e : Entry) (q : Progress) : Type 0 where
+pub record Taken (stage : Stage) (h : Heading) (es : List Entry) (e : Entry) (q : Reading) : Type 0 where
   pub adds : Adds h es e
   pub leads : after stage h (es ++ e ∷ []) ≡ q
 
-pub taken : (stage : Stage) (h : Heading) (es : List Entry) (e : Entry) (q : Progress) → AreEntries h es → LineInRange (Body e) → entered (after stage h es) e ≡ Some q → Taken stage h es e q
+pub taken : (stage : Stage) (h : Heading) (es : List Entry) (e : Entry) (q : Reading) → AreEntries h es → IsLineInRange (Body e) → with_entry (after stage h es) e ≡ Some q → Taken stage h es e q
 taken stage h es (Script d s) q a r e =
     let one = passed _ _ q e in
     let two = passed _ _ q one.1 in
@@ -97,22 +97,22 @@ empty_stop : (xs : List ℕ) → length xs ≡ 0 → xs ≡ []
 empty_stop [] e = refl
 empty_stop (x ∷ xs) e = absurd (omega arith)
 
-pub enters : (stage : Stage) (h : Heading) (es : List Entry) (e : Entry) → Adds h es e → entered (after stage h es) e ≡ Some (after stage h (es ++ e ∷ []))
+pub enters : (stage : Stage) (h : Heading) (es : List Entry) (e : Entry) → Adds h es e → with_entry (after stage h es) e ≡ Some (after stage h (es ++ e ∷ []))
 enters stage h es (Script d s) k =
     let one = lt-leb h.callers d k.range.0 in
     let two = lt-leb 20000 (after stage h es).count (omega (arith, k.scripts)) in
-    rw (one, two) (ap (λ (p : Progress). Some p) (sym (after_script stage h es d s k.range.0)))
+    rw (one, two) (ap (λ (p : Reading). Some p) (sym (after_script stage h es d s k.range.0)))
 enters stage h es (Stop d x) k =
     let own : length (filter_map (stop_at d) (Stop d x ∷ [])) ≡ 1 = rw (stop_same d x) refl in
     let none = empty_stop (filter_map (stop_at d) es) (omega (arith, k.stops d, own)) in
     let one = lt-leb h.callers d k.range.0 in
-    let two : is_some (get_or (after stage h es).stops d None) ≡ false = ap is_some (get_or-map-range_with_len (stop_in es) 0 h.callers d d None k.range.0 (omega arith) ∙ ap first_of none) in
-    rw (one, two) (ap (λ (p : Progress). Some p) (sym (after_stop stage h es d x k.range.0 none)))
+    let two : is_some (get_or (after stage h es).stops d None) ≡ false = ap is_some (get_or-map-range_with_len (stop_in es) 0 h.callers d d None k.range.0 (omega arith) ∙ ap head_of none) in
+    rw (one, two) (ap (λ (p : Reading). Some p) (sym (after_stop stage h es d x k.range.0 none)))
 enters stage h es (Turns d x) k =
     let one = lt-leb h.callers d k.range.0 in
     let two : eqb x 0 ≡ false = elim (eqb_tells x 0) [ inl p ↦ absurd (let z = p.1 in omega (arith, k.range.1)) | inr p ↦ p.0 ] in
     let three = lt-leb (10000000 + 1) ((after stage h es).turns + x) (omega (arith, k.turns)) in
-    rw (one, two, three) (ap (λ (p : Progress). Some p) (sym (after_item stage h es (Turns d x) (TurnsItem d x) _ refl (λ c. refl) (λ c. refl) refl refl)))
+    rw (one, two, three) (ap (λ (p : Reading). Some p) (sym (after_item stage h es (Turns d x) (TurnsItem d x) _ refl (λ c. refl) (λ c. refl) refl refl)))
 enters stage h es (Evict a) k =
     let one = lt-leb (durable_cells h.callers (data_cells h.callers h.blocks)) a k.range in
-    rw one (ap (λ (p : Progress). Some p) (sym (after_item stage h es (Evict a) (EvictItem a) (after stage h es).turns refl (λ c. refl) (λ c. refl) refl (omega arith))))
+    rw one (ap (λ (p : Reading). Some p) (sym (after_item stage h es (Evict a) (EvictItem a) (after stage h es).turns refl (λ c. refl) (λ c. refl) refl (omega arith))))

@@ -15,35 +15,35 @@ use Rattle.of_plan.specs.declared.line.Line.TheVariants.{Title, Callers, Blocks,
 use Rattle.of_plan.specs.declared.reading.Stage.{Stage}
 use Rattle.of_plan.specs.declared.reading.Stage.TheVariants.{Start, Named, Counted, Sized, Body as InBody, Ended}
 use Rattle.of_cell.specs.Cells.{durable_cells}
-use Rattle.of_plan.specs.Lines.{lines, line_words}
+use Rattle.of_plan.specs.Lines.{text_lines, line_words}
 use Rattle.of_plan.specs.Plan.{Plan, turns_of, data_cells}
-use Rattle.of_plan.specs.Grammar.{Heading, limit_lines, plan_lines, IsHeading, InRange, AreEntries, SpellsPlan, item_of, scripts_in, stop_in}
-use Rattle.of_plan.specs.LineReading.{LineInRange, plan_language}
-use Rattle.of_plan.specs.Progress.{Progress, plan_at, start, entered, next, plan_reader}
-use Rattle.of_plan.specs.Reader.{follow as follow_by}
+use Rattle.of_plan.specs.Grammar.{Heading, limit_lines, plan_lines, IsHeading, IsEntryInRange, AreEntries, SpellsPlan, item_of, scripts_in, stop_in}
+use Rattle.of_plan.specs.LineReading.{IsLineInRange, plan_language}
+use Rattle.of_plan.specs.Progress.{Reading, plan_read, nothing_read, with_entry, after_line, plan_reader}
+use Rattle.of_plan.specs.Reader.{after_lines as follow_by}
 use Rattle.of_plan.proofs.Lists.{all-both, map_const}
 use Rattle.of_plan.proofs.Readings.{Reads}
 use Rattle.of_plan.proofs.Entries.{after, added, adds, fewer}
 use Rattle.of_plan.proofs.Entering.{taken, enters}
 
-abbrev pub follow : Progress → List Line → Option Progress
+abbrev pub follow : Reading → List Line → Option Reading
 follow p ls = follow_by plan_language plan_reader p ls
 
 -- the end was read
-abbrev pub IsEnded : Progress → Type 0
+abbrev pub IsEnded : Reading → Type 0
 IsEnded p = p.stage ≡ Ended
 
 -- ---- what is read is a heading, entries and the end
 
 -- lines between the heading and the last line
-pub record Rest (h : Heading) (es : List Entry) (lines : List Line) (last : Progress) : Type 0 where
+pub record Rest (h : Heading) (es : List Entry) (text_lines : List Line) (last : Reading) : Type 0 where
   pub more : List Entry
-  pub are : lines ≡ map Body more ++ End ∷ []
+  pub are : text_lines ≡ map Body more ++ End ∷ []
   pub fit : AreEntries h (es ++ more)
   pub is : after Ended h (es ++ more) ≡ last
 
 -- after the end no line is taken
-ended_last : (p last : Progress) (rest : List Line) → p.stage ≡ Ended → follow p rest ≡ Some last → (rest ≡ []) × (p ≡ last)
+ended_last : (p last : Reading) (rest : List Line) → p.stage ≡ Ended → follow p rest ≡ Some last → (rest ≡ []) × (p ≡ last)
 ended_last p last [] at e = (refl, some_is p last e)
 ended_last p last (l ∷ rest) at e = absurd (let stuck : follow p (l ∷ rest) ≡ None = none l in let both = sym stuck ∙ e in cc)
   where
@@ -55,37 +55,37 @@ ended_last p last (l ∷ rest) at e = absurd (let stuck : follow p (l ∷ rest) 
     none (Body e) = rw at refl
     none End = rw at refl
 
-body_read : (h : Heading) (es : List Entry) (lines : List Line) (last : Progress) → AreEntries h es → AllByRecursion LineInRange lines → follow (after InBody h es) lines ≡ Some last → last.stage ≡ Ended → Rest h es lines last
-body_read h es [] last a r e ended = absurd (let at : InBody ≡ Ended = ap (λ (p : Progress). p.stage) (some_is _ _ e) ∙ ended in cc)
-body_read h es (Body entry ∷ lines) last a r e ended =
-    let step = bind_some (entered (after InBody h es) entry) (λ q. follow q lines) last e in
+body_read : (h : Heading) (es : List Entry) (text_lines : List Line) (last : Reading) → AreEntries h es → AllByRecursion IsLineInRange text_lines → follow (after InBody h es) text_lines ≡ Some last → last.stage ≡ Ended → Rest h es text_lines last
+body_read h es [] last a r e ended = absurd (let at : InBody ≡ Ended = ap (λ (p : Reading). p.stage) (some_is _ _ e) ∙ ended in cc)
+body_read h es (Body entry ∷ text_lines) last a r e ended =
+    let step = bind_some (with_entry (after InBody h es) entry) (λ q. follow q text_lines) last e in
     let t = taken InBody h es entry step.0 a r.0 step.1 in
-    let later = body_read h (es ++ entry ∷ []) lines last (added h es entry a t.adds) r.1 (ap (λ (p : Progress). follow p lines) t.leads ∙ step.2) ended in
+    let later = body_read h (es ++ entry ∷ []) text_lines last (added h es entry a t.adds) r.1 (ap (λ (p : Reading). follow p text_lines) t.leads ∙ step.2) ended in
     record {
       more = entry ∷ later.more;
       are = ap (λ (ls : List Line). Body entry ∷ ls) later.are;
       fit = subst (AreEntries h) (append_assoc es (entry ∷ []) later.more) later.fit;
       is = ap (after Ended h) (sym (append_assoc es (entry ∷ []) later.more)) ∙ later.is;
     }
-body_read h es (End ∷ lines) last a r e ended =
-    let end = ended_last (after Ended h es) last lines refl e in
+body_read h es (End ∷ text_lines) last a r e ended =
+    let end = ended_last (after Ended h es) last text_lines refl e in
     record {
       more = [];
       are = ap (λ (ls : List Line). End ∷ ls) end.0;
       fit = subst (AreEntries h) (sym (append-nil es)) a;
       is = ap (after Ended h) (append-nil es) ∙ end.1;
     }
-body_read h es (Title ∷ lines) last a r e ended = absurd cc
-body_read h es (Callers n ∷ lines) last a r e ended = absurd cc
-body_read h es (Blocks n ∷ lines) last a r e ended = absurd cc
-body_read h es (Limit x ∷ lines) last a r e ended = absurd cc
+body_read h es (Title ∷ text_lines) last a r e ended = absurd cc
+body_read h es (Callers n ∷ text_lines) last a r e ended = absurd cc
+body_read h es (Blocks n ∷ text_lines) last a r e ended = absurd cc
+body_read h es (Limit x ∷ text_lines) last a r e ended = absurd cc
 
-pub record Said (lines : List Line) (last : Progress) : Type 0 where
+pub record Said (text_lines : List Line) (last : Reading) : Type 0 where
   pub heading : Heading
   pub entries : List Entry
   pub heading_fits : IsHeading heading
   pub entries_fit : AreEntries heading entries
-  pub are : lines ≡ plan_lines heading entries
+  pub are : text_lines ≡ plan_lines heading entries
   pub is : after Ended heading entries ≡ last
 
 no_entries : (h : Heading) → AreEntries h []
@@ -101,7 +101,7 @@ abbrev limited : ℕ → ℕ → ℕ → Heading
 limited n b x = with_limit n b (Some x)
 
 -- the reading once the callers are counted
-abbrev counted : Stage → ℕ → ℕ → ℕ → Progress
+abbrev counted : Stage → ℕ → ℕ → ℕ → Reading
 counted stage n b limit = record { stage = stage; callers = n; blocks = b; limit = limit; scripts = replicate n []; stops = replicate n None; schedule = []; count = 0; turns = 0 }
 
 sized_is : (stage : Stage) (n b : ℕ) → after stage (sized n b) [] ≡ counted stage n b 4294967294
@@ -111,19 +111,19 @@ sized_is stage n b =
     λ i. record { stage = stage; callers = n; blocks = b; limit = 4294967294; scripts = scripts i; stops = stops i; schedule = []; count = 0; turns = 0 }
 
 limited_is : (stage : Stage) (n b x : ℕ) → after stage (limited n b x) [] ≡ counted stage n b x
-limited_is stage n b x = ap (λ (p : Progress). record p { limit = x }) (sized_is stage n b)
+limited_is stage n b x = ap (λ (p : Reading). record p { limit = x }) (sized_is stage n b)
 
 -- a number that isn't 0 is taken
-not_zero : (x : ℕ) (o : Option Progress) (q : Progress) → cond (eqb x 0) None o ≡ Some q → (1 ≤ x) × (o ≡ Some q)
+not_zero : (x : ℕ) (o : Option Reading) (q : Reading) → cond (eqb x 0) None o ≡ Some q → (1 ≤ x) × (o ≡ Some q)
 not_zero x o q e = elim (eqb_tells x 0) [
   | inl p ↦ absurd (let z = rw p.0 at e in cc)
   | inr p ↦ (let ne = p.1 in omega arith, rw p.0 at e)
 ]
 
 -- no limit was given
-unlimited : (n b : ℕ) (lines : List Line) (last : Progress) → 1 ≤ n → n ≤ 16 → b ≤ 512 → AllByRecursion LineInRange lines → follow (after InBody (sized n b) []) lines ≡ Some last → last.stage ≡ Ended → Said (Title ∷ Callers n ∷ Blocks b ∷ lines) last
-unlimited n b lines last some few low r e ended =
-    let rest = body_read (sized n b) [] lines last (no_entries _) r e ended in
+unlimited : (n b : ℕ) (text_lines : List Line) (last : Reading) → 1 ≤ n → n ≤ 16 → b ≤ 512 → AllByRecursion IsLineInRange text_lines → follow (after InBody (sized n b) []) text_lines ≡ Some last → last.stage ≡ Ended → Said (Title ∷ Callers n ∷ Blocks b ∷ text_lines) last
+unlimited n b text_lines last some few low r e ended =
+    let rest = body_read (sized n b) [] text_lines last (no_entries _) r e ended in
     record {
       heading = sized n b;
       entries = rest.more;
@@ -134,11 +134,11 @@ unlimited n b lines last some few low r e ended =
     }
 
 -- after the blocks
-sized_read : (n b : ℕ) (lines : List Line) (last : Progress) → 1 ≤ n → n ≤ 16 → b ≤ 512 → AllByRecursion LineInRange lines → follow (counted Sized n b 4294967294) lines ≡ Some last → last.stage ≡ Ended → Said (Title ∷ Callers n ∷ Blocks b ∷ lines) last
-sized_read n b (Limit x ∷ lines) last some few low r e ended =
-    let step = bind_some (next (counted Sized n b 4294967294) (Limit x)) (λ q. follow q lines) last e in
+sized_read : (n b : ℕ) (text_lines : List Line) (last : Reading) → 1 ≤ n → n ≤ 16 → b ≤ 512 → AllByRecursion IsLineInRange text_lines → follow (counted Sized n b 4294967294) text_lines ≡ Some last → last.stage ≡ Ended → Said (Title ∷ Callers n ∷ Blocks b ∷ text_lines) last
+sized_read n b (Limit x ∷ text_lines) last some few low r e ended =
+    let step = bind_some (after_line (counted Sized n b 4294967294) (Limit x)) (λ q. follow q text_lines) last e in
     let k = not_zero x (Some (counted InBody n b x)) step.0 step.1 in
-    let rest = body_read (limited n b x) [] lines last (no_entries _) r.1 (ap (λ (p : Progress). follow p lines) (limited_is InBody n b x ∙ some_is _ _ k.1) ∙ step.2) ended in
+    let rest = body_read (limited n b x) [] text_lines last (no_entries _) r.1 (ap (λ (p : Reading). follow p text_lines) (limited_is InBody n b x ∙ some_is _ _ k.1) ∙ step.2) ended in
     record {
       heading = limited n b x;
       entries = rest.more;
@@ -147,42 +147,42 @@ sized_read n b (Limit x ∷ lines) last some few low r e ended =
       are = ap (λ (ls : List Line). Title ∷ Callers n ∷ Blocks b ∷ Limit x ∷ ls) rest.are;
       is = rest.is;
     }
-sized_read n b (Body entry ∷ lines) last some few low r e ended = unlimited n b (Body entry ∷ lines) last some few low r (ap (λ (p : Progress). follow p (Body entry ∷ lines)) (sized_is InBody n b) ∙ e) ended
-sized_read n b (End ∷ lines) last some few low r e ended = unlimited n b (End ∷ lines) last some few low r (ap (λ (p : Progress). follow p (End ∷ lines)) (sized_is InBody n b) ∙ e) ended
-sized_read n b [] last some few low r e ended = absurd (let at : Sized ≡ Ended = ap (λ (p : Progress). p.stage) (some_is _ _ e) ∙ ended in cc)
-sized_read n b (Title ∷ lines) last some few low r e ended = absurd cc
-sized_read n b (Callers m ∷ lines) last some few low r e ended = absurd cc
-sized_read n b (Blocks m ∷ lines) last some few low r e ended = absurd cc
+sized_read n b (Body entry ∷ text_lines) last some few low r e ended = unlimited n b (Body entry ∷ text_lines) last some few low r (ap (λ (p : Reading). follow p (Body entry ∷ text_lines)) (sized_is InBody n b) ∙ e) ended
+sized_read n b (End ∷ text_lines) last some few low r e ended = unlimited n b (End ∷ text_lines) last some few low r (ap (λ (p : Reading). follow p (End ∷ text_lines)) (sized_is InBody n b) ∙ e) ended
+sized_read n b [] last some few low r e ended = absurd (let at : Sized ≡ Ended = ap (λ (p : Reading). p.stage) (some_is _ _ e) ∙ ended in cc)
+sized_read n b (Title ∷ text_lines) last some few low r e ended = absurd cc
+sized_read n b (Callers m ∷ text_lines) last some few low r e ended = absurd cc
+sized_read n b (Blocks m ∷ text_lines) last some few low r e ended = absurd cc
 
-counted_read : (n : ℕ) (lines : List Line) (last : Progress) → 1 ≤ n → n ≤ 16 → AllByRecursion LineInRange lines → follow (counted Counted n 0 4294967294) lines ≡ Some last → last.stage ≡ Ended → Said (Title ∷ Callers n ∷ lines) last
-counted_read n (Blocks b ∷ lines) last some few r e ended = sized_read n b lines last some few r.0 r.1 e ended
-counted_read n [] last some few r e ended = absurd (let at : Counted ≡ Ended = ap (λ (p : Progress). p.stage) (some_is _ _ e) ∙ ended in cc)
-counted_read n (Title ∷ lines) last some few r e ended = absurd cc
-counted_read n (Callers m ∷ lines) last some few r e ended = absurd cc
-counted_read n (Limit x ∷ lines) last some few r e ended = absurd cc
-counted_read n (Body entry ∷ lines) last some few r e ended = absurd cc
-counted_read n (End ∷ lines) last some few r e ended = absurd cc
+counted_read : (n : ℕ) (text_lines : List Line) (last : Reading) → 1 ≤ n → n ≤ 16 → AllByRecursion IsLineInRange text_lines → follow (counted Counted n 0 4294967294) text_lines ≡ Some last → last.stage ≡ Ended → Said (Title ∷ Callers n ∷ text_lines) last
+counted_read n (Blocks b ∷ text_lines) last some few r e ended = sized_read n b text_lines last some few r.0 r.1 e ended
+counted_read n [] last some few r e ended = absurd (let at : Counted ≡ Ended = ap (λ (p : Reading). p.stage) (some_is _ _ e) ∙ ended in cc)
+counted_read n (Title ∷ text_lines) last some few r e ended = absurd cc
+counted_read n (Callers m ∷ text_lines) last some few r e ended = absurd cc
+counted_read n (Limit x ∷ text_lines) last some few r e ended = absurd cc
+counted_read n (Body entry ∷ text_lines) last some few r e ended = absurd cc
+counted_read n (End ∷ text_lines) last some few r e ended = absurd cc
 
-named_read : (lines : List Line) (last : Progress) → AllByRecursion LineInRange lines → follow (record start { stage = Named }) lines ≡ Some last → last.stage ≡ Ended → Said (Title ∷ lines) last
-named_read (Callers n ∷ lines) last r e ended =
-    let step = bind_some (next (record start { stage = Named }) (Callers n)) (λ q. follow q lines) last e in
+named_read : (text_lines : List Line) (last : Reading) → AllByRecursion IsLineInRange text_lines → follow (record nothing_read { stage = Named }) text_lines ≡ Some last → last.stage ≡ Ended → Said (Title ∷ text_lines) last
+named_read (Callers n ∷ text_lines) last r e ended =
+    let step = bind_some (after_line (record nothing_read { stage = Named }) (Callers n)) (λ q. follow q text_lines) last e in
     let k = not_zero n (Some (counted Counted n 0 4294967294)) step.0 step.1 in
-    counted_read n lines last k.0 r.0 r.1 (ap (λ (p : Progress). follow p lines) (some_is _ _ k.1) ∙ step.2) ended
-named_read [] last r e ended = absurd (let at : Named ≡ Ended = ap (λ (p : Progress). p.stage) (some_is _ _ e) ∙ ended in cc)
-named_read (Title ∷ lines) last r e ended = absurd cc
-named_read (Blocks m ∷ lines) last r e ended = absurd cc
-named_read (Limit x ∷ lines) last r e ended = absurd cc
-named_read (Body entry ∷ lines) last r e ended = absurd cc
-named_read (End ∷ lines) last r e ended = absurd cc
+    counted_read n text_lines last k.0 r.0 r.1 (ap (λ (p : Reading). follow p text_lines) (some_is _ _ k.1) ∙ step.2) ended
+named_read [] last r e ended = absurd (let at : Named ≡ Ended = ap (λ (p : Reading). p.stage) (some_is _ _ e) ∙ ended in cc)
+named_read (Title ∷ text_lines) last r e ended = absurd cc
+named_read (Blocks m ∷ text_lines) last r e ended = absurd cc
+named_read (Limit x ∷ text_lines) last r e ended = absurd cc
+named_read (Body entry ∷ text_lines) last r e ended = absurd cc
+named_read (End ∷ text_lines) last r e ended = absurd cc
 
-pub said_of : (lines : List Line) (last : Progress) → AllByRecursion LineInRange lines → follow start lines ≡ Some last → last.stage ≡ Ended → Said lines last
-said_of (Title ∷ lines) last r e ended = named_read lines last r.1 e ended
-said_of [] last r e ended = absurd (let at : Start ≡ Ended = ap (λ (p : Progress). p.stage) (some_is _ _ e) ∙ ended in cc)
-said_of (Callers m ∷ lines) last r e ended = absurd cc
-said_of (Blocks m ∷ lines) last r e ended = absurd cc
-said_of (Limit x ∷ lines) last r e ended = absurd cc
-said_of (Body entry ∷ lines) last r e ended = absurd cc
-said_of (End ∷ lines) last r e ended = absurd cc
+pub said_of : (text_lines : List Line) (last : Reading) → AllByRecursion IsLineInRange text_lines → follow nothing_read text_lines ≡ Some last → last.stage ≡ Ended → Said text_lines last
+said_of (Title ∷ text_lines) last r e ended = named_read text_lines last r.1 e ended
+said_of [] last r e ended = absurd (let at : Start ≡ Ended = ap (λ (p : Reading). p.stage) (some_is _ _ e) ∙ ended in cc)
+said_of (Callers m ∷ text_lines) last r e ended = absurd cc
+said_of (Blocks m ∷ text_lines) last r e ended = absurd cc
+said_of (Limit x ∷ text_lines) last r e ended = absurd cc
+said_of (Body entry ∷ text_lines) last r e ended = absurd cc
+said_of (End ∷ text_lines) last r e ended = absurd cc
 
 -- ---- a heading, entries and the end are read
 
@@ -191,7 +191,7 @@ body_follows h es [] a = ap (λ (l : List Entry). Some (after Ended h l)) (sym (
 body_follows h es (e ∷ more) a =
     let all = sym (append_assoc es (e ∷ []) more) in
     let fit = subst (AreEntries h) all a in
-    ap (λ (o : Option Progress). o >>= λ q. follow q (map Body more ++ End ∷ [])) (enters InBody h es e (adds h es e (fewer h (es ++ e ∷ []) more fit)))
+    ap (λ (o : Option Reading). o >>= λ q. follow q (map Body more ++ End ∷ [])) (enters InBody h es e (adds h es e (fewer h (es ++ e ∷ []) more fit)))
     ∙ body_follows h (es ++ e ∷ []) more fit ∙ ap (λ (l : List Entry). Some (after Ended h l)) (sym all)
 
 -- the first entry is taken with or without a limit before it
@@ -202,24 +202,24 @@ sized_body h (e ∷ es) = refl
 zero_no : (n : ℕ) → 1 ≤ n → eqb n 0 ≡ false
 zero_no n h = elim (eqb_tells n 0) [ inl p ↦ absurd (let z = p.1 in omega arith) | inr p ↦ p.0 ]
 
-counts : (n b : ℕ) (lines : List Line) → 1 ≤ n → follow start (Title ∷ Callers n ∷ Blocks b ∷ lines) ≡ follow (counted Sized n b 4294967294) lines
-counts n b lines some = let z = zero_no n some in rw z refl
+counts : (n b : ℕ) (text_lines : List Line) → 1 ≤ n → follow nothing_read (Title ∷ Callers n ∷ Blocks b ∷ text_lines) ≡ follow (counted Sized n b 4294967294) text_lines
+counts n b text_lines some = let z = zero_no n some in rw z refl
 
-limits : (n b x : ℕ) (lines : List Line) → 1 ≤ x → follow (counted Sized n b 4294967294) (Limit x ∷ lines) ≡ follow (counted InBody n b x) lines
-limits n b x lines some = let z = zero_no x some in rw z refl
+limits : (n b x : ℕ) (text_lines : List Line) → 1 ≤ x → follow (counted Sized n b 4294967294) (Limit x ∷ text_lines) ≡ follow (counted InBody n b x) text_lines
+limits n b x text_lines some = let z = zero_no x some in rw z refl
 
-follows_by : (n b : ℕ) (limit : Option ℕ) (es : List Entry) → IsHeading (with_limit n b limit) → AreEntries (with_limit n b limit) es → follow start (plan_lines (with_limit n b limit) es) ≡ Some (after Ended (with_limit n b limit) es)
+follows_by : (n b : ℕ) (limit : Option ℕ) (es : List Entry) → IsHeading (with_limit n b limit) → AreEntries (with_limit n b limit) es → follow nothing_read (plan_lines (with_limit n b limit) es) ≡ Some (after Ended (with_limit n b limit) es)
 follows_by n b None es k a =
     counts n b (map Body es ++ End ∷ []) k.some_callers
-    ∙ ap (λ (p : Progress). follow p (map Body es ++ End ∷ [])) (sym (sized_is Sized n b))
+    ∙ ap (λ (p : Reading). follow p (map Body es ++ End ∷ [])) (sym (sized_is Sized n b))
     ∙ sized_body (sized n b) es ∙ body_follows (sized n b) [] es a
 follows_by n b (Some x) es k a =
     counts n b (Limit x ∷ (map Body es ++ End ∷ [])) k.some_callers
     ∙ limits n b x (map Body es ++ End ∷ []) k.limit_range.0
-    ∙ ap (λ (p : Progress). follow p (map Body es ++ End ∷ [])) (sym (limited_is InBody n b x))
+    ∙ ap (λ (p : Reading). follow p (map Body es ++ End ∷ [])) (sym (limited_is InBody n b x))
     ∙ body_follows (limited n b x) [] es a
 
-pub follows : (h : Heading) (es : List Entry) → IsHeading h → AreEntries h es → follow start (plan_lines h es) ≡ Some (after Ended h es)
+pub follows : (h : Heading) (es : List Entry) → IsHeading h → AreEntries h es → follow nothing_read (plan_lines h es) ≡ Some (after Ended h es)
 follows h es k a = follows_by h.callers h.blocks h.limit es k a
 
 -- ---- and their numbers are in the ranges of lines
@@ -229,26 +229,26 @@ cells_small n b a few low lt =
     let rows : 2 * data_cells n b + 1 ≤ 3775 = omega arith in
     omega (arith, mul-le-mul_left n rows)
 
-entries_range : (h : Heading) (es : List Entry) → IsHeading h → AllByRecursion (InRange h) es → sum_by turns_of (filter_map item_of es) ≤ 10000000 → AllByRecursion LineInRange (map Body es ++ End ∷ [])
+entries_range : (h : Heading) (es : List Entry) → IsHeading h → AllByRecursion (IsEntryInRange h) es → sum_by turns_of (filter_map item_of es) ≤ 10000000 → AllByRecursion IsLineInRange (map Body es ++ End ∷ [])
 entries_range h [] k r few = (tt, tt)
 entries_range h (Script c s ∷ es) k r few = ((omega (arith, k.few_callers, r.0.0), r.0.1), entries_range h es k r.1 few)
 entries_range h (Stop c x ∷ es) k r few = ((omega (arith, k.few_callers, r.0.0), r.0.1), entries_range h es k r.1 few)
 entries_range h (Turns c x ∷ es) k r few = let sum = sum_by-cons turns_of (TurnsItem c x) (filter_map item_of es) in ((omega (arith, k.few_callers, r.0.0), omega (arith, few, sum)), entries_range h es k r.1 (omega (arith, few, sum)))
 entries_range h (Evict a ∷ es) k r few = (cells_small h.callers h.blocks a k.few_callers k.few_blocks r.0, entries_range h es k r.1 few)
 
-limit_range : (o : Option ℕ) → IfSome o (λ x. (1 ≤ x) × (x ≤ 4294967294)) → AllByRecursion LineInRange (limit_lines o)
+limit_range : (o : Option ℕ) → IfSome o (λ x. (1 ≤ x) × (x ≤ 4294967294)) → AllByRecursion IsLineInRange (limit_lines o)
 limit_range None h = tt
 limit_range (Some x) h = (h.1, tt)
 
-pub lines_range : (h : Heading) (es : List Entry) → IsHeading h → AreEntries h es → AllByRecursion LineInRange (plan_lines h es)
-lines_range h es k a = (tt, (k.few_callers, (k.few_blocks, all-both LineInRange (limit_lines h.limit) (map Body es ++ End ∷ []) (limit_range h.limit k.limit_range) (entries_range h es k a.in_range a.few_turns))))
+pub lines_range : (h : Heading) (es : List Entry) → IsHeading h → AreEntries h es → AllByRecursion IsLineInRange (plan_lines h es)
+lines_range h es k a = (tt, (k.few_callers, (k.few_blocks, all-both IsLineInRange (limit_lines h.limit) (map Body es ++ End ∷ []) (limit_range h.limit k.limit_range) (entries_range h es k a.in_range a.few_turns))))
 
 -- ---- a text that is read is spelled so, and one that is spelled is read so
 
 abbrev pub ReadsPlan : List ℕ → Type 0
-ReadsPlan text = Reads plan_language plan_reader start IsEnded text
+ReadsPlan text = Reads plan_language plan_reader nothing_read IsEnded text
 
-pub spelled : (text : List ℕ) (r : ReadsPlan text) → SpellsPlan text (plan_at r.last)
+pub spelled : (text : List ℕ) (r : ReadsPlan text) → SpellsPlan text (plan_read r.last)
 spelled text r =
     let s = said_of r.said r.last r.range r.leads r.ended in
     record {
@@ -257,10 +257,10 @@ spelled text r =
       heading_fits = s.heading_fits;
       entries_fit = s.entries_fit;
       each = r.each ∙ ap (map line_words) s.are;
-      is = ap plan_at (sym s.is);
+      is = ap plan_read (sym s.is);
     }
 
-pub read : (text : List ℕ) (plan : Plan) → SpellsPlan text plan → (r : ReadsPlan text) × (plan ≡ plan_at r.last)
+pub read : (text : List ℕ) (plan : Plan) → SpellsPlan text plan → (r : ReadsPlan text) × (plan ≡ plan_read r.last)
 read text plan s =
     let h = s.heading in
     let es = s.entries in (

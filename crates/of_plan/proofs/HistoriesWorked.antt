@@ -2,32 +2,32 @@
 use Rattle.std.proofs.Common.{◌≡◌, ℕ, zero, suc, ◌<◌, ◌≤◌, inl, inr, List, [], ◌∷◌, get_or, refl, subst, arith}
 use Rattle.std.specs.Prelude.{IsTrue, All}
 use Rattle.std.proofs.lemmas.List.Elements.{All-nil, All-cons}
-use Rattle.of_script.specs.declared.instr.Instr.TheVariants.{Load, Store, Add}
+use Rattle.of_script.specs.declared.instr.Instr.TheVariants.{Load, Store as RustStore, Add}
 use Rattle.of_script.specs.Language.{reads_only}
-use Rattle.of_store.specs.State.{State, empty_store, last_store}
-use Rattle.of_plan.specs.Report.{CallEntry, CallerLine, empty_start, no_line}
+use Rattle.of_store.specs.State.{Store, empty_store, last_store}
+use Rattle.of_plan.specs.Report.{Entry, Line, empty_start, no_line}
 use Rattle.of_plan.specs.Legal.{StandsBefore, IsLegal}
 use Rattle.of_plan.specs.Histories.{History, IsBatch, IsOwn, IsHistory, FitsLine, history_report}
 use Rattle.of_plan.specs.Worked.{two_callers, stores_five, loads_six, loads_nothing, adds_one, both_done, legal_report}
 use Rattle.of_plan.proofs.HistoriesLegal.{histories_legal}
 use Rattle.of_plan.proofs.HistoriesLists.{pairs_in_line}
 
-abbrev batches : ℕ → List CallEntry
+abbrev batches : ℕ → List Entry
 batches zero = []
 batches (suc k) = stores_five ∷ adds_one ∷ []
 
-abbrev own : ℕ → List CallEntry
+abbrev own : ℕ → List Entry
 own zero = stores_five ∷ loads_six ∷ []
 own (suc c) = loads_nothing ∷ adds_one ∷ []
 
-abbrev stores : ℕ → State
+abbrev stores : ℕ → Store
 stores zero = empty_store 0
-stores (suc k) = last_store (empty_store 0) ((Store 0 5 ∷ []) ∷ (Add 0 1 ∷ []) ∷ [])
+stores (suc k) = last_store (empty_store 0) ((RustStore 0 5 ∷ []) ∷ (Add 0 1 ∷ []) ∷ [])
 
 abbrev history : History
 history = record { last = 1; runs = batches; own = own; stores = stores }
 
-abbrev lines : List CallerLine
+abbrev lines : List Line
 lines = both_done ∷ both_done ∷ []
 
 -- the first read stands before the batch, and the second behind it
@@ -42,7 +42,7 @@ one_batch zero low high = absurd (omega arith)
 one_batch (suc zero) low high = record {
   some = omega arith;
   each = ((refl, refl, omega arith, inl refl), ((refl, refl, omega arith, inr (inl refl)), tt));
-  by_caller = pairs_in_line (λ (e f : CallEntry). e.caller < f.caller) (stores_five ∷ adds_one ∷ []) ((omega arith, tt), (tt, tt));
+  by_caller = pairs_in_line (λ (e f : Entry). e.caller < f.caller) (stores_five ∷ adds_one ∷ []) ((omega arith, tt), (tt, tt));
   replies = refl;
   leads = refl;
 }

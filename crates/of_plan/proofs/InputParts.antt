@@ -6,7 +6,7 @@ use Rattle.std.proofs.lemmas.List.{append-nil, take_all, take_at, drop_at}
 use Rattle.std.proofs.lemmas.List.Elements.{All-from_recursion, recursion_from_All}
 use Rattle.std.proofs.lemmas.List.Splits.{slice_split_at, join_with_byte-slice_split, length-slice_split}
 use Rattle.std.proofs.lemmas.Grind.{flat_map-append}
-use Rattle.of_plan.specs.Lines.{lines}
+use Rattle.of_plan.specs.Lines.{text_lines}
 use Rattle.of_plan.specs.Parts.{IsEndLine, StopsAtEnd, NeverEnds, AreParts}
 use Rattle.of_plan.proofs.Lists.{all-front, all-both}
 use Rattle.of_plan.proofs.TextLines.{NoNewline, lines_clean}
@@ -17,10 +17,10 @@ abbrev pub closed : List (List ℕ) → List ℕ
 closed ls = flat_map (λ l. l ++ codes "\n") ls
 
 -- what stands behind a line's newline
-tail_bytes : (rest l more : List ℕ) → lines rest ≡ l ∷ lines more → rest ≡ l ++ (10 ∷ more)
-tail_bytes rest l more cut = go (lines more) refl
+tail_bytes : (rest l more : List ℕ) → text_lines rest ≡ l ∷ text_lines more → rest ≡ l ++ (10 ∷ more)
+tail_bytes rest l more cut = go (text_lines more) refl
   where
-    go : (ms : List (List ℕ)) → lines more ≡ ms → rest ≡ l ++ (10 ∷ more)
+    go : (ms : List (List ℕ)) → text_lines more ≡ ms → rest ≡ l ++ (10 ∷ more)
     go [] e = absurd (omega (arith, ap length e, length-slice_split (λ b. eqb b 10) more))
     go (m ∷ ms) e = sym (join_with_byte-slice_split 10 rest) ∙ ap (join_with_byte 10) (cut ∙ ap (λ (ls : List (List ℕ)). l ∷ ls) e) ∙ ap (λ (bs : List ℕ). l ++ (10 ∷ bs)) (ap (join_with_byte 10) (sym e) ∙ join_with_byte-slice_split 10 more)
 
@@ -31,10 +31,10 @@ closed_more front l more =
     ∙ ap (λ (bs : List ℕ). closed front ++ bs) (ap (λ (bs : List ℕ). bs ++ more) (append-nil (l ++ codes "\n")) ∙ append_assoc l (codes "\n") more))
 
 -- in front of any text
-lines_on : (ls : List (List ℕ)) (rest : List ℕ) → Each NoNewline ls → lines (closed ls ++ rest) ≡ ls ++ lines rest
+lines_on : (ls : List (List ℕ)) (rest : List ℕ) → Each NoNewline ls → text_lines (closed ls ++ rest) ≡ ls ++ text_lines rest
 lines_on [] rest clean = refl
 lines_on (l ∷ ls) rest clean =
-    ap lines (append_assoc (l ++ codes "\n") (closed ls) rest ∙ append_assoc l (codes "\n") (closed ls ++ rest))
+    ap text_lines (append_assoc (l ++ codes "\n") (closed ls) rest ∙ append_assoc l (codes "\n") (closed ls ++ rest))
     ∙ slice_split_at (λ b. eqb b 10) l 10 (closed ls ++ rest) (All-from_recursion (λ b. eqb b 10 ≡ false) l clean.0) refl
     ∙ ap (λ (ks : List (List ℕ)). l ∷ ks) (lines_on ls rest clean.1)
 
@@ -55,16 +55,16 @@ pub record IsBehind (text rest : List ℕ) : Type 0 where
 pub behind_nothing : (text : List ℕ) → IsBehind text text
 behind_nothing text = record { front = []; bytes = refl; clean = tt; none = tt }
 
-first_clean : (rest l : List ℕ) (ls : List (List ℕ)) → lines rest ≡ l ∷ ls → NoNewline l
+first_clean : (rest l : List ℕ) (ls : List (List ℕ)) → text_lines rest ≡ l ∷ ls → NoNewline l
 first_clean rest l ls cut = (subst (Each NoNewline) cut (lines_clean rest)).0
 
-bytes_on : (text rest l more : List ℕ) (h : IsBehind text rest) → lines rest ≡ l ∷ lines more → text ≡ closed (h.front ++ l ∷ []) ++ more
+bytes_on : (text rest l more : List ℕ) (h : IsBehind text rest) → text_lines rest ≡ l ∷ text_lines more → text ≡ closed (h.front ++ l ∷ []) ++ more
 bytes_on text rest l more h cut = h.bytes ∙ ap (λ (bs : List ℕ). closed h.front ++ bs) (tail_bytes rest l more cut) ∙ closed_more h.front l more
 
-clean_on : (text rest l more : List ℕ) (h : IsBehind text rest) → lines rest ≡ l ∷ lines more → Each NoNewline (h.front ++ l ∷ [])
-clean_on text rest l more h cut = all-both NoNewline h.front (l ∷ []) h.clean (first_clean rest l (lines more) cut, tt)
+clean_on : (text rest l more : List ℕ) (h : IsBehind text rest) → text_lines rest ≡ l ∷ text_lines more → Each NoNewline (h.front ++ l ∷ [])
+clean_on text rest l more h cut = all-both NoNewline h.front (l ∷ []) h.clean (first_clean rest l (text_lines more) cut, tt)
 
-pub behind_one_more : (text rest l more : List ℕ) → IsBehind text rest → lines rest ≡ l ∷ lines more → (IsEndLine l → ⊥) → IsBehind text more
+pub behind_one_more : (text rest l more : List ℕ) → IsBehind text rest → text_lines rest ≡ l ∷ text_lines more → (IsEndLine l → ⊥) → IsBehind text more
 behind_one_more text rest l more h cut other = record {
   front = h.front ++ l ∷ [];
   bytes = bytes_on text rest l more h cut;
@@ -73,7 +73,7 @@ behind_one_more text rest l more h cut other = record {
 }
 
 -- the text is cut behind this end line
-pub parts_at : (text rest l more one two : List ℕ) → IsBehind text rest → lines rest ≡ l ∷ lines more → IsEndLine l → one ≡ take (length text - length more) text → two ≡ drop (length text - length more) text → AreParts text one two
+pub parts_at : (text rest l more one two : List ℕ) → IsBehind text rest → text_lines rest ≡ l ∷ text_lines more → IsEndLine l → one ≡ take (length text - length more) text → two ≡ drop (length text - length more) text → AreParts text one two
 parts_at text rest l more one two h cut ends front_is back_is =
     let front = h.front ++ l ∷ [] in
     let bytes = bytes_on text rest l more h cut in
@@ -85,14 +85,14 @@ parts_at text rest l more one two h cut ends front_is back_is =
       cut = inl (record {
         before = h.front;
         last = l;
-        each = ap lines (sym (append-nil (closed front))) ∙ lines_on front [] (clean_on text rest l more h cut) ∙ append_assoc h.front (l ∷ []) ([] ∷ []);
+        each = ap text_lines (sym (append-nil (closed front))) ∙ lines_on front [] (clean_on text rest l more h cut) ∙ append_assoc h.front (l ∷ []) ([] ∷ []);
         none_before = All-from_recursion (λ line. IsEndLine line → ⊥) h.front h.none;
         end = ends;
       });
     }))
 
 -- the text is not cut
-pub one_part : (text rest l one two : List ℕ) → IsBehind text rest → lines rest ≡ l ∷ [] → one ≡ take (length text) text → two ≡ drop (length text) text → AreParts text one two
+pub one_part : (text rest l one two : List ℕ) → IsBehind text rest → text_lines rest ≡ l ∷ [] → one ≡ take (length text) text → two ≡ drop (length text) text → AreParts text one two
 one_part text rest l one two h cut front_is back_is =
     let none : two ≡ [] = back_is ∙ ap (drop (length text)) (sym (append-nil text)) ∙ drop_at text [] (length text) refl in
     record {
@@ -101,7 +101,7 @@ one_part text rest l one two h cut front_is back_is =
         record {
           before = h.front;
           last = l;
-          each = ap lines h.bytes ∙ lines_on h.front rest h.clean ∙ ap (λ (ls : List (List ℕ)). h.front ++ ls) cut;
+          each = ap text_lines h.bytes ∙ lines_on h.front rest h.clean ∙ ap (λ (ls : List (List ℕ)). h.front ++ ls) cut;
           none = All-from_recursion (λ line. IsEndLine line → ⊥) h.front h.none;
         },
         none,
@@ -136,13 +136,13 @@ stop_bytes one h =
     sym (join_with_byte-slice_split 10 one) ∙ ap (join_with_byte 10) (h.each ∙ sym (append_assoc h.before (h.last ∷ []) ([] ∷ []))) ∙ closed_join (h.before ++ h.last ∷ [])
 
 -- the lines of a text that begins with such a part
-stop_lines : (text one two : List ℕ) (h : StopsAtEnd one) → text ≡ one ++ two → lines text ≡ h.before ++ h.last ∷ lines two
+stop_lines : (text one two : List ℕ) (h : StopsAtEnd one) → text ≡ one ++ two → text_lines text ≡ h.before ++ h.last ∷ text_lines two
 stop_lines text one two h whole =
     let front = h.before ++ h.last ∷ [] in
     let clean = all-front NoNewline front ([] ∷ []) (subst (Each NoNewline) (h.each ∙ sym (append_assoc h.before (h.last ∷ []) ([] ∷ []))) (lines_clean one)) in
-    ap lines (whole ∙ ap (λ (bs : List ℕ). bs ++ two) (stop_bytes one h)) ∙ lines_on front two clean ∙ append_assoc h.before (h.last ∷ []) (lines two)
+    ap text_lines (whole ∙ ap (λ (bs : List ℕ). bs ++ two) (stop_bytes one h)) ∙ lines_on front two clean ∙ append_assoc h.before (h.last ∷ []) (text_lines two)
 
-some_lines : (text : List ℕ) → 0 < length (lines text)
+some_lines : (text : List ℕ) → 0 < length (text_lines text)
 some_lines text = omega (arith, length-slice_split (λ b. eqb b 10) text)
 
 passed : (ls : List (List ℕ)) → All (λ line. IsEndLine line → ⊥) ls → Each (λ line. IsEndLine line → ⊥) ls
@@ -151,10 +151,10 @@ passed ls h = recursion_from_All (λ line. IsEndLine line → ⊥) ls h
 one_stops : (text one two three four : List ℕ) → StopsAtEnd one → text ≡ one ++ two → text ≡ three ++ four → StopsAtEnd three ⊎ (NeverEnds text × (four ≡ [])) → (one ≡ three) × (two ≡ four)
 one_stops text one two three four h whole other (inl k) =
     let both = sym (stop_lines text one two h whole) ∙ stop_lines text three four k other in
-    let same = same_cut h.before k.before h.last k.last (lines two) (lines four) (passed h.before h.none_before) (passed k.before k.none_before) h.end k.end both in
+    let same = same_cut h.before k.before h.last k.last (text_lines two) (text_lines four) (passed h.before h.none_before) (passed k.before k.none_before) h.end k.end both in
     (stop_bytes one h ∙ ap closed same.0 ∙ sym (stop_bytes three k), sym (join_with_byte-slice_split 10 two) ∙ ap (join_with_byte 10) same.1 ∙ join_with_byte-slice_split 10 four)
 one_stops text one two three four h whole other (inr k) =
-    absurd (no_cut h.before k.0.before h.last k.0.last (lines two) (some_lines two) (passed k.0.before k.0.none) h.end (sym (stop_lines text one two h whole) ∙ k.0.each))
+    absurd (no_cut h.before k.0.before h.last k.0.last (text_lines two) (some_lines two) (passed k.0.before k.0.none) h.end (sym (stop_lines text one two h whole) ∙ k.0.each))
 
 all_first : (text one two : List ℕ) → text ≡ one ++ two → two ≡ [] → text ≡ one
 all_first text one two whole none = whole ∙ ap (λ (bs : List ℕ). one ++ bs) none ∙ append-nil one

@@ -4,10 +4,10 @@ use Rattle.std.specs.Prelude.{MatchOption, is_some}
 use denote.Ref.{Bor}
 use Rattle.std.proofs.lemmas.List.{get_or-drop, drop-drop, length-drop}
 use Rattle.std.proofs.lemmas.Bool.Decides.{eqb_tells, leb_tells}
-use Rattle.of_script.specs.Text.{words}
+use Rattle.of_script.specs.Text.{text_words}
 use Rattle.of_plan.specs.declared.above.Wanted.{Wanted}
 use Rattle.of_plan.specs.Above.{said, line_at}
-use Rattle.of_plan.specs.Lines.{lines}
+use Rattle.of_plan.specs.Lines.{text_lines}
 
 -- the line that comes next is the one at this place
 pub next_at : (ls : List (List ℕ)) (at : ℕ) (line : List ℕ) (rest : List (List ℕ)) → drop at ls ≡ line ∷ rest → get_or ls at [] ≡ line
@@ -34,25 +34,25 @@ pub count_at_last : (ls : List (List ℕ)) (at : ℕ) (line : List ℕ) → drop
 count_at_last ls at line e = omega (arith, length-drop at ls, ap length e)
 
 -- without a newline after it, a line is the last
-pub last_left : (o : Option (Bor (List ℕ))) (ls : List (List ℕ)) (line : List ℕ) → MatchOption o (ls ≡ line ∷ []) (λ rest. ls ≡ line ∷ lines rest.now) → is_some o ≡ false → ls ≡ line ∷ []
+pub last_left : (o : Option (Bor (List ℕ))) (ls : List (List ℕ)) (line : List ℕ) → MatchOption o (ls ≡ line ∷ []) (λ rest. ls ≡ line ∷ text_lines rest.now) → is_some o ≡ false → ls ≡ line ∷ []
 last_left None ls line parts e = parts
 last_left (Some rest) ls line parts e = absurd cc
 
 -- ---- what the lines up to one say
 
 -- none before it says it, and it doesn't
-pub none_more : (wanted : Wanted) (ls : List (List ℕ)) (at : ℕ) (line : List ℕ) (rest : List (List ℕ)) → drop at ls ≡ line ∷ rest → ((k : ℕ) → k < at → said wanted (words (line_at ls k)) ≡ None) → said wanted (words line) ≡ None → (k : ℕ) → k < at + 1 → said wanted (words (line_at ls k)) ≡ None
+pub none_more : (wanted : Wanted) (ls : List (List ℕ)) (at : ℕ) (line : List ℕ) (rest : List (List ℕ)) → drop at ls ≡ line ∷ rest → ((k : ℕ) → k < at → said wanted (text_words (line_at ls k)) ≡ None) → said wanted (text_words line) ≡ None → (k : ℕ) → k < at + 1 → said wanted (text_words (line_at ls k)) ≡ None
 none_more wanted ls at line rest e before here k lt = elim (eqb_tells k at) [
-  | inl same ↦ ap (λ (n : ℕ). said wanted (words (line_at ls n))) same.1 ∙ ap (λ (l : List ℕ). said wanted (words l)) (next_at ls at line rest e) ∙ here
+  | inl same ↦ ap (λ (n : ℕ). said wanted (text_words (line_at ls n))) same.1 ∙ ap (λ (l : List ℕ). said wanted (text_words l)) (next_at ls at line rest e) ∙ here
   | inr other ↦ before k (omega (arith, lt, other.1))
 ]
 
 -- and past the last one there is nothing
-pub nothing_says : (wanted : Wanted) (ls : List (List ℕ)) (at k : ℕ) (line : List ℕ) → drop at ls ≡ line ∷ [] → ((n : ℕ) → n < at → said wanted (words (line_at ls n)) ≡ None) → said wanted (words line) ≡ None → said wanted (words (line_at ls k)) ≡ None
+pub nothing_says : (wanted : Wanted) (ls : List (List ℕ)) (at k : ℕ) (line : List ℕ) → drop at ls ≡ line ∷ [] → ((n : ℕ) → n < at → said wanted (text_words (line_at ls n)) ≡ None) → said wanted (text_words line) ≡ None → said wanted (text_words (line_at ls k)) ≡ None
 nothing_says wanted ls at k line e before here = elim (leb_tells k at) [
   | inl there ↦ none_more wanted ls at line [] e before here k (omega (arith, there.1))
-  | inr past ↦ ap (λ (l : List ℕ). said wanted (words l)) (past_last ls at k line e past.1) ∙ nothing wanted
+  | inr past ↦ ap (λ (l : List ℕ). said wanted (text_words l)) (past_last ls at k line e past.1) ∙ nothing wanted
 ]
   where
-    nothing : (w : Wanted) → said w (words []) ≡ None
+    nothing : (w : Wanted) → said w (text_words []) ≡ None
     nothing w = refl

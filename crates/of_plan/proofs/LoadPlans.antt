@@ -8,7 +8,7 @@ use Rattle.of_script.specs.declared.instr.Instr.{Instr}
 use Rattle.of_script.specs.Language.{IsScript}
 use Rattle.of_plan.specs.declared.plan.Item.{Item}
 use Rattle.of_plan.specs.Plan.{Plan, IsPlan}
-use Rattle.of_plan.specs.Generated.{load_script, load_scripts, generated}
+use Rattle.of_plan.specs.Generated.{load_script, load_scripts, generated_plan}
 use Rattle.of_plan.proofs.Lists.{map_const, all_below}
 
 -- what holds of each number from k on holds of the list over n of them
@@ -28,7 +28,7 @@ all_scripts : (m k n : ℕ) → sum_by length (map (load_scripts m) (range_with_
 all_scripts m k zero = omega arith
 all_scripts m k (suc n) = omega (arith, sum_by-cons length (load_scripts m k) (map (load_scripts m) (range_with_len (k + 1) n)), length-map-range_with_len (load_script k) 0 m, all_scripts m (k + 1) n)
 
-pub generated_is_plan : (n m : ℕ) → 1 ≤ n → n ≤ 16 → m ≤ 20000 → n * m ≤ 20000 → IsPlan (generated n m)
+pub generated_is_plan : (n m : ℕ) → 1 ≤ n → n ≤ 16 → m ≤ 20000 → n * m ≤ 20000 → IsPlan (generated_plan n m)
 generated_is_plan n m some few scripts all = record {
   some_callers = some;
   few_callers = few;
@@ -50,7 +50,7 @@ each_within zero m most some all = absurd (omega arith)
 each_within (suc n) m most some all = omega arith
 
 pub same_plan : (n m k : ℕ) (scripts : List (List (List Instr))) (stops : List (Option ℕ)) (schedule : List Item) → k ≡ n → scripts ≡ map (load_scripts m) (range_with_len 0 k) → stops ≡ replicate k None → schedule ≡ []
-    → ◌≡◌ {A = Plan} (record { callers = n; blocks = 512; limit = 4294967294; scripts = scripts; stops = stops; schedule = schedule }) (generated n m)
+    → ◌≡◌ {A = Plan} (record { callers = n; blocks = 512; limit = 4294967294; scripts = scripts; stops = stops; schedule = schedule }) (generated_plan n m)
 same_plan n m k scripts stops schedule count all none empty =
     let each = rw count at all in
     let stop = rw count at none in

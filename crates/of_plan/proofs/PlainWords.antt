@@ -8,10 +8,10 @@ use Rattle.std.proofs.lemmas.List.Elements.{All-from_recursion}
 use Rattle.std.proofs.lemmas.List.Splits.{slice_split_at}
 use Rattle.std.proofs.lemmas.Str.Parse.{digit_from_value}
 use Rattle.std.proofs.lemmas.Fmt.{digits_decimal}
-use Rattle.of_script.specs.Text.{words, is_gap}
+use Rattle.of_script.specs.Text.{text_words, is_gap}
 use Rattle.of_script.proofs.Again.{NoGaps, IsWord, decimal_is_word, words-join}
 use Rattle.of_script.proofs.Numbers.{digit_texts}
-use Rattle.of_plan.specs.Lines.{lines, kept, is_skipped}
+use Rattle.of_plan.specs.Lines.{text_lines, unskipped_words, is_skipped}
 use Rattle.of_plan.proofs.Lists.{all-both}
 use Rattle.of_plan.proofs.TextLines.{NoNewline, kept-cons}
 
@@ -69,10 +69,10 @@ join_clean (w ∷ []) h = h.0.clean
 join_clean (w ∷ v ∷ ws) h = all-both (λ b. eqb b 10 ≡ false) w (32 ∷ join_with_byte 32 (v ∷ ws)) h.0.clean (refl, join_clean (v ∷ ws) h.1)
 
 -- a line of plain words, printed before other lines
-pub line_first : (ws : List (List ℕ)) (rest : List ℕ) → Plains ws → is_skipped ws ≡ false → kept (lines ((join_with_byte 32 ws ++ codes "\n") ++ rest)) ≡ ws ∷ kept (lines rest)
+pub line_first : (ws : List (List ℕ)) (rest : List ℕ) → Plains ws → is_skipped ws ≡ false → unskipped_words (text_lines ((join_with_byte 32 ws ++ codes "\n") ++ rest)) ≡ ws ∷ unskipped_words (text_lines rest)
 line_first ws rest h stays =
     let line = join_with_byte 32 ws in
-    let same : words line ≡ ws = words-join ws (plain_words ws h) in
-    ap kept (ap lines (append_assoc line (codes "\n") rest) ∙ slice_split_at (λ b. eqb b 10) line 10 rest (All-from_recursion _ line (join_clean ws h)) refl)
-    ∙ kept-cons line (lines rest) (ap is_skipped same ∙ stays)
-    ∙ ap (λ (v : List (List ℕ)). v ∷ kept (lines rest)) same
+    let same : text_words line ≡ ws = words-join ws (plain_words ws h) in
+    ap unskipped_words (ap text_lines (append_assoc line (codes "\n") rest) ∙ slice_split_at (λ b. eqb b 10) line 10 rest (All-from_recursion _ line (join_clean ws h)) refl)
+    ∙ kept-cons line (text_lines rest) (ap is_skipped same ∙ stays)
+    ∙ ap (λ (v : List (List ℕ)). v ∷ unskipped_words (text_lines rest)) same

@@ -12,7 +12,7 @@ use Rattle.of_plan.specs.declared.plan.Item.TheVariants.{Turns as TurnsItem, Evi
 use Rattle.of_plan.specs.declared.line.Entry.{Entry}
 use Rattle.of_plan.specs.declared.line.Entry.TheVariants.{Script, Stop, Turns, Evict}
 use Rattle.of_plan.specs.Plan.{Plan, IsPlan, IsItem, turns_of}
-use Rattle.of_plan.specs.Grammar.{Heading, IsHeading, InRange, AreEntries, SpellsPlan, plan_lines, plan_of, script_at, stop_at, item_of, is_script, first_of, scripts_in, stop_in}
+use Rattle.of_plan.specs.Grammar.{Heading, IsHeading, IsEntryInRange, AreEntries, SpellsPlan, plan_lines, plan_of, script_in_entry, stop_at, item_of, is_script, head_of, scripts_in, stop_in}
 use Rattle.of_plan.specs.PlanText.{caller_entries, script_entries, stop_entries, item_entry, printed_heading, printed_entries, plan_text}
 use Rattle.of_plan.proofs.Lists.{all-both}
 use Rattle.of_plan.proofs.Entries.{script_same, script_other, stop_same, stop_other}
@@ -27,32 +27,32 @@ keep_none f e es h = ap (λ (o : Option _). cons_option o (filter_map f es)) h
 keep_some : {X : Type 0} (f : Entry → Option X) (e : Entry) (x : X) (es : List Entry) → f e ≡ Some x → filter_map f (e ∷ es) ≡ x ∷ filter_map f es
 keep_some f e x es h = ap (λ (o : Option _). cons_option o (filter_map f es)) h
 
-own_scripts : (c : ℕ) (ss : List (List Instr)) → filter_map (script_at c) (caller_entries c ss) ≡ ss
+own_scripts : (c : ℕ) (ss : List (List Instr)) → filter_map (script_in_entry c) (caller_entries c ss) ≡ ss
 own_scripts c [] = refl
-own_scripts c (s ∷ ss) = keep_some (script_at c) (Script c s) s (caller_entries c ss) (script_same c s) ∙ ap (λ (l : List (List Instr)). s ∷ l) (own_scripts c ss)
+own_scripts c (s ∷ ss) = keep_some (script_in_entry c) (Script c s) s (caller_entries c ss) (script_same c s) ∙ ap (λ (l : List (List Instr)). s ∷ l) (own_scripts c ss)
 
-other_scripts : (c d : ℕ) (ss : List (List Instr)) → c ≢ d → filter_map (script_at c) (caller_entries d ss) ≡ []
+other_scripts : (c d : ℕ) (ss : List (List Instr)) → c ≢ d → filter_map (script_in_entry c) (caller_entries d ss) ≡ []
 other_scripts c d [] ne = refl
-other_scripts c d (s ∷ ss) ne = keep_none (script_at c) (Script d s) (caller_entries d ss) (script_other c d s ne) ∙ other_scripts c d ss ne
+other_scripts c d (s ∷ ss) ne = keep_none (script_in_entry c) (Script d s) (caller_entries d ss) (script_other c d s ne) ∙ other_scripts c d ss ne
 
-later_scripts : (c k : ℕ) (xs : List (List (List Instr))) → c < k → filter_map (script_at c) (script_entries k xs) ≡ []
+later_scripts : (c k : ℕ) (xs : List (List (List Instr))) → c < k → filter_map (script_in_entry c) (script_entries k xs) ≡ []
 later_scripts c k [] lt = refl
 later_scripts c k (ss ∷ xs) lt =
-    filter_map-append (script_at c) (caller_entries k ss) (script_entries (k + 1) xs)
-    ∙ ap (λ (l : List (List Instr)). l ++ filter_map (script_at c) (script_entries (k + 1) xs)) (other_scripts c k ss (λ e. omega arith))
+    filter_map-append (script_in_entry c) (caller_entries k ss) (script_entries (k + 1) xs)
+    ∙ ap (λ (l : List (List Instr)). l ++ filter_map (script_in_entry c) (script_entries (k + 1) xs)) (other_scripts c k ss (λ e. omega arith))
     ∙ later_scripts c (k + 1) xs (omega arith)
 
-scripts_back : (c k i : ℕ) (xs : List (List (List Instr))) → k + i ≡ c → filter_map (script_at c) (script_entries k xs) ≡ get_or xs i []
+scripts_back : (c k i : ℕ) (xs : List (List (List Instr))) → k + i ≡ c → filter_map (script_in_entry c) (script_entries k xs) ≡ get_or xs i []
 scripts_back c k i [] e = refl
 scripts_back c k zero (ss ∷ xs) e =
     let same : c ≡ k = omega arith in
-    filter_map-append (script_at c) (caller_entries k ss) (script_entries (k + 1) xs)
-    ∙ ap (λ (l : List (List Instr)). l ++ filter_map (script_at c) (script_entries (k + 1) xs)) (ap (λ (d : ℕ). filter_map (script_at c) (caller_entries d ss)) (sym same) ∙ own_scripts c ss)
+    filter_map-append (script_in_entry c) (caller_entries k ss) (script_entries (k + 1) xs)
+    ∙ ap (λ (l : List (List Instr)). l ++ filter_map (script_in_entry c) (script_entries (k + 1) xs)) (ap (λ (d : ℕ). filter_map (script_in_entry c) (caller_entries d ss)) (sym same) ∙ own_scripts c ss)
     ∙ ap (λ (l : List (List Instr)). ss ++ l) (later_scripts c (k + 1) xs (omega arith))
     ∙ append-nil ss
 scripts_back c k (suc i) (ss ∷ xs) e =
-    filter_map-append (script_at c) (caller_entries k ss) (script_entries (k + 1) xs)
-    ∙ ap (λ (l : List (List Instr)). l ++ filter_map (script_at c) (script_entries (k + 1) xs)) (other_scripts c k ss (λ q. omega arith))
+    filter_map-append (script_in_entry c) (caller_entries k ss) (script_entries (k + 1) xs)
+    ∙ ap (λ (l : List (List Instr)). l ++ filter_map (script_in_entry c) (script_entries (k + 1) xs)) (other_scripts c k ss (λ q. omega arith))
     ∙ scripts_back c (k + 1) i xs (omega arith)
 
 later_stops : (c k : ℕ) (xs : List (Option ℕ)) → c < k → filter_map (stop_at c) (stop_entries k xs) ≡ []
@@ -96,7 +96,7 @@ no_items_of : {X : Type 0} (f : Entry → Option X) (items : List Item) → ((it
 no_items_of f [] h = refl
 no_items_of f (item ∷ items) h = keep_none f (item_entry item) (map item_entry items) (h item) ∙ no_items_of f items h
 
-no_script_item : (c : ℕ) (item : Item) → script_at c (item_entry item) ≡ None
+no_script_item : (c : ℕ) (item : Item) → script_in_entry c (item_entry item) ≡ None
 no_script_item c (TurnsItem d x) = refl
 no_script_item c (EvictItem a) = refl
 
@@ -113,7 +113,7 @@ parts f p xs ys zs a b c =
 
 printed_scripts : (p : Plan) (c : ℕ) → scripts_in (printed_entries p) c ≡ get_or p.scripts c []
 printed_scripts p c =
-    parts (script_at c) p (get_or p.scripts c []) [] [] (scripts_back c 0 c p.scripts (omega arith)) (no_stops_of (script_at c) 0 p.stops (λ d x. refl)) (no_items_of (script_at c) p.schedule (no_script_item c))
+    parts (script_in_entry c) p (get_or p.scripts c []) [] [] (scripts_back c 0 c p.scripts (omega arith)) (no_stops_of (script_in_entry c) 0 p.stops (λ d x. refl)) (no_items_of (script_in_entry c) p.schedule (no_script_item c))
     ∙ append-nil (get_or p.scripts c [])
 
 printed_stops : (p : Plan) (c : ℕ) → filter_map (stop_at c) (printed_entries p) ≡ option_to_list (get_or p.stops c None)
@@ -126,20 +126,20 @@ printed_items p = parts item_of p [] [] p.schedule (no_scripts_of item_of 0 p.sc
 
 -- ---- what is printed fits
 
-caller_in_range : (h : Heading) (c : ℕ) (ss : List (List Instr)) → c < h.callers → AllByRecursion IsScript ss → AllByRecursion (InRange h) (caller_entries c ss)
+caller_in_range : (h : Heading) (c : ℕ) (ss : List (List Instr)) → c < h.callers → AllByRecursion IsScript ss → AllByRecursion (IsEntryInRange h) (caller_entries c ss)
 caller_in_range h c [] lt k = tt
 caller_in_range h c (s ∷ ss) lt k = ((lt, k.0), caller_in_range h c ss lt k.1)
 
-scripts_in_range : (h : Heading) (k : ℕ) (xs : List (List (List Instr))) → k + length xs ≤ h.callers → AllByRecursion (AllByRecursion IsScript) xs → AllByRecursion (InRange h) (script_entries k xs)
+scripts_in_range : (h : Heading) (k : ℕ) (xs : List (List (List Instr))) → k + length xs ≤ h.callers → AllByRecursion (AllByRecursion IsScript) xs → AllByRecursion (IsEntryInRange h) (script_entries k xs)
 scripts_in_range h k [] le r = tt
-scripts_in_range h k (ss ∷ xs) le r = all-both (InRange h) (caller_entries k ss) (script_entries (k + 1) xs) (caller_in_range h k ss (omega arith) r.0) (scripts_in_range h (k + 1) xs (omega arith) r.1)
+scripts_in_range h k (ss ∷ xs) le r = all-both (IsEntryInRange h) (caller_entries k ss) (script_entries (k + 1) xs) (caller_in_range h k ss (omega arith) r.0) (scripts_in_range h (k + 1) xs (omega arith) r.1)
 
-stops_in_range : (h : Heading) (k : ℕ) (xs : List (Option ℕ)) → k + length xs ≤ h.callers → AllByRecursion (λ o. IfSome o (λ x. x ≤ 4294967295)) xs → AllByRecursion (InRange h) (stop_entries k xs)
+stops_in_range : (h : Heading) (k : ℕ) (xs : List (Option ℕ)) → k + length xs ≤ h.callers → AllByRecursion (λ o. IfSome o (λ x. x ≤ 4294967295)) xs → AllByRecursion (IsEntryInRange h) (stop_entries k xs)
 stops_in_range h k [] le r = tt
 stops_in_range h k (None ∷ xs) le r = stops_in_range h (k + 1) xs (omega arith) r.1
 stops_in_range h k (Some x ∷ xs) le r = ((omega arith, r.0), stops_in_range h (k + 1) xs (omega arith) r.1)
 
-items_in_range : (p : Plan) (items : List Item) → AllByRecursion (IsItem p) items → AllByRecursion (InRange (printed_heading p)) (map item_entry items)
+items_in_range : (p : Plan) (items : List Item) → AllByRecursion (IsItem p) items → AllByRecursion (IsEntryInRange (printed_heading p)) (map item_entry items)
 items_in_range p [] r = tt
 items_in_range p (TurnsItem c x ∷ items) r = (r.0, items_in_range p items r.1)
 items_in_range p (EvictItem a ∷ items) r = (r.0, items_in_range p items r.1)
@@ -171,9 +171,9 @@ heading_fits p h = record { some_callers = h.some_callers; few_callers = h.few_c
 
 entries_fit : (p : Plan) → IsPlan p → AreEntries (printed_heading p) (printed_entries p)
 entries_fit p h = record {
-  in_range = all-both (InRange (printed_heading p)) (script_entries 0 p.scripts) (stop_entries 0 p.stops ++ map item_entry p.schedule)
+  in_range = all-both (IsEntryInRange (printed_heading p)) (script_entries 0 p.scripts) (stop_entries 0 p.stops ++ map item_entry p.schedule)
       (scripts_in_range (printed_heading p) 0 p.scripts (omega (arith, h.each_caller)) h.each_script)
-      (all-both (InRange (printed_heading p)) (stop_entries 0 p.stops) (map item_entry p.schedule)
+      (all-both (IsEntryInRange (printed_heading p)) (stop_entries 0 p.stops) (map item_entry p.schedule)
       (stops_in_range (printed_heading p) 0 p.stops (omega (arith, h.each_stop)) h.stop_range)
       (items_in_range p p.schedule h.each_item));
   few_scripts = omega (arith, h.few_scripts, sum_by-append is_script (script_entries 0 p.scripts) (stop_entries 0 p.stops ++ map item_entry p.schedule), sum_by-append is_script (stop_entries 0 p.stops) (map item_entry p.schedule), count_scripts 0 p.scripts, count_stops 0 p.stops, count_items p.schedule);
@@ -183,7 +183,7 @@ entries_fit p h = record {
 
 -- ---- and its plan is the plan
 
-first_is : (o : Option ℕ) → first_of (option_to_list o) ≡ o
+first_is : (o : Option ℕ) → head_of (option_to_list o) ≡ o
 first_is None = refl
 first_is (Some x) = refl
 
@@ -191,7 +191,7 @@ same_plan : (p : Plan) → IsPlan p → p ≡ plan_of (printed_heading p) (print
 same_plan p h =
     let es = printed_entries p in
     let scripts : p.scripts ≡ map (scripts_in es) (range_with_len 0 p.callers) = fill_by_all (scripts_in es) p.scripts p.callers [] h.each_caller (λ k lt. sym (printed_scripts p k)) in
-    let stops : p.stops ≡ map (stop_in es) (range_with_len 0 p.callers) = fill_by_all (stop_in es) p.stops p.callers None h.each_stop (λ k lt. sym (ap first_of (printed_stops p k) ∙ first_is (get_or p.stops k None))) in
+    let stops : p.stops ≡ map (stop_in es) (range_with_len 0 p.callers) = fill_by_all (stop_in es) p.stops p.callers None h.each_stop (λ k lt. sym (ap head_of (printed_stops p k) ∙ first_is (get_or p.stops k None))) in
     let schedule : p.schedule ≡ filter_map item_of es = sym (printed_items p) in
     λ i. record { callers = p.callers; blocks = p.blocks; limit = p.limit; scripts = scripts i; stops = stops i; schedule = schedule i }
 

@@ -10,28 +10,28 @@ use Rattle.of_script.specs.Language.{IsScript}
 use Rattle.of_plan.specs.declared.line.Entry.{Entry}
 use Rattle.of_plan.specs.declared.line.Entry.TheVariants.{Script, Stop, Turns, Evict}
 use Rattle.of_plan.specs.Plan.{Plan, IsPlan, IsItem}
-use Rattle.of_plan.specs.Grammar.{Heading, IsHeading, InRange, AreEntries, SpellsPlan, plan_of, item_of, is_script, scripts_in, stop_in}
+use Rattle.of_plan.specs.Grammar.{Heading, IsHeading, IsEntryInRange, AreEntries, SpellsPlan, plan_of, item_of, is_script, scripts_in, stop_in}
 use Rattle.of_plan.proofs.Lists.{all_below}
 
 limit_fits : (o : Option ℕ) → IfSome o (λ x. (1 ≤ x) × (x ≤ 4294967294)) → (1 ≤ unwrap_or o 4294967294) × (unwrap_or o 4294967294 ≤ 4294967294)
 limit_fits None h = (omega arith, omega arith)
 limit_fits (Some x) h = h
 
-scripts_fit : (h : Heading) (c : ℕ) (es : List Entry) → AllByRecursion (InRange h) es → AllByRecursion IsScript (scripts_in es c)
+scripts_fit : (h : Heading) (c : ℕ) (es : List Entry) → AllByRecursion (IsEntryInRange h) es → AllByRecursion IsScript (scripts_in es c)
 scripts_fit h c [] r = tt
 scripts_fit h c (Script d s ∷ es) r = elim (eqb_tells d c) [ inl p ↦ rw p.0 (r.0.1, scripts_fit h c es r.1) | inr p ↦ rw p.0 (scripts_fit h c es r.1) ]
 scripts_fit h c (Stop d x ∷ es) r = scripts_fit h c es r.1
 scripts_fit h c (Turns d x ∷ es) r = scripts_fit h c es r.1
 scripts_fit h c (Evict a ∷ es) r = scripts_fit h c es r.1
 
-stop_fits : (h : Heading) (c : ℕ) (es : List Entry) → AllByRecursion (InRange h) es → IfSome (stop_in es c) (λ x. x ≤ 4294967295)
+stop_fits : (h : Heading) (c : ℕ) (es : List Entry) → AllByRecursion (IsEntryInRange h) es → IfSome (stop_in es c) (λ x. x ≤ 4294967295)
 stop_fits h c [] r = tt
 stop_fits h c (Script d s ∷ es) r = stop_fits h c es r.1
 stop_fits h c (Stop d x ∷ es) r = elim (eqb_tells d c) [ inl p ↦ rw p.0 r.0.1 | inr p ↦ rw p.0 (stop_fits h c es r.1) ]
 stop_fits h c (Turns d x ∷ es) r = stop_fits h c es r.1
 stop_fits h c (Evict a ∷ es) r = stop_fits h c es r.1
 
-items_fit : (h : Heading) (all es : List Entry) → AllByRecursion (InRange h) es → AllByRecursion (IsItem (plan_of h all)) (filter_map item_of es)
+items_fit : (h : Heading) (all es : List Entry) → AllByRecursion (IsEntryInRange h) es → AllByRecursion (IsItem (plan_of h all)) (filter_map item_of es)
 items_fit h all [] r = tt
 items_fit h all (Script d s ∷ es) r = items_fit h all es r.1
 items_fit h all (Stop d x ∷ es) r = items_fit h all es r.1

@@ -4,15 +4,15 @@ use Rattle.std.specs.Str.{bytes_eq}
 use Rattle.of_cell.specs.declared.shape.TheConstants.{MOST_CALLERS}
 use Rattle.of_store.specs.declared.store.TheConstants.{MOST_BLOCKS}
 use Rattle.of_plan.specs.declared.line.TheConstants.{GREATEST_CELL}
-use Rattle.of_script.specs.Text.{words}
-use Rattle.of_script.specs.Reading.{◌>>=◌, number_at, ended}
+use Rattle.of_script.specs.Text.{text_words}
+use Rattle.of_script.specs.Reading.{◌>>=◌, next_number, at_end_of_words}
 use Rattle.of_plan.specs.declared.above.Wanted.{Wanted}
 use Rattle.of_plan.specs.declared.above.Wanted.TheVariants.{Kept, Callers, Blocks, End, Stop, Cell}
 
 -- the number behind the name of a line, where the line has this name and a number up to the most
 abbrev pub number_behind : (name wanted : List ℕ) → List (List ℕ) → (most : ℕ) → Option ℕ
 number_behind name wanted ws most = if bytes_eq name wanted then (do
-  x ← number_at most ws
+  x ← next_number most ws
   Some x.0) else None
 
 -- the number, where it is that one
@@ -29,7 +29,7 @@ said wanted [] = None
 said Kept (name ∷ ws) = if slice_index name 0 == 35 then None else Some 0
 said Callers (name ∷ ws) = number_behind name (codes "callers") ws MOST_CALLERS
 said Blocks (name ∷ ws) = number_behind name (codes "blocks") ws MOST_BLOCKS
-said End (name ∷ ws) = if bytes_eq name (codes "end") then ended 0 ws else None
+said End (name ∷ ws) = if bytes_eq name (codes "end") then at_end_of_words 0 ws else None
 said (Stop c) (name ∷ ws) = number_behind name (codes "stop") ws (MOST_CALLERS - 1) >>= only c
 said (Cell least) (name ∷ ws) = number_behind name (codes "cell") ws GREATEST_CELL >>= at_least least
 
@@ -40,8 +40,8 @@ line_at ls above = slice_index_or ls above []
 -- one of the first lines says it: the one with so many lines above it
 pub record Says (ls : List (List ℕ)) (above : ℕ) (wanted : Wanted) (at number : ℕ) : Type 0 where
   pub there : at < above
-  pub says : said wanted (words (line_at ls at)) ≡ Some number
+  pub says : said wanted (text_words (line_at ls at)) ≡ Some number
 
 -- none of the first lines says it
 abbrev pub NoneSays : List (List ℕ) → (above : ℕ) → Wanted → Type 0
-NoneSays ls above wanted = (at : ℕ) → at < above → said wanted (words (line_at ls at)) ≡ None
+NoneSays ls above wanted = (at : ℕ) → at < above → said wanted (text_words (line_at ls at)) ≡ None

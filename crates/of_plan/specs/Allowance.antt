@@ -3,26 +3,26 @@ use Rattle.std.specs.Prelude.{◌≡◌, ℕ, ◌+◌, ◌*◌, ◌≤◌, ◌<�
 use Rattle.of_plan.specs.declared.plan.Item.{Item}
 use Rattle.of_plan.specs.declared.plan.Item.TheVariants.{Turns, Evict}
 use Rattle.of_plan.specs.Plan.{Plan, bound_of}
-use Rattle.of_plan.specs.Report.{CallEntry, stopped, Report, entries_of, line_of}
-use Rattle.of_plan.specs.Legal.{script_of}
+use Rattle.of_plan.specs.Report.{Entry, stopped, Report, entries_of, caller_line}
+use Rattle.of_plan.specs.Legal.{script_of_entry}
 
 -- the least steps of an answered call: an announced one stores its words and the announcement, and makes four loads at least; a read makes three
-abbrev pub least_steps : Plan → CallEntry → ℕ
-least_steps p e = if e.announced then length (script_of p e) + 5 else 3
+abbrev pub least_steps : Plan → Entry → ℕ
+least_steps p e = if e.announced then length (script_of_entry p e) + 5 else 3
 
 -- the entries of a caller's answered calls
-abbrev pub answered_of : Report → ℕ → List CallEntry
-answered_of r c = take (line_of r c).answered (entries_of r c)
+abbrev pub answered_of : Report → ℕ → List Entry
+answered_of r c = take (caller_line r c).answered (entries_of r c)
 
 -- a caller's answered calls can be made with so many steps; None is without end
 pub record KeepsAllowance (p : Plan) (r : Report) (c : ℕ) (allowance : Option ℕ) : Type 0 where
   -- the least steps of its answered calls add up to no more
   pub adds_up : IfSome allowance (λ n. sum_by (least_steps p) (answered_of r c) ≤ n)
   -- its longest call made no more, and no fewer than the least steps of each
-  pub upto : IfSome allowance (λ n. (line_of r c).longest ≤ n)
-  pub least : All (λ e. least_steps p e ≤ (line_of r c).longest) (answered_of r c)
+  pub upto : IfSome allowance (λ n. (caller_line r c).longest ≤ n)
+  pub least : All (λ e. least_steps p e ≤ (caller_line r c).longest) (answered_of r c)
   -- where it is stopped, its answered calls and one that stays open have used the allowance up
-  pub used_up : (line_of r c).state ≡ stopped → (n : ℕ) × (allowance ≡ Some n) × (n < (line_of r c).answered * (line_of r c).longest + bound_of p)
+  pub used_up : (caller_line r c).state ≡ stopped → (n : ℕ) × (allowance ≡ Some n) × (n < (caller_line r c).answered * (caller_line r c).longest + bound_of p)
 
 -- the turns of a caller in an item
 abbrev pub turns_in : ℕ → Item → ℕ

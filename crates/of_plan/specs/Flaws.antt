@@ -1,7 +1,7 @@
 -- When a flaw is true of a piece of a line, whatever the text is.
 use Rattle.std.specs.Prelude.{◌≡◌, ◌⊎◌, ℕ, ◌≤◌, List, [], ◌∷◌, length, slice_range, Some, None}
-use Rattle.of_script.specs.Text.{mark}
-use Rattle.of_script.specs.Reading.{number_of}
+use Rattle.of_script.specs.Text.{semicolon_byte}
+use Rattle.of_script.specs.Reading.{parsed_number}
 use Rattle.of_plan.specs.declared.line.TheConstants.{GREATEST_CELL}
 use Rattle.of_plan.specs.declared.pieces.FlawedPiece.{FlawedPiece}
 use Rattle.of_plan.specs.declared.flaw.Flaw.{Flaw}
@@ -10,11 +10,11 @@ use Rattle.of_plan.specs.Numerals.{IsNumeral}
 
 -- the number that a piece of a line is
 abbrev pub IsNumber : List ℕ → ℕ → Type 0
-IsNumber piece n = number_of GREATEST_CELL piece ≡ Some n
+IsNumber piece n = parsed_number GREATEST_CELL piece ≡ Some n
 
 -- nothing is there, or a semicolon
 abbrev pub IsNoWord : List ℕ → Type 0
-IsNoWord piece = (piece ≡ []) ⊎ (piece ≡ mark)
+IsNoWord piece = (piece ≡ []) ⊎ (piece ≡ semicolon_byte)
 
 -- what a flaw says of a piece of a line with so many lines above it
 abbrev pub HasFlaw : Flaw → (above : ℕ) (piece : List ℕ) → Type 0
@@ -23,7 +23,7 @@ HasFlaw CarriageReturn above piece = piece ≡ 13 ∷ []
 HasFlaw Tab above piece = piece ≡ 9 ∷ []
 HasFlaw NumberMissing above piece = IsNoWord piece
 HasFlaw NoNumber above piece = IsNumeral piece → ⊥
-HasFlaw (TooGreat most) above piece = IsNumeral piece × (number_of most piece ≡ None)
+HasFlaw (TooGreat most) above piece = IsNumeral piece × (parsed_number most piece ≡ None)
 HasFlaw Zero above piece = IsNumber piece 0
 HasFlaw WordTooMany above piece = piece ≡ [] → ⊥
 

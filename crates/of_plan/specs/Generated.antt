@@ -15,8 +15,8 @@ abbrev pub load_scripts : (count caller : ℕ) → List (List Instr)
 load_scripts m t = map (load_script t) (range_with_len 0 m)
 
 -- each caller has so many scripts, on 512 blocks, and there is no stop and no schedule
-abbrev pub generated : (callers scripts : ℕ) → Plan
-generated n m = record {
+abbrev pub generated_plan : (callers scripts : ℕ) → Plan
+generated_plan n m = record {
   callers = n;
   blocks = 512;
   limit = GREATEST_LIMIT;

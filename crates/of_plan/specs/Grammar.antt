@@ -14,7 +14,7 @@ use Rattle.of_plan.specs.declared.line.Entry.{Entry}
 use Rattle.of_plan.specs.declared.line.Entry.TheVariants.{Script, Stop, Turns, Evict}
 use Rattle.of_plan.specs.declared.line.Line.{Line}
 use Rattle.of_plan.specs.declared.line.Line.TheVariants.{Title, Callers, Blocks, Limit, Body, End}
-use Rattle.of_plan.specs.Lines.{lines, kept, line_words}
+use Rattle.of_plan.specs.Lines.{text_lines, unskipped_words, line_words}
 use Rattle.of_plan.specs.Plan.{Plan, data_cells, turns_of}
 
 -- what the first lines say; the line of the limit may be absent
@@ -44,16 +44,16 @@ pub record IsHeading (h : Heading) : Type 0 where
   pub limit_range : IfSome h.limit (λ x. (1 ≤ x) × (x ≤ GREATEST_LIMIT))
 
 -- scripts, stops and turns are of a caller of the heading, and evictions of a cell that has a durable word; the bound on all turns bounds each
-abbrev pub InRange : Heading → Entry → Type 0
-InRange h (Script c script) = (c < h.callers) × IsScript script
-InRange h (Stop c x) = (c < h.callers) × (x ≤ LATEST_STOP)
-InRange h (Turns c x) = (c < h.callers) × (1 ≤ x)
-InRange h (Evict a) = a < durable_cells h.callers (data_cells h.callers h.blocks)
+abbrev pub IsEntryInRange : Heading → Entry → Type 0
+IsEntryInRange h (Script c script) = (c < h.callers) × IsScript script
+IsEntryInRange h (Stop c x) = (c < h.callers) × (x ≤ LATEST_STOP)
+IsEntryInRange h (Turns c x) = (c < h.callers) × (1 ≤ x)
+IsEntryInRange h (Evict a) = a < durable_cells h.callers (data_cells h.callers h.blocks)
 
 -- the script of that caller, where the entry is one
-abbrev pub script_at : ℕ → Entry → Option (List Instr)
-script_at c (Script d script) = if d == c then Some script else None
-script_at c _ = None
+abbrev pub script_in_entry : ℕ → Entry → Option (List Instr)
+script_in_entry c (Script d script) = if d == c then Some script else None
+script_in_entry c _ = None
 
 -- the stop of that caller, where the entry is one
 abbrev pub stop_at : ℕ → Entry → Option ℕ
@@ -73,23 +73,23 @@ is_script _ = 0
 
 -- at most 20,000 scripts, 10,000,000 turns in all, and one stop a caller
 pub record AreEntries (h : Heading) (entries : List Entry) : Type 0 where
-  pub in_range : AllByRecursion (InRange h) entries
+  pub in_range : AllByRecursion (IsEntryInRange h) entries
   pub few_scripts : sum_by is_script entries ≤ MOST_SCRIPTS
   pub few_turns : sum_by turns_of (filter_map item_of entries) ≤ MOST_TURNS
   pub one_stop : (c : ℕ) → length (filter_map (stop_at c) entries) ≤ 1
 
 -- the first, where there is one
-abbrev pub first_of : List ℕ → Option ℕ
-first_of [] = None
-first_of (x ∷ xs) = Some x
+abbrev pub head_of : List ℕ → Option ℕ
+head_of [] = None
+head_of (x ∷ xs) = Some x
 
 -- the scripts of a caller, in the order of the entries
 abbrev pub scripts_in : List Entry → ℕ → List (List Instr)
-scripts_in entries c = filter_map (script_at c) entries
+scripts_in entries c = filter_map (script_in_entry c) entries
 
 -- the stop of a caller, where an entry is one
 abbrev pub stop_in : List Entry → ℕ → Option ℕ
-stop_in entries c = first_of (filter_map (stop_at c) entries)
+stop_in entries c = head_of (filter_map (stop_at c) entries)
 
 -- the plan of a heading and entries: each caller's scripts and stop, and the items, in the order of the entries
 abbrev pub plan_of : Heading → List Entry → Plan
@@ -108,7 +108,7 @@ pub record SpellsPlan (text : List ℕ) (plan : Plan) : Type 0 where
   pub entries : List Entry
   pub heading_fits : IsHeading heading
   pub entries_fit : AreEntries heading entries
-  pub each : kept (lines text) ≡ map line_words (plan_lines heading entries)
+  pub each : unskipped_words (text_lines text) ≡ map line_words (plan_lines heading entries)
   pub is : plan ≡ plan_of heading entries
 
 -- the text is in the grammar

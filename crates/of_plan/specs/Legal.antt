@@ -4,23 +4,23 @@ use Rattle.std.specs.Bool.{MatchBool}
 use Rattle.std.specs.List.{range_with_len}
 use Rattle.of_script.specs.declared.instr.Instr.{Instr}
 use Rattle.of_script.specs.Language.{reads_only}
-use Rattle.of_store.specs.State.{replies, last_store}
+use Rattle.of_store.specs.State.{replies_in_order, last_store}
 use Rattle.of_plan.specs.Plan.{Plan, scripts_of, bound_of}
-use Rattle.of_plan.specs.Report.{CallEntry, EndState, done, stopped, spent, CallerLine, Report, Start, entries_of, line_of, finished_of}
+use Rattle.of_plan.specs.Report.{Entry, EndState, done, stopped, spent, Line, Report, Start, entries_of, caller_line, finished_of}
 
 -- the script of an entry
-abbrev pub script_of : Plan → CallEntry → List Instr
-script_of p e = slice_index_or (scripts_of p e.caller) e.index []
+abbrev pub script_of_entry : Plan → Entry → List Instr
+script_of_entry p e = slice_index_or (scripts_of p e.caller) e.index []
 
 -- how many scripts a caller has to do from the start on
-abbrev pub to_do : Plan → Start → ℕ → ℕ
-to_do p s c = length (scripts_of p c) - finished_of s c
+abbrev pub scripts_left : Plan → Start → ℕ → ℕ
+scripts_left p s c = length (scripts_of p c) - finished_of s c
 
 -- the entries of each caller are its scripts from the first that isn't done, one after the other, each once
 pub record StandInOrder (p : Plan) (s : Start) (r : Report) : Type 0 where
   pub of_callers : All (λ e. e.caller < p.callers) r.entries
   pub one_by_one : (c : ℕ) → c < p.callers → map (λ e. e.index) (entries_of r c) ≡ range_with_len (finished_of s c) (length (entries_of r c))
-  pub of_scripts : (c : ℕ) → c < p.callers → length (entries_of r c) ≤ to_do p s c
+  pub of_scripts : (c : ℕ) → c < p.callers → length (entries_of r c) ≤ scripts_left p s c
 
 -- a stopped caller may have an entry more than answered calls, the open call's; any other has as many
 abbrev pub HasOpenCall : EndState → (answered entries : ℕ) → Type 0
@@ -31,23 +31,23 @@ HasOpenCall stopped answered entries = (answered ≤ entries) × (entries ≤ an
 -- each caller has a line with the number of its entries, and at most its open call goes beyond its answered calls
 pub record CountOpenCalls (p : Plan) (r : Report) : Type 0 where
   pub each_caller : length r.callers ≡ p.callers
-  pub entries : (c : ℕ) → c < p.callers → (line_of r c).entries ≡ length (entries_of r c)
+  pub entries : (c : ℕ) → c < p.callers → (caller_line r c).entries ≡ length (entries_of r c)
   pub open_call : All (λ l. HasOpenCall l.state l.answered l.entries) r.callers
 
 -- within a sequence: the announced entries before the reads, those by caller with at most one each, these by caller and index
-abbrev pub StandsBeforeWithin : (announced_first announced_second : Bool) → CallEntry → CallEntry → Type 0
+abbrev pub StandsBeforeWithin : (announced_first announced_second : Bool) → Entry → Entry → Type 0
 StandsBeforeWithin true true e f = e.caller < f.caller
 StandsBeforeWithin true false e f = Unit {0}
 StandsBeforeWithin false true e f = ⊥
 StandsBeforeWithin false false e f = (e.caller < f.caller) ⊎ ((e.caller ≡ f.caller) × (e.index < f.index))
 
 -- one entry comes before another: by sequence, and then within it
-abbrev pub StandsBefore : CallEntry → CallEntry → Type 0
+abbrev pub StandsBefore : Entry → Entry → Type 0
 StandsBefore e f = (e.seq < f.seq) ⊎ ((e.seq ≡ f.seq) × StandsBeforeWithin e.announced f.announced e f)
 
 -- an announced entry has a sequence above the start's; a read has one from the start's on, and its script only reads
-abbrev pub HasSequence : Plan → Start → CallEntry → Type 0
-HasSequence p s e = MatchBool e.announced (s.seq < e.seq) ((s.seq ≤ e.seq) × All (λ i. IsTrue (reads_only i)) (script_of p e))
+abbrev pub HasSequence : Plan → Start → Entry → Type 0
+HasSequence p s e = MatchBool e.announced (s.seq < e.seq) ((s.seq ≤ e.seq) × All (λ i. IsTrue (reads_only i)) (script_of_entry p e))
 
 -- the entries stand by sequence, and the announced ones have each sequence above the start's up to the report's; so where there is none the report's is the start's
 pub record StandBySequence (p : Plan) (s : Start) (r : Report) : Type 0 where
@@ -58,20 +58,20 @@ pub record StandBySequence (p : Plan) (s : Start) (r : Report) : Type 0 where
 
 -- the replies are those of serial replay in the order of the list
 abbrev pub HaveReplies : Plan → Start → Report → Type 0
-HaveReplies p s r = map (λ e. e.reply) r.entries ≡ replies s.store (map (script_of p) r.entries)
+HaveReplies p s r = map (λ e. e.reply) r.entries ≡ replies_in_order s.store (map (script_of_entry p) r.entries)
 
 -- the store is the last one of that replay
 abbrev pub IsFinalStore : Plan → Start → Report → Type 0
-IsFinalStore p s r = r.store ≡ last_store s.store (map (script_of p) r.entries)
+IsFinalStore p s r = r.store ≡ last_store s.store (map (script_of_entry p) r.entries)
 
 -- a caller is done where it has answered all that it had to do; where it is spent, the limit is reached
-abbrev pub HasEnded : EndState → (answered to_do seq limit : ℕ) → Type 0
-HasEnded done answered to_do seq limit = answered ≡ to_do
-HasEnded stopped answered to_do seq limit = answered < to_do
-HasEnded spent answered to_do seq limit = (answered < to_do) × (seq ≡ limit)
+abbrev pub HasEndState : EndState → (answered scripts_left seq limit : ℕ) → Type 0
+HasEndState done answered scripts_left seq limit = answered ≡ scripts_left
+HasEndState stopped answered scripts_left seq limit = answered < scripts_left
+HasEndState spent answered scripts_left seq limit = (answered < scripts_left) × (seq ≡ limit)
 
 -- the longest answered call is within the step bound, and is 0 where none was answered
-abbrev pub IsWithinBound : Plan → CallerLine → Type 0
+abbrev pub IsWithinBound : Plan → Line → Type 0
 IsWithinBound p l = (l.longest ≤ bound_of p) × (l.answered ≡ 0 → l.longest ≡ 0)
 
 -- one history of the plan's scripts from the start, as the report tells it
@@ -81,5 +81,5 @@ pub record IsLegal (p : Plan) (s : Start) (r : Report) : Type 0 where
   pub by_sequence : StandBySequence p s r
   pub replies : HaveReplies p s r
   pub final_store : IsFinalStore p s r
-  pub endings : (c : ℕ) → c < p.callers → HasEnded (line_of r c).state (line_of r c).answered (to_do p s c) r.seq p.limit
+  pub endings : (c : ℕ) → c < p.callers → HasEndState (caller_line r c).state (caller_line r c).answered (scripts_left p s c) r.seq p.limit
   pub within_bound : All (IsWithinBound p) r.callers

@@ -8,7 +8,7 @@ use Rattle.std.specs.Str.{bytes_eq}
 use Rattle.of_script.specs.declared.instr.Instr.{Instr}
 use Rattle.of_script.specs.Language.{IsScript}
 use Rattle.of_script.specs.Text.{script_words}
-use Rattle.of_script.specs.Reading.{ended}
+use Rattle.of_script.specs.Reading.{at_end_of_words}
 use Rattle.of_plan.specs.declared.line.Entry.TheVariants.{Script, Stop, Turns, Evict}
 use Rattle.of_plan.specs.declared.line.Plain.{Plain}
 use Rattle.of_plan.specs.declared.line.Plain.TheVariants.{Title as PlainTitle, Callers as PlainCallers, Blocks as PlainBlocks, Limit as PlainLimit, Stop as PlainStop, Turns as PlainTurns, Evict as PlainEvict, End as PlainEnd}
@@ -18,37 +18,37 @@ use Rattle.of_plan.specs.Lines.{line_words}
 use Rattle.of_plan.specs.Reader.{Language}
 
 -- the ranges of a line's numbers, whatever lines stand before it
-abbrev pub LineInRange : Line → Type 0
-LineInRange Title = Unit {0}
-LineInRange (Callers n) = n ≤ MOST_CALLERS
-LineInRange (Blocks n) = n ≤ MOST_BLOCKS
-LineInRange (Limit x) = x ≤ GREATEST_LIMIT
-LineInRange (Body (Script c script)) = (c ≤ MOST_CALLERS - 1) × IsScript script
-LineInRange (Body (Stop c x)) = (c ≤ MOST_CALLERS - 1) × (x ≤ LATEST_STOP)
-LineInRange (Body (Turns c x)) = (c ≤ MOST_CALLERS - 1) × (x ≤ MOST_TURNS)
-LineInRange (Body (Evict a)) = a ≤ GREATEST_CELL
-LineInRange End = Unit {0}
+abbrev pub IsLineInRange : Line → Type 0
+IsLineInRange Title = Unit {0}
+IsLineInRange (Callers n) = n ≤ MOST_CALLERS
+IsLineInRange (Blocks n) = n ≤ MOST_BLOCKS
+IsLineInRange (Limit x) = x ≤ GREATEST_LIMIT
+IsLineInRange (Body (Script c script)) = (c ≤ MOST_CALLERS - 1) × IsScript script
+IsLineInRange (Body (Stop c x)) = (c ≤ MOST_CALLERS - 1) × (x ≤ LATEST_STOP)
+IsLineInRange (Body (Turns c x)) = (c ≤ MOST_CALLERS - 1) × (x ≤ MOST_TURNS)
+IsLineInRange (Body (Evict a)) = a ≤ GREATEST_CELL
+IsLineInRange End = Unit {0}
 
 -- plans, as they are read
 abbrev pub plan_language : Language
-plan_language = record { Line = Line; words_of = line_words; InRange = LineInRange }
+plan_language = record { Line = Line; words_of = line_words; InRange = IsLineInRange }
 
 -- the line that was read
-abbrev pub line_of : Plain → Line
-line_of PlainTitle = Title
-line_of (PlainCallers n) = Callers n
-line_of (PlainBlocks n) = Blocks n
-line_of (PlainLimit x) = Limit x
-line_of (PlainStop c x) = Body (Stop c x)
-line_of (PlainTurns c x) = Body (Turns c x)
-line_of (PlainEvict a) = Body (Evict a)
-line_of PlainEnd = End
+abbrev pub caller_line : Plain → Line
+caller_line PlainTitle = Title
+caller_line (PlainCallers n) = Callers n
+caller_line (PlainBlocks n) = Blocks n
+caller_line (PlainLimit x) = Limit x
+caller_line (PlainStop c x) = Body (Stop c x)
+caller_line (PlainTurns c x) = Body (Turns c x)
+caller_line (PlainEvict a) = Body (Evict a)
+caller_line PlainEnd = End
 
 -- how the title is read
-abbrev pub title_of : List (List ℕ) → Option Line
-title_of [] = None
-title_of (w ∷ []) = None
-title_of (w ∷ v ∷ ws) = if bytes_eq w (codes "plan") && bytes_eq v (codes "1") then ended Title ws else None
+abbrev pub title_line : List (List ℕ) → Option Line
+title_line [] = None
+title_line (w ∷ []) = None
+title_line (w ∷ v ∷ ws) = if bytes_eq w (codes "plan") && bytes_eq v (codes "1") then at_end_of_words Title ws else None
 
 -- the words after `script` are a caller's number and a script
 abbrev pub ScriptLine : List (List ℕ) → Line → Type 0

@@ -15,25 +15,25 @@ pub record Reader (L : Language) : Type 1 where
   pub next : Progress → L.Line → Option Progress
 
 -- what lines lead to
-abbrev pub follow : (L : Language) (R : Reader L) → R.Progress → List L.Line → Option R.Progress
-follow L R p [] = Some p
-follow L R p (l ∷ ls) = R.next p l >>= λ q. follow L R q ls
+abbrev pub after_lines : (L : Language) (R : Reader L) → R.Progress → List L.Line → Option R.Progress
+after_lines L R p [] = Some p
+after_lines L R p (l ∷ ls) = R.next p l >>= λ q. after_lines L R q ls
 
 -- the words are those of this line
-pub record Spells (L : Language) (ws : List (List ℕ)) (l : L.Line) : Type 0 where
+pub record SpellsLine (L : Language) (ws : List (List ℕ)) (l : L.Line) : Type 0 where
   pub kept : is_skipped ws ≡ false
   pub words : ws ≡ L.words_of l
   pub range : L.InRange l
 
 -- the words are no line's
-pub record SpellsNone (L : Language) (ws : List (List ℕ)) : Type 0 where
+pub record SpellsNoLine (L : Language) (ws : List (List ℕ)) : Type 0 where
   pub kept : is_skipped ws ≡ false
   pub none : (l : L.Line) → L.InRange l → ws ≡ L.words_of l → ⊥
 
 -- the words are skipped, or are a line that may come next
-abbrev pub Fed : (L : Language) (R : Reader L) → List (List ℕ) → R.Progress → R.Progress → Type 0
-Fed L R ws p q = ((is_skipped ws ≡ true) × (p ≡ q)) ⊎ ((l : L.Line) × Spells L ws l × (R.next p l ≡ Some q))
+abbrev pub ReadsLine : (L : Language) (R : Reader L) → List (List ℕ) → R.Progress → R.Progress → Type 0
+ReadsLine L R ws p q = ((is_skipped ws ≡ true) × (p ≡ q)) ⊎ ((l : L.Line) × SpellsLine L ws l × (R.next p l ≡ Some q))
 
 -- the words are no line, or one that may not come next
-abbrev pub Stuck : (L : Language) (R : Reader L) → List (List ℕ) → R.Progress → Type 0
-Stuck L R ws p = SpellsNone L ws ⊎ ((l : L.Line) × Spells L ws l × (R.next p l ≡ None))
+abbrev pub RefusesLine : (L : Language) (R : Reader L) → List (List ℕ) → R.Progress → Type 0
+RefusesLine L R ws p = SpellsNoLine L ws ⊎ ((l : L.Line) × SpellsLine L ws l × (R.next p l ≡ None))

@@ -10,7 +10,7 @@ use Rattle.of_plan.specs.declared.refusal.BadPiece.{BadPiece}
 use Rattle.of_plan.specs.declared.reason.Reason.{Reason}
 use Rattle.of_plan.specs.declared.reason.Reason.TheVariants.{Flawed, TitleExpected, CallersExpected, BlocksExpected, AfterEnd, UnknownLine, UnknownInstruction, NoCaller, NoCell, InstructionMissing, TooManyInstructions, SecondStop, HeadingOver, EndMissing, NotHere}
 use Rattle.of_plan.specs.Plan.{data_cells}
-use Rattle.of_plan.specs.Lines.{lines}
+use Rattle.of_plan.specs.Lines.{text_lines}
 use Rattle.of_plan.specs.LineTable.{form_named}
 use Rattle.of_plan.specs.BadLine.{HasBadLine}
 use Rattle.of_plan.specs.Grammar.{IsPlanText}
@@ -79,5 +79,5 @@ pub record IsFinding (ls : List (List ℕ)) (above : ℕ) (line : List ℕ) (f :
 pub record IsFaultOf (text : List ℕ) (f : BadPiece) : Type 0 where
   pub bad : HasBadLine IsPlanText text f.line
   pub order : f.start ≤ f.end
-  pub within : f.end ≤ length (line_at (lines text) (f.line - 1))
-  pub is : IsTrueOf f.reason (lines text) (f.line - 1) (slice_range (line_at (lines text) (f.line - 1)) f.start f.end)
+  pub within : f.end ≤ length (line_at (text_lines text) (f.line - 1))
+  pub is : IsTrueOf f.reason (text_lines text) (f.line - 1) (slice_range (line_at (text_lines text) (f.line - 1)) f.start f.end)

@@ -1,15 +1,15 @@
 -- What the lines of a report hold, and where a run starts.
 use Rattle.std.specs.Prelude.{ℕ, Bool, List, filter, replicate, slice_index, slice_index_or, ◌==◌}
-use Rattle.of_store.specs.State.{State, Response, empty_store}
+use Rattle.of_store.specs.State.{Store, Reply, empty_store}
 use Rattle.of_plan.specs.Plan.{Plan}
 
 -- a call in the history: a script of a caller by its index from 0, at a sequence, with its reply; a read that was not announced shares its sequence with others
-pub record CallEntry : Type 0 where
+pub record Entry : Type 0 where
   pub seq : ℕ
   pub caller : ℕ
   pub index : ℕ
   pub announced : Bool
-  pub reply : Response
+  pub reply : Reply
 
 -- all scripts answered, stopped before that, or no sequence left
 pub data EndState : Type 0 where
@@ -18,7 +18,7 @@ pub data EndState : Type 0 where
   spent : EndState
 
 -- how a caller ended: its answered calls, its entries, and the steps of its longest answered call
-pub record CallerLine : Type 0 where
+pub record Line : Type 0 where
   pub state : EndState
   pub answered : ℕ
   pub entries : ℕ
@@ -26,14 +26,14 @@ pub record CallerLine : Type 0 where
 
 -- a report: the history, how each caller ended, the recovered sequence and the recovered store
 pub record Report : Type 0 where
-  pub entries : List CallEntry
-  pub callers : List CallerLine
+  pub entries : List Entry
+  pub callers : List Line
   pub seq : ℕ
-  pub store : State
+  pub store : Store
 
 -- where a run starts: a store, a sequence, and for each caller how many of its scripts are done
 pub record Start : Type 0 where
-  pub store : State
+  pub store : Store
   pub seq : ℕ
   pub finished : List ℕ
 
@@ -42,16 +42,16 @@ abbrev pub empty_start : Plan → Start
 empty_start p = record { store = empty_store p.blocks; seq = 0; finished = replicate p.callers 0 }
 
 -- the entries of a caller, in the order of the list
-abbrev pub entries_of : Report → ℕ → List CallEntry
+abbrev pub entries_of : Report → ℕ → List Entry
 entries_of r c = filter (λ e. e.caller == c) r.entries
 
 -- the line of nobody
-abbrev pub no_line : CallerLine
+abbrev pub no_line : Line
 no_line = record { state = done; answered = 0; entries = 0; longest = 0 }
 
 -- the line of a caller
-abbrev pub line_of : Report → ℕ → CallerLine
-line_of r c = slice_index_or r.callers c no_line
+abbrev pub caller_line : Report → ℕ → Line
+caller_line r c = slice_index_or r.callers c no_line
 
 -- how many scripts of a caller are done at the start
 abbrev pub finished_of : Start → ℕ → ℕ

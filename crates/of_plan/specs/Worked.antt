@@ -1,9 +1,9 @@
 -- A worked legal report, and seven that are no legal ones, each one field away from it.
 use Rattle.std.specs.Prelude.{ℕ, ◌+◌, Bool, true, false, Option, Some, None, [], ◌∷◌}
-use Rattle.of_script.specs.declared.instr.Instr.TheVariants.{Load, Store, Add}
-use Rattle.of_store.specs.State.{State, Answered, empty_store, with_register}
+use Rattle.of_script.specs.declared.instr.Instr.TheVariants.{Load, Store as RustStore, Add}
+use Rattle.of_store.specs.State.{Store, Answered, empty_store, with_register}
 use Rattle.of_plan.specs.Plan.{Plan, bound_of}
-use Rattle.of_plan.specs.Report.{CallEntry, CallerLine, done, stopped, Report}
+use Rattle.of_plan.specs.Report.{Entry, Line, done, stopped, Report}
 
 -- one caller stores and loads, the other loads and adds
 abbrev pub two_callers : Plan
@@ -11,67 +11,67 @@ two_callers = record {
   callers = 2;
   blocks = 0;
   limit = 9;
-  scripts = ((Store 0 5 ∷ []) ∷ (Load 0 ∷ []) ∷ []) ∷ ((Load 0 ∷ []) ∷ (Add 0 1 ∷ []) ∷ []) ∷ [];
+  scripts = ((RustStore 0 5 ∷ []) ∷ (Load 0 ∷ []) ∷ []) ∷ ((Load 0 ∷ []) ∷ (Add 0 1 ∷ []) ∷ []) ∷ [];
   stops = None ∷ None ∷ [];
   schedule = [];
 }
 
 -- an entry whose script answers one number or none
-abbrev pub entry : (seq caller index : ℕ) → Bool → Option ℕ → CallEntry
-entry seq caller index announced value = record { seq = seq; caller = caller; index = index; announced = announced; reply = Answered (value ∷ []) }
+abbrev pub worked_entry : (seq caller index : ℕ) → Bool → Option ℕ → Entry
+worked_entry seq caller index announced value = record { seq = seq; caller = caller; index = index; announced = announced; reply = Answered (value ∷ []) }
 
-abbrev pub stores_five : CallEntry
-stores_five = entry 1 0 0 true None
+abbrev pub stores_five : Entry
+stores_five = worked_entry 1 0 0 true None
 
-abbrev pub loads_six : CallEntry
-loads_six = entry 1 0 1 false (Some 6)
+abbrev pub loads_six : Entry
+loads_six = worked_entry 1 0 1 false (Some 6)
 
-abbrev pub loads_nothing : CallEntry
-loads_nothing = entry 0 1 0 false (Some 0)
+abbrev pub loads_nothing : Entry
+loads_nothing = worked_entry 0 1 0 false (Some 0)
 
-abbrev pub adds_one : CallEntry
-adds_one = entry 1 1 1 true (Some 6)
+abbrev pub adds_one : Entry
+adds_one = worked_entry 1 1 1 true (Some 6)
 
 -- the line of a caller that has answered both its scripts
-abbrev pub both_done : CallerLine
+abbrev pub both_done : Line
 both_done = record { state = done; answered = 2; entries = 2; longest = 60 }
 
 -- the store with 6 in its first register
-abbrev pub holds_six : State
+abbrev pub holds_six : Store
 holds_six = with_register (empty_store 0) 0 6
 
 -- a report of these lines
-abbrev pub told : (third fourth : CallEntry) → (second : CallerLine) → ℕ → State → Report
-told third fourth second seq store = record { entries = loads_nothing ∷ stores_five ∷ third ∷ fourth ∷ []; callers = both_done ∷ second ∷ []; seq = seq; store = store }
+abbrev pub worked_report : (third fourth : Entry) → (second : Line) → ℕ → Store → Report
+worked_report third fourth second seq store = record { entries = loads_nothing ∷ stores_five ∷ third ∷ fourth ∷ []; callers = both_done ∷ second ∷ []; seq = seq; store = store }
 
 -- the second caller reads before it adds, and the first after it stored
 abbrev pub legal_report : Report
-legal_report = told adds_one loads_six both_done 1 holds_six
+legal_report = worked_report adds_one loads_six both_done 1 holds_six
 
 -- a script comes a second time
 abbrev pub script_twice : Report
-script_twice = told (entry 1 1 0 true (Some 6)) loads_six both_done 1 holds_six
+script_twice = worked_report (worked_entry 1 1 0 true (Some 6)) loads_six both_done 1 holds_six
 
 -- a line tells an entry more than there are
 abbrev pub entry_too_many : Report
-entry_too_many = told adds_one loads_six (record both_done { entries = 3 }) 1 holds_six
+entry_too_many = worked_report adds_one loads_six (record both_done { entries = 3 }) 1 holds_six
 
 -- no entry was announced at the last sequence
 abbrev pub sequence_left_out : Report
-sequence_left_out = told adds_one loads_six both_done 2 holds_six
+sequence_left_out = worked_report adds_one loads_six both_done 2 holds_six
 
 -- a read misses what was added
 abbrev pub stale_read : Report
-stale_read = told adds_one (entry 1 0 1 false (Some 5)) both_done 1 holds_six
+stale_read = worked_report adds_one (worked_entry 1 0 1 false (Some 5)) both_done 1 holds_six
 
 -- what was written isn't in the store
 abbrev pub writes_lost : Report
-writes_lost = told adds_one loads_six both_done 1 (empty_store 0)
+writes_lost = worked_report adds_one loads_six both_done 1 (empty_store 0)
 
 -- a caller without a script left is stopped
 abbrev pub stopped_at_the_end : Report
-stopped_at_the_end = told adds_one loads_six (record both_done { state = stopped }) 1 holds_six
+stopped_at_the_end = worked_report adds_one loads_six (record both_done { state = stopped }) 1 holds_six
 
 -- a call made a step more than it can
 abbrev pub step_too_many : Report
-step_too_many = told adds_one loads_six (record both_done { longest = bound_of two_callers + 1 }) 1 holds_six
+step_too_many = worked_report adds_one loads_six (record both_done { longest = bound_of two_callers + 1 }) 1 holds_six

@@ -1,8 +1,8 @@
 //! The lines of a text by their numbers, and what the lines above one say.
 
 ghost use Rattle.std.specs.Prelude.{◌≡◌, ◌<◌, ◌+◌, ℕ, length, IsTrue, MatchOption, Some, None};
-ghost use Rattle.of_script.specs.Text.{words};
-ghost use Rattle.of_plan.specs.Lines.{lines};
+ghost use Rattle.of_script.specs.Text.{text_words};
+ghost use Rattle.of_plan.specs.Lines.{text_lines};
 ghost use Rattle.of_plan.specs.Above as lines_above;
 
 use crate::line::GREATEST_CELL;
@@ -29,7 +29,7 @@ pub enum Wanted {
 
 // The number behind the name of a line.
 fn number_behind(name: &[u8], wanted: &[u8], rest: &[u8], most: u32) -> Option<u32>
-    ensures { result ≡ lines_above.number_behind name.now wanted.now (words rest.now) most }
+    ensures { result ≡ lines_above.number_behind name.now wanted.now (text_words rest.now) most }
 {
     if name != wanted {
         return None;
@@ -40,7 +40,7 @@ fn number_behind(name: &[u8], wanted: &[u8], rest: &[u8], most: u32) -> Option<u
 
 /// The number that a line says, where it is one that is wanted; 0 where it says none.
 pub(crate) fn said(wanted: Wanted, line: &[u8]) -> Option<u32>
-    ensures { result ≡ lines_above.said wanted (words line.now) }
+    ensures { result ≡ lines_above.said wanted (text_words line.now) }
 {
     let (name, rest) = word(line)?;
     match wanted {
@@ -75,8 +75,8 @@ pub(crate) fn said(wanted: Wanted, line: &[u8]) -> Option<u32>
 
 /// The line with so many lines above it, nothing where there is none, and whether it is the last.
 pub fn line_at(text: &[u8], above: u64) -> (&[u8], bool)
-    ensures line { result.0.now ≡ lines_above.line_at (lines text.now) above }
-    ensures last { IsTrue result.1 → length (lines text.now) ≡ above + 1 }
+    ensures line { result.0.now ≡ lines_above.line_at (text_lines text.now) above }
+    ensures last { IsTrue result.1 → length (text_lines text.now) ≡ above + 1 }
 {
     let mut rest = text;
     let mut at: u64 = 0;
@@ -96,8 +96,8 @@ pub fn line_at(text: &[u8], above: u64) -> (&[u8], bool)
 /// The first of so many lines that says what is wanted, by the number of lines above it, and the
 /// number that it says.
 pub fn find(text: &[u8], above: u64, wanted: Wanted) -> Option<(u64, u32)>
-    ensures { MatchOption result (lines_above.NoneSays (lines text.now) above wanted)
-        (λ x. lines_above.Says (lines text.now) above wanted x.0 x.1) }
+    ensures { MatchOption result (lines_above.NoneSays (text_lines text.now) above wanted)
+        (λ x. lines_above.Says (text_lines text.now) above wanted x.0 x.1) }
 {
     let mut rest = text;
     let mut at: u64 = 0;

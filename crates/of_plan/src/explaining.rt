@@ -1,7 +1,7 @@
 //! Why a line is the bad line of its text.
 
 ghost use Rattle.std.specs.Prelude.{◌≡◌, ◌≤◌, ◌-◌, ℕ, length, List, IfSome, MatchResult};
-ghost use Rattle.of_plan.specs.Lines.{lines};
+ghost use Rattle.of_plan.specs.Lines.{text_lines};
 ghost use Rattle.of_plan.specs.Above.{line_at as the_line};
 ghost use Rattle.of_plan.specs.Flaws.{IsFlawed};
 ghost use Rattle.of_plan.specs.Reasons.{IsFinding, SaidAbove};
@@ -120,8 +120,8 @@ fn no_script(line: &[u8], from: usize) -> Option<Finding>
 // A caller that the plan hasn't.
 fn no_caller(text: &[u8], above: u64, line: &[u8], from: usize, callers: u32) -> Option<Finding>
     requires from { from ≤ length line.now }
-    requires said { SaidAbove (lines text.now) above TheCallers callers }
-    ensures { IfSome result (IsFinding (lines text.now) above line.now) }
+    requires said { SaidAbove (text_lines text.now) above TheCallers callers }
+    ensures { IfSome result (IsFinding (text_lines text.now) above line.now) }
 {
     let (start, end) = word_from(line, from);
     let caller = number(&line[start..end], GREATEST_CELL)?;
@@ -138,8 +138,8 @@ fn no_caller(text: &[u8], above: u64, line: &[u8], from: usize, callers: u32) ->
 // A cell that the plan hasn't.
 fn no_cell(text: &[u8], above: u64, line: &[u8], from: usize, sizes: Sizes) -> Option<Finding>
     requires from { from ≤ length line.now }
-    requires sizes { AreSizes (lines text.now) above sizes }
-    ensures { IfSome result (IsFinding (lines text.now) above line.now) }
+    requires sizes { AreSizes (text_lines text.now) above sizes }
+    ensures { IfSome result (IsFinding (text_lines text.now) above line.now) }
 {
     let (start, end) = word_from(line, from);
     let cell = number(&line[start..end], GREATEST_CELL)?;
@@ -157,7 +157,7 @@ fn no_cell(text: &[u8], above: u64, line: &[u8], from: usize, sizes: Sizes) -> O
 // A second stop of a caller.
 fn second_stop(text: &[u8], above: u64, line: &[u8], from: usize) -> Option<Finding>
     requires { from ≤ length line.now }
-    ensures { IfSome result (IsFinding (lines text.now) above line.now) }
+    ensures { IfSome result (IsFinding (text_lines text.now) above line.now) }
 {
     let (start, end) = word_from(line, from);
     let caller = number(&line[start..end], GREATEST_CELL)?;
@@ -172,8 +172,8 @@ fn second_stop(text: &[u8], above: u64, line: &[u8], from: usize) -> Option<Find
 // Why a script line is none.
 fn in_script(text: &[u8], above: u64, line: &[u8], from: usize, sizes: Sizes) -> Option<Finding>
     requires from { from ≤ length line.now }
-    requires sizes { AreSizes (lines text.now) above sizes }
-    ensures { IfSome result (IsFinding (lines text.now) above line.now) }
+    requires sizes { AreSizes (text_lines text.now) above sizes }
+    ensures { IfSome result (IsFinding (text_lines text.now) above line.now) }
 {
     if let Some(finding) = no_caller(text, above, line, from, sizes.callers) {
         return Some(finding);
@@ -220,8 +220,8 @@ fn in_body(
     sizes: Sizes,
 ) -> Option<Finding>
     requires from { from ≤ length line.now }
-    requires sizes { AreSizes (lines text.now) above sizes }
-    ensures { IfSome result (IsFinding (lines text.now) above line.now) }
+    requires sizes { AreSizes (text_lines text.now) above sizes }
+    ensures { IfSome result (IsFinding (text_lines text.now) above line.now) }
 {
     match form {
         Form::Callers | Form::Blocks | Form::Limit => {
@@ -248,8 +248,8 @@ fn formed(
     sizes: Sizes,
 ) -> Option<Finding>
     requires from { from ≤ length line.now }
-    requires sizes { AreSizes (lines text.now) above sizes }
-    ensures { IfSome result (IsFinding (lines text.now) above line.now) }
+    requires sizes { AreSizes (text_lines text.now) above sizes }
+    ensures { IfSome result (IsFinding (text_lines text.now) above line.now) }
 {
     match form {
         Form::Stop | Form::Turns => {
@@ -267,8 +267,8 @@ fn formed(
 
 // Why a line below the heading is none.
 fn below_heading(text: &[u8], above: u64, line: &[u8], sizes: Sizes) -> Option<Finding>
-    requires sizes { AreSizes (lines text.now) above sizes }
-    ensures { IfSome result (IsFinding (lines text.now) above line.now) }
+    requires sizes { AreSizes (text_lines text.now) above sizes }
+    ensures { IfSome result (IsFinding (text_lines text.now) above line.now) }
 {
     let (start, end) = word_from(line, 0);
     let name = &line[start..end];
@@ -294,7 +294,7 @@ fn below_heading(text: &[u8], above: u64, line: &[u8], sizes: Sizes) -> Option<F
 
 // Why a line of the heading is none, or one below it.
 fn in_heading(text: &[u8], above: u64, line: &[u8]) -> Option<Finding>
-    ensures { IfSome result (IsFinding (lines text.now) above line.now) }
+    ensures { IfSome result (IsFinding (text_lines text.now) above line.now) }
 {
     let (start, end) = word_from(line, 0);
     let name = &line[start..end];
@@ -333,7 +333,7 @@ fn in_heading(text: &[u8], above: u64, line: &[u8]) -> Option<Finding>
 
 // Why a line is none that a plan can have there.
 fn in_line(text: &[u8], above: u64, line: &[u8]) -> Option<Finding>
-    ensures { IfSome result (IsFinding (lines text.now) above line.now) }
+    ensures { IfSome result (IsFinding (text_lines text.now) above line.now) }
 {
     if let Some(piece) = hidden(line, above) {
         return Some(flawed(piece));
@@ -356,7 +356,7 @@ fn in_line(text: &[u8], above: u64, line: &[u8]) -> Option<Finding>
 /// Why this line of the text is its bad line.
 pub(crate) fn explain(text: &[u8], number: u64) -> Finding
     requires { 1 ≤ number }
-    ensures { IsFinding (lines text.now) (number - 1) (the_line (lines text.now) (number - 1)) result }
+    ensures { IsFinding (text_lines text.now) (number - 1) (the_line (text_lines text.now) (number - 1)) result }
 {
     let above = number - 1;
     let (line, last) = line_at(text, above);

@@ -2,8 +2,8 @@
 
 ghost use Rattle.std.specs.Prelude.{◌≡◌, IfOk, IfErr, MatchResult};
 ghost use Rattle.of_plan.specs.Grammar.{SpellsPlan};
-ghost use Rattle.of_plan.specs.Progress.{progress_of, start};
-ghost use Rattle.of_plan.specs.Parsed.{IsRefused};
+ghost use Rattle.of_plan.specs.Progress.{reading_value, nothing_read};
+ghost use Rattle.of_plan.specs.Parsed.{PlanIsRefused};
 ghost use Rattle.of_plan.specs.Plan.{Plan};
 ghost use Rattle.of_plan.specs.declared.parsing.PlanErr.TheVariants.{Memory};
 
@@ -34,7 +34,7 @@ impl From<AllocError> for PlanErr {
 
 // A reading of nothing yet.
 fn begun(alloc: Global) -> Reading
-    ensures { progress_of result ≡ start }
+    ensures { reading_value result ≡ nothing_read }
 {
     Reading {
         stage: Stage::Start,
@@ -54,7 +54,7 @@ pub fn parse(alloc: Global, text: &[u8]) -> Result<Plan, PlanErr>
     // What is read is spelled so.
     ensures ok { IfOk result (SpellsPlan text.now) }
     // A line that is named is the bad one, and then no plan is spelled.
-    ensures bad { IfErr result (IsRefused text.now) }
+    ensures bad { IfErr result (PlanIsRefused text.now) }
     // A text of the grammar is answered by its plan, unless memory runs out.
     ensures only { (plan : Plan) → SpellsPlan text.now plan → MatchResult result (λ p. p ≡ plan) (λ e. e ≡ Memory) }
 {

@@ -4,7 +4,7 @@ ghost use Rattle.std.specs.Prelude.{◌≡◌, List, ℕ};
 ghost use Rattle.of_plan.specs.Plan.{Plan, IsPlan};
 ghost use Rattle.of_plan.specs.Grammar.{SpellsPlan};
 ghost use Rattle.of_plan.specs.PlanText.{plan_text};
-ghost use Rattle.of_plan.specs.Parts.{OneCut};
+ghost use Rattle.of_plan.specs.Parts.{HasOneCut};
 
 /// A plan that a text spells keeps the ranges of plans.
 pub fn spelled_is_plan()
@@ -23,5 +23,5 @@ pub fn printed_is_read()
 
 /// An input has one pair of parts.
 pub fn one_cut()
-    ensures { OneCut }
+    ensures { HasOneCut }
 {}

@@ -11,19 +11,19 @@ use Rattle.of_plan.specs.declared.answer.Ending.{Ending}
 use Rattle.of_plan.specs.declared.answer.Ending.TheVariants.{Done, Stopped, Spent as Ran_out}
 use Rattle.of_plan.specs.declared.plan.Item.{Item}
 use Rattle.of_plan.specs.Plan.{Plan, scripts_of}
-use Rattle.of_plan.specs.Ended.{Run, answers_of, ending_of}
+use Rattle.of_plan.specs.Ended.{Ended, answers_of, ending_of}
 use Rattle.of_core.specs.declared.place.Outcome.{Outcome}
 use Rattle.of_core.specs.declared.place.Outcome.TheVariants.{Answered, Spent}
 use Rattle.of_core.specs.Table.{Setup}
-use Rattle.of_core.specs.Machine.{Data, no_machine}
-use Rattle.of_core.specs.Moment.{table, table_words}
-use Rattle.of_core.specs.Events.{Event, machine, opening, idles, start_ticket, zeros}
+use Rattle.of_core.specs.Machine.{CallState, no_machine}
+use Rattle.of_core.specs.Moment.{bank_setup, table_word_count}
+use Rattle.of_core.specs.Events.{Event, machine_in, opening_moment, idle_machines, start_ticket, zero_start}
 use Rattle.of_core.specs.Calls.{outcomes}
-use Rattle.of_caller.specs.Tables.{setup_for, opening_for, operation_of}
-use Rattle.of_caller.specs.Ends.{AreAnswers, halted, ending_at}
+use Rattle.of_caller.specs.Tables.{plan_setup, opening_for, operation_of}
+use Rattle.of_caller.specs.Ends.{AreAnswers, ending_if_left, ending_at}
 use Rattle.of_caller.specs.Left.{moment_after}
-use Rattle.of_play.specs.Play.{moves_in, moves_for, events_from}
-use Rattle.of_play.specs.Playing.{spent_at, standing_of, idle_standing, answers_in, Follows, StandsAfter, GoesOn, EndsAs, LeavesAs}
+use Rattle.of_play.specs.Play.{item_events, plan_events, events_from}
+use Rattle.of_play.specs.Playing.{spent_at, standing_of, idle_standing, answers_in, EventsMayFollow, StandsAfter, MakesMoves, CallerEndsAs, RunLeaves}
 use Rattle.of_play.specs.declared.playing.Playing.{Playing}
 use Rattle.of_play.specs.declared.playing.Standing.{Standing}
 use Rattle.of_play.proofs.PlaysMoments.{IsPlayable, zero_ticket}
@@ -31,11 +31,11 @@ use Rattle.of_play.proofs.PlaysEvents.{events_append}
 use Rattle.of_play.proofs.PlaysStand.{standing_at}
 
 -- before the first event nobody has begun a call
-idle_standings : (S : Setup) (i n : ℕ) → replicate n idle_standing ≡ map standing_of (idles S (start_ticket S (zeros S)) i n)
+idle_standings : (S : Setup) (i n : ℕ) → replicate n idle_standing ≡ map standing_of (idle_machines S (start_ticket S (zero_start S)) i n)
 idle_standings S i zero = refl
 idle_standings S i (suc n) = ap (λ (ts : List Standing). idle_standing ∷ ts) (idle_standings S (suc i) n)
 
-none_made : (S : Setup) (i n c : ℕ) → (get_or (idles S (start_ticket S (zeros S)) i n) c no_machine).made ≡ 0
+none_made : (S : Setup) (i n c : ℕ) → (get_or (idle_machines S (start_ticket S (zero_start S)) i n) c no_machine).made ≡ 0
 none_made S i zero c = refl
 none_made S i (suc n) zero = zero_ticket S i
 none_made S i (suc n) (suc c) = none_made S (suc i) n c
@@ -47,24 +47,24 @@ take_zero (x ∷ xs) = refl
 take_none : {A : Type 0} (n : ℕ) (xs : List A) → n ≡ 0 → take n xs ≡ []
 take_none n xs e = ap (λ (k : ℕ). take k xs) e ∙ take_zero xs
 
-pub starts : (p : Plan) → Follows p []
+pub starts : (p : Plan) → EventsMayFollow p []
 starts p = record {
   schedule = tt;
-  made = λ c h. omega (arith, none_made (setup_for p) 0 p.callers c);
-  begun = λ c h. sym (ap (map operation_of) (take_none _ (scripts_of p c) (none_made (setup_for p) 0 p.callers c)));
+  made = λ c h. omega (arith, none_made (plan_setup p) 0 p.callers c);
+  begun = λ c h. sym (ap (map operation_of) (take_none _ (scripts_of p c) (none_made (plan_setup p) 0 p.callers c)));
 }
 
-pub start_stands : (p : Plan) (s : Playing) → s.bank.callers ≡ p.callers → table scripts_meaning s.bank ≡ setup_for p
-    → s.bank.words ≡ (opening (table scripts_meaning s.bank) (zeros (table scripts_meaning s.bank)) (table_words (table scripts_meaning s.bank))).words
-    → s.bank.machines ≡ (opening (table scripts_meaning s.bank) (zeros (table scripts_meaning s.bank)) (table_words (table scripts_meaning s.bank))).machines
+pub start_stands : (p : Plan) (s : Playing) → s.bank.callers ≡ p.callers → bank_setup scripts_meaning s.bank ≡ plan_setup p
+    → s.bank.words ≡ (opening_moment (bank_setup scripts_meaning s.bank) (zero_start (bank_setup scripts_meaning s.bank)) (table_word_count (bank_setup scripts_meaning s.bank))).words
+    → s.bank.machines ≡ (opening_moment (bank_setup scripts_meaning s.bank) (zero_start (bank_setup scripts_meaning s.bank)) (table_word_count (bank_setup scripts_meaning s.bank))).machines
     → s.standings.items ≡ replicate p.callers idle_standing → length s.answers.items ≡ p.callers → ((c : ℕ) → answers_in s c ≡ []) → StandsAfter p [] s
 start_stands p s callers same words machines standings answers none = record {
   follows = starts p;
   callers = callers;
   table = same;
-  words = words ∙ ap (λ (T : Setup). (opening T (zeros T) (table_words T)).words) same;
-  machines = machines ∙ ap (λ (T : Setup). (opening T (zeros T) (table_words T)).machines) same;
-  standings = standings ∙ idle_standings (setup_for p) 0 p.callers;
+  words = words ∙ ap (λ (T : Setup). (opening_moment T (zero_start T) (table_word_count T)).words) same;
+  machines = machines ∙ ap (λ (T : Setup). (opening_moment T (zero_start T) (table_word_count T)).machines) same;
+  standings = standings ∙ idle_standings (plan_setup p) 0 p.callers;
   answers = answers;
   told = λ c h. subst (AreAnswers []) (sym (none c)) tt;
 }
@@ -74,19 +74,19 @@ pub said_is : {A : Type 0} (items : A → List Answer) (vs : List A) (c : ℕ) (
 said_is items vs c v n l read e = e ∙ ap length (ap items read) ∙ ap length (sym (get_or-map items vs c v [] l))
 
 -- how a caller ends
-ends_halted : (m : Data) (n a : ℕ) → (a ≡ n → ⊥) → halted m.answer m.steps ≡ ending_at m n a
+ends_halted : (m : CallState) (n a : ℕ) → (a ≡ n → ⊥) → ending_if_left m.answer m.steps ≡ ending_at m n a
 ends_halted m n a e = go (a == n) refl
   where
-    go : (b : Bool) → (a == n) ≡ b → halted m.answer m.steps ≡ (if b then Done else halted m.answer m.steps)
+    go : (b : Bool) → (a == n) ≡ b → ending_if_left m.answer m.steps ≡ (if b then Done else ending_if_left m.answer m.steps)
     go true q = let z : a ≡ n = grind (arith, nat_tests) in absurd (e z)
     go false q = refl
 
-halts_spent : (o : Option Outcome) (k s : ℕ) → spent_at o ≡ Some s → Ran_out s ≡ halted o k
+halts_spent : (o : Option Outcome) (k s : ℕ) → spent_at o ≡ Some s → Ran_out s ≡ ending_if_left o k
 halts_spent None k s e = cc
 halts_spent (Some (Answered q announced raw steps)) k s e = cc
 halts_spent (Some (Spent q)) k s e = cc
 
-halts_open : (o : Option Outcome) (k : ℕ) → spent_at o ≡ None → Stopped (k + 1) ≡ halted o k
+halts_open : (o : Option Outcome) (k : ℕ) → spent_at o ≡ None → Stopped (k + 1) ≡ ending_if_left o k
 halts_open None k e = refl
 halts_open (Some (Answered q announced raw steps)) k e = refl
 halts_open (Some (Spent q)) k e = cc
@@ -94,48 +94,48 @@ halts_open (Some (Spent q)) k e = cc
 module _ (p : Plan) (plan : IsPlayable p) (c : ℕ) (h : c < p.callers) (s : Playing) where
   module _ (said scripts : ℕ) (told : said ≡ length (answers_in s c)) (all : scripts ≡ length (scripts_of p c)) where
     module _ (not_done : said ≡ scripts → ⊥) (t : Standing) (read : t ≡ get_or s.standings.items c t) where
-      pub ends_as_spent : (q : ℕ) → t.spent ≡ Some q → EndsAs p c s (Ran_out q)
+      pub ends_as_spent : (q : ℕ) → t.spent ≡ Some q → CallerEndsAs p c s (Ran_out q)
       ends_as_spent q e es st =
-          let m = machine (moment_after p es) c in
+          let m = machine_in (moment_after p es) c in
           let same = ap (λ (x : Standing). x.spent) (read ∙ standing_at p plan es s st c t h) in
           halts_spent m.answer m.steps q (sym same ∙ e) ∙ ends_halted m _ _ (λ q. not_done (told ∙ q ∙ sym all))
 
-      pub ends_as_stopped : t.spent ≡ None → EndsAs p c s (Stopped (t.steps + 1))
+      pub ends_as_stopped : t.spent ≡ None → CallerEndsAs p c s (Stopped (t.steps + 1))
       ends_as_stopped e es st =
-          let m = machine (moment_after p es) c in
+          let m = machine_in (moment_after p es) c in
           let same = read ∙ standing_at p plan es s st c t h in
           ap (λ (x : Standing). Stopped (x.steps + 1)) same ∙ halts_open m.answer m.steps (sym (ap (λ (x : Standing). x.spent) same) ∙ e) ∙ ends_halted m _ _ (λ q. not_done (told ∙ q ∙ sym all))
 
-pub leaves_as : (p : Plan) (s : Playing) (e : Run) → e.answers ≡ map (λ v. v.items) s.answers.items → e.words ≡ s.bank.words → length e.endings ≡ p.callers → ((c : ℕ) → c < p.callers → EndsAs p c s (ending_of e c)) → LeavesAs p s e
+pub leaves_as : (p : Plan) (s : Playing) (e : Ended) → e.answers ≡ map (λ v. v.items) s.answers.items → e.words ≡ s.bank.words → length e.endings ≡ p.callers → ((c : ℕ) → c < p.callers → CallerEndsAs p c s (ending_of e c)) → RunLeaves p s e
 leaves_as p s e answers words endings each es st = record {
   answers = ap length answers ∙ length-map s.answers.items (λ v. v.items) ∙ st.answers;
   endings = endings;
   words = words ∙ st.words;
-  told = λ c h. subst (AreAnswers (outcomes (setup_for p) (opening_for p) es c)) (sym (here c)) (st.told c h);
-  ended = λ c h. each c h es st ∙ ap (λ (xs : List Answer). ending_at (machine (moment_after p es) c) (length (scripts_of p c)) (length xs)) (sym (here c));
+  told = λ c h. subst (AreAnswers (outcomes (plan_setup p) (opening_for p) es c)) (sym (here c)) (st.told c h);
+  ended = λ c h. each c h es st ∙ ap (λ (xs : List Answer). ending_at (machine_in (moment_after p es) c) (length (scripts_of p c)) (length xs)) (sym (here c));
 }
   where
     here : (c : ℕ) → answers_of e c ≡ answers_in s c
     here c = ap (λ (xs : List (List Answer)). get_or xs c []) answers
 
 -- the items so far
-pub items_more : (p : Plan) (items : List Item) → items ≡ p.schedule → (k : ℕ) (d : Item) (s t : Playing) → k < length items → GoesOn p (moves_in (get_or items k d)) s t
-    → StandsAfter p (events_from p (opening_for p) (flat_map moves_in (take k p.schedule))) s → StandsAfter p (events_from p (opening_for p) (flat_map moves_in (take (k + 1) p.schedule))) t
+pub items_more : (p : Plan) (items : List Item) → items ≡ p.schedule → (k : ℕ) (d : Item) (s t : Playing) → k < length items → MakesMoves p (item_events (get_or items k d)) s t
+    → StandsAfter p (events_from p (opening_for p) (flat_map item_events (take k p.schedule))) s → StandsAfter p (events_from p (opening_for p) (flat_map item_events (take (k + 1) p.schedule))) t
 items_more p items same k d s t l f st =
-    let ms = flat_map moves_in (take k p.schedule) in
+    let ms = flat_map item_events (take k p.schedule) in
     let item = get_or items k d in
     subst (λ (es : List Event). StandsAfter p es t)
-    (sym (events_append p (opening_for p) ms (moves_in item))
+    (sym (events_append p (opening_for p) ms (item_events item))
     ∙ ap (events_from p (opening_for p))
-    (ap (λ (ns : List Event). ms ++ ns) (sym (append-nil (moves_in item)))
-    ∙ sym (flat_map-append moves_in (take k p.schedule) (item ∷ []))
-    ∙ ap (λ (xs : List Item). flat_map moves_in (take k p.schedule ++ get_or xs k d ∷ [])) same
-    ∙ ap (flat_map moves_in) (sym (take_more p.schedule k d (omega (arith, l, ap length same))))))
+    (ap (λ (ns : List Event). ms ++ ns) (sym (append-nil (item_events item)))
+    ∙ sym (flat_map-append item_events (take k p.schedule) (item ∷ []))
+    ∙ ap (λ (xs : List Item). flat_map item_events (take k p.schedule ++ get_or xs k d ∷ [])) same
+    ∙ ap (flat_map item_events) (sym (take_more p.schedule k d (omega (arith, l, ap length same))))))
     (f (events_from p (opening_for p) ms) st)
 
 -- all items
-pub items_all : (p : Plan) (items : List Item) → items ≡ p.schedule → (k : ℕ) → length items ≤ k → flat_map moves_in (take k p.schedule) ≡ moves_for p
-items_all p items same k l = ap (flat_map moves_in) (take_all k p.schedule (omega (arith, l, ap length same)))
+pub items_all : (p : Plan) (items : List Item) → items ≡ p.schedule → (k : ℕ) → length items ≤ k → flat_map item_events (take k p.schedule) ≡ plan_events p
+items_all p items same k l = ap (flat_map item_events) (take_all k p.schedule (omega (arith, l, ap length same)))
 
 -- what holds of each ending so far and of the next
 pub each_pushed : (P : ℕ → Ending → Type 0) (es fs : List Ending) (e : Ending) (n : ℕ) → fs ≡ es ++ e ∷ [] → length es ≡ n → ((c : ℕ) → c < n → P c (get_or es c Done)) → P n e → (c : ℕ) → c < n + 1 → P c (get_or fs c Done)

@@ -6,9 +6,9 @@ use Rattle.of_core.specs.declared.bank.Turn.{Turn}
 use Rattle.of_core.specs.declared.bank.Turn.TheVariants.{Ended}
 use Rattle.of_core.specs.declared.place.Outcome.{Outcome}
 use Rattle.of_core.specs.declared.place.Outcome.TheVariants.{Spent}
-use Rattle.of_core.specs.Calls.{outcome_of}
-use Rattle.of_caller.specs.Ends.{Tells, AreAnswers}
-use Rattle.of_play.specs.Playing.{standing_after, spent_at, answers_in, Notes}
+use Rattle.of_core.specs.Calls.{outcome_of_turn}
+use Rattle.of_caller.specs.Ends.{TellsAnswer, AreAnswers}
+use Rattle.of_play.specs.Playing.{standing_after, spent_at, answers_in, NotesTurn}
 use Rattle.of_play.specs.declared.playing.Playing.{Playing}
 use Rattle.of_play.specs.declared.playing.Standing.{Standing}
 use Rattle.of_play.proofs.PlaysEvents.{answers_spent, answers_more}
@@ -19,25 +19,25 @@ module _ (c : ℕ) (turn : Turn) (s t : Playing) (bank : t.bank ≡ s.bank) wher
     stand d = standings ∙ ap (λ (r : Turn). set s.standings.items c (standing_after r (get_or s.standings.items c d))) (sym ends)
 
     -- with an answer more
-    pub notes_more : (a : Answer) → Tells o a → c < length s.answers.items → map (λ v. v.items) t.answers.items ≡ set (map (λ v. v.items) s.answers.items) c (answers_in s c ++ a ∷ []) → Notes c turn s t
+    pub notes_more : (a : Answer) → TellsAnswer o a → c < length s.answers.items → map (λ v. v.items) t.answers.items ≡ set (map (λ v. v.items) s.answers.items) c (answers_in s c ++ a ∷ []) → NotesTurn c turn s t
     notes_more a tells l more = record {
       bank = bank;
       standings = stand;
       answers = sym (length-map t.answers.items (λ v. v.items)) ∙ ap length more ∙ length-set _ c _ ∙ length-map s.answers.items (λ v. v.items);
       others = λ i n. ap (λ (xs : List (List Answer)). get_or xs i []) more ∙ get_or-set_other _ c i _ [] n;
-      told = λ os h. subst (AreAnswers (os ++ outcome_of turn)) (sym (ap (λ (xs : List (List Answer)). get_or xs c []) more ∙ get_or-set_same _ c _ [] (omega (arith, l, length-map s.answers.items (λ v. v.items)))))
-          (subst (λ (r : Turn). AreAnswers (os ++ outcome_of r) (answers_in s c ++ a ∷ [])) (sym ends) (answers_more os (answers_in s c) o a h tells));
+      told = λ os h. subst (AreAnswers (os ++ outcome_of_turn turn)) (sym (ap (λ (xs : List (List Answer)). get_or xs c []) more ∙ get_or-set_same _ c _ [] (omega (arith, l, length-map s.answers.items (λ v. v.items)))))
+          (subst (λ (r : Turn). AreAnswers (os ++ outcome_of_turn r) (answers_in s c ++ a ∷ [])) (sym ends) (answers_more os (answers_in s c) o a h tells));
     }
 
   -- with none
-  pub notes_spent : (q : ℕ) → turn ≡ Ended (Spent q) → t.standings.items ≡ set s.standings.items c (record { spent = Some q; steps = 0 }) → t.answers.items ≡ s.answers.items → Notes c turn s t
+  pub notes_spent : (q : ℕ) → turn ≡ Ended (Spent q) → t.standings.items ≡ set s.standings.items c (record { spent = Some q; steps = 0 }) → t.answers.items ≡ s.answers.items → NotesTurn c turn s t
   notes_spent q ends standings same = record {
     bank = bank;
     standings = stand (Spent q) ends standings;
     answers = ap length same;
     others = λ i n. ap (λ (xs : List (List Answer)). get_or xs i []) (ap (map (λ v. v.items)) same);
-    told = λ os h. subst (AreAnswers (os ++ outcome_of turn)) (sym (ap (λ (xs : List (List Answer)). get_or xs c []) (ap (map (λ v. v.items)) same)))
-        (subst (λ (r : Turn). AreAnswers (os ++ outcome_of r) (answers_in s c)) (sym ends) (answers_spent os (answers_in s c) q h));
+    told = λ os h. subst (AreAnswers (os ++ outcome_of_turn turn)) (sym (ap (λ (xs : List (List Answer)). get_or xs c []) (ap (map (λ v. v.items)) same)))
+        (subst (λ (r : Turn). AreAnswers (os ++ outcome_of_turn r) (answers_in s c)) (sym ends) (answers_spent os (answers_in s c) q h));
   }
 
 -- a list of lists with one element more at a place

@@ -10,41 +10,41 @@ use Rattle.of_core.specs.declared.place.Place.{Place}
 use Rattle.of_core.specs.declared.place.Place.TheVariants.{Idle}
 use Rattle.of_core.specs.declared.place.Outcome.{Outcome}
 use Rattle.of_core.specs.Table.{Setup}
-use Rattle.of_core.specs.Machine.{Data, no_machine}
-use Rattle.of_core.specs.Steps.{want, want_at, took, took_at, counted_at, words_after, finds}
-use Rattle.of_core.specs.Turn.{turn_of, turn_from}
-use Rattle.of_core.specs.Moment.{Bench, table, after, machine_of}
-use Rattle.of_core.specs.Events.{Event, Turns, machine}
+use Rattle.of_core.specs.Machine.{CallState, no_machine}
+use Rattle.of_core.specs.Steps.{want, want_at, take_word, take_word_at, with_step_counted, words_after, word_found}
+use Rattle.of_core.specs.Turn.{turn_of, turn_at}
+use Rattle.of_core.specs.Moment.{Bank, bank_setup, bank_after, machine_of}
+use Rattle.of_core.specs.Events.{Event, Turns, machine_in}
 use Rattle.of_caller.specs.Ends.{AreAnswers}
 use Rattle.of_caller.specs.Left.{moment_after}
-use Rattle.of_play.specs.Playing.{Notes, GoesOn, BeginsNext, answers_in}
+use Rattle.of_play.specs.Playing.{NotesTurn, MakesMoves, BeginsNext, answers_in}
 use Rattle.of_play.specs.declared.playing.Playing.{Playing}
 use Rattle.of_play.specs.declared.playing.Standing.{Standing}
 use Rattle.of_play.proofs.PlaysMoments.{IsPlayable}
 use Rattle.of_play.proofs.PlaysMoves.{one_turn_more}
 use Rattle.of_play.proofs.PlaysStand.{turn_goes_on}
 
-idle_words : (S : Setup) (m : Data) (ws : List ℕ) (q : Place) → Idle ≡ q → words_after (want_at S m q) ws ≡ ws
+idle_words : (S : Setup) (m : CallState) (ws : List ℕ) (q : Place) → Idle ≡ q → words_after (want_at S m q) ws ≡ ws
 idle_words S m ws q e = subst (λ (r : Place). words_after (want_at S m r) ws ≡ ws) e (set-get_or ws 0 0)
 
-idle_machine : (S : Setup) (m : Data) (found : ℕ) (q : Place) → Idle ≡ q → took_at S (counted_at q m) found q ≡ m
-idle_machine S m found q e = subst (λ (r : Place). took_at S (counted_at r m) found r ≡ m) e refl
+idle_machine : (S : Setup) (m : CallState) (found : ℕ) (q : Place) → Idle ≡ q → take_word_at S (with_step_counted q m) found q ≡ m
+idle_machine S m found q e = subst (λ (r : Place). take_word_at S (with_step_counted r m) found r ≡ m) e refl
 
 -- a turn of an idle machine leaves a bank as it is
-idle_after : (b : Bench Scripts) (c : ℕ) → (machine_of b c).place ≡ Idle → b ≡ after scripts_meaning (Turns c ∷ []) b
-unfolding took want
+idle_after : (b : Bank Scripts) (c : ℕ) → (machine_of b c).place ≡ Idle → b ≡ bank_after scripts_meaning (Turns c ∷ []) b
+unfolding take_word want
 idle_after b c idle =
-    let S : Setup = table scripts_meaning b in
-    let m : Data = machine_of b c in
-    let found : ℕ = finds S b.words m in
+    let S : Setup = bank_setup scripts_meaning b in
+    let m : CallState = machine_of b c in
+    let found : ℕ = word_found S b.words m in
     let words = idle_words S m b.words m.place (sym idle) in
     let machines = ap (set b.machines c) (idle_machine S m found m.place (sym idle)) ∙ set-get_or b.machines c no_machine in
     λ i. record b { words = sym words i; machines = sym machines i }
 
-idle_turn : (m : Data) (q : Place) → Idle ≡ q → NoCall ≡ turn_from q m
-idle_turn m q e = subst (λ (r : Place). NoCall ≡ turn_from r m) e refl
+idle_turn : (m : CallState) (q : Place) → Idle ≡ q → NoCall ≡ turn_at q m
+idle_turn m q e = subst (λ (r : Place). NoCall ≡ turn_at r m) e refl
 
-no_notes : (c : ℕ) (s : Playing) → Notes c NoCall (record s { bank = s.bank }) s
+no_notes : (c : ℕ) (s : Playing) → NotesTurn c NoCall (record s { bank = s.bank }) s
 no_notes c s = record {
   bank = refl;
   standings = λ d. sym (set-get_or s.standings.items c d);
@@ -54,18 +54,18 @@ no_notes c s = record {
 }
 
 -- a turn changes nothing
-pub rests : (p : Plan) → IsPlayable p → (c : ℕ) → c < p.callers → (s : Playing) → (machine_of s.bank c).place ≡ Idle → BeginsNext p c s s → GoesOn p (Turns c ∷ []) s s
+pub rests : (p : Plan) → IsPlayable p → (c : ℕ) → c < p.callers → (s : Playing) → (machine_of s.bank c).place ≡ Idle → BeginsNext p c s s → MakesMoves p (Turns c ∷ []) s s
 rests p plan c h s idle begins =
     turn_goes_on p plan c h s s begins s.bank (idle_after s.bank c idle) NoCall (idle_turn (machine_of s.bank c) (machine_of s.bank c).place (sym idle)) s (no_notes c s)
 
-rests_more : (p : Plan) (c n k : ℕ) (first s : Playing) → GoesOn p (replicate n (Turns c)) first s → GoesOn p (Turns c ∷ []) s s → GoesOn p (replicate (n + k) (Turns c)) first s
-rests_more p c n zero first s far still = subst (λ (m : ℕ). GoesOn p (replicate m (Turns c)) first s) (let e : n ≡ n + 0 = omega arith in e) far
+rests_more : (p : Plan) (c n k : ℕ) (first s : Playing) → MakesMoves p (replicate n (Turns c)) first s → MakesMoves p (Turns c ∷ []) s s → MakesMoves p (replicate (n + k) (Turns c)) first s
+rests_more p c n zero first s far still = subst (λ (m : ℕ). MakesMoves p (replicate m (Turns c)) first s) (let e : n ≡ n + 0 = omega arith in e) far
 rests_more p c n (suc k) first s far still =
-    subst (λ (m : ℕ). GoesOn p (replicate m (Turns c)) first s) (let e : n + 1 + k ≡ n + suc k = omega arith in e)
+    subst (λ (m : ℕ). MakesMoves p (replicate m (Turns c)) first s) (let e : n + 1 + k ≡ n + suc k = omega arith in e)
     (rests_more p c (n + 1) k first s (one_turn_more p c n first s s far still) still)
 
 -- nor do all that are left
-pub rests_on : (p : Plan) (c n most : ℕ) (first s : Playing) → n ≤ most → GoesOn p (replicate n (Turns c)) first s → GoesOn p (Turns c ∷ []) s s → GoesOn p (replicate most (Turns c)) first s
+pub rests_on : (p : Plan) (c n most : ℕ) (first s : Playing) → n ≤ most → MakesMoves p (replicate n (Turns c)) first s → MakesMoves p (Turns c ∷ []) s s → MakesMoves p (replicate most (Turns c)) first s
 rests_on p c n most first s le far still =
     let k : ℕ = most - n in
-    subst (λ (m : ℕ). GoesOn p (replicate m (Turns c)) first s) (let e : n + k ≡ most = omega arith in e) (rests_more p c n k first s far still)
+    subst (λ (m : ℕ). MakesMoves p (replicate m (Turns c)) first s) (let e : n + k ≡ most = omega arith in e) (rests_more p c n k first s far still)

@@ -10,12 +10,12 @@ use Rattle.of_plan.specs.declared.plan.Item.TheVariants.{Turns as Turns_of, Evic
 use Rattle.of_plan.specs.Plan.{Plan, IsItem, scripts_of}
 use Rattle.of_plan.specs.Allowance.{turns_in, turns_for}
 use Rattle.of_plan.proofs.HistoriesLists.{each_append}
-use Rattle.of_core.specs.World.{World}
-use Rattle.of_core.specs.Events.{Event, Begins, Turns, Loads, Evicts, Raises, machine, run, turns, counted, IsSchedule}
-use Rattle.of_caller.specs.Tables.{setup_for, opening_for}
+use Rattle.of_core.specs.World.{Moment}
+use Rattle.of_core.specs.Events.{Event, Begins, Turns, Loads, Evicts, Raises, machine_in, after_events, turn_count, one_if, IsSchedule}
+use Rattle.of_caller.specs.Tables.{plan_setup, opening_for}
 use Rattle.of_caller.specs.Left.{IsOfPlan, moment_after}
-use Rattle.of_play.specs.Play.{moves_in, begins_call, next_call, with_begin, events_from, play_events}
-use Rattle.of_play.specs.Playing.{Follows}
+use Rattle.of_play.specs.Play.{item_events, begins_call, next_begin, with_begin, events_from, play_events}
+use Rattle.of_play.specs.Playing.{EventsMayFollow}
 use Rattle.of_play.proofs.PlaysMoments.{IsPlayable}
 use Rattle.of_play.proofs.PlaysEvents.{run_append, turns_append, events_of}
 use Rattle.of_play.proofs.PlaysFollow.{IsMove, begin_follows, turn_follows, raise_follows}
@@ -29,49 +29,49 @@ turns_are : (p : Plan) (c n : ℕ) → c < p.callers → Each (IsMove p) (replic
 turns_are p c zero h = tt
 turns_are p c (suc n) h = (h, turns_are p c n h)
 
-item_moves : (p : Plan) (x : Item) → IsItem p x → Each (IsMove p) (moves_in x)
+item_moves : (p : Plan) (x : Item) → IsItem p x → Each (IsMove p) (item_events x)
 item_moves p (Turns_of c n) h = turns_are p c n h.0
 item_moves p (Evict a) h = (h, tt)
 
-all_moves : (p : Plan) (xs : List Item) → Each (IsItem p) xs → Each (IsMove p) (flat_map moves_in xs)
+all_moves : (p : Plan) (xs : List Item) → Each (IsItem p) xs → Each (IsMove p) (flat_map item_events xs)
 all_moves p [] h = tt
-all_moves p (x ∷ xs) h = each_append (IsMove p) (moves_in x) (flat_map moves_in xs) (item_moves p x h.0) (all_moves p xs h.1)
+all_moves p (x ∷ xs) h = each_append (IsMove p) (item_events x) (flat_map item_events xs) (item_moves p x h.0) (all_moves p xs h.1)
 
 module _ (p : Plan) (plan : IsPlayable p) where
-  next_follows : (es : List Event) → Follows p es → (c : ℕ) → c < p.callers → Follows p (es ++ next_call p c (machine (moment_after p es) c))
-  next_follows es f c h = go (begins_call (machine (moment_after p es) c) (length (scripts_of p c))) refl
+  next_follows : (es : List Event) → EventsMayFollow p es → (c : ℕ) → c < p.callers → EventsMayFollow p (es ++ next_begin p c (machine_in (moment_after p es) c))
+  next_follows es f c h = go (begins_call (machine_in (moment_after p es) c) (length (scripts_of p c))) refl
     where
-      go : (b : Bool) → begins_call (machine (moment_after p es) c) (length (scripts_of p c)) ≡ b → Follows p (es ++ next_call p c (machine (moment_after p es) c))
-      go true e = subst (λ (fs : List Event). Follows p (es ++ fs)) (sym (next_one p c (machine (moment_after p es) c) e)) (begin_follows p plan es f c h e)
-      go false e = subst (λ (fs : List Event). Follows p (es ++ fs)) (sym (next_none p c (machine (moment_after p es) c) e)) (subst (Follows p) (sym (append-nil es)) f)
+      go : (b : Bool) → begins_call (machine_in (moment_after p es) c) (length (scripts_of p c)) ≡ b → EventsMayFollow p (es ++ next_begin p c (machine_in (moment_after p es) c))
+      go true e = subst (λ (fs : List Event). EventsMayFollow p (es ++ fs)) (sym (next_one p c (machine_in (moment_after p es) c) e)) (begin_follows p plan es f c h e)
+      go false e = subst (λ (fs : List Event). EventsMayFollow p (es ++ fs)) (sym (next_none p c (machine_in (moment_after p es) c) e)) (subst (EventsMayFollow p) (sym (append-nil es)) f)
 
   -- a move with its begin may happen, and so on
-  pub move_follows : (es : List Event) → Follows p es → (m : Event) → IsMove p m → Follows p (es ++ with_begin p (moment_after p es) m)
+  pub move_follows : (es : List Event) → EventsMayFollow p es → (m : Event) → IsMove p m → EventsMayFollow p (es ++ with_begin p (moment_after p es) m)
   move_follows es f (Begins c op) h = absurd h
   move_follows es f (Loads a) h = absurd h
   move_follows es f (Evicts k) h = absurd h
   move_follows es f (Raises a) h = raise_follows p plan es f a h
   move_follows es f (Turns c) h =
-      let fs = next_call p c (machine (moment_after p es) c) in
-      subst (Follows p) (append_assoc es fs (Turns c ∷ [])) (turn_follows p plan (es ++ fs) (next_follows es f c h) c h)
+      let fs = next_begin p c (machine_in (moment_after p es) c) in
+      subst (EventsMayFollow p) (append_assoc es fs (Turns c ∷ [])) (turn_follows p plan (es ++ fs) (next_follows es f c h) c h)
 
   -- what holds of the events so far and stays so with each move holds at the end
-  module _ (P : List Event → Type 0) (step : (es : List Event) → Follows p es → P es → (m : Event) → IsMove p m → P (es ++ with_begin p (moment_after p es) m)) where
-    pub by_moves : (ms : List Event) (es : List Event) → Each (IsMove p) ms → Follows p es → P es → P (es ++ events_from p (moment_after p es) ms)
+  module _ (P : List Event → Type 0) (step : (es : List Event) → EventsMayFollow p es → P es → (m : Event) → IsMove p m → P (es ++ with_begin p (moment_after p es) m)) where
+    pub by_moves : (ms : List Event) (es : List Event) → Each (IsMove p) ms → EventsMayFollow p es → P es → P (es ++ events_from p (moment_after p es) ms)
     by_moves [] es moves f h = subst P (sym (append-nil es)) h
     by_moves (m ∷ ms) es moves f h =
         let fs = with_begin p (moment_after p es) m in
-        subst P (append_assoc es fs _ ∙ ap (λ (w : World). es ++ (fs ++ events_from p w ms)) (run_append (setup_for p) (opening_for p) es fs))
+        subst P (append_assoc es fs _ ∙ ap (λ (w : Moment). es ++ (fs ++ events_from p w ms)) (run_append (plan_setup p) (opening_for p) es fs))
         (by_moves ms (es ++ fs) moves.1 (move_follows es f m moves.0) (step es f h m moves.0))
 
     pub by_items : (xs : List Item) → Each (IsItem p) xs → P [] → P (events_of p xs)
-    by_items xs items h = by_moves (flat_map moves_in xs) [] (all_moves p xs items) (starts p) h
+    by_items xs items h = by_moves (flat_map item_events xs) [] (all_moves p xs items) (starts p) h
 
-  items_follow : (xs : List Item) → Each (IsItem p) xs → Follows p (events_of p xs)
-  items_follow xs items = by_items (Follows p) (λ es f h m is. move_follows es f m is) xs items (starts p)
+  items_follow : (xs : List Item) → Each (IsItem p) xs → EventsMayFollow p (events_of p xs)
+  items_follow xs items = by_items (EventsMayFollow p) (λ es f h m is. move_follows es f m is) xs items (starts p)
 
 -- the events of such a schedule may happen
-pub items_are_schedule : (p : Plan) → IsPlayable p → (xs : List Item) → Each (IsItem p) xs → IsSchedule (setup_for p) (opening_for p) (events_of p xs)
+pub items_are_schedule : (p : Plan) → IsPlayable p → (xs : List Item) → Each (IsItem p) xs → IsSchedule (plan_setup p) (opening_for p) (events_of p xs)
 items_are_schedule p plan xs items = (items_follow p plan xs items).schedule
 
 -- and each caller begins its first scripts
@@ -79,7 +79,7 @@ pub items_of_plan : (p : Plan) → IsPlayable p → (xs : List Item) → Each (I
 items_of_plan p plan xs items = of_plan p (events_of p xs) (items_follow p plan xs items)
 
 -- so it is with the plan's own
-pub play_is_schedule : (p : Plan) → IsPlayable p → IsSchedule (setup_for p) (opening_for p) (play_events p)
+pub play_is_schedule : (p : Plan) → IsPlayable p → IsSchedule (plan_setup p) (opening_for p) (play_events p)
 play_is_schedule p plan = items_are_schedule p plan p.schedule plan.plan.each_item
 
 pub play_of_plan : (p : Plan) → IsPlayable p → IsOfPlan p (play_events p)
@@ -87,60 +87,60 @@ play_of_plan p plan = items_of_plan p plan p.schedule plan.plan.each_item
 
 -- ---- the turns of a caller
 
-next_turns : (p : Plan) (i c : ℕ) (w : World) → turns i (next_call p c (machine w c)) ≡ 0
-next_turns p i c w = go (begins_call (machine w c) (length (scripts_of p c))) refl
+next_turns : (p : Plan) (i c : ℕ) (w : Moment) → turn_count i (next_begin p c (machine_in w c)) ≡ 0
+next_turns p i c w = go (begins_call (machine_in w c) (length (scripts_of p c))) refl
   where
-    go : (b : Bool) → begins_call (machine w c) (length (scripts_of p c)) ≡ b → turns i (next_call p c (machine w c)) ≡ 0
-    go true e = ap (turns i) (next_one p c (machine w c) e)
-    go false e = ap (turns i) (next_none p c (machine w c) e)
+    go : (b : Bool) → begins_call (machine_in w c) (length (scripts_of p c)) ≡ b → turn_count i (next_begin p c (machine_in w c)) ≡ 0
+    go true e = ap (turn_count i) (next_one p c (machine_in w c) e)
+    go false e = ap (turn_count i) (next_none p c (machine_in w c) e)
 
-move_turns : (p : Plan) (i : ℕ) (w : World) (m : Event) → turns i (with_begin p w m) ≡ turns i (m ∷ [])
+move_turns : (p : Plan) (i : ℕ) (w : Moment) (m : Event) → turn_count i (with_begin p w m) ≡ turn_count i (m ∷ [])
 move_turns p i w (Begins c op) = refl
 move_turns p i w (Loads a) = refl
 move_turns p i w (Evicts k) = refl
 move_turns p i w (Raises a) = refl
-move_turns p i w (Turns c) = omega (arith, turns_append i (next_call p c (machine w c)) (Turns c ∷ []), next_turns p i c w)
+move_turns p i w (Turns c) = omega (arith, turns_append i (next_begin p c (machine_in w c)) (Turns c ∷ []), next_turns p i c w)
 
-events_turns : (p : Plan) (i : ℕ) (w : World) (ms : List Event) → turns i (events_from p w ms) ≡ turns i ms
+events_turns : (p : Plan) (i : ℕ) (w : Moment) (ms : List Event) → turn_count i (events_from p w ms) ≡ turn_count i ms
 events_turns p i w [] = refl
 events_turns p i w (m ∷ ms) =
-    let v = run (setup_for p) w (with_begin p w m) in
+    let v = after_events (plan_setup p) w (with_begin p w m) in
     omega (arith, turns_append i (with_begin p w m) (events_from p v ms), move_turns p i w m, turns_append i (m ∷ []) ms, events_turns p i v ms)
 
-count_turns : (i c n : ℕ) → turns i (replicate n (Turns c)) ≡ (if c == i then n else 0)
+count_turns : (i c n : ℕ) → turn_count i (replicate n (Turns c)) ≡ (if c == i then n else 0)
 count_turns i c n = go (c == i) refl
   where
-    none : (k : ℕ) → counted (i == c) ≡ 0 → turns i (replicate k (Turns c)) ≡ 0
+    none : (k : ℕ) → one_if (i == c) ≡ 0 → turn_count i (replicate k (Turns c)) ≡ 0
     none zero e = refl
     none (suc k) e = omega (arith, e, none k e)
 
-    each : (k : ℕ) → counted (i == c) ≡ 1 → turns i (replicate k (Turns c)) ≡ k
+    each : (k : ℕ) → one_if (i == c) ≡ 1 → turn_count i (replicate k (Turns c)) ≡ k
     each zero e = refl
     each (suc k) e = omega (arith, e, each k e)
 
-    one : (b : Bool) → (i == c) ≡ b → c ≡ i → counted b ≡ 1
+    one : (b : Bool) → (i == c) ≡ b → c ≡ i → one_if b ≡ 1
     one true e q = refl
     one false e q = let z : i ≡ c → ⊥ = grind (arith, nat_tests) in absurd (z (sym q))
 
-    not_one : (b : Bool) → (i == c) ≡ b → (c ≡ i → ⊥) → counted b ≡ 0
+    not_one : (b : Bool) → (i == c) ≡ b → (c ≡ i → ⊥) → one_if b ≡ 0
     not_one false e q = refl
     not_one true e q = let z : i ≡ c = grind (arith, nat_tests) in absurd (q (sym z))
 
-    go : (b : Bool) → (c == i) ≡ b → turns i (replicate n (Turns c)) ≡ (if b then n else 0)
+    go : (b : Bool) → (c == i) ≡ b → turn_count i (replicate n (Turns c)) ≡ (if b then n else 0)
     go true e = let z : c ≡ i = grind (arith, nat_tests) in each n (one (i == c) refl z)
     go false e = let z : c ≡ i → ⊥ = grind (arith, nat_tests) in none n (not_one (i == c) refl z)
 
-item_turns : (i : ℕ) (x : Item) → turns i (moves_in x) ≡ turns_in i x
+item_turns : (i : ℕ) (x : Item) → turn_count i (item_events x) ≡ turns_in i x
 item_turns i (Turns_of c n) = count_turns i c n
 item_turns i (Evict a) = refl
 
-items_turns : (i : ℕ) (xs : List Item) → turns i (flat_map moves_in xs) ≡ sum_by (turns_in i) xs
+items_turns : (i : ℕ) (xs : List Item) → turn_count i (flat_map item_events xs) ≡ sum_by (turns_in i) xs
 items_turns i [] = refl
-items_turns i (x ∷ xs) = omega (arith, turns_append i (moves_in x) (flat_map moves_in xs), item_turns i x, items_turns i xs, sum_by-cons (turns_in i) x xs)
+items_turns i (x ∷ xs) = omega (arith, turns_append i (item_events x) (flat_map item_events xs), item_turns i x, items_turns i xs, sum_by-cons (turns_in i) x xs)
 
 -- the turns of a caller among the events are those of the schedule
-pub items_are_turns : (p : Plan) (xs : List Item) (c : ℕ) → turns c (events_of p xs) ≡ sum_by (turns_in c) xs
-items_are_turns p xs c = events_turns p c (opening_for p) (flat_map moves_in xs) ∙ items_turns c xs
+pub items_are_turns : (p : Plan) (xs : List Item) (c : ℕ) → turn_count c (events_of p xs) ≡ sum_by (turns_in c) xs
+items_are_turns p xs c = events_turns p c (opening_for p) (flat_map item_events xs) ∙ items_turns c xs
 
-pub play_turns : (p : Plan) (c : ℕ) → turns c (play_events p) ≡ turns_for p c
+pub play_turns : (p : Plan) (c : ℕ) → turn_count c (play_events p) ≡ turns_for p c
 play_turns p c = items_are_turns p p.schedule c

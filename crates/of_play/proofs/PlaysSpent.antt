@@ -6,12 +6,12 @@ use Rattle.of_plan.specs.declared.plan.Item.{Item}
 use Rattle.of_plan.specs.declared.plan.Item.TheVariants.{Turns as Turns_of, Evict}
 use Rattle.of_plan.specs.Plan.{Plan, scripts_of}
 use Rattle.of_plan.proofs.HistoriesLists.{each_append}
-use Rattle.of_core.specs.World.{World}
+use Rattle.of_core.specs.World.{Moment}
 use Rattle.of_core.specs.Machine.{is_idle}
-use Rattle.of_core.specs.Events.{Event, Begins, Turns, Loads, Evicts, Raises, machine, happens, run, IsSchedule}
-use Rattle.of_caller.specs.Tables.{setup_for, opening_for, operation_of}
+use Rattle.of_core.specs.Events.{Event, Begins, Turns, Loads, Evicts, Raises, machine_in, after_event, after_events, IsSchedule}
+use Rattle.of_caller.specs.Tables.{plan_setup, opening_for, operation_of}
 use Rattle.of_caller.specs.Ends.{is_spent}
-use Rattle.of_play.specs.Play.{moves_in, begins_call, next_call, with_begin, events_from, play_events}
+use Rattle.of_play.specs.Play.{item_events, begins_call, next_begin, with_begin, events_from, play_events}
 use Rattle.of_play.proofs.PlaysMoments.{IsPlayable}
 use Rattle.of_play.proofs.PlaysEvents.{events_of}
 use Rattle.of_play.proofs.PlaysUnspent.{NoneAfterSpent, IsSpentLast, spent_last}
@@ -30,13 +30,13 @@ only_turns : (n c : ℕ) → Each IsMove (replicate n (Turns c))
 only_turns zero c = tt
 only_turns (suc n) c = (tt, only_turns n c)
 
-item_moves : (x : Item) → Each IsMove (moves_in x)
+item_moves : (x : Item) → Each IsMove (item_events x)
 item_moves (Turns_of c n) = only_turns n c
 item_moves (Evict a) = (tt, tt)
 
-all_moves : (xs : List Item) → Each IsMove (flat_map moves_in xs)
+all_moves : (xs : List Item) → Each IsMove (flat_map item_events xs)
 all_moves [] = tt
-all_moves (x ∷ xs) = each_append IsMove (moves_in x) (flat_map moves_in xs) (item_moves x) (all_moves xs)
+all_moves (x ∷ xs) = each_append IsMove (item_events x) (flat_map item_events xs) (item_moves x) (all_moves xs)
 
 -- what begins a call has found that the last one wasn't spent
 found_unspent : (idle spent left : Bool) → (idle && (not spent && left)) ≡ true → spent ≡ false
@@ -45,38 +45,38 @@ found_unspent true true left is = absurd (cc)
 found_unspent false spent left is = absurd (cc)
 
 module _ (p : Plan) (c : ℕ) where
-  append_unspent : (xs : List Event) (w : World) (ys : List Event) → NoneAfterSpent (setup_for p) w xs c → NoneAfterSpent (setup_for p) (run (setup_for p) w xs) ys c → NoneAfterSpent (setup_for p) w (xs ++ ys) c
+  append_unspent : (xs : List Event) (w : Moment) (ys : List Event) → NoneAfterSpent (plan_setup p) w xs c → NoneAfterSpent (plan_setup p) (after_events (plan_setup p) w xs) ys c → NoneAfterSpent (plan_setup p) w (xs ++ ys) c
   append_unspent [] w ys first second = second
-  append_unspent (x ∷ xs) w ys first second = (first.0, append_unspent xs (happens (setup_for p) w x) ys first.1 second)
+  append_unspent (x ∷ xs) w ys first second = (first.0, append_unspent xs (after_event (plan_setup p) w x) ys first.1 second)
 
-  turn_unspent : (w : World) (d : ℕ) → NoneAfterSpent (setup_for p) w (next_call p d (machine w d) ++ Turns d ∷ []) c
-  turn_unspent w d = go (begins_call (machine w d) (length (scripts_of p d))) refl
+  turn_unspent : (w : Moment) (d : ℕ) → NoneAfterSpent (plan_setup p) w (next_begin p d (machine_in w d) ++ Turns d ∷ []) c
+  turn_unspent w d = go (begins_call (machine_in w d) (length (scripts_of p d))) refl
     where
-      go : (b : Bool) → begins_call (machine w d) (length (scripts_of p d)) ≡ b
-          → NoneAfterSpent (setup_for p) w (cond b (Begins d (operation_of (slice_index_or (scripts_of p d) (machine w d).made [])) ∷ []) [] ++ Turns d ∷ []) c
+      go : (b : Bool) → begins_call (machine_in w d) (length (scripts_of p d)) ≡ b
+          → NoneAfterSpent (plan_setup p) w (cond b (Begins d (operation_of (slice_index_or (scripts_of p d) (machine_in w d).made [])) ∷ []) [] ++ Turns d ∷ []) c
       go true is =
-          ((λ same. ap (λ (k : ℕ). is_spent (machine w k).answer) same ∙ found_unspent (is_idle (machine w d).place) (is_spent (machine w d).answer) (nat_lt (machine w d).made (length (scripts_of p d))) is), (tt, tt))
+          ((λ same. ap (λ (k : ℕ). is_spent (machine_in w k).answer) same ∙ found_unspent (is_idle (machine_in w d).place) (is_spent (machine_in w d).answer) (nat_lt (machine_in w d).made (length (scripts_of p d))) is), (tt, tt))
       go false is = (tt, tt)
 
-  move_unspent : (w : World) (e : Event) → IsMove e → NoneAfterSpent (setup_for p) w (with_begin p w e) c
+  move_unspent : (w : Moment) (e : Event) → IsMove e → NoneAfterSpent (plan_setup p) w (with_begin p w e) c
   move_unspent w (Begins j op) move = absurd move
   move_unspent w (Turns j) move = turn_unspent w j
   move_unspent w (Loads x) move = absurd move
   move_unspent w (Evicts k) move = absurd move
   move_unspent w (Raises x) move = (tt, tt)
 
-  moves_unspent : (es : List Event) (w : World) → Each IsMove es → NoneAfterSpent (setup_for p) w (events_from p w es) c
+  moves_unspent : (es : List Event) (w : Moment) → Each IsMove es → NoneAfterSpent (plan_setup p) w (events_from p w es) c
   moves_unspent [] w moves = tt
   moves_unspent (e ∷ es) w moves =
-      append_unspent (with_begin p w e) w (events_from p (run (setup_for p) w (with_begin p w e)) es) (move_unspent w e moves.0) (moves_unspent es (run (setup_for p) w (with_begin p w e)) moves.1)
+      append_unspent (with_begin p w e) w (events_from p (after_events (plan_setup p) w (with_begin p w e)) es) (move_unspent w e moves.0) (moves_unspent es (after_events (plan_setup p) w (with_begin p w e)) moves.1)
 
   -- in a schedule a spent caller begins no call
-  pub items_unspent : (xs : List Item) → NoneAfterSpent (setup_for p) (opening_for p) (events_of p xs) c
-  items_unspent xs = moves_unspent (flat_map moves_in xs) (opening_for p) (all_moves xs)
+  pub items_unspent : (xs : List Item) → NoneAfterSpent (plan_setup p) (opening_for p) (events_of p xs) c
+  items_unspent xs = moves_unspent (flat_map item_events xs) (opening_for p) (all_moves xs)
 
 -- so a spent call is the last of its caller's there
-pub items_spent_last : (p : Plan) → IsPlayable p → (xs : List Item) → IsSchedule (setup_for p) (opening_for p) (events_of p xs) → IsSpentLast p (events_of p xs)
+pub items_spent_last : (p : Plan) → IsPlayable p → (xs : List Item) → IsSchedule (plan_setup p) (opening_for p) (events_of p xs) → IsSpentLast p (events_of p xs)
 items_spent_last p play xs schedule = spent_last p play (events_of p xs) schedule (λ c lt. items_unspent p c xs)
 
-pub play_spent_last : (p : Plan) → IsPlayable p → IsSchedule (setup_for p) (opening_for p) (play_events p) → IsSpentLast p (play_events p)
+pub play_spent_last : (p : Plan) → IsPlayable p → IsSchedule (plan_setup p) (opening_for p) (play_events p) → IsSpentLast p (play_events p)
 play_spent_last p play schedule = items_spent_last p play p.schedule schedule

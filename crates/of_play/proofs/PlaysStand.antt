@@ -15,19 +15,19 @@ use Rattle.of_core.specs.declared.bank.Turn.{Turn}
 use Rattle.of_core.specs.declared.bank.Turn.TheVariants.{Idle as NoCall, Open, Ended}
 use Rattle.of_core.specs.declared.place.Outcome.{Outcome}
 use Rattle.of_core.specs.declared.place.Outcome.TheVariants.{Answered, Spent}
-use Rattle.of_core.specs.Table.{Setup, size}
+use Rattle.of_core.specs.Table.{Setup, cell_count}
 use Rattle.of_core.specs.declared.place.Place.TheVariants.{Idle}
-use Rattle.of_core.specs.Machine.{Data, is_idle, no_machine, opened}
-use Rattle.of_core.specs.World.{World}
+use Rattle.of_core.specs.Machine.{CallState, is_idle, no_machine, begin}
+use Rattle.of_core.specs.World.{Moment}
 use Rattle.of_core.specs.Turn.{turn_of}
-use Rattle.of_core.specs.Moment.{Bench, table, after, machine_of}
-use Rattle.of_core.specs.Events.{Event, Begins, Turns, Loads, Evicts, Raises, machine, happens}
-use Rattle.of_core.specs.Calls.{outcomes, outcome_of, ended_by}
-use Rattle.of_caller.specs.Tables.{setup_for, opening_for, operation_of}
+use Rattle.of_core.specs.Moment.{Bank, bank_setup, bank_after, machine_of}
+use Rattle.of_core.specs.Events.{Event, Begins, Turns, Loads, Evicts, Raises, machine_in, after_event}
+use Rattle.of_core.specs.Calls.{outcomes, outcome_of_turn, outcome_of_event}
+use Rattle.of_caller.specs.Tables.{plan_setup, opening_for, operation_of}
 use Rattle.of_caller.specs.Ends.{is_spent, AreAnswers}
 use Rattle.of_caller.specs.Left.{moment_after}
-use Rattle.of_play.specs.Play.{begins_call, next_call}
-use Rattle.of_play.specs.Playing.{Follows, spent_at, standing_of, standing_after, answers_in, HasTime, StandsAfter, Notes, GoesOn, BeginsNext}
+use Rattle.of_play.specs.Play.{begins_call, next_begin}
+use Rattle.of_play.specs.Playing.{EventsMayFollow, spent_at, standing_of, standing_after, answers_in, HasStepToCount, StandsAfter, NotesTurn, MakesMoves, BeginsNext}
 use Rattle.of_play.specs.declared.playing.Playing.{Playing}
 use Rattle.of_play.specs.declared.playing.Standing.{Standing}
 use Rattle.of_play.proofs.PlaysMoments.{IsPlayable, idle_is}
@@ -44,16 +44,16 @@ IsMade (Evicts k) = ⊥
 IsMade (Raises a) = Unit {0}
 
 -- words and machines after such an event come from those before it alone
-same_words : (S : Setup) (w v : World) (e : Event) → IsMade e → v.words ≡ w.words → v.machines ≡ w.machines → (happens S v e).words ≡ (happens S w e).words
+same_words : (S : Setup) (w v : Moment) (e : Event) → IsMade e → v.words ≡ w.words → v.machines ≡ w.machines → (after_event S v e).words ≡ (after_event S w e).words
 same_words S w v (Begins c op) made p q = p
-same_words S w v (Turns c) made p q = λ i. (happens S (record v { words = p i; machines = q i }) (Turns c)).words
+same_words S w v (Turns c) made p q = λ i. (after_event S (record v { words = p i; machines = q i }) (Turns c)).words
 same_words S w v (Loads a) made p q = absurd made
 same_words S w v (Evicts k) made p q = absurd made
-same_words S w v (Raises a) made p q = λ i. (happens S (record v { words = p i }) (Raises a)).words
+same_words S w v (Raises a) made p q = λ i. (after_event S (record v { words = p i }) (Raises a)).words
 
-same_machines : (S : Setup) (w v : World) (e : Event) → IsMade e → v.words ≡ w.words → v.machines ≡ w.machines → (happens S v e).machines ≡ (happens S w e).machines
-same_machines S w v (Begins c op) made p q = λ i. (happens S (record v { words = p i; machines = q i }) (Begins c op)).machines
-same_machines S w v (Turns c) made p q = λ i. (happens S (record v { words = p i; machines = q i }) (Turns c)).machines
+same_machines : (S : Setup) (w v : Moment) (e : Event) → IsMade e → v.words ≡ w.words → v.machines ≡ w.machines → (after_event S v e).machines ≡ (after_event S w e).machines
+same_machines S w v (Begins c op) made p q = λ i. (after_event S (record v { words = p i; machines = q i }) (Begins c op)).machines
+same_machines S w v (Turns c) made p q = λ i. (after_event S (record v { words = p i; machines = q i }) (Turns c)).machines
 same_machines S w v (Loads a) made p q = absurd made
 same_machines S w v (Evicts k) made p q = absurd made
 same_machines S w v (Raises a) made p q = q
@@ -66,9 +66,9 @@ unspent_at (Some (Spent s)) e = cc
 
 module _ (p : Plan) (plan : IsPlayable p) (es : List Event) (s : Playing) (st : StandsAfter p es s) where
   abbrev S : Setup
-  S = setup_for p
+  S = plan_setup p
 
-  abbrev w : World
+  abbrev w : Moment
   w = moment_after p es
 
   good : IsGood p plan w
@@ -77,101 +77,101 @@ module _ (p : Plan) (plan : IsPlayable p) (es : List Event) (s : Playing) (st : 
   pub length_standings : length s.standings.items ≡ p.callers
   length_standings = ap length st.standings ∙ length-map w.machines standing_of ∙ (sound_at p plan w good).members
 
-  pub machine_same : (c : ℕ) → machine_of s.bank c ≡ machine w c
-  machine_same c = ap (λ (ms : List Data). get_or ms c no_machine) st.machines
+  pub machine_same : (c : ℕ) → machine_of s.bank c ≡ machine_in w c
+  machine_same c = ap (λ (ms : List CallState). get_or ms c no_machine) st.machines
 
-  pub standing_at : (c : ℕ) (d : Standing) → c < p.callers → get_or s.standings.items c d ≡ standing_of (machine w c)
+  pub standing_at : (c : ℕ) (d : Standing) → c < p.callers → get_or s.standings.items c d ≡ standing_of (machine_in w c)
   standing_at c d h = ap (λ (xs : List Standing). get_or xs c d) st.standings ∙ get_or-map standing_of w.machines c no_machine d (here p plan w good c h)
 
-  pub time_left : (c : ℕ) → c < p.callers → (machine w c).steps + 1 < 18446744073709551616
+  pub time_left : (c : ℕ) → c < p.callers → (machine_in w c).steps + 1 < 18446744073709551616
   time_left c h = few_steps p plan w good c h
 
   -- what an event leaves of the bank
-  module _ (e : Event) (made : IsMade e) (x : Bench Scripts) (leaves : x ≡ after scripts_meaning (e ∷ []) s.bank) where
+  module _ (e : Event) (made : IsMade e) (x : Bank Scripts) (leaves : x ≡ bank_after scripts_meaning (e ∷ []) s.bank) where
     bank_callers : x.callers ≡ p.callers
-    bank_callers = ap (λ (b : Bench Scripts). b.callers) leaves ∙ st.callers
+    bank_callers = ap (λ (b : Bank Scripts). b.callers) leaves ∙ st.callers
 
-    bank_table : table scripts_meaning x ≡ S
-    bank_table = ap (table scripts_meaning) leaves ∙ st.table
+    bank_table : bank_setup scripts_meaning x ≡ S
+    bank_table = ap (bank_setup scripts_meaning) leaves ∙ st.table
 
-    now : moment_after p (es ++ e ∷ []) ≡ happens S w e
+    now : moment_after p (es ++ e ∷ []) ≡ after_event S w e
     now = run_append S (opening_for p) es (e ∷ [])
 
-    abbrev before : World
+    abbrev before : Moment
     before = record { words = s.bank.words; machines = s.bank.machines; batches = []; reads = []; loaded = [] }
 
     bank_words : x.words ≡ (moment_after p (es ++ e ∷ [])).words
     bank_words =
-        ap (λ (b : Bench Scripts). b.words) leaves ∙ ap (λ (T : Setup). (happens T before e).words) st.table
-        ∙ same_words S w before e made st.words st.machines ∙ ap (λ (v : World). v.words) (sym now)
+        ap (λ (b : Bank Scripts). b.words) leaves ∙ ap (λ (T : Setup). (after_event T before e).words) st.table
+        ∙ same_words S w before e made st.words st.machines ∙ ap (λ (v : Moment). v.words) (sym now)
 
     bank_machines : x.machines ≡ (moment_after p (es ++ e ∷ [])).machines
     bank_machines =
-        ap (λ (b : Bench Scripts). b.machines) leaves ∙ ap (λ (T : Setup). (happens T before e).machines) st.table
-        ∙ same_machines S w before e made st.words st.machines ∙ ap (λ (v : World). v.machines) (sym now)
+        ap (λ (b : Bank Scripts). b.machines) leaves ∙ ap (λ (T : Setup). (after_event T before e).machines) st.table
+        ∙ same_machines S w before e made st.words st.machines ∙ ap (λ (v : Moment). v.machines) (sym now)
 
     -- where the event ends no call and nobody stands otherwise after it
-    quiet : Follows p (es ++ e ∷ []) → map standing_of w.machines ≡ map standing_of (happens S w e).machines → ((c : ℕ) → ended_by S w e c ≡ []) → StandsAfter p (es ++ e ∷ []) (record s { bank = x })
+    quiet : EventsMayFollow p (es ++ e ∷ []) → map standing_of w.machines ≡ map standing_of (after_event S w e).machines → ((c : ℕ) → outcome_of_event S w e c ≡ []) → StandsAfter p (es ++ e ∷ []) (record s { bank = x })
     quiet f same none = record {
       follows = f;
       callers = bank_callers;
       table = bank_table;
       words = bank_words;
       machines = bank_machines;
-      standings = st.standings ∙ same ∙ ap (λ (v : World). map standing_of v.machines) (sym now);
+      standings = st.standings ∙ same ∙ ap (λ (v : Moment). map standing_of v.machines) (sym now);
       answers = st.answers;
       told = λ c h. subst (λ (os : List Outcome). AreAnswers os (answers_in s c))
           (sym (outcomes_append S (opening_for p) es (e ∷ []) c ∙ ap (λ (os : List Outcome). outcomes S (opening_for p) es c ++ (os ++ [])) (none c) ∙ append-nil _)) (st.told c h);
     }
 
-  pub raise_stands : (a : ℕ) → a < size S → (x : Bench Scripts) → x ≡ after scripts_meaning (Raises a ∷ []) s.bank → StandsAfter p (es ++ Raises a ∷ []) (record s { bank = x })
+  pub raise_stands : (a : ℕ) → a < cell_count S → (x : Bank Scripts) → x ≡ bank_after scripts_meaning (Raises a ∷ []) s.bank → StandsAfter p (es ++ Raises a ∷ []) (record s { bank = x })
   raise_stands a h x leaves = quiet (Raises a) tt x leaves (raise_follows p plan es st.follows a h) refl (λ c. refl)
 
-  pub begin_stands : (c : ℕ) (h : c < p.callers) → begins_call (machine w c) (length (scripts_of p c)) ≡ true → (x : Bench Scripts)
-      → x ≡ after scripts_meaning (Begins c (operation_of (get_or (scripts_of p c) (machine w c).made [])) ∷ []) s.bank
-      → StandsAfter p (es ++ Begins c (operation_of (get_or (scripts_of p c) (machine w c).made [])) ∷ []) (record s { bank = x })
+  pub begin_stands : (c : ℕ) (h : c < p.callers) → begins_call (machine_in w c) (length (scripts_of p c)) ≡ true → (x : Bank Scripts)
+      → x ≡ bank_after scripts_meaning (Begins c (operation_of (get_or (scripts_of p c) (machine_in w c).made [])) ∷ []) s.bank
+      → StandsAfter p (es ++ Begins c (operation_of (get_or (scripts_of p c) (machine_in w c).made [])) ∷ []) (record s { bank = x })
   begin_stands c h begins x leaves =
       quiet (Begins c op) tt x leaves (begin_follows p plan es st.follows c h begins)
-      (ap (map standing_of) (sym (set-get_or w.machines c no_machine)) ∙ map-set standing_of w.machines c (machine w c) ∙ ap (set (map standing_of w.machines) c) same ∙ sym (map-set standing_of w.machines c (opened S (machine w c) op)))
+      (ap (map standing_of) (sym (set-get_or w.machines c no_machine)) ∙ map-set standing_of w.machines c (machine_in w c) ∙ ap (set (map standing_of w.machines) c) same ∙ sym (map-set standing_of w.machines c (begin S (machine_in w c) op)))
       (λ i. refl)
     where
       op : List ℕ
-      op = operation_of (get_or (scripts_of p c) (machine w c).made [])
+      op = operation_of (get_or (scripts_of p c) (machine_in w c).made [])
 
-      same : standing_of (machine w c) ≡ standing_of (opened S (machine w c) (operation_of (get_or (scripts_of p c) (machine w c).made [])))
+      same : standing_of (machine_in w c) ≡ standing_of (begin S (machine_in w c) (operation_of (get_or (scripts_of p c) (machine_in w c).made [])))
       same =
-          let spent = unspent_at (machine w c).answer (begins_unspent p plan es st.follows c h begins) in
+          let spent = unspent_at (machine_in w c).answer (begins_unspent p plan es st.follows c h begins) in
           let steps = idle_steps p plan w good c h (begins_idle p plan es st.follows c h begins) in
           λ i. record { spent = spent i; steps = steps i }
 
   module _ (c : ℕ) (h : c < p.callers) where
-    turned_to : moment_after p (es ++ Turns c ∷ []) ≡ happens S w (Turns c)
+    turned_to : moment_after p (es ++ Turns c ∷ []) ≡ after_event S w (Turns c)
     turned_to = run_append S (opening_for p) es (Turns c ∷ [])
 
     -- what the bank says of a turn
-    pub turn_says : (x : Bench Scripts) → x ≡ after scripts_meaning (Turns c ∷ []) s.bank → (r : Turn) → r ≡ turn_of (machine_of s.bank c) (machine_of x c) → r ≡ turn_of (machine w c) (machine (happens S w (Turns c)) c)
-    turn_says x leaves r says = says ∙ (λ i. turn_of (machine_same c i) (get_or (bank_machines (Turns c) tt x leaves i) c no_machine)) ∙ ap (λ (u : World). turn_of (machine w c) (machine u c)) turned_to
+    pub turn_says : (x : Bank Scripts) → x ≡ bank_after scripts_meaning (Turns c ∷ []) s.bank → (r : Turn) → r ≡ turn_of (machine_of s.bank c) (machine_of x c) → r ≡ turn_of (machine_in w c) (machine_in (after_event S w (Turns c)) c)
+    turn_says x leaves r says = says ∙ (λ i. turn_of (machine_same c i) (get_or (bank_machines (Turns c) tt x leaves i) c no_machine)) ∙ ap (λ (u : Moment). turn_of (machine_in w c) (machine_in u c)) turned_to
 
     -- the outcomes behind it
-    pub turn_ends : outcomes S (opening_for p) (es ++ Turns c ∷ []) c ≡ outcomes S (opening_for p) es c ++ outcome_of (turn_of (machine w c) (machine (happens S w (Turns c)) c))
+    pub turn_ends : outcomes S (opening_for p) (es ++ Turns c ∷ []) c ≡ outcomes S (opening_for p) es c ++ outcome_of_turn (turn_of (machine_in w c) (machine_in (after_event S w (Turns c)) c))
     turn_ends =
-        let told : List Outcome = outcome_of (turn_of (machine w c) (machine (happens S w (Turns c)) c)) in
+        let told : List Outcome = outcome_of_turn (turn_of (machine_in w c) (machine_in (after_event S w (Turns c)) c)) in
         outcomes_append S (opening_for p) es (Turns c ∷ []) c ∙ ap (λ (os : List Outcome). outcomes S (opening_for p) es c ++ (os ++ [])) (only_same c told)
         ∙ ap (λ (os : List Outcome). outcomes S (opening_for p) es c ++ os) (append-nil told)
 
     turn_ends_not : (i : ℕ) → (i ≡ c → ⊥) → outcomes S (opening_for p) (es ++ Turns c ∷ []) i ≡ outcomes S (opening_for p) es i
     turn_ends_not i n =
-        let told : List Outcome = outcome_of (turn_of (machine w c) (machine (happens S w (Turns c)) c)) in
+        let told : List Outcome = outcome_of_turn (turn_of (machine_in w c) (machine_in (after_event S w (Turns c)) c)) in
         outcomes_append S (opening_for p) es (Turns c ∷ []) i ∙ ap (λ (os : List Outcome). outcomes S (opening_for p) es i ++ (os ++ [])) (only_other i c told n) ∙ append-nil _
 
-    pub turn_stands : (x : Bench Scripts) → x ≡ after scripts_meaning (Turns c ∷ []) s.bank → (r : Turn) → r ≡ turn_of (machine_of s.bank c) (machine_of x c)
-        → (t : Playing) → Notes c r (record s { bank = x }) t → StandsAfter p (es ++ Turns c ∷ []) t
+    pub turn_stands : (x : Bank Scripts) → x ≡ bank_after scripts_meaning (Turns c ∷ []) s.bank → (r : Turn) → r ≡ turn_of (machine_of s.bank c) (machine_of x c)
+        → (t : Playing) → NotesTurn c r (record s { bank = x }) t → StandsAfter p (es ++ Turns c ∷ []) t
     turn_stands x leaves r says t notes = record {
       follows = turn_follows p plan es st.follows c h;
-      callers = ap (λ (b : Bench Scripts). b.callers) notes.bank ∙ bank_callers (Turns c) tt x leaves;
-      table = ap (table scripts_meaning) notes.bank ∙ bank_table (Turns c) tt x leaves;
-      words = ap (λ (b : Bench Scripts). b.words) notes.bank ∙ bank_words (Turns c) tt x leaves;
-      machines = ap (λ (b : Bench Scripts). b.machines) notes.bank ∙ bank_machines (Turns c) tt x leaves;
+      callers = ap (λ (b : Bank Scripts). b.callers) notes.bank ∙ bank_callers (Turns c) tt x leaves;
+      table = ap (bank_setup scripts_meaning) notes.bank ∙ bank_table (Turns c) tt x leaves;
+      words = ap (λ (b : Bank Scripts). b.words) notes.bank ∙ bank_words (Turns c) tt x leaves;
+      machines = ap (λ (b : Bank Scripts). b.machines) notes.bank ∙ bank_machines (Turns c) tt x leaves;
       standings = stood;
       answers = notes.answers ∙ st.answers;
       told = λ i l. answered i l (cases_eq i c);
@@ -179,25 +179,25 @@ module _ (p : Plan) (plan : IsPlayable p) (es : List Event) (s : Playing) (st : 
       where
         stood : t.standings.items ≡ map standing_of (moment_after p (es ++ Turns c ∷ [])).machines
         stood =
-            let d : Standing = standing_of (machine w c) in
+            let d : Standing = standing_of (machine_in w c) in
             notes.standings d ∙ (λ i. set (st.standings i) c (standing_after (turn_says x leaves r says i) (standing_at c d h i)))
             ∙ ap (set (map standing_of w.machines) c) (sym (stands_turned p plan w good c h) ∙ ap standing_of (turned p plan w good c h))
-            ∙ sym (map-set standing_of w.machines c _) ∙ ap (λ (u : World). map standing_of u.machines) (sym turned_to)
+            ∙ sym (map-set standing_of w.machines c _) ∙ ap (λ (u : Moment). map standing_of u.machines) (sym turned_to)
 
         answered : (i : ℕ) → i < p.callers → (i ≡ c) ⊎ (i ≡ c → ⊥) → AreAnswers (outcomes S (opening_for p) (es ++ Turns c ∷ []) i) (answers_in t i)
         answered i l (inr n) = subst (λ (os : List Outcome). AreAnswers os (answers_in t i)) (sym (turn_ends_not i n)) (subst (AreAnswers (outcomes S (opening_for p) es i)) (sym (notes.others i n)) (st.told i l))
         answered i l (inl q) = subst (λ (k : ℕ). AreAnswers (outcomes S (opening_for p) (es ++ Turns c ∷ []) k) (answers_in t k)) (sym q)
-            (subst (λ (os : List Outcome). AreAnswers os (answers_in t c)) (ap (λ (u : Turn). outcomes S (opening_for p) es c ++ outcome_of u) (turn_says x leaves r says) ∙ sym turn_ends)
+            (subst (λ (os : List Outcome). AreAnswers os (answers_in t c)) (ap (λ (u : Turn). outcomes S (opening_for p) es c ++ outcome_of_turn u) (turn_says x leaves r says) ∙ sym turn_ends)
             (notes.told (outcomes S (opening_for p) es c) (st.told c h)))
 
 -- where a caller begins no call
-pub next_none : (p : Plan) (c : ℕ) (m : Data) → begins_call m (length (scripts_of p c)) ≡ false → next_call p c m ≡ []
+pub next_none : (p : Plan) (c : ℕ) (m : CallState) → begins_call m (length (scripts_of p c)) ≡ false → next_begin p c m ≡ []
 next_none p c m e = ap (λ (b : Bool). if b then Begins c (operation_of (get_or (scripts_of p c) m.made [])) ∷ [] else []) e
 
-pub next_one : (p : Plan) (c : ℕ) (m : Data) → begins_call m (length (scripts_of p c)) ≡ true → next_call p c m ≡ Begins c (operation_of (get_or (scripts_of p c) m.made [])) ∷ []
+pub next_one : (p : Plan) (c : ℕ) (m : CallState) → begins_call m (length (scripts_of p c)) ≡ true → next_begin p c m ≡ Begins c (operation_of (get_or (scripts_of p c) m.made [])) ∷ []
 next_one p c m e = ap (λ (b : Bool). if b then Begins c (operation_of (get_or (scripts_of p c) m.made [])) ∷ [] else []) e
 
-pub stays_none : (p : Plan) (es : List Event) (s : Playing) (c : ℕ) (m : Data) → begins_call m (length (scripts_of p c)) ≡ false → StandsAfter p es s → StandsAfter p (es ++ next_call p c m) s
+pub stays_none : (p : Plan) (es : List Event) (s : Playing) (c : ℕ) (m : CallState) → begins_call m (length (scripts_of p c)) ≡ false → StandsAfter p es s → StandsAfter p (es ++ next_begin p c m) s
 stays_none p es s c m e st = subst (λ (fs : List Event). StandsAfter p (es ++ fs) s) (sym (next_none p c m e)) (subst (λ (fs : List Event). StandsAfter p fs s) (sym (append-nil es)) st)
 
 -- what the code keeps of a spent call
@@ -207,21 +207,21 @@ spent_told (Some (Answered q announced raw steps)) = refl
 spent_told (Some (Spent q)) = refl
 
 -- a caller that isn't idle, is spent or has no script left begins none; any other does
-pub begins_not : (m : Data) (n : ℕ) → is_spent m.answer ≡ true → begins_call m n ≡ false
+pub begins_not : (m : CallState) (n : ℕ) → is_spent m.answer ≡ true → begins_call m n ≡ false
 begins_not m n e = ap (λ (b : Bool). is_idle m.place && (not b && nat_lt m.made n)) e ∙ go (is_idle m.place)
   where
     go : (a : Bool) → (a && false) ≡ false
     go true = refl
     go false = refl
 
-pub begins_busy : (m : Data) (n : ℕ) → (m.place ≡ Idle → ⊥) → begins_call m n ≡ false
+pub begins_busy : (m : CallState) (n : ℕ) → (m.place ≡ Idle → ⊥) → begins_call m n ≡ false
 begins_busy m n busy = go (is_idle m.place) refl
   where
     go : (a : Bool) → is_idle m.place ≡ a → begins_call m n ≡ false
     go true e = absurd (busy (idle_is m.place e))
     go false e = ap (λ (b : Bool). b && (not (is_spent m.answer) && nat_lt m.made n)) e
 
-pub begins_done : (m : Data) (n : ℕ) → n ≤ m.made → begins_call m n ≡ false
+pub begins_done : (m : CallState) (n : ℕ) → n ≤ m.made → begins_call m n ≡ false
 begins_done m n all = ap (λ (b : Bool). is_idle m.place && (not (is_spent m.answer) && b)) none ∙ go (is_idle m.place) (not (is_spent m.answer))
   where
     none : nat_lt m.made n ≡ false
@@ -232,7 +232,7 @@ begins_done m n all = ap (λ (b : Bool). is_idle m.place && (not (is_spent m.ans
     go true false = refl
     go false b = refl
 
-pub begins_is : (m : Data) (n : ℕ) → m.place ≡ Idle → is_spent m.answer ≡ false → m.made < n → begins_call m n ≡ true
+pub begins_is : (m : CallState) (n : ℕ) → m.place ≡ Idle → is_spent m.answer ≡ false → m.made < n → begins_call m n ≡ true
 begins_is m n e f l =
     let left : nat_lt m.made n ≡ true = grind (arith, nat_tests) in
     (λ i. is_idle (e i) && (not (f i) && left i))
@@ -242,53 +242,53 @@ words_first : {A : Type 0} (n : ℕ) (xs ys : List A) → n ≡ length xs → ta
 words_first n xs ys e = ap (λ (k : ℕ). take k (xs ++ ys)) e ∙ take-append_seam xs ys
 
 module _ (p : Plan) (plan : IsPlayable p) (es : List Event) (s : Playing) (st : StandsAfter p es s) (c : ℕ) (h : c < p.callers) where
-  abbrev m : Data
-  m = machine (moment_after p es) c
+  abbrev m : CallState
+  m = machine_in (moment_after p es) c
 
   -- what the code keeps of the caller's machine is whether it is spent
   pub spent_kept : (t : Standing) → t ≡ get_or s.standings.items c t → is_some t.spent ≡ is_spent m.answer
   spent_kept t e = ap (λ (x : Standing). is_some x.spent) (e ∙ standing_at p plan es s st c t h) ∙ spent_told m.answer
 
   -- a spent caller begins none
-  pub spent_stands : (t : Standing) → t ≡ get_or s.standings.items c t → is_some t.spent ≡ true → StandsAfter p (es ++ next_call p c m) s
+  pub spent_stands : (t : Standing) → t ≡ get_or s.standings.items c t → is_some t.spent ≡ true → StandsAfter p (es ++ next_begin p c m) s
   spent_stands t e q = stays_none p es s c m (begins_not m (length (scripts_of p c)) (sym (spent_kept t e) ∙ q)) st
 
   -- nor does one with an open call
-  pub busy_stands : ((machine_of s.bank c).place ≡ Idle → ⊥) → StandsAfter p (es ++ next_call p c m) s
-  busy_stands busy = stays_none p es s c m (begins_busy m (length (scripts_of p c)) (λ idle. busy (ap (λ (d : Data). d.place) (machine_same p plan es s st c) ∙ idle))) st
+  pub busy_stands : ((machine_of s.bank c).place ≡ Idle → ⊥) → StandsAfter p (es ++ next_begin p c m) s
+  busy_stands busy = stays_none p es s c m (begins_busy m (length (scripts_of p c)) (λ idle. busy (ap (λ (d : CallState). d.place) (machine_same p plan es s st c) ∙ idle))) st
 
   -- nor one with no script left
-  pub done_stands : (n : ℕ) → n ≡ (machine_of s.bank c).made → (scripts : List (List Instr)) → scripts ≡ scripts_of p c → length scripts ≤ n → StandsAfter p (es ++ next_call p c m) s
+  pub done_stands : (n : ℕ) → n ≡ (machine_of s.bank c).made → (scripts : List (List Instr)) → scripts ≡ scripts_of p c → length scripts ≤ n → StandsAfter p (es ++ next_begin p c m) s
   done_stands n made scripts all few =
-      let made_is : n ≡ m.made = made ∙ ap (λ (d : Data). d.made) (machine_same p plan es s st c) in
+      let made_is : n ≡ m.made = made ∙ ap (λ (d : CallState). d.made) (machine_same p plan es s st c) in
       stays_none p es s c m (begins_done m (length (scripts_of p c)) (omega (arith, few, made_is, ap length all))) st
 
   -- a caller that is idle and unspent begins its next script, where it has one left
   pub next_stands : (machine_of s.bank c).place ≡ Idle → (t : Standing) → t ≡ get_or s.standings.items c t → is_some t.spent ≡ false
       → (n : ℕ) → n ≡ (machine_of s.bank c).made → (scripts : List (List Instr)) → scripts ≡ scripts_of p c → n < length scripts → (script : List Instr) → script ≡ get_or scripts n script
-      → (count : ℕ) → count ≡ length script → (out rest : List ℕ) → out ≡ operation_of script ++ rest → (x : Bench Scripts) → x ≡ after scripts_meaning (Begins c (take count out) ∷ []) s.bank
-      → StandsAfter p (es ++ next_call p c m) (record s { bank = x })
-  next_stands idle t e unspent n made scripts all left script read count size out rest words x leaves =
+      → (count : ℕ) → count ≡ length script → (out rest : List ℕ) → out ≡ operation_of script ++ rest → (x : Bank Scripts) → x ≡ bank_after scripts_meaning (Begins c (take count out) ∷ []) s.bank
+      → StandsAfter p (es ++ next_begin p c m) (record s { bank = x })
+  next_stands idle t e unspent n made scripts all left script read count cell_count out rest words x leaves =
       let same = machine_same p plan es s st c in
-      let made_is : n ≡ m.made = made ∙ ap (λ (d : Data). d.made) same in
+      let made_is : n ≡ m.made = made ∙ ap (λ (d : CallState). d.made) same in
       let left_is : m.made < length (scripts_of p c) = omega (arith, left, made_is, ap length all) in
-      let begins = begins_is m (length (scripts_of p c)) (ap (λ (d : Data). d.place) (sym same) ∙ idle) (sym (spent_kept t e) ∙ unspent) left_is in
+      let begins = begins_is m (length (scripts_of p c)) (ap (λ (d : CallState). d.place) (sym same) ∙ idle) (sym (spent_kept t e) ∙ unspent) left_is in
       let first : script ≡ get_or (scripts_of p c) m.made [] = read ∙ get_or_default scripts n script [] left ∙ (λ i. get_or (all i) (made_is i) []) in
-      let many : count ≡ length (operation_of script) = size ∙ sym (length-map script instr_word) in
+      let many : count ≡ length (operation_of script) = cell_count ∙ sym (length-map script instr_word) in
       let op : take count out ≡ operation_of (get_or (scripts_of p c) m.made []) = ap (take count) words ∙ words_first count (operation_of script) rest many ∙ ap operation_of first in
       subst (λ (fs : List Event). StandsAfter p (es ++ fs) (record s { bank = x })) (sym (next_one p c m begins))
-      (begin_stands p plan es s st c h begins x (leaves ∙ ap (λ (o : List ℕ). after scripts_meaning (Begins c o ∷ []) s.bank) op))
+      (begin_stands p plan es s st c h begins x (leaves ∙ ap (λ (o : List ℕ). bank_after scripts_meaning (Begins c o ∷ []) s.bank) op))
 
-pub has_time : (r : Turn) (t : Standing) → t.steps + 1 < 18446744073709551616 → HasTime r t
+pub has_time : (r : Turn) (t : Standing) → t.steps + 1 < 18446744073709551616 → HasStepToCount r t
 has_time NoCall t h = tt
 has_time Open t h = h
 has_time (Ended o) t h = tt
 
 -- a turn with the begin before it
 pub turn_goes_on : (p : Plan) (plan : IsPlayable p) (c : ℕ) → c < p.callers → (first begun : Playing) → BeginsNext p c first begun
-    → (x : Bench Scripts) → x ≡ after scripts_meaning (Turns c ∷ []) begun.bank → (r : Turn) → r ≡ turn_of (machine_of begun.bank c) (machine_of x c)
-    → (t : Playing) → Notes c r (record begun { bank = x }) t → GoesOn p (Turns c ∷ []) first t
+    → (x : Bank Scripts) → x ≡ bank_after scripts_meaning (Turns c ∷ []) begun.bank → (r : Turn) → r ≡ turn_of (machine_of begun.bank c) (machine_of x c)
+    → (t : Playing) → NotesTurn c r (record begun { bank = x }) t → MakesMoves p (Turns c ∷ []) first t
 turn_goes_on p plan c h first begun begins x leaves r says t notes es st =
-    let fs = next_call p c (machine (moment_after p es) c) in
+    let fs = next_begin p c (machine_in (moment_after p es) c) in
     let stands = turn_stands p plan (es ++ fs) begun (begins es st) c h x leaves r says t notes in
     subst (λ (gs : List Event). StandsAfter p gs t) (append_assoc es fs (Turns c ∷ []) ∙ ap (λ (gs : List Event). es ++ gs) (sym (append-nil (fs ++ Turns c ∷ [])))) stands

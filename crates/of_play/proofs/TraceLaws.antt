@@ -2,12 +2,12 @@
 use Rattle.std.proofs.Common.{◌≡◌, ℕ, zero, suc, ◌+◌, ◌<◌, ◌≤◌, ◌^◌, ◌/◌, Bool, true, false, nat_lt, List, [], ◌∷◌, ◌++◌, length, take, get_or, replicate, Option, Some, None, refl, sym, ◌∙◌, ap, arith, if◌then◌else◌}
 use Rattle.std.specs.List.{AllByRecursion as Each, flat_map}
 use Rattle.std.proofs.lemmas.Bool.Decides.{nat_tests}
-use Rattle.of_script.specs.declared.instr.Reply.{Reply}
+use Rattle.of_script.specs.declared.instr.Reply.{Reply as RustReply}
 use Rattle.of_script.specs.declared.instr.Cause.{Cause}
 use Rattle.of_script.specs.declared.instr.Cause.TheVariants.{Overflow, Short, NoRoom, Differs, BadOp}
 use Rattle.of_script.specs.declared.instr.TheConstants.{MOST_INSTRS}
-use Rattle.of_store.specs.State.{Response, Answered, Aborted}
-use Rattle.of_store.specs.Replies.{response_of}
+use Rattle.of_store.specs.State.{Reply, Answered, Aborted}
+use Rattle.of_store.specs.Replies.{reply_value_of}
 use Rattle.of_mem.specs.declared.work.RawReply.{RawReply}
 use Rattle.of_eval.specs.Shapes.{IsHeldBy, code_of}
 use Rattle.of_eval.specs.Reading.{marked_in}
@@ -16,11 +16,11 @@ use Rattle.of_plan.specs.declared.plan.Item.{Item}
 use Rattle.of_plan.specs.declared.plan.Item.TheVariants.{Turns as Turns_of, Evict}
 use Rattle.of_plan.specs.Plan.{Plan}
 use Rattle.of_plan.proofs.HistoriesLists.{each_append}
-use Rattle.of_core.specs.World.{World}
-use Rattle.of_core.specs.Events.{Event, Turns, run}
-use Rattle.of_caller.specs.Tables.{setup_for, opening_for}
+use Rattle.of_core.specs.World.{Moment}
+use Rattle.of_core.specs.Events.{Event, Turns, after_events}
+use Rattle.of_caller.specs.Tables.{plan_setup, opening_for}
 use Rattle.of_caller.specs.Left.{moment_after}
-use Rattle.of_play.specs.Play.{moves_in, moves_for, with_begin, events_from, play_events}
+use Rattle.of_play.specs.Play.{item_events, plan_events, with_begin, events_from, play_events}
 use Rattle.of_play.specs.Trace.{line_at, lines_from}
 use Rattle.of_play.specs.TraceLaws.{IsShown, world_after}
 use Rattle.of_play.specs.TraceParts.{reply_in, cause_at}
@@ -32,42 +32,42 @@ turns_shown : (c n : ℕ) → Each IsShown (replicate n (Turns c))
 turns_shown c zero = tt
 turns_shown c (suc n) = (tt, turns_shown c n)
 
-item_shown : (m : Item) → Each IsShown (moves_in m)
+item_shown : (m : Item) → Each IsShown (item_events m)
 item_shown (Turns_of c n) = turns_shown c n
 item_shown (Evict a) = (tt, tt)
 
-items_shown : (ms : List Item) → Each IsShown (flat_map moves_in ms)
+items_shown : (ms : List Item) → Each IsShown (flat_map item_events ms)
 items_shown [] = tt
-items_shown (m ∷ ms) = each_append IsShown (moves_in m) (flat_map moves_in ms) (item_shown m) (items_shown ms)
+items_shown (m ∷ ms) = each_append IsShown (item_events m) (flat_map item_events ms) (item_shown m) (items_shown ms)
 
-pub all_shown : (p : Plan) → Each IsShown (moves_for p)
+pub all_shown : (p : Plan) → Each IsShown (plan_events p)
 all_shown p = items_shown p.schedule
 
 -- ---- the worlds in which they happen
 
-world_is : (p : Plan) (w : World) (ms : List Event) → world_after p w ms ≡ run (setup_for p) w (events_from p w ms)
+world_is : (p : Plan) (w : Moment) (ms : List Event) → world_after p w ms ≡ after_events (plan_setup p) w (events_from p w ms)
 world_is p w [] = refl
 world_is p w (m ∷ ms) =
-    let v = run (setup_for p) w (with_begin p w m) in
-    world_is p v ms ∙ sym (run_append (setup_for p) w (with_begin p w m) (events_from p v ms))
+    let v = after_events (plan_setup p) w (with_begin p w m) in
+    world_is p v ms ∙ sym (run_append (plan_setup p) w (with_begin p w m) (events_from p v ms))
 
-pub ends_as_play : (p : Plan) → world_after p (opening_for p) (moves_for p) ≡ moment_after p (play_events p)
-ends_as_play p = world_is p (opening_for p) (moves_for p)
+pub ends_as_play : (p : Plan) → world_after p (opening_for p) (plan_events p) ≡ moment_after p (play_events p)
+ends_as_play p = world_is p (opening_for p) (plan_events p)
 
-line_is : (p : Plan) (j k : ℕ) (w : World) (ms : List Event) (e : Event) → k < length ms
+line_is : (p : Plan) (j k : ℕ) (w : Moment) (ms : List Event) (e : Event) → k < length ms
     → get_or (lines_from (line_at p) p j w ms) k [] ≡ line_at p (j + k) (world_after p w (take k ms)) (get_or ms k e)
 line_is p j k w [] e l = absurd (omega (arith, l))
 line_is p j zero w (m ∷ ms) e l = ap (λ (n : ℕ). line_at p n w m) (omega arith)
 line_is p j (suc k) w (m ∷ ms) e l =
-    let v = run (setup_for p) w (with_begin p w m) in
+    let v = after_events (plan_setup p) w (with_begin p w m) in
     line_is p (j + 1) k v ms e (omega (arith, l))
     ∙ ap (λ (n : ℕ). line_at p n (world_after p v (take k ms)) (get_or ms k e)) (omega arith)
 
-pub lines_are : (p : Plan) (k : ℕ) (e : Event) → k < length (moves_for p)
-    → get_or (lines_from (line_at p) p 0 (opening_for p) (moves_for p)) k [] ≡ line_at p k (world_after p (opening_for p) (take k (moves_for p))) (get_or (moves_for p) k e)
+pub lines_are : (p : Plan) (k : ℕ) (e : Event) → k < length (plan_events p)
+    → get_or (lines_from (line_at p) p 0 (opening_for p) (plan_events p)) k [] ≡ line_at p k (world_after p (opening_for p) (take k (plan_events p))) (get_or (plan_events p) k e)
 lines_are p k e l =
-    line_is p 0 k (opening_for p) (moves_for p) e l
-    ∙ ap (λ (n : ℕ). line_at p n (world_after p (opening_for p) (take k (moves_for p))) (get_or (moves_for p) k e)) (omega arith)
+    line_is p 0 k (opening_for p) (plan_events p) e l
+    ∙ ap (λ (n : ℕ). line_at p n (world_after p (opening_for p) (take k (plan_events p))) (get_or (plan_events p) k e)) (omega arith)
 
 -- ---- replies
 
@@ -78,14 +78,14 @@ cause_again NoRoom = refl
 cause_again Differs = refl
 cause_again BadOp = refl
 
-abbrev responded : Option Reply → Response
+abbrev responded : Option RustReply → Reply
 responded None = Answered []
-responded (Some r) = response_of r
+responded (Some r) = reply_value_of r
 
-pub reply_read : (raw : RawReply) (r : Reply) → length raw.values ≡ MOST_INSTRS → IsHeldBy raw r → reply_in raw ≡ response_of r
+pub reply_read : (raw : RawReply) (r : RustReply) → length raw.values ≡ MOST_INSTRS → IsHeldBy raw r → reply_in raw ≡ reply_value_of r
 reply_read raw r wide h = go (nat_lt raw.shape (2 ^ 21)) refl
   where
-    go : (b : Bool) → nat_lt raw.shape (2 ^ 21) ≡ b → reply_in raw ≡ response_of r
+    go : (b : Bool) → nat_lt raw.shape (2 ^ 21) ≡ b → reply_in raw ≡ reply_value_of r
     go true e =
         let small : raw.shape < 2 ^ 21 = grind (arith, nat_tests) in
         rw e (ap responded (answered_is raw r h wide small _ refl _ refl))

@@ -6,12 +6,12 @@ use Rattle.std.proofs.lemmas.Grind.{flat_map-append}
 use Rattle.std.proofs.lemmas.List.{append_assoc, append-nil, take_more}
 use Rattle.of_plan.specs.declared.plan.Item.{Item}
 use Rattle.of_plan.specs.Plan.{Plan}
-use Rattle.of_core.specs.Events.{Event, Turns, run}
-use Rattle.of_caller.specs.Tables.{setup_for, opening_for}
-use Rattle.of_play.specs.Play.{moves_in, moves_for, events_from}
-use Rattle.of_play.specs.Playing.{StandsAfter, IsPlaying, GoesOn}
+use Rattle.of_core.specs.Events.{Event, Turns, after_events}
+use Rattle.of_caller.specs.Tables.{plan_setup, opening_for}
+use Rattle.of_play.specs.Play.{item_events, plan_events, events_from}
+use Rattle.of_play.specs.Playing.{StandsAfter, IsPlaying, MakesMoves}
 use Rattle.of_play.specs.Trace.{lines_from, trace_text, commits_text}
-use Rattle.of_play.specs.Tracing.{line_as, WritesLine, shown, TracesAfter, IsTracing, TracesOn}
+use Rattle.of_play.specs.Tracing.{line_as, WritesLine, shown_lines, TracesAfter, IsTracing, TracesOn}
 use Rattle.of_play.specs.declared.playing.tracing.Form.TheVariants.{Events, Commits}
 use Rattle.of_play.specs.declared.playing.tracing.Tracing.{Tracing}
 use Rattle.of_play.proofs.PlaysEvents.{events_append}
@@ -62,14 +62,14 @@ module _ (p : Plan) (e : Event) (t : Tracing) (r : IsTracing p t) where
           number = λ l. absurd (omega (arith, l, h));
           stands = λ l. absurd (omega (arith, l, h));
           over = λ l. omega (arith, all, more);
-          text = st.text ∙ sym (ap (shown t.first (t.end - t.first)) (lines_more (line_as t.form p) p 0 (opening_for p) ms e)
+          text = st.text ∙ sym (ap (shown_lines t.first (t.end - t.first)) (lines_more (line_as t.form p) p 0 (opening_for p) ms e)
               ∙ shown_over t.first (t.end - t.first) (lines_from (line_as t.form p) p 0 (opening_for p) ms) _ (omega (arith, all, r.first, lines_length (line_as t.form p) p 0 (opening_for p) ms)));
         };
   }
 
   -- an event is made, and a text is left that is that of one event more
-  module _ (h : t.number < t.end) (u : Tracing) (form : u.form ≡ t.form) (first : u.first ≡ t.first) (end : u.end ≡ t.end) (next : u.number ≡ t.number + 1) (goes : GoesOn p (e ∷ []) t.playing u.playing) where
-    goes_on : ((ms : List Event) → TracesAfter p ms t → string_bytes u.text ≡ shown t.first (t.end - t.first) (lines_from (line_as t.form p) p 0 (opening_for p) (ms ++ e ∷ []))) → TracesOn p (e ∷ []) t u
+  module _ (h : t.number < t.end) (u : Tracing) (form : u.form ≡ t.form) (first : u.first ≡ t.first) (end : u.end ≡ t.end) (next : u.number ≡ t.number + 1) (goes : MakesMoves p (e ∷ []) t.playing u.playing) where
+    goes_on : ((ms : List Event) → TracesAfter p ms t → string_bytes u.text ≡ shown_lines t.first (t.end - t.first) (lines_from (line_as t.form p) p 0 (opening_for p) (ms ++ e ∷ []))) → TracesOn p (e ∷ []) t u
     goes_on text = record {
       form = form;
       first = first;
@@ -82,7 +82,7 @@ module _ (p : Plan) (e : Event) (t : Tracing) (r : IsTracing p t) where
             number = λ l. omega (arith, next, number, more);
             stands = λ l. subst (λ (es : List Event). StandsAfter p es u.playing) (sym (events_append p (opening_for p) ms (e ∷ []))) (goes (events_from p (opening_for p) ms) (st.stands h));
             over = λ l. omega (arith, l, next, number, more);
-            text = text ms st ∙ sym (λ i. shown (first i) (end i - first i) (lines_from (line_as (form i) p) p 0 (opening_for p) (ms ++ e ∷ [])));
+            text = text ms st ∙ sym (λ i. shown_lines (first i) (end i - first i) (lines_from (line_as (form i) p) p 0 (opening_for p) (ms ++ e ∷ [])));
           };
     }
 
@@ -102,8 +102,8 @@ module _ (p : Plan) (e : Event) (t : Tracing) (r : IsTracing p t) where
         let lines = lines_from (line_as t.form p) p 0 (opening_for p) ms in
         let es = events_from p (opening_for p) ms in
         writes es (st.stands h)
-        ∙ (λ i. st.text i ++ line_as t.form p (place i) (run (setup_for p) (opening_for p) es) e)
-        ∙ sym (ap (shown t.first (t.end - t.first)) (lines_more (line_as t.form p) p 0 (opening_for p) ms e)
+        ∙ (λ i. st.text i ++ line_as t.form p (place i) (after_events (plan_setup p) (opening_for p) es) e)
+        ∙ sym (ap (shown_lines t.first (t.end - t.first)) (lines_more (line_as t.form p) p 0 (opening_for p) ms e)
         ∙ shown_more t.first (t.end - t.first) lines _ (omega (arith, late, number, lines_length (line_as t.form p) p 0 (opening_for p) ms)) (omega (arith, h, r.first, number, lines_length (line_as t.form p) p 0 (opening_for p) ms))))
 
 -- before anything has happened
@@ -117,27 +117,27 @@ trace_begins p t none st text = record {
 }
 
 -- the moves of one item more
-moves_more : (p : Plan) (items : List Item) → items ≡ p.schedule → (k : ℕ) (d : Item) → k < length items → flat_map moves_in (take k p.schedule) ++ moves_in (get_or items k d) ≡ flat_map moves_in (take (k + 1) p.schedule)
+moves_more : (p : Plan) (items : List Item) → items ≡ p.schedule → (k : ℕ) (d : Item) → k < length items → flat_map item_events (take k p.schedule) ++ item_events (get_or items k d) ≡ flat_map item_events (take (k + 1) p.schedule)
 moves_more p items same k d l =
-    let ms = flat_map moves_in (take k p.schedule) in
+    let ms = flat_map item_events (take k p.schedule) in
     let item = get_or items k d in
-    ap (λ (ns : List Event). ms ++ ns) (sym (append-nil (moves_in item)))
-    ∙ sym (flat_map-append moves_in (take k p.schedule) (item ∷ []))
-    ∙ ap (λ (xs : List Item). flat_map moves_in (take k p.schedule ++ get_or xs k d ∷ [])) same
-    ∙ ap (flat_map moves_in) (sym (take_more p.schedule k d (omega (arith, l, ap length same))))
+    ap (λ (ns : List Event). ms ++ ns) (sym (append-nil (item_events item)))
+    ∙ sym (flat_map-append item_events (take k p.schedule) (item ∷ []))
+    ∙ ap (λ (xs : List Item). flat_map item_events (take k p.schedule ++ get_or xs k d ∷ [])) same
+    ∙ ap (flat_map item_events) (sym (take_more p.schedule k d (omega (arith, l, ap length same))))
 
-pub trace_items_more : (p : Plan) (items : List Item) → items ≡ p.schedule → (k : ℕ) (d : Item) (s t : Tracing) → k < length items → TracesOn p (moves_in (get_or items k d)) s t
-    → TracesAfter p (flat_map moves_in (take k p.schedule)) s → TracesAfter p (flat_map moves_in (take (k + 1) p.schedule)) t
-trace_items_more p items same k d s t l f st = subst (λ (ms : List Event). TracesAfter p ms t) (moves_more p items same k d l) (f.stands (flat_map moves_in (take k p.schedule)) st)
+pub trace_items_more : (p : Plan) (items : List Item) → items ≡ p.schedule → (k : ℕ) (d : Item) (s t : Tracing) → k < length items → TracesOn p (item_events (get_or items k d)) s t
+    → TracesAfter p (flat_map item_events (take k p.schedule)) s → TracesAfter p (flat_map item_events (take (k + 1) p.schedule)) t
+trace_items_more p items same k d s t l f st = subst (λ (ms : List Event). TracesAfter p ms t) (moves_more p items same k d l) (f.stands (flat_map item_events (take k p.schedule)) st)
 
 -- what was written where the schedule has ended
-pub trace_ends : (p : Plan) (f c : ℕ) (t : Tracing) (ms : List Event) → ms ≡ moves_for p → t.form ≡ Events → t.first ≡ f → t.end ≡ f + c → TracesAfter p ms t → string_bytes t.text ≡ trace_text p f c
+pub trace_ends : (p : Plan) (f c : ℕ) (t : Tracing) (ms : List Event) → ms ≡ plan_events p → t.form ≡ Events → t.first ≡ f → t.end ≡ f + c → TracesAfter p ms t → string_bytes t.text ≡ trace_text p f c
 trace_ends p f c t ms all form first end st =
     let count : t.end - t.first ≡ c = omega (arith, first, end) in
-    st.text ∙ (λ i. shown (first i) (count i) (lines_from (line_as (form i) p) p 0 (opening_for p) (all i)))
+    st.text ∙ (λ i. shown_lines (first i) (count i) (lines_from (line_as (form i) p) p 0 (opening_for p) (all i)))
 
 -- and so of commits
-pub commits_end : (p : Plan) (c : ℕ) (t : Tracing) (ms : List Event) → ms ≡ moves_for p → t.form ≡ Commits → t.first ≡ 0 → t.end ≡ c → TracesAfter p ms t → string_bytes t.text ≡ commits_text p c
+pub commits_end : (p : Plan) (c : ℕ) (t : Tracing) (ms : List Event) → ms ≡ plan_events p → t.form ≡ Commits → t.first ≡ 0 → t.end ≡ c → TracesAfter p ms t → string_bytes t.text ≡ commits_text p c
 commits_end p c t ms all form first end st =
     let count : t.end - t.first ≡ c = omega (arith, first, end) in
-    st.text ∙ (λ i. shown (first i) (count i) (lines_from (line_as (form i) p) p 0 (opening_for p) (all i)))
+    st.text ∙ (λ i. shown_lines (first i) (count i) (lines_from (line_as (form i) p) p 0 (opening_for p) (all i)))

@@ -2,7 +2,7 @@
 use Rattle.std.specs.Prelude.{◌≡◌, ℕ, ◌+◌, ◌-◌, ◌*◌, ◌/◌, ◌%◌, ◌<◌, ◌==◌, nat_lt, if◌then◌else◌}
 use Rattle.of_cell.specs.Cells.{request_cell, data_cell, log_cell, durable_cells, durable_place, script_place, announce_place, members_place, table_words}
 use Rattle.of_mem.specs.declared.work.TheConstants.{MOST_INSTRS}
-use Rattle.of_mem.specs.Places.{base_of, ticket_at, shape_at, reply_at, register_at, fresh_at, free_at, keys_at, bucket_at, head_at, tail_at, length_at, block_at}
+use Rattle.of_mem.specs.Places.{base_of, ticket_cell_at, shape_at, reply_at, register_at, fresh_at, free_at, keys_at, bucket_at, head_at, tail_at, length_at, block_at}
 use Rattle.of_play.specs.declared.names.Holding.{Holding}
 use Rattle.of_play.specs.declared.names.Holding.TheVariants.{Ticket, Shape, Reply, Register, Taken, Free, Keys, Bucket, Front, Back, Length, Block}
 use Rattle.of_play.specs.declared.names.Cell.{Cell}
@@ -12,7 +12,7 @@ use Rattle.of_play.specs.declared.names.Word.TheVariants.{Now, Durable, Script, 
 
 -- The address of the data cell that holds this, where there are n callers.
 abbrev pub address_of : (n : ℕ) → Holding → ℕ
-address_of n (Ticket i) = ticket_at MOST_INSTRS i
+address_of n (Ticket i) = ticket_cell_at MOST_INSTRS i
 address_of n (Shape i) = shape_at MOST_INSTRS i
 address_of n (Reply i j) = reply_at MOST_INSTRS i j
 address_of n (Register r) = register_at (base_of n MOST_INSTRS) r
@@ -26,19 +26,19 @@ address_of n (Length q) = length_at (base_of n MOST_INSTRS) q
 address_of n (Block b f) = block_at (base_of n MOST_INSTRS) b f
 
 -- the number of a cell, where there are n callers and m data cells
-abbrev pub number_of : (n m : ℕ) → Cell → ℕ
-number_of n m Current = 0
-number_of n m (Request i) = request_cell i
-number_of n m (Data a) = data_cell n a
-number_of n m (Log i x) = log_cell n m i x
+abbrev pub cell_number : (n m : ℕ) → Cell → ℕ
+cell_number n m Current = 0
+cell_number n m (Request i) = request_cell i
+cell_number n m (Data a) = data_cell n a
+cell_number n m (Log i x) = log_cell n m i x
 
 -- the place of a word in the table
-abbrev pub place_of : (n m : ℕ) → Word → ℕ
-place_of n m (Now c) = number_of n m c
-place_of n m (Durable c) = durable_place n m (number_of n m c)
-place_of n m (Script i x) = script_place n MOST_INSTRS m i x
-place_of n m (Announcement i) = announce_place n MOST_INSTRS m i
-place_of n m Members = members_place n MOST_INSTRS m
+abbrev pub word_place : (n m : ℕ) → Word → ℕ
+word_place n m (Now c) = cell_number n m c
+word_place n m (Durable c) = durable_place n m (cell_number n m c)
+word_place n m (Script i x) = script_place n MOST_INSTRS m i x
+word_place n m (Announcement i) = announce_place n MOST_INSTRS m i
+word_place n m Members = members_place n MOST_INSTRS m
 
 -- What a caller's own data cell j holds.
 abbrev pub own_cell : (i j : ℕ) → Holding
@@ -78,8 +78,8 @@ abbrev pub row_word : (i x : ℕ) → Word
 row_word i x = if x == MOST_INSTRS then Announcement i else Script i x
 
 -- the word with this place
-abbrev pub word_at : (n m w : ℕ) → Word
-word_at n m w =
+abbrev pub word_at_place : (n m w : ℕ) → Word
+word_at_place n m w =
     if nat_lt w (durable_cells n m) then Now (cell_at n m w)
     else if nat_lt w (script_place n MOST_INSTRS m 0 0) then Durable (cell_at n m (w - durable_cells n m))
     else if nat_lt w (members_place n MOST_INSTRS m)
@@ -91,7 +91,7 @@ abbrev pub HoldingsAreNamed : Type 0
 HoldingsAreNamed = (n a : ℕ) → address_of n (holding_at n a) ≡ a
 
 abbrev pub CellsAreNamed : Type 0
-CellsAreNamed = (n m c : ℕ) → number_of n m (cell_at n m c) ≡ c
+CellsAreNamed = (n m c : ℕ) → cell_number n m (cell_at n m c) ≡ c
 
 abbrev pub WordsAreNamed : Type 0
-WordsAreNamed = (n m w : ℕ) → w < table_words n MOST_INSTRS m → place_of n m (word_at n m w) ≡ w
+WordsAreNamed = (n m w : ℕ) → w < table_words n MOST_INSTRS m → word_place n m (word_at_place n m w) ≡ w

@@ -2,64 +2,64 @@
 -- are asked for; and the lines of its commits.
 use Rattle.std.specs.Prelude.{ℕ, ◌-◌, ◌+◌, List, [], ◌∷◌, ◌++◌, Bool, true, false, length, get_or, take, drop, flat_map, codes, decimal}
 use Rattle.of_plan.specs.Plan.{Plan, data_cells}
-use Rattle.of_core.specs.Table.{durable_at, last}
+use Rattle.of_core.specs.Table.{durable_at, committed_seq}
 use Rattle.of_core.specs.Machine.{Call, is_idle}
-use Rattle.of_core.specs.Seen.{ended}
-use Rattle.of_core.specs.Helping.{helped}
+use Rattle.of_core.specs.Seen.{ended_outcome}
+use Rattle.of_core.specs.Helping.{steps_left_after_help}
 use Rattle.of_core.specs.Steps.{want, word_of}
-use Rattle.of_core.specs.World.{World, Batch}
-use Rattle.of_core.specs.Events.{Event, Turns, Raises, machine, happens, run}
-use Rattle.of_caller.specs.Tables.{setup_for, opening_for}
+use Rattle.of_core.specs.World.{Moment, Batch}
+use Rattle.of_core.specs.Events.{Event, Turns, Raises, machine_in, after_event, after_events}
+use Rattle.of_caller.specs.Tables.{plan_setup, opening_for}
 use Rattle.of_play.specs.declared.trace_text.Change.{Change}
 use Rattle.of_play.specs.declared.trace_line.Step.{Step}
-use Rattle.of_play.specs.Play.{moves_for, next_call, with_begin}
+use Rattle.of_play.specs.Play.{plan_events, next_begin, with_begin}
 use Rattle.of_play.specs.TraceLine.{step_line, rest_line, evict_line}
 
 -- what a word holds at one moment and at another
-abbrev pub change_of : (word : ℕ) → (w v : World) → Change
+abbrev pub change_of : (word : ℕ) → (w v : Moment) → Change
 change_of c w v = record { word = c; found = get_or w.words c 0; left = get_or v.words c 0 }
 
 -- the step of caller i that leads from w to v
-abbrev pub step_of : Plan → (i : ℕ) → (w v : World) → Step
+abbrev pub step_of : Plan → (i : ℕ) → (w v : Moment) → Step
 step_of p i w v = record {
   caller = i;
-  index = (machine w i).made - 1;
-  place = (machine w i).place;
-  op = want (setup_for p) (machine w i);
-  helps = helped (machine w i);
-  change = change_of (word_of (want (setup_for p) (machine w i))) w v;
-  outcome = ended (machine v i);
+  index = (machine_in w i).made - 1;
+  place = (machine_in w i).place;
+  op = want (plan_setup p) (machine_in w i);
+  helps = steps_left_after_help (machine_in w i);
+  change = change_of (word_of (want (plan_setup p) (machine_in w i))) w v;
+  outcome = ended_outcome (machine_in v i);
 }
 
 -- where no call is open a turn does nothing
-abbrev pub turn_line : Plan → (k i : ℕ) → (idle : Bool) → (w v : World) → List ℕ
+abbrev pub turn_line : Plan → (k i : ℕ) → (idle : Bool) → (w v : Moment) → List ℕ
 turn_line p k i true w v = rest_line k i
 turn_line p k i false w v = step_line p.callers (data_cells p.callers p.blocks) k (step_of p i w v)
 
 -- the line of event k, which leads from w to v
-abbrev pub event_line : Plan → (k : ℕ) → (w v : World) → Event → List ℕ
-event_line p k w v (Turns i) = turn_line p k i (is_idle (machine w i).place) w v
-event_line p k w v (Raises c) = evict_line p.callers (data_cells p.callers p.blocks) k (change_of (durable_at (setup_for p) c) w v)
+abbrev pub event_line : Plan → (k : ℕ) → (w v : Moment) → Event → List ℕ
+event_line p k w v (Turns i) = turn_line p k i (is_idle (machine_in w i).place) w v
+event_line p k w v (Raises c) = evict_line p.callers (data_cells p.callers p.blocks) k (change_of (durable_at (plan_setup p) c) w v)
 event_line p k w v e = []
 
 -- the world in which an event happens: where a turn begins a call that has begun
-abbrev pub ready : Plan → World → Event → World
-ready p w (Turns i) = run (setup_for p) w (next_call p i (machine w i))
-ready p w e = w
+abbrev pub moment_of_event : Plan → Moment → Event → Moment
+moment_of_event p w (Turns i) = after_events (plan_setup p) w (next_begin p i (machine_in w i))
+moment_of_event p w e = w
 
 -- the line of event k, where w is what the events before it leave
-abbrev pub line_at : Plan → (k : ℕ) → World → Event → List ℕ
-line_at p k w e = event_line p k (ready p w e) (happens (setup_for p) (ready p w e) e) e
+abbrev pub line_at : Plan → (k : ℕ) → Moment → Event → List ℕ
+line_at p k w e = event_line p k (moment_of_event p w e) (after_event (plan_setup p) (moment_of_event p w e) e) e
 
 -- a line for each event, from number k on
-abbrev pub lines_from : (line : ℕ → World → Event → List ℕ) → Plan → (k : ℕ) → World → List Event → List (List ℕ)
+abbrev pub lines_from : (line : ℕ → Moment → Event → List ℕ) → Plan → (k : ℕ) → Moment → List Event → List (List ℕ)
 lines_from line p k w [] = []
 lines_from line p k w (e ∷ es) =
-    line k w e ∷ lines_from line p (k + 1) (run (setup_for p) w (with_begin p w e)) es
+    line k w e ∷ lines_from line p (k + 1) (after_events (plan_setup p) w (with_begin p w e)) es
 
 -- of all events of a plan's schedule
 abbrev pub trace_lines : Plan → List (List ℕ)
-trace_lines p = lines_from (line_at p) p 0 (opening_for p) (moves_for p)
+trace_lines p = lines_from (line_at p) p 0 (opening_for p) (plan_events p)
 
 -- from event f on, of the next c of them
 abbrev pub trace_text : Plan → (f c : ℕ) → List ℕ
@@ -78,20 +78,20 @@ batch_line k i s calls =
     ++ flat_map call_part calls ++ codes "\n"
 
 -- the batches that have come to the history from w to v
-abbrev pub added_by : (w v : World) → List Batch
+abbrev pub added_by : (w v : Moment) → List Batch
 added_by w v = drop (length w.batches) v.batches
 
 -- the line of each batch that event k has committed, which leads from w to v: its sequence is the one
 -- after the last
-abbrev pub committed_by : (k : ℕ) → (w v : World) → Event → List ℕ
-committed_by k w v (Turns i) = flat_map (λ b. batch_line k i (last w.words + 1) b.calls) (added_by w v)
+abbrev pub committed_by : (k : ℕ) → (w v : Moment) → Event → List ℕ
+committed_by k w v (Turns i) = flat_map (λ b. batch_line k i (committed_seq w.words + 1) b.calls) (added_by w v)
 committed_by k w v e = []
 
 -- what event k commits, where w is what the events before it leave
-abbrev pub committed_at : Plan → (k : ℕ) → World → Event → List ℕ
-committed_at p k w e = committed_by k (ready p w e) (happens (setup_for p) (ready p w e) e) e
+abbrev pub committed_at : Plan → (k : ℕ) → Moment → Event → List ℕ
+committed_at p k w e = committed_by k (moment_of_event p w e) (after_event (plan_setup p) (moment_of_event p w e) e) e
 
 -- the lines of all commits among the first c events of a plan's schedule
 abbrev pub commits_text : Plan → (c : ℕ) → List ℕ
 commits_text p c =
-    flat_map (λ line. line) (take c (lines_from (committed_at p) p 0 (opening_for p) (moves_for p)))
+    flat_map (λ line. line) (take c (lines_from (committed_at p) p 0 (opening_for p) (plan_events p)))

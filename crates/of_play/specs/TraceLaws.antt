@@ -3,15 +3,15 @@ use Rattle.std.specs.Prelude.{◌≡◌, ℕ, ◌<◌, List, [], ◌∷◌, leng
 use Rattle.std.specs.List.{AllByRecursion}
 use Rattle.of_script.specs.declared.instr.Reply.{Reply}
 use Rattle.of_script.specs.declared.instr.TheConstants.{MOST_INSTRS}
-use Rattle.of_store.specs.Replies.{response_of}
+use Rattle.of_store.specs.Replies.{reply_value_of}
 use Rattle.of_mem.specs.declared.work.RawReply.{RawReply}
 use Rattle.of_eval.specs.Shapes.{IsHeldBy}
 use Rattle.of_plan.specs.Plan.{Plan}
-use Rattle.of_core.specs.World.{World}
-use Rattle.of_core.specs.Events.{Event, Begins, Turns, Loads, Evicts, Raises, run}
-use Rattle.of_caller.specs.Tables.{setup_for, opening_for}
+use Rattle.of_core.specs.World.{Moment}
+use Rattle.of_core.specs.Events.{Event, Begins, Turns, Loads, Evicts, Raises, after_events}
+use Rattle.of_caller.specs.Tables.{plan_setup, opening_for}
 use Rattle.of_caller.specs.Left.{moment_after}
-use Rattle.of_play.specs.Play.{with_begin, moves_for, play_events}
+use Rattle.of_play.specs.Play.{with_begin, plan_events, play_events}
 use Rattle.of_play.specs.Trace.{line_at, trace_lines}
 use Rattle.of_play.specs.TraceParts.{reply_in}
 
@@ -25,25 +25,25 @@ IsShown (Evicts k) = ⊥
 
 -- there are no other events in a plan's schedule
 abbrev pub AllAreShown : Type 0
-AllAreShown = (p : Plan) → AllByRecursion IsShown (moves_for p)
+AllAreShown = (p : Plan) → AllByRecursion IsShown (plan_events p)
 
 -- the world that these moves leave, each with the begin right before it
-abbrev pub world_after : Plan → World → List Event → World
+abbrev pub world_after : Plan → Moment → List Event → Moment
 world_after p w [] = w
-world_after p w (e ∷ es) = world_after p (run (setup_for p) w (with_begin p w e)) es
+world_after p w (e ∷ es) = world_after p (after_events (plan_setup p) w (with_begin p w e)) es
 
 -- line k is that of move k, in the world that the moves before it leave
 abbrev pub LinesAreOfMoves : Type 0
-LinesAreOfMoves = (p : Plan) (k : ℕ) (e : Event) → k < length (moves_for p)
+LinesAreOfMoves = (p : Plan) (k : ℕ) (e : Event) → k < length (plan_events p)
     → get_or (trace_lines p) k []
-    ≡ line_at p k (world_after p (opening_for p) (take k (moves_for p))) (get_or (moves_for p) k e)
+    ≡ line_at p k (world_after p (opening_for p) (take k (plan_events p))) (get_or (plan_events p) k e)
 
 -- and the world after the last one is what `play` ends in
 abbrev pub TracesEndAsPlays : Type 0
 TracesEndAsPlays =
-    (p : Plan) → world_after p (opening_for p) (moves_for p) ≡ moment_after p (play_events p)
+    (p : Plan) → world_after p (opening_for p) (plan_events p) ≡ moment_after p (play_events p)
 
 -- the reply that a trace prints is the one that the cells hold
 abbrev pub RepliesAreRead : Type 0
 RepliesAreRead = (raw : RawReply) (r : Reply) → length raw.values ≡ MOST_INSTRS → IsHeldBy raw r
-    → reply_in raw ≡ response_of r
+    → reply_in raw ≡ reply_value_of r

@@ -4,7 +4,7 @@ use Rattle.of_core.specs.declared.place.Outcome.{Outcome}
 use Rattle.of_core.specs.declared.place.Outcome.TheVariants.{Answered, Spent}
 use Rattle.of_play.specs.declared.trace_line.Step.{Step}
 use Rattle.of_play.specs.declared.trace_text.Change.{Change}
-use Rattle.of_play.specs.Names.{word_at}
+use Rattle.of_play.specs.Names.{word_at_place}
 use Rattle.of_play.specs.TraceText.{step_text, change_text}
 use Rattle.of_play.specs.TraceParts.{helper_part, did_part, word_part, reply_part}
 
@@ -23,7 +23,7 @@ head_text k s =
 
 -- what the word that was left means
 abbrev pub means_part : (n m : ℕ) → Change → List ℕ
-means_part n m c = word_part n (word_at n m c.word) c.left
+means_part n m c = word_part n (word_at_place n m c.word) c.left
 
 -- whom the step helps, what became of it, what it left, and the reply of a call that has ended
 abbrev pub step_parts : (n m : ℕ) → Step → List ℕ

@@ -1,13 +1,13 @@
 -- What a line of a trace tells of its step after the change: parts, each after a semicolon.
 use Rattle.std.specs.Prelude.{ℕ, zero, suc, ◌+◌, ◌/◌, ◌%◌, ◌^◌, ◌==◌, nat_lt, if◌then◌else◌, Bool, true, false, List, [], ◌∷◌, ◌++◌, take, Option, Some, None, codes, decimal}
-use Rattle.of_cell.specs.Words.{seq, pay}
+use Rattle.of_cell.specs.Words.{seq_of, payload_of}
 use Rattle.of_mem.specs.declared.work.RawReply.{RawReply}
 use Rattle.of_script.specs.declared.instr.Instr.{Instr}
 use Rattle.of_script.specs.declared.instr.Cause.{Cause}
 use Rattle.of_script.specs.declared.instr.Cause.TheVariants.{Overflow, Short, NoRoom, Differs, BadOp}
 use Rattle.of_script.specs.Text.{instr_text}
 use Rattle.of_script.specs.Reading.{instr_at}
-use Rattle.of_store.specs.State.{Response, Answered as Values, Aborted}
+use Rattle.of_store.specs.State.{Reply, Answered as Values, Aborted}
 use Rattle.of_eval.specs.Reading.{marked_in}
 use Rattle.of_report.specs.ReportText.{reply_text}
 use Rattle.of_core.specs.declared.place.Op.{Op}
@@ -15,7 +15,7 @@ use Rattle.of_core.specs.declared.place.Op.TheVariants.{Load, Store, Exchange, R
 use Rattle.of_core.specs.declared.place.Outcome.{Outcome}
 use Rattle.of_core.specs.declared.place.Outcome.TheVariants.{Answered, Spent}
 use Rattle.of_play.specs.declared.names.Holding.{Holding}
-use Rattle.of_play.specs.declared.names.Holding.TheVariants.{Ticket, Shape, Reply, Register, Taken, Free, Keys, Bucket, Front, Back, Length, Block}
+use Rattle.of_play.specs.declared.names.Holding.TheVariants.{Ticket, Shape, Reply as RustReply, Register, Taken, Free, Keys, Bucket, Front, Back, Length, Block}
 use Rattle.of_play.specs.declared.names.Cell.{Cell}
 use Rattle.of_play.specs.declared.names.Cell.TheVariants.{Current, Request, Data, Log}
 use Rattle.of_play.specs.declared.names.Word.{Word}
@@ -74,7 +74,7 @@ field_part f x = if f == 2 then pointer_part x else []
 abbrev pub holding_part : Holding → ℕ → List ℕ
 holding_part (Ticket i) x = []
 holding_part (Shape i) x = shape_part x
-holding_part (Reply i j) x = []
+holding_part (RustReply i j) x = []
 holding_part (Register r) x = []
 holding_part Taken x = []
 holding_part Free x = pointer_part x
@@ -96,9 +96,9 @@ log_part n at x = if at % 2 == 1 then codes "; " ++ holding_text (holding_at n x
 -- the word of a cell, where there are n callers
 abbrev pub cell_part : (n : ℕ) → Cell → ℕ → List ℕ
 cell_part n Current v = []
-cell_part n (Request i) v = request_part (seq v) (pay v)
-cell_part n (Data a) v = holding_part (holding_at n a) (pay v)
-cell_part n (Log i at) v = log_part n at (pay v)
+cell_part n (Request i) v = request_part (seq_of v) (payload_of v)
+cell_part n (Data a) v = holding_part (holding_at n a) (payload_of v)
+cell_part n (Log i at) v = log_part n at (payload_of v)
 
 -- what a word of the table means
 abbrev pub word_part : (n : ℕ) → Word → ℕ → List ℕ
@@ -117,7 +117,7 @@ cause_at c =
     else if c == 4 then Differs else BadOp
 
 -- the reply that these cells hold
-abbrev pub reply_in : RawReply → Response
+abbrev pub reply_in : RawReply → Reply
 reply_in raw =
     if nat_lt raw.shape (2 ^ 21)
     then Values (take (raw.shape / 2 ^ 16 % 32) (marked_in (raw.shape % 2 ^ 16) raw.values))

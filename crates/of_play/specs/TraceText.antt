@@ -1,6 +1,6 @@
 -- What a trace prints: the plain names of steps and of words, and what a word was and is.
 use Rattle.std.specs.Prelude.{ℕ, List, ◌++◌, codes, decimal}
-use Rattle.of_cell.specs.Words.{seq, pay}
+use Rattle.of_cell.specs.Words.{seq_of, payload_of}
 use Rattle.of_cell.specs.Cells.{data_cell}
 use Rattle.of_core.specs.declared.place.Place.{Place}
 use Rattle.of_core.specs.declared.place.Place.TheVariants.{Idle, TryCurrent, TryRequest, TryCell, StoreScript, StoreAnnouncement, LoadCurrent, LoadRequest, CopyLog, LookAgain, LoadOwnTicket, LoadShape, LoadReply, LoadAnnouncement, LoadTicket, LoadScript, LoadCell, RaiseOld, StoreLog, RaiseLog, StoreRequest, RaiseRequest, ExchangeCurrent, RaiseCurrent, LoadTarget, ExchangeTarget, ReloadTarget, RaiseTarget, CloseRequest, RaiseClosed}
@@ -11,7 +11,7 @@ use Rattle.of_play.specs.declared.names.Cell.TheVariants.{Current, Request, Data
 use Rattle.of_play.specs.declared.names.Word.{Word}
 use Rattle.of_play.specs.declared.names.Word.TheVariants.{Now, Durable, Script, Announcement, Members}
 use Rattle.of_play.specs.declared.trace_text.Change.{Change}
-use Rattle.of_play.specs.Names.{holding_at, word_at}
+use Rattle.of_play.specs.Names.{holding_at, word_at_place}
 
 -- the plain name of the step that comes next at a place
 abbrev pub step_text : Place → List ℕ
@@ -62,36 +62,36 @@ holding_text (Length q) = codes "length of queue " ++ decimal q
 holding_text (Block b f) = codes "field " ++ decimal f ++ codes " of block " ++ decimal b
 
 -- the name of a cell, where there are n callers; that of a data cell has its number
-abbrev pub cell_text : (n : ℕ) → Cell → List ℕ
-cell_text n Current = codes "current"
-cell_text n (Request i) = codes "request " ++ decimal i
-cell_text n (Data a) = codes "cell " ++ decimal (data_cell n a) ++ codes " (" ++ holding_text (holding_at n a) ++ codes ")"
-cell_text n (Log i x) = codes "log " ++ decimal x ++ codes " of " ++ decimal i
+abbrev pub cell_name_text : (n : ℕ) → Cell → List ℕ
+cell_name_text n Current = codes "current"
+cell_name_text n (Request i) = codes "request " ++ decimal i
+cell_name_text n (Data a) = codes "cell " ++ decimal (data_cell n a) ++ codes " (" ++ holding_text (holding_at n a) ++ codes ")"
+cell_name_text n (Log i x) = codes "log " ++ decimal x ++ codes " of " ++ decimal i
 
 -- the name of a word
 abbrev pub word_text : (n : ℕ) → Word → List ℕ
-word_text n (Now c) = cell_text n c
-word_text n (Durable c) = codes "durable " ++ cell_text n c
+word_text n (Now c) = cell_name_text n c
+word_text n (Durable c) = codes "durable " ++ cell_name_text n c
 word_text n (Script i x) = codes "script word " ++ decimal x ++ codes " of " ++ decimal i
 word_text n (Announcement i) = codes "announcement " ++ decimal i
 word_text n Members = codes "members"
 
 -- the two parts of a word
 abbrev pub pair_text : ℕ → List ℕ
-pair_text v = codes "(" ++ decimal (seq v) ++ codes "," ++ decimal (pay v) ++ codes ")"
+pair_text v = codes "(" ++ decimal (seq_of v) ++ codes "," ++ decimal (payload_of v) ++ codes ")"
 
 -- what stands in a word: a script word is a number, and any other a pair
-abbrev pub value_text : Word → ℕ → List ℕ
-value_text (Now c) v = pair_text v
-value_text (Durable c) v = pair_text v
-value_text (Script i x) v = decimal v
-value_text (Announcement i) v = pair_text v
-value_text Members v = decimal v
+abbrev pub word_value_text : Word → ℕ → List ℕ
+word_value_text (Now c) v = pair_text v
+word_value_text (Durable c) v = pair_text v
+word_value_text (Script i x) v = decimal v
+word_value_text (Announcement i) v = pair_text v
+word_value_text Members v = decimal v
 
 -- a word by its name, what was found there, and what was left
 abbrev pub named_change : (n : ℕ) → Word → (found left : ℕ) → List ℕ
-named_change n w found left = word_text n w ++ codes ": " ++ value_text w found ++ codes " -> " ++ value_text w left
+named_change n w found left = word_text n w ++ codes ": " ++ word_value_text w found ++ codes " -> " ++ word_value_text w left
 
 -- the same of the word with a place, where there are n callers and m data cells
 abbrev pub change_text : (n m : ℕ) → Change → List ℕ
-change_text n m c = named_change n (word_at n m c.word) c.found c.left
+change_text n m c = named_change n (word_at_place n m c.word) c.found c.left

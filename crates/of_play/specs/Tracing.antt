@@ -1,10 +1,10 @@
 -- How the code that traces a plan stands between two events.
 use Rattle.std.specs.Prelude.{◌≡◌, ℕ, ◌-◌, ◌≤◌, ◌<◌, List, ◌++◌, length, take, drop, flat_map, string_bytes}
 use Rattle.of_plan.specs.Plan.{Plan, IsPlan}
-use Rattle.of_core.specs.Table.{size}
-use Rattle.of_core.specs.World.{World}
+use Rattle.of_core.specs.Table.{cell_count}
+use Rattle.of_core.specs.World.{Moment}
 use Rattle.of_core.specs.Events.{Event, Turns, Raises}
-use Rattle.of_caller.specs.Tables.{setup_for, opening_for}
+use Rattle.of_caller.specs.Tables.{plan_setup, opening_for}
 use Rattle.of_caller.specs.Left.{moment_after}
 use Rattle.of_play.specs.Play.{events_from}
 use Rattle.of_play.specs.Playing.{StandsAfter}
@@ -24,10 +24,10 @@ event_of (Evict a) = Raises a
 -- it is one of the plan's table
 abbrev pub IsEvent : Plan → CodeEvent → Type 0
 IsEvent p (Turn c) = c < p.callers
-IsEvent p (Evict a) = a < size (setup_for p)
+IsEvent p (Evict a) = a < cell_count (plan_setup p)
 
 -- what a form writes of event k
-abbrev pub line_as : Form → Plan → (k : ℕ) → World → Event → List ℕ
+abbrev pub line_as : Form → Plan → (k : ℕ) → Moment → Event → List ℕ
 line_as Events p = line_at p
 line_as Commits p = committed_at p
 
@@ -37,8 +37,8 @@ WritesLine f p k e before old new =
     (es : List Event) → StandsAfter p es before → new ≡ old ++ line_as f p k (moment_after p es) e
 
 -- the lines of some lines, of those that are asked for
-abbrev pub shown : (first count : ℕ) → List (List ℕ) → List ℕ
-shown f c lines = flat_map (λ line. line) (take c (drop f lines))
+abbrev pub shown_lines : (first count : ℕ) → List (List ℕ) → List ℕ
+shown_lines f c lines = flat_map (λ line. line) (take c (drop f lines))
 
 -- The code stands as these moves leave it. Where it has shown all that it is to show the run has ended.
 pub record TracesAfter (p : Plan) (ms : List Event) (t : Tracing) : Type 0 where
@@ -46,7 +46,7 @@ pub record TracesAfter (p : Plan) (ms : List Event) (t : Tracing) : Type 0 where
   pub number : t.number < t.end → t.number ≡ length ms
   pub stands : t.number < t.end → StandsAfter p (events_from p (opening_for p) ms) t.playing
   pub over : t.end ≤ t.number → t.end ≤ length ms
-  pub text : string_bytes t.text ≡ shown t.first (t.end - t.first) (lines_from (line_as t.form p) p 0 (opening_for p) ms)
+  pub text : string_bytes t.text ≡ shown_lines t.first (t.end - t.first) (lines_from (line_as t.form p) p 0 (opening_for p) ms)
 
 -- it stands as some moves leave it
 pub record IsTracing (p : Plan) (t : Tracing) : Type 0 where

@@ -1,7 +1,7 @@
 //! Laws of a plan's schedule, and of the names that a trace prints.
 
 ghost use Rattle.of_core.specs.Events.{IsSchedule};
-ghost use Rattle.of_caller.specs.Tables.{setup_for, opening_for};
+ghost use Rattle.of_caller.specs.Tables.{plan_setup, opening_for};
 ghost use Rattle.of_play.specs.Play.{play_events};
 ghost use Rattle.of_play.specs.Names.{HoldingsAreNamed, CellsAreNamed, WordsAreNamed};
 ghost use Rattle.of_play.specs.TraceLaws.{AllAreShown, LinesAreOfMoves, TracesEndAsPlays, RepliesAreRead};
@@ -11,7 +11,7 @@ use of_plan::Plan;
 
 /// Each event of a plan's schedule may happen when it comes; so what they leave is a moment, with all that holds of every moment.
 pub fn plans_have_schedules(plan: &Plan)
-    ensures { IsSchedule (setup_for plan.now) (opening_for plan.now) (play_events plan.now) }
+    ensures { IsSchedule (plan_setup plan.now) (opening_for plan.now) (play_events plan.now) }
 {
     plan_keeps_laws(plan);
 }

@@ -163,7 +163,7 @@ impl Cell {
 }
 
 impl Word {
-    ghost use Rattle.of_play.specs.Names.{row_word, word_at};
+    ghost use Rattle.of_play.specs.Names.{row_word, word_at_place};
 
     /// The word of the row of a caller.
     fn in_row(caller: u32, at: u32) -> Word
@@ -179,7 +179,7 @@ impl Word {
     /// The word with a place.
     pub fn at(shape: &Shape, place: u32) -> Word
         requires { shape.now.instrs ≡ MOST_INSTRS }
-        ensures { result ≡ word_at shape.now.callers shape.now.cells place }
+        ensures { result ≡ word_at_place shape.now.callers shape.now.cells place }
     {
         let cells = shape.durable_cells();
         let rows = 2 * cells;

@@ -2,7 +2,7 @@
 
 ghost use Rattle.std.specs.Prelude.{◌≡◌, IfOk};
 ghost use Rattle.of_plan.specs.Plan.{IsPlan};
-ghost use Rattle.of_plan.specs.Ended.{run_of};
+ghost use Rattle.of_plan.specs.Ended.{ended_value};
 ghost use Rattle.of_play.specs.Play.{IsPlayed};
 
 use of_caller::laws::{plan_keeps_laws, runs_are_lawful};
@@ -36,11 +36,11 @@ struct Playing {
 impl Playing {
     ghost use Rattle.std.specs.Prelude.{◌≡◌, ◌+◌, ◌<◌, [], ◌∷◌, length, replicate, slice_index_or, IfOk, OnOk, IsTrue, if◌then◌else◌};
     ghost use Rattle.of_plan.specs.Plan.{IsPlan, IsItem, scripts_of};
-    ghost use Rattle.of_plan.specs.Ended.{run_of};
+    ghost use Rattle.of_plan.specs.Ended.{ended_value};
     ghost use Rattle.of_core.specs.Events.{Turns};
-    ghost use Rattle.of_play.specs.Play.{moves_in};
-    ghost use Rattle.of_caller.specs.Ends.{HoldsReply};
-    ghost use Rattle.of_play.specs.Playing.{StandsAfter, IsPlaying, GoesOn, BeginsNext, HasTime, IsReplied, Notes, NotesEnd, idle_standing, EndsAs, LeavesAs};
+    ghost use Rattle.of_play.specs.Play.{item_events};
+    ghost use Rattle.of_caller.specs.Ends.{OutcomeHoldsReply};
+    ghost use Rattle.of_play.specs.Playing.{StandsAfter, IsPlaying, MakesMoves, BeginsNext, HasStepToCount, IsReplied, NotesTurn, NotesEnd, idle_standing, CallerEndsAs, RunLeaves};
 
     /// The run before the first step.
     fn new(alloc: Global, plan: &Plan) -> Result<Self, AllocError>
@@ -98,7 +98,7 @@ impl Playing {
     fn note_end(&mut self, caller: u32, outcome: Outcome) -> Result<(), AllocError>
         requires answers { caller < length self.old.answers.items }
         requires standings { caller < length self.old.standings.items }
-        requires reply { HoldsReply outcome }
+        requires reply { OutcomeHoldsReply outcome }
         ensures { OnOk result (NotesEnd caller outcome self.old self.new) }
     {
         let place = caller as usize;
@@ -139,9 +139,9 @@ impl Playing {
     fn note(&mut self, caller: u32, turn: Turn) -> Result<(), AllocError>
         requires answers { caller < length self.old.answers.items }
         requires standings { caller < length self.old.standings.items }
-        requires time { HasTime turn (slice_index_or self.old.standings.items caller idle_standing) }
+        requires time { HasStepToCount turn (slice_index_or self.old.standings.items caller idle_standing) }
         requires reply { IsReplied turn }
-        ensures { OnOk result (Notes caller turn self.old self.new) }
+        ensures { OnOk result (NotesTurn caller turn self.old self.new) }
     {
         match turn {
             Turn::Idle => Ok(()),
@@ -159,7 +159,7 @@ impl Playing {
     fn turn(&mut self, plan: &Plan, caller: u32) -> Result<(), AllocError>
         requires caller { caller < plan.now.callers }
         requires playing { IsPlaying plan.now self.old }
-        ensures { OnOk result (GoesOn plan.now (Turns caller ∷ []) self.old self.new) }
+        ensures { OnOk result (MakesMoves plan.now (Turns caller ∷ []) self.old self.new) }
     {
         plan_keeps_laws(plan);
         runs_are_lawful();
@@ -173,7 +173,7 @@ impl Playing {
     fn rests(&self, plan: &Plan, caller: u32) -> bool
         requires caller { caller < plan.now.callers }
         requires playing { IsPlaying plan.now self.now }
-        ensures { IsTrue result → GoesOn plan.now (Turns caller ∷ []) self.now self.now }
+        ensures { IsTrue result → MakesMoves plan.now (Turns caller ∷ []) self.now self.now }
     {
         plan_keeps_laws(plan);
         if !self.bank.is_idle(caller) {
@@ -189,7 +189,7 @@ impl Playing {
     fn turns(&mut self, plan: &Plan, caller: u32, count: u32) -> Result<(), AllocError>
         requires caller { caller < plan.now.callers }
         requires playing { IsPlaying plan.now self.old }
-        ensures { OnOk result (GoesOn plan.now (replicate count (Turns caller)) self.old self.new) }
+        ensures { OnOk result (MakesMoves plan.now (replicate count (Turns caller)) self.old self.new) }
     {
         for _ in 0..count {
             if self.rests(plan, caller) {
@@ -204,7 +204,7 @@ impl Playing {
     fn item(&mut self, plan: &Plan, item: Item) -> Result<(), AllocError>
         requires item { IsItem plan.now item }
         requires playing { IsPlaying plan.now self.old }
-        ensures { OnOk result (GoesOn plan.now (moves_in item) self.old self.new) }
+        ensures { OnOk result (MakesMoves plan.now (item_events item) self.old self.new) }
     {
         plan_keeps_laws(plan);
         match item {
@@ -220,7 +220,7 @@ impl Playing {
     fn ending(&self, plan: &Plan, caller: u32) -> Ending
         requires caller { caller < plan.now.callers }
         requires playing { IsPlaying plan.now self.now }
-        ensures { EndsAs plan.now caller self.now result }
+        ensures { CallerEndsAs plan.now caller self.now result }
     {
         plan_keeps_laws(plan);
         if self.answers[caller as usize].len() == plan.scripts(caller).len() {
@@ -238,7 +238,7 @@ impl Playing {
     /// What the run leaves.
     fn end(self, alloc: Global, plan: &Plan) -> Result<Ended, AllocError>
         requires { IsPlaying plan.now self }
-        ensures { IfOk result (λ ended. LeavesAs plan.now self (run_of ended)) }
+        ensures { IfOk result (λ ended. RunLeaves plan.now self (ended_value ended)) }
     {
         let mut endings = Vec::new(alloc);
         for caller in 0..plan.callers() {
@@ -256,7 +256,7 @@ impl Playing {
 /// makes the first one. A caller that is done or spent makes none.
 pub fn play(alloc: Global, plan: &Plan) -> Result<Ended, AllocError>
     ensures plan { IsPlan plan.now }
-    ensures played { IfOk result (λ ended. IsPlayed plan.now (run_of ended)) }
+    ensures played { IfOk result (λ ended. IsPlayed plan.now (ended_value ended)) }
 {
     let mut playing = Playing::new(alloc, plan)?;
     for item in plan.schedule() {

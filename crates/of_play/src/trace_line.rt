@@ -2,7 +2,7 @@
 
 ghost use Rattle.std.specs.Prelude.{◌≡◌, ◌++◌, OnOk, IfSome, string_bytes};
 ghost use Rattle.of_plan.specs.Plan.{data_cells};
-ghost use Rattle.of_caller.specs.Ends.{HoldsReply};
+ghost use Rattle.of_caller.specs.Ends.{OutcomeHoldsReply};
 ghost use Rattle.of_play.specs.TraceLine.{end_text, head_text, means_part, step_parts, step_line, rest_line, evict_line};
 
 use crate::names::Word;
@@ -72,7 +72,7 @@ fn put_left(out: &mut String, plan: &Plan, change: &Change) -> Result<(), AllocE
 
 // Writes the parts after the change.
 fn put_parts(out: &mut String, plan: &Plan, step: &Step) -> Result<(), AllocError>
-    requires { IfSome step.now.outcome HoldsReply }
+    requires { IfSome step.now.outcome OutcomeHoldsReply }
     ensures { OnOk result (string_bytes out.new ≡ string_bytes out.old ++ step_parts plan.now.callers (data_cells plan.now.callers plan.now.blocks) step.now) }
 {
     put_help(out, step.helps)?;
@@ -83,7 +83,7 @@ fn put_parts(out: &mut String, plan: &Plan, step: &Step) -> Result<(), AllocErro
 
 /// Writes the line of a turn that has made a step.
 pub fn put_step(out: &mut String, plan: &Plan, number: u32, step: &Step) -> Result<(), AllocError>
-    requires { IfSome step.now.outcome HoldsReply }
+    requires { IfSome step.now.outcome OutcomeHoldsReply }
     ensures { OnOk result (string_bytes out.new ≡ string_bytes out.old ++ step_line plan.now.callers (data_cells plan.now.callers plan.now.blocks) number step.now) }
 {
     put_head(out, number, step)?;

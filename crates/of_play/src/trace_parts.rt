@@ -2,11 +2,11 @@
 
 ghost use Rattle.std.specs.Prelude.{◌≡◌, ◌++◌, false, true, length, OnOk, IfSome, string_bytes};
 ghost use Rattle.of_mem.specs.declared.work.TheConstants.{MOST_INSTRS};
-ghost use Rattle.of_cell.specs.Words.{seq, pay};
+ghost use Rattle.of_cell.specs.Words.{seq_of, payload_of};
 ghost use Rattle.of_script.specs.declared.instr.Reply.{Reply};
 ghost use Rattle.of_script.specs.Reading.{instr_at};
 ghost use Rattle.of_eval.specs.Shapes.{IsHeldBy};
-ghost use Rattle.of_caller.specs.Ends.{HoldsReply};
+ghost use Rattle.of_caller.specs.Ends.{OutcomeHoldsReply};
 ghost use Rattle.of_play.specs.TraceParts.{helper_part, exchange_part, raise_part, did_part, instr_part, pointer_part, shape_part, field_part, holding_part, request_part, log_part, cell_part, word_part, held_part, reply_part};
 
 use crate::names::{Cell, Holding, Word};
@@ -134,7 +134,7 @@ fn put_number(out: &mut String, holding: Holding, number: u32) -> Result<(), All
 
 // Writes whether the transaction of a request is open.
 fn put_request(out: &mut String, value: u64) -> Result<(), AllocError>
-    ensures { OnOk result (string_bytes out.new ≡ string_bytes out.old ++ request_part (seq value) (pay value)) }
+    ensures { OnOk result (string_bytes out.new ≡ string_bytes out.old ++ request_part (seq_of value) (payload_of value)) }
 {
     if seq_of(value) == 0 {
         Ok(())
@@ -195,7 +195,7 @@ fn put_held(out: &mut String, raw: &RawReply) -> Result<(), AllocError>
 
 /// Writes the reply of a call that has ended.
 pub fn put_reply_part(out: &mut String, outcome: Option<Outcome>) -> Result<(), AllocError>
-    requires { IfSome outcome HoldsReply }
+    requires { IfSome outcome OutcomeHoldsReply }
     ensures { OnOk result (string_bytes out.new ≡ string_bytes out.old ++ reply_part outcome) }
 {
     match outcome {

@@ -2,7 +2,7 @@
 
 ghost use Rattle.std.specs.Prelude.{◌≡◌, ◌<◌, ◌++◌, OnOk, string_bytes};
 ghost use Rattle.of_plan.specs.Plan.{data_cells};
-ghost use Rattle.of_play.specs.TraceText.{step_text, holding_text, cell_text, word_text, pair_text, value_text, named_change, change_text};
+ghost use Rattle.of_play.specs.TraceText.{step_text, holding_text, cell_name_text, word_text, pair_text, word_value_text, named_change, change_text};
 
 use crate::names::{Cell, Holding, Word};
 use of_cell::{payload_of, seq_of};
@@ -82,7 +82,7 @@ pub fn put_holding(out: &mut String, holding: Holding) -> Result<(), AllocError>
 
 // Writes the name of a cell of a plan's table.
 fn put_cell(out: &mut String, plan: &Plan, cell: Cell) -> Result<(), AllocError>
-    ensures { OnOk result (string_bytes out.new ≡ string_bytes out.old ++ cell_text plan.now.callers cell) }
+    ensures { OnOk result (string_bytes out.new ≡ string_bytes out.old ++ cell_name_text plan.now.callers cell) }
 {
     match cell {
         Cell::Current => out.push_str("current"),
@@ -122,7 +122,7 @@ pub fn put_pair(out: &mut String, value: u64) -> Result<(), AllocError>
 
 // Writes what stands in a word.
 fn put_value(out: &mut String, word: Word, value: u64) -> Result<(), AllocError>
-    ensures { OnOk result (string_bytes out.new ≡ string_bytes out.old ++ value_text word value) }
+    ensures { OnOk result (string_bytes out.new ≡ string_bytes out.old ++ word_value_text word value) }
 {
     match word {
         Word::Script { .. } | Word::Members => write!(out, "{value}"),

@@ -2,12 +2,12 @@
 use Rattle.std.proofs.Common.{◌≡◌, ℕ, zero, suc, ◌+◌, ◌-◌, ◌<◌, ◌≢◌, refl, sym, ◌∙◌, ap, subst, arith, Option, Some, List, [], ◌∷◌, map, length, Ok}
 use Rattle.std.specs.List.{AllByRecursion as Each}
 use Rattle.of_mem.specs.Places.{fresh_at, free_at, head_at, tail_at, length_at}
-use Rattle.of_mem.specs.Pad.{Pad, newest, wrote}
-use Rattle.of_mem.specs.Programs.{after, changed}
+use Rattle.of_mem.specs.Pad.{Part, newest_at, write}
+use Rattle.of_mem.specs.Programs.{memory_after, with_value}
 use Rattle.of_mem.specs.Stores.{IsChain, front_at, first_at, link_at}
 use Rattle.of_mem.specs.declared.plot.Plot.{Plot}
 use Rattle.of_mem.specs.Plots.{base}
-use Rattle.of_mem.specs.Calls.{RunsOn, HasStore}
+use Rattle.of_mem.specs.Calls.{RunsProgram, HasStore}
 use Rattle.of_mem.proofs.Changes.{changed_other}
 use Rattle.of_mem.proofs.Counts.{tail_small, length_small}
 use Rattle.of_mem.proofs.Heaps.{front_head, chain_changed}
@@ -20,7 +20,7 @@ use Rattle.of_queue.specs.Fronts.{CanAppend, IsFront, IsPopped}
 use Rattle.of_queue.proofs.Pops.{popped}
 
 -- what is known after a block was taken
-pub after_take : (plot : Plot) (q : ℕ) → q < 4 → (p n : Pad) (x : Option ℕ) (b : ℕ) → HasStore plot p → RunsOn (take plot) p n (Ok x) → x ≡ Some b → CanAppend plot n q b
+pub after_take : (plot : Plot) (q : ℕ) → q < 4 → (p n : Part) (x : Option ℕ) (b : ℕ) → HasStore plot p → RunsProgram (take plot) p n (Ok x) → x ≡ Some b → CanAppend plot n q b
 after_take plot q l p n x b has e is =
     let o = base plot in
     let m = has.memory in
@@ -29,7 +29,7 @@ after_take plot q l p n x b has e is =
     record {
       fits = ap length e.known ∙ has.fits;
       queue = l;
-      below = took_below o plot.blocks plot.few_blocks m has.store h b (after (take plot) m) t.0;
+      below = took_below o plot.blocks plot.few_blocks m has.store h b (memory_after (take plot) m) t.0;
       tail = λ k w. let y : m (tail_at o q) ≡ k = sym (t.0.cells (tail_at o q) (λ e. omega arith) (λ e. omega arith)) ∙ t.1 (tail_at o q) k w in omega (arith, tail_small o plot.blocks m has.store h q l);
       items = λ k w. let y : m (length_at o q) ≡ k = sym (t.0.cells (length_at o q) (λ e. omega arith) (λ e. omega arith)) ∙ t.1 (length_at o q) k w in omega (arith, length_small o plot.blocks m has.store h q l);
     }
@@ -40,7 +40,7 @@ last_apart o q zero l e = omega arith
 last_apart o q (suc t) l e = omega arith
 
 -- the front of a queue that isn't empty
-pub front_is : (plot : Plot) (p : Pad) (q f a : ℕ) → q < 4 → HasStore plot p → a ≡ head_at (base plot) q → newest p a ≡ Some f → f ≢ 0 → IsFront plot p q (f - 1)
+pub front_is : (plot : Plot) (p : Part) (q f a : ℕ) → q < 4 → HasStore plot p → a ≡ head_at (base plot) q → newest_at p a ≡ Some f → f ≢ 0 → IsFront plot p q (f - 1)
 front_is plot p q f a l has at e n = go (has.stands.chains (33 + q)) refl
   where
     head : has.memory (front_at (base plot) (33 + q)) ≡ f
@@ -54,7 +54,7 @@ front_is plot p q f a l has at e n = go (has.stands.chains (33 + q)) refl
         record { fits = has.fits; queue = l; memory = has.memory; store = has.store; part = has.part; stands = has.stands; rest = rest; front = rw (← same) is }
 
 -- the write that takes a queue's front block out of it
-pub pops_out : (plot : Plot) (p n : Pad) (q b link c : ℕ) → IsFront plot p q b → newest p (link_at (base plot) b) ≡ Some link → c ≡ head_at (base plot) q → n ≡ wrote p c link → n.known ≡ p.known → IsPopped plot n q b
+pub pops_out : (plot : Plot) (p n : Part) (q b link c : ℕ) → IsFront plot p q b → newest_at p (link_at (base plot) b) ≡ Some link → c ≡ head_at (base plot) q → n ≡ write p c link → n.known ≡ p.known → IsPopped plot n q b
 pops_out plot p n q b link c k e at is known =
     let o = base plot in
     let m = k.memory in
@@ -69,7 +69,7 @@ pops_out plot p n q b link c k e at is known =
     }
 
 -- a cleared tail leaves the free list, and what is out, as they were
-cleared : (o blocks : ℕ) (m : ℕ → ℕ) (free : List ℕ) (q b : ℕ) → IsFreeList o blocks m free → IsOut o m free b → IsFreeList o blocks (changed m (tail_at o q) 0) free × IsOut o (changed m (tail_at o q) 0) free b
+cleared : (o blocks : ℕ) (m : ℕ → ℕ) (free : List ℕ) (q b : ℕ) → IsFreeList o blocks m free → IsOut o m free b → IsFreeList o blocks (with_value m (tail_at o q) 0) free × IsOut o (with_value m (tail_at o q) 0) free b
 cleared o blocks m free q b list out = (
   record {
     linked = chain_changed o m (tail_at o q) 0 (free_at o) free (λ (e : free_at o ≡ tail_at o q). omega arith) (links free) list.linked;
@@ -79,7 +79,7 @@ cleared o blocks m free q b list out = (
   (rw fresh out.0, out.1),
 )
   where
-    fresh : changed m (tail_at o q) 0 (fresh_at o) ≡ m (fresh_at o)
+    fresh : with_value m (tail_at o q) 0 (fresh_at o) ≡ m (fresh_at o)
     fresh = changed_other m (tail_at o q) 0 (fresh_at o) (λ e. omega arith)
 
     links : (l : List ℕ) → Each (λ x. link_at o x ≢ tail_at o q) l
@@ -87,7 +87,7 @@ cleared o blocks m free q b list out = (
     links (x ∷ l) = ((λ (e : link_at o x ≡ tail_at o q). omega arith), links l)
 
 -- the block is still out after the tail was cleared
-pub popped_tail : (plot : Plot) (p n : Pad) (q b c : ℕ) → IsPopped plot p q b → c ≡ tail_at (base plot) q → n ≡ wrote p c 0 → n.known ≡ p.known → IsPopped plot n q b
+pub popped_tail : (plot : Plot) (p n : Part) (q b c : ℕ) → IsPopped plot p q b → c ≡ tail_at (base plot) q → n ≡ write p c 0 → n.known ≡ p.known → IsPopped plot n q b
 popped_tail plot p n q b c k at is known =
     let o = base plot in
     let h = k.block in

@@ -4,14 +4,14 @@ use Rattle.std.specs.List.{AllByRecursion as Each}
 use Rattle.std.specs.FinMap as fin
 use Rattle.of_mem.specs.declared.plot.TheConstants.{MOST_BLOCKS}
 use Rattle.of_mem.specs.Places.{register_at, free_at, keys_at, head_at, tail_at, length_at, cells_at}
-use Rattle.of_mem.specs.Programs.{changed, answer, after, Inside, IsPartOf}
+use Rattle.of_mem.specs.Programs.{with_value, program_answer, memory_after, StaysBetween, IsPartOf}
 use Rattle.of_mem.specs.Numbers.{IsNumber}
-use Rattle.of_mem.specs.Stores.{Store, Stands, IsHeap, IsChain, IsQueue, front_at, link_at, first_at, second_at, total, last_pointer}
+use Rattle.of_mem.specs.Stores.{CellStore, StandsForStore, IsHeap, IsChain, IsQueue, front_at, link_at, first_at, second_at, blocks_in_chains, last_pointer}
 use Rattle.of_mem.proofs.Changes.{changed_same, changed_other, changed_cases, total_changed, total_changed_past}
 use Rattle.of_mem.proofs.Heaps.{fronts, front_head}
 use Rattle.of_mem.proofs.Moves.{heap_changed, heap_unlink}
 use Rattle.of_mem.proofs.Frames.{SameBlocks, value_same, bucket_same, queue_same, items_same}
-use Rattle.of_mem.specs.Pad.{Pad, wrote}
+use Rattle.of_mem.specs.Pad.{Part, write}
 use Rattle.of_mem.proofs.Counts.{blocks_below, length_small}
 use Rattle.of_mem.proofs.Heaps.{pointer_small}
 use Rattle.of_mem.proofs.Runs.{part_wrote}
@@ -23,7 +23,7 @@ use Rattle.of_queue.specs.Means.{front_of, after_pop}
 
 -- the memory after the head was moved, with the tail set to 0 where nothing is left
 abbrev pub ended : ℕ → ℕ → (ℕ → ℕ) → List ℕ → ℕ → ℕ
-ended o q m [] = changed m (tail_at o q) 0
+ended o q m [] = with_value m (tail_at o q) 0
 ended o q m (x ∷ l) = m
 
 -- the pointer that leads to these blocks
@@ -35,33 +35,33 @@ pub pointed : (o : ℕ) (m : ℕ → ℕ) (cell : ℕ) (l : List ℕ) → IsChai
 pointed o m cell [] h = h
 pointed o m cell (b ∷ l) h = h.0 ∙ (omega arith)
 
-module _ (o blocks : ℕ) (m : ℕ → ℕ) (s : Store) (h : Stands o blocks m s) (q b : ℕ) (rest items : List ℕ) (q_in : q < 4) (is : h.chains (33 + q) ≡ b ∷ rest) (has : s.queues q ≡ m (first_at o b) ∷ items) where
+module _ (o blocks : ℕ) (m : ℕ → ℕ) (s : CellStore) (h : StandsForStore o blocks m s) (q b : ℕ) (rest items : List ℕ) (q_in : q < 4) (is : h.chains (33 + q) ≡ b ∷ rest) (has : s.queues q ≡ m (first_at o b) ∷ items) where
   abbrev m1 : ℕ → ℕ
-  m1 = changed m (front_at o (33 + q)) (m (link_at o b))
+  m1 = with_value m (front_at o (33 + q)) (m (link_at o b))
 
   abbrev m2 : ℕ → ℕ
   m2 = ended o q m1 rest
 
   abbrev m4 : ℕ → ℕ
-  m4 = changed (changed m2 (link_at o b) (m2 (free_at o))) (free_at o) (b + 1)
+  m4 = with_value (with_value m2 (link_at o b) (m2 (free_at o))) (free_at o) (b + 1)
 
   abbrev m5 : ℕ → ℕ
-  m5 = changed m4 (length_at o q) (m4 (length_at o q) - 1)
+  m5 = with_value m4 (length_at o q) (m4 (length_at o q) - 1)
 
   abbrev chains1 : ℕ → List ℕ
-  chains1 = changed (changed h.chains (33 + q) rest) 37 (b ∷ [])
+  chains1 = with_value (with_value h.chains (33 + q) rest) 37 (b ∷ [])
 
   abbrev chains : ℕ → List ℕ
-  chains = changed (changed chains1 37 []) 0 (b ∷ chains1 0)
+  chains = with_value (with_value chains1 37 []) 0 (b ∷ chains1 0)
 
   head_is : front_at o (33 + q) ≡ head_at o q
   head_is = front_head o q
 
-  heap1 : IsHeap o blocks m1 chains1 (changed h.owner b 37)
+  heap1 : IsHeap o blocks m1 chains1 (with_value h.owner b 37)
   heap1 = heap_unlink o blocks m h.chains h.owner h.heap (33 + q) b [] rest (omega (arith, q_in)) is h.none_out
 
-  heap_ended : (l : List ℕ) → IsHeap o blocks (ended o q m1 l) chains1 (changed h.owner b 37)
-  heap_ended [] = heap_changed o blocks m1 chains1 (changed h.owner b 37) heap1 (tail_at o q) 0 (λ e. omega arith) (λ c l e. omega (arith, fronts o c l)) (λ x e. omega (arith, q_in))
+  heap_ended : (l : List ℕ) → IsHeap o blocks (ended o q m1 l) chains1 (with_value h.owner b 37)
+  heap_ended [] = heap_changed o blocks m1 chains1 (with_value h.owner b 37) heap1 (tail_at o q) 0 (λ e. omega arith) (λ c l e. omega (arith, fronts o c l)) (λ x e. omega (arith, q_in))
   heap_ended (x ∷ l) = heap1
 
   ended_other : (l : List ℕ) (a : ℕ) → a ≢ tail_at o q → ended o q m1 l a ≡ m1 a
@@ -75,14 +75,14 @@ module _ (o blocks : ℕ) (m : ℕ → ℕ) (s : Store) (h : Stands o blocks m s
   ended_tail [] e = changed_same m1 (tail_at o q) 0
   ended_tail (x ∷ l) e = e
 
-  heap5 : IsHeap o blocks m5 chains (changed (changed h.owner b 37) b 0)
-  heap5 = heap_changed o blocks m4 chains (changed (changed h.owner b 37) b 0)
-      (give_heap o blocks m2 chains1 (changed h.owner b 37) b (heap_ended rest) (changed_same (changed h.chains (33 + q) rest) 37 (b ∷ [])) (changed_same h.owner b 37))
+  heap5 : IsHeap o blocks m5 chains (with_value (with_value h.owner b 37) b 0)
+  heap5 = heap_changed o blocks m4 chains (with_value (with_value h.owner b 37) b 0)
+      (give_heap o blocks m2 chains1 (with_value h.owner b 37) b (heap_ended rest) (changed_same (with_value h.chains (33 + q) rest) 37 (b ∷ [])) (changed_same h.owner b 37))
       (length_at o q) (m4 (length_at o q) - 1) (λ e. omega arith) (λ c l e. omega (arith, fronts o c l)) (λ x e. omega (arith, q_in))
 
   -- every other cell that is no link is as it was
   after_head : (a : ℕ) → a ≢ free_at o → a ≢ length_at o q → a ≢ link_at o b → m5 a ≡ m2 a
-  after_head a p1 p2 p3 = changed_other m4 (length_at o q) (m4 (length_at o q) - 1) a p2 ∙ changed_other (changed m2 (link_at o b) (m2 (free_at o))) (free_at o) (b + 1) a p1 ∙ changed_other m2 (link_at o b) (m2 (free_at o)) a p3
+  after_head a p1 p2 p3 = changed_other m4 (length_at o q) (m4 (length_at o q) - 1) a p2 ∙ changed_other (with_value m2 (link_at o b) (m2 (free_at o))) (free_at o) (b + 1) a p1 ∙ changed_other m2 (link_at o b) (m2 (free_at o)) a p3
 
   same : (a : ℕ) → a ≢ free_at o → a ≢ length_at o q → a ≢ link_at o b → a ≢ tail_at o q → a ≢ head_at o q → m5 a ≡ m a
   same a p1 p2 p3 p4 p5 = after_head a p1 p2 p3 ∙ ended_other rest a p4 ∙ changed_other m (front_at o (33 + q)) (m (link_at o b)) a (λ (e : a ≡ front_at o (33 + q)). p5 (e ∙ head_is))
@@ -95,12 +95,12 @@ module _ (o blocks : ℕ) (m : ℕ → ℕ) (s : Store) (h : Stands o blocks m s
   )
 
   chain_new : chains (33 + q) ≡ rest
-  chain_new = changed_other (changed chains1 37 []) 0 (b ∷ chains1 0) (33 + q) (λ (e : 33 + q ≡ 0). omega arith) ∙ changed_other chains1 37 [] (33 + q) (λ (e : 33 + q ≡ 37). omega (arith, q_in))
-      ∙ changed_other (changed h.chains (33 + q) rest) 37 (b ∷ []) (33 + q) (λ (e : 33 + q ≡ 37). omega (arith, q_in)) ∙ changed_same h.chains (33 + q) rest
+  chain_new = changed_other (with_value chains1 37 []) 0 (b ∷ chains1 0) (33 + q) (λ (e : 33 + q ≡ 0). omega arith) ∙ changed_other chains1 37 [] (33 + q) (λ (e : 33 + q ≡ 37). omega (arith, q_in))
+      ∙ changed_other (with_value h.chains (33 + q) rest) 37 (b ∷ []) (33 + q) (λ (e : 33 + q ≡ 37). omega (arith, q_in)) ∙ changed_same h.chains (33 + q) rest
 
   chain_other : (c : ℕ) → 1 ≤ c → c < 37 → c ≢ 33 + q → chains c ≡ h.chains c
-  chain_other c l k ne = changed_other (changed chains1 37 []) 0 (b ∷ chains1 0) c (λ (e : c ≡ 0). omega arith) ∙ changed_other chains1 37 [] c (λ (e : c ≡ 37). omega arith)
-      ∙ changed_other (changed h.chains (33 + q) rest) 37 (b ∷ []) c (λ (e : c ≡ 37). omega arith) ∙ changed_other h.chains (33 + q) rest c ne
+  chain_other c l k ne = changed_other (with_value chains1 37 []) 0 (b ∷ chains1 0) c (λ (e : c ≡ 0). omega arith) ∙ changed_other chains1 37 [] c (λ (e : c ≡ 37). omega arith)
+      ∙ changed_other (with_value h.chains (33 + q) rest) 37 (b ∷ []) c (λ (e : c ≡ 37). omega arith) ∙ changed_other h.chains (33 + q) rest c ne
 
   items_are : map (λ (x : ℕ). m (first_at o x)) rest ≡ items
   items_are = let e : m (first_at o b) ∷ map (λ (x : ℕ). m (first_at o x)) rest ≡ m (first_at o b) ∷ items = sym (ap (λ (l : List ℕ). map (λ (x : ℕ). m (first_at o x)) l) is) ∙ (h.holds.queues q q_in).listed ∙ has in cc
@@ -111,28 +111,28 @@ module _ (o blocks : ℕ) (m : ℕ → ℕ) (s : Store) (h : Stands o blocks m s
     numbers = (subst (λ (l : List ℕ). Each IsNumber l) has (h.holds.queues q q_in).numbers).1;
     ends = after_head (tail_at o q) (λ e. omega arith) (λ e. omega arith) (λ e. omega (arith, q_in)) ∙ ended_tail rest old_tail;
     counted =
-        let e : m4 (length_at o q) ≡ m (length_at o q) = changed_other (changed m2 (link_at o b) (m2 (free_at o))) (free_at o) (b + 1) (length_at o q) (λ e. omega arith) ∙ changed_other m2 (link_at o b) (m2 (free_at o)) (length_at o q) (λ e. omega (arith, q_in))
+        let e : m4 (length_at o q) ≡ m (length_at o q) = changed_other (with_value m2 (link_at o b) (m2 (free_at o))) (free_at o) (b + 1) (length_at o q) (λ e. omega arith) ∙ changed_other m2 (link_at o b) (m2 (free_at o)) (length_at o q) (λ e. omega (arith, q_in))
         ∙ ended_other rest (length_at o q) (λ e. omega arith) ∙ changed_other m (front_at o (33 + q)) (m (link_at o b)) (length_at o q) (λ e. omega (arith, head_is)) in
         changed_same m4 (length_at o q) (m4 (length_at o q) - 1) ∙ (omega (arith, (h.holds.queues q q_in).counted, ap length has));
   }
 
-  count : total chains 33 ≡ length (chains 0) + fin.len s.map
+  count : blocks_in_chains chains 33 ≡ length (chains 0) + fin.len s.map
   count =
-      let p1 : total chains 33 + length (changed chains1 37 [] 0) ≡ total (changed chains1 37 []) 33 + length (b ∷ chains1 0) = total_changed (changed chains1 37 []) 0 (b ∷ chains1 0) 33 (omega arith) in
-      let p2 : total (changed chains1 37 []) 33 ≡ total chains1 33 = total_changed_past chains1 37 [] 33 (omega arith) in
-      let p3 : total chains1 33 ≡ total (changed h.chains (33 + q) rest) 33 = total_changed_past (changed h.chains (33 + q) rest) 37 (b ∷ []) 33 (omega arith) in
-      let p4 : total (changed h.chains (33 + q) rest) 33 ≡ total h.chains 33 = total_changed_past h.chains (33 + q) rest 33 (omega arith) in
-      let p5 : length (changed chains1 37 [] 0) ≡ length (chains1 0) = ap length (changed_other chains1 37 [] 0 (λ (e : 0 ≡ 37). omega arith)) in
-      let p6 : length (chains1 0) ≡ length (h.chains 0) = ap length (changed_other (changed h.chains (33 + q) rest) 37 (b ∷ []) 0 (λ (e : 0 ≡ 37). omega arith) ∙ changed_other h.chains (33 + q) rest 0 (λ (e : 0 ≡ 33 + q). omega arith)) in
-      let p8 : length (chains 0) ≡ 1 + length (chains1 0) = ap length (changed_same (changed chains1 37 []) 0 (b ∷ chains1 0)) ∙ (omega arith) in
+      let p1 : blocks_in_chains chains 33 + length (with_value chains1 37 [] 0) ≡ blocks_in_chains (with_value chains1 37 []) 33 + length (b ∷ chains1 0) = total_changed (with_value chains1 37 []) 0 (b ∷ chains1 0) 33 (omega arith) in
+      let p2 : blocks_in_chains (with_value chains1 37 []) 33 ≡ blocks_in_chains chains1 33 = total_changed_past chains1 37 [] 33 (omega arith) in
+      let p3 : blocks_in_chains chains1 33 ≡ blocks_in_chains (with_value h.chains (33 + q) rest) 33 = total_changed_past (with_value h.chains (33 + q) rest) 37 (b ∷ []) 33 (omega arith) in
+      let p4 : blocks_in_chains (with_value h.chains (33 + q) rest) 33 ≡ blocks_in_chains h.chains 33 = total_changed_past h.chains (33 + q) rest 33 (omega arith) in
+      let p5 : length (with_value chains1 37 [] 0) ≡ length (chains1 0) = ap length (changed_other chains1 37 [] 0 (λ (e : 0 ≡ 37). omega arith)) in
+      let p6 : length (chains1 0) ≡ length (h.chains 0) = ap length (changed_other (with_value h.chains (33 + q) rest) 37 (b ∷ []) 0 (λ (e : 0 ≡ 37). omega arith) ∙ changed_other h.chains (33 + q) rest 0 (λ (e : 0 ≡ 33 + q). omega arith)) in
+      let p8 : length (chains 0) ≡ 1 + length (chains1 0) = ap length (changed_same (with_value chains1 37 []) 0 (b ∷ chains1 0)) ∙ (omega arith) in
       omega (arith, h.holds.key_blocks)
 
-  pub pop_stands : Stands o blocks m5 (record s { queues = changed s.queues q items })
+  pub pop_stands : StandsForStore o blocks m5 (record s { queues = with_value s.queues q items })
   pop_stands = record {
     chains = chains;
-    owner = changed (changed h.owner b 37) b 0;
+    owner = with_value (with_value h.owner b 37) b 0;
     heap = heap5;
-    none_out = changed_other (changed chains1 37 []) 0 (b ∷ chains1 0) 37 (λ (e : 37 ≡ 0). omega arith) ∙ changed_same chains1 37 [];
+    none_out = changed_other (with_value chains1 37 []) 0 (b ∷ chains1 0) 37 (λ (e : 37 ≡ 0). omega arith) ∙ changed_same chains1 37 [];
     room = h.room;
     sixteen = h.sixteen;
     holds = record {
@@ -153,9 +153,9 @@ module _ (o blocks : ℕ) (m : ℕ → ℕ) (s : Store) (h : Stands o blocks m s
 
   -- The program's writes are these.
 
-  by_link : (n : ℕ → ℕ) (l : List ℕ) (link : ℕ) → link ≡ pointer_to l → (after (new_end o q b (m (first_at o b)) link) n ≡ after (drop_block o q b (m (first_at o b))) (ended o q n l)) × (answer (new_end o q b (m (first_at o b)) link) n ≡ Some (m (first_at o b)))
-  by_link n [] link e = subst (λ (x : ℕ). (after (new_end o q b (m (first_at o b)) x) n ≡ after (drop_block o q b (m (first_at o b))) (changed n (tail_at o q) 0)) × (answer (new_end o q b (m (first_at o b)) x) n ≡ Some (m (first_at o b)))) (sym e) (refl, refl)
-  by_link n (x ∷ l) link e = subst (λ (y : ℕ). (after (new_end o q b (m (first_at o b)) y) n ≡ after (drop_block o q b (m (first_at o b))) n) × (answer (new_end o q b (m (first_at o b)) y) n ≡ Some (m (first_at o b)))) (sym e) (refl, refl)
+  by_link : (n : ℕ → ℕ) (l : List ℕ) (link : ℕ) → link ≡ pointer_to l → (memory_after (new_end o q b (m (first_at o b)) link) n ≡ memory_after (drop_block o q b (m (first_at o b))) (ended o q n l)) × (program_answer (new_end o q b (m (first_at o b)) link) n ≡ Some (m (first_at o b)))
+  by_link n [] link e = subst (λ (x : ℕ). (memory_after (new_end o q b (m (first_at o b)) x) n ≡ memory_after (drop_block o q b (m (first_at o b))) (with_value n (tail_at o q) 0)) × (program_answer (new_end o q b (m (first_at o b)) x) n ≡ Some (m (first_at o b)))) (sym e) (refl, refl)
+  by_link n (x ∷ l) link e = subst (λ (y : ℕ). (memory_after (new_end o q b (m (first_at o b)) y) n ≡ memory_after (drop_block o q b (m (first_at o b))) n) × (program_answer (new_end o q b (m (first_at o b)) y) n ≡ Some (m (first_at o b)))) (sym e) (refl, refl)
 
   chain_is : IsChain o m (front_at o (33 + q)) (b ∷ rest)
   chain_is = subst (λ (l : List ℕ). IsChain o m (front_at o (33 + q)) l) is (h.heap.linked (33 + q) (omega (arith, q_in)))
@@ -163,11 +163,11 @@ module _ (o blocks : ℕ) (m : ℕ → ℕ) (s : Store) (h : Stands o blocks m s
   pub link_is : m (link_at o b) ≡ pointer_to rest
   link_is = pointed o m (link_at o b) rest chain_is.1
 
-  pub pops : (after (front_program o q b) m ≡ m5) × (answer (front_program o q b) m ≡ Some (m (first_at o b)))
-  pops = subst (λ (c : ℕ). (after (new_end o q b (m (first_at o b)) (m (link_at o b))) (changed m c (m (link_at o b))) ≡ m5) × (answer (new_end o q b (m (first_at o b)) (m (link_at o b))) (changed m c (m (link_at o b))) ≡ Some (m (first_at o b)))) head_is
+  pub pops : (memory_after (front_program o q b) m ≡ m5) × (program_answer (front_program o q b) m ≡ Some (m (first_at o b)))
+  pops = subst (λ (c : ℕ). (memory_after (new_end o q b (m (first_at o b)) (m (link_at o b))) (with_value m c (m (link_at o b))) ≡ m5) × (program_answer (new_end o q b (m (first_at o b)) (m (link_at o b))) (with_value m c (m (link_at o b))) ≡ Some (m (first_at o b)))) head_is
       (by_link m1 rest (m (link_at o b)) link_is)
 
-  pub pop_acts : (answer (front_program o q b) m ≡ front_of (s.queues q)) × Stands o blocks (after (front_program o q b) m) (after_pop q s)
+  pub pop_acts : (program_answer (front_program o q b) m ≡ front_of (s.queues q)) × StandsForStore o blocks (memory_after (front_program o q b) m) (after_pop q s)
   pop_acts = rw (has, pops.0, pops.1) (refl, pop_stands)
 
   -- What the block leaves: it is out, and its item is still counted.
@@ -178,22 +178,22 @@ module _ (o blocks : ℕ) (m : ℕ → ℕ) (s : Store) (h : Stands o blocks m s
   one_item : 1 ≤ m (length_at o q)
   one_item = omega (arith, (h.holds.queues q q_in).counted, ap length has)
 
-  pub popped : (p : Pad) → IsPartOf p m → IsPartOf (wrote p (head_at o q) (m (link_at o b))) m1 × IsFreeList o blocks m1 (chains1 0) × IsOut o m1 (chains1 0) b × (1 ≤ m1 (length_at o q))
+  pub popped : (p : Part) → IsPartOf p m → IsPartOf (write p (head_at o q) (m (link_at o b))) m1 × IsFreeList o blocks m1 (chains1 0) × IsOut o m1 (chains1 0) b × (1 ≤ m1 (length_at o q))
   popped p part = (
-    subst (λ (c : ℕ). IsPartOf (wrote p c (m (link_at o b))) m1) head_is (part_wrote p m (front_at o (33 + q)) (m (link_at o b)) part),
-    heap_free_list o blocks m1 chains1 (changed h.owner b 37) heap1,
-    heap_out o blocks m1 chains1 (changed h.owner b 37) b heap1 (changed_same (changed h.chains (33 + q) rest) 37 (b ∷ [])),
+    subst (λ (c : ℕ). IsPartOf (write p c (m (link_at o b))) m1) head_is (part_wrote p m (front_at o (33 + q)) (m (link_at o b)) part),
+    heap_free_list o blocks m1 chains1 (with_value h.owner b 37) heap1,
+    heap_out o blocks m1 chains1 (with_value h.owner b 37) b heap1 (changed_same (with_value h.chains (33 + q) rest) 37 (b ∷ [])),
     rw length1 one_item,
   )
 
-  pub front_inside : blocks ≤ MOST_BLOCKS → Inside o (cells_at o blocks) (front_program o q b) m
+  pub front_inside : blocks ≤ MOST_BLOCKS → StaysBetween o (cells_at o blocks) (front_program o q b) m
   front_inside few = (
     omega arith,
     omega (arith, below.0),
     (
       omega arith,
       omega (arith, below.0),
-      (omega arith, omega (arith, q_in), link_small, subst (λ (c : ℕ). Inside o (cells_at o blocks) (new_end o q b (m (first_at o b)) (m (link_at o b))) (changed m c (m (link_at o b)))) head_is (end_inside rest (m (link_at o b)) link_is)),
+      (omega arith, omega (arith, q_in), link_small, subst (λ (c : ℕ). StaysBetween o (cells_at o blocks) (new_end o q b (m (first_at o b)) (m (link_at o b))) (with_value m c (m (link_at o b)))) head_is (end_inside rest (m (link_at o b)) link_is)),
     ),
   )
     where
@@ -203,10 +203,10 @@ module _ (o blocks : ℕ) (m : ℕ → ℕ) (s : Store) (h : Stands o blocks m s
       link_small : m (link_at o b) < 4294967296
       link_small = pointer_small o blocks few m (link_at o b) rest chain_is.1 below.1
 
-      length_same : (n : ℕ → ℕ) → n (length_at o q) ≡ m (length_at o q) → changed (changed n (link_at o b) (n (free_at o))) (free_at o) (b + 1) (length_at o q) ≡ m (length_at o q)
-      length_same n e = changed_other (changed n (link_at o b) (n (free_at o))) (free_at o) (b + 1) (length_at o q) (λ e. omega arith) ∙ changed_other n (link_at o b) (n (free_at o)) (length_at o q) (λ e. omega (arith, q_in)) ∙ e
+      length_same : (n : ℕ → ℕ) → n (length_at o q) ≡ m (length_at o q) → with_value (with_value n (link_at o b) (n (free_at o))) (free_at o) (b + 1) (length_at o q) ≡ m (length_at o q)
+      length_same n e = changed_other (with_value n (link_at o b) (n (free_at o))) (free_at o) (b + 1) (length_at o q) (λ e. omega arith) ∙ changed_other n (link_at o b) (n (free_at o)) (length_at o q) (λ e. omega (arith, q_in)) ∙ e
 
-      drop_inside : (n : ℕ → ℕ) → n (free_at o) < 4294967296 → n (length_at o q) ≡ m (length_at o q) → Inside o (cells_at o blocks) (drop_block o q b (m (first_at o b))) n
+      drop_inside : (n : ℕ → ℕ) → n (free_at o) < 4294967296 → n (length_at o q) ≡ m (length_at o q) → StaysBetween o (cells_at o blocks) (drop_block o q b (m (first_at o b))) n
       drop_inside n f e = (
         omega arith,
         omega arith,
@@ -228,9 +228,9 @@ module _ (o blocks : ℕ) (m : ℕ → ℕ) (s : Store) (h : Stands o blocks m s
       )
 
       free1 : m1 (free_at o) < 4294967296
-      free1 = free_small o blocks m1 (chains1 0) (heap_free_list o blocks m1 chains1 (changed h.owner b 37) heap1) few
+      free1 = free_small o blocks m1 (chains1 0) (heap_free_list o blocks m1 chains1 (with_value h.owner b 37) heap1) few
 
-      end_inside : (l : List ℕ) (link : ℕ) → link ≡ pointer_to l → Inside o (cells_at o blocks) (new_end o q b (m (first_at o b)) link) m1
-      end_inside [] link e = subst (λ (x : ℕ). Inside o (cells_at o blocks) (new_end o q b (m (first_at o b)) x) m1) (sym e)
-          (omega arith, omega (arith, q_in), omega arith, drop_inside (changed m1 (tail_at o q) 0) (rw (changed_other m1 (tail_at o q) 0 (free_at o) (λ e. omega arith)) free1) (changed_other m1 (tail_at o q) 0 (length_at o q) (λ e. omega arith) ∙ length1))
-      end_inside (x ∷ l) link e = subst (λ (y : ℕ). Inside o (cells_at o blocks) (new_end o q b (m (first_at o b)) y) m1) (sym e) (drop_inside m1 free1 length1)
+      end_inside : (l : List ℕ) (link : ℕ) → link ≡ pointer_to l → StaysBetween o (cells_at o blocks) (new_end o q b (m (first_at o b)) link) m1
+      end_inside [] link e = subst (λ (x : ℕ). StaysBetween o (cells_at o blocks) (new_end o q b (m (first_at o b)) x) m1) (sym e)
+          (omega arith, omega (arith, q_in), omega arith, drop_inside (with_value m1 (tail_at o q) 0) (rw (changed_other m1 (tail_at o q) 0 (free_at o) (λ e. omega arith)) free1) (changed_other m1 (tail_at o q) 0 (length_at o q) (λ e. omega arith) ∙ length1))
+      end_inside (x ∷ l) link e = subst (λ (y : ℕ). StaysBetween o (cells_at o blocks) (new_end o q b (m (first_at o b)) y) m1) (sym e) (drop_inside m1 free1 length1)

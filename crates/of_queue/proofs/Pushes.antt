@@ -5,15 +5,15 @@ use Rattle.std.specs.FinMap as fin
 use Rattle.std.proofs.lemmas.List.{map-append}
 use Rattle.of_mem.specs.declared.plot.TheConstants.{MOST_BLOCKS}
 use Rattle.of_mem.specs.Places.{register_at, fresh_at, free_at, keys_at, head_at, tail_at, length_at, cells_at}
-use Rattle.of_mem.specs.Programs.{changed, answer, after, Inside}
+use Rattle.of_mem.specs.Programs.{with_value, program_answer, memory_after, StaysBetween}
 use Rattle.of_mem.specs.Numbers.{IsNumber}
-use Rattle.of_mem.specs.Stores.{Store, Stands, IsHeap, IsQueue, front_at, link_at, first_at, second_at, cell_after, total, last_pointer}
+use Rattle.of_mem.specs.Stores.{CellStore, StandsForStore, IsHeap, IsQueue, front_at, link_at, first_at, second_at, cell_after, blocks_in_chains, last_pointer}
 use Rattle.of_mem.proofs.Changes.{changed_same, changed_other, changed_cases, total_changed_past}
 use Rattle.of_mem.proofs.Heaps.{fronts, front_head, front_below, each_weaker, each_append, cell_in, all_links}
 use Rattle.of_mem.proofs.Moves.{heap_changed, heap_changed_out, heap_append, blocks_apart, out_owner}
 use Rattle.of_mem.proofs.Frames.{SameBlocks, value_same, bucket_same, queue_same, items_same}
 use Rattle.of_mem.proofs.Counts.{tail_small, length_small}
-use Rattle.of_alloc.specs.Took.{Took}
+use Rattle.of_alloc.specs.Took.{HasTakenBlock}
 use Rattle.of_queue.specs.QueuePrograms.{push_new, new_tail, last_cell}
 
 -- the last pointer and the last pointer cell belong to one block
@@ -29,7 +29,7 @@ pub last_pointer-append : (p b : ℕ) (l : List ℕ) → last_pointer p (l ++ b 
 last_pointer-append p b [] = refl
 last_pointer-append p b (c ∷ l) = last_pointer-append (c + 1) b l
 
-module _ (o blocks : ℕ) (m : ℕ → ℕ) (s : Store) (h : Stands o blocks m s) (q v : ℕ) (q_in : q < 4) (v_in : IsNumber v) (b : ℕ) (m1 : ℕ → ℕ) (t : Took o blocks m h.chains b m1) where
+module _ (o blocks : ℕ) (m : ℕ → ℕ) (s : CellStore) (h : StandsForStore o blocks m s) (q v : ℕ) (q_in : q < 4) (v_in : IsNumber v) (b : ℕ) (m1 : ℕ → ℕ) (t : HasTakenBlock o blocks m h.chains b m1) where
   abbrev old : List ℕ
   old = h.chains (33 + q)
 
@@ -37,22 +37,22 @@ module _ (o blocks : ℕ) (m : ℕ → ℕ) (s : Store) (h : Stands o blocks m s
   last = cell_after o (front_at o (33 + q)) (t.chains_after (33 + q))
 
   abbrev m2 : ℕ → ℕ
-  m2 = changed m1 (first_at o b) v
+  m2 = with_value m1 (first_at o b) v
 
   abbrev m3 : ℕ → ℕ
-  m3 = changed m2 (link_at o b) 0
+  m3 = with_value m2 (link_at o b) 0
 
   abbrev m4 : ℕ → ℕ
-  m4 = changed m3 last (b + 1)
+  m4 = with_value m3 last (b + 1)
 
   abbrev m5 : ℕ → ℕ
-  m5 = changed m4 (tail_at o q) (b + 1)
+  m5 = with_value m4 (tail_at o q) (b + 1)
 
   abbrev m6 : ℕ → ℕ
-  m6 = changed m5 (length_at o q) (m5 (length_at o q) + 1)
+  m6 = with_value m5 (length_at o q) (m5 (length_at o q) + 1)
 
   abbrev chains : ℕ → List ℕ
-  chains = changed (changed t.chains_after 37 []) (33 + q) (t.chains_after (33 + q) ++ b ∷ [])
+  chains = with_value (with_value t.chains_after 37 []) (33 + q) (t.chains_after (33 + q) ++ b ∷ [])
 
   same_chain : t.chains_after (33 + q) ≡ old
   same_chain = t.others (33 + q) (omega arith) (omega (arith, q_in))
@@ -64,7 +64,7 @@ module _ (o blocks : ℕ) (m : ℕ → ℕ) (s : Store) (h : Stands o blocks m s
   heap3 = heap_changed_out o blocks m2 t.chains_after t.owner
       (heap_changed o blocks m1 t.chains_after t.owner t.heap (first_at o b) v (λ e. omega arith) (λ c l e. omega (arith, front_below o c l)) (λ x e. omega arith)) b 0 out.1
 
-  heap4 : IsHeap o blocks m4 chains (changed t.owner b (33 + q))
+  heap4 : IsHeap o blocks m4 chains (with_value t.owner b (33 + q))
   heap4 = heap_append o blocks m3 t.chains_after t.owner heap3 (33 + q) b (omega (arith, q_in)) t.out (changed_same m2 (link_at o b) 0)
 
   front_not : (a : ℕ) → ((c : ℕ) → c < 37 → front_at o c ≢ a) → a ≢ front_at o (33 + q)
@@ -77,9 +77,9 @@ module _ (o blocks : ℕ) (m : ℕ → ℕ) (s : Store) (h : Stands o blocks m s
   length_no_front : (r c : ℕ) → c < 37 → front_at o c ≢ length_at o r
   length_no_front r c l e = omega (arith, fronts o c l)
 
-  pub heap6 : IsHeap o blocks m6 chains (changed t.owner b (33 + q))
-  heap6 = heap_changed o blocks m5 chains (changed t.owner b (33 + q))
-      (heap_changed o blocks m4 chains (changed t.owner b (33 + q)) heap4 (tail_at o q) (b + 1) (λ e. omega arith) (tail_no_front q) (λ x e. omega (arith, q_in)))
+  pub heap6 : IsHeap o blocks m6 chains (with_value t.owner b (33 + q))
+  heap6 = heap_changed o blocks m5 chains (with_value t.owner b (33 + q))
+      (heap_changed o blocks m4 chains (with_value t.owner b (33 + q)) heap4 (tail_at o q) (b + 1) (λ e. omega arith) (tail_no_front q) (λ x e. omega (arith, q_in)))
       (length_at o q) (m5 (length_at o q) + 1) (λ e. omega arith) (length_no_front q) (λ x e. omega (arith, q_in))
 
   not_last : (a : ℕ) → a ≢ front_at o (33 + q) → ((x : ℕ) → a ≢ link_at o x) → a ≢ last
@@ -117,13 +117,13 @@ module _ (o blocks : ℕ) (m : ℕ → ℕ) (s : Store) (h : Stands o blocks m s
       (subst (λ (q : List ℕ). Each (λ x. x ≢ b) q) (t.others c l k) (blocks_apart o blocks m1 t.chains_after t.owner t.heap c b (omega arith) (λ (e : t.owner b ≡ c). omega (arith, out.1))))
 
   chain_new : chains (33 + q) ≡ old ++ b ∷ []
-  chain_new = changed_same (changed t.chains_after 37 []) (33 + q) (t.chains_after (33 + q) ++ b ∷ []) ∙ ap (λ (l : List ℕ). l ++ b ∷ []) same_chain
+  chain_new = changed_same (with_value t.chains_after 37 []) (33 + q) (t.chains_after (33 + q) ++ b ∷ []) ∙ ap (λ (l : List ℕ). l ++ b ∷ []) same_chain
 
   chain_other : (c : ℕ) → 1 ≤ c → c < 37 → c ≢ 33 + q → chains c ≡ h.chains c
-  chain_other c l k ne = changed_other (changed t.chains_after 37 []) (33 + q) (t.chains_after (33 + q) ++ b ∷ []) c ne ∙ changed_other t.chains_after 37 [] c (λ (e : c ≡ 37). omega arith) ∙ t.others c l k
+  chain_other c l k ne = changed_other (with_value t.chains_after 37 []) (33 + q) (t.chains_after (33 + q) ++ b ∷ []) c ne ∙ changed_other t.chains_after 37 [] c (λ (e : c ≡ 37). omega arith) ∙ t.others c l k
 
   chain_free : chains 0 ≡ t.chains_after 0
-  chain_free = changed_other (changed t.chains_after 37 []) (33 + q) (t.chains_after (33 + q) ++ b ∷ []) 0 (λ (e : 0 ≡ 33 + q). omega arith) ∙ changed_other t.chains_after 37 [] 0 (λ (e : 0 ≡ 37). omega arith)
+  chain_free = changed_other (with_value t.chains_after 37 []) (33 + q) (t.chains_after (33 + q) ++ b ∷ []) 0 (λ (e : 0 ≡ 33 + q). omega arith) ∙ changed_other t.chains_after 37 [] 0 (λ (e : 0 ≡ 37). omega arith)
 
   queue_new : IsQueue o m6 q (chains (33 + q)) (s.queues q ++ v ∷ [])
   queue_new =
@@ -135,12 +135,12 @@ module _ (o blocks : ℕ) (m : ℕ → ℕ) (s : Store) (h : Stands o blocks m s
         counted = new_length ∙ ap (λ x. x + 1) k.counted ∙ sym (length-append (s.queues q) (v ∷ []) ∙ (omega arith));
       })
 
-  pub stands : Stands o blocks m6 (record s { queues = changed s.queues q (s.queues q ++ v ∷ []) })
+  pub stands : StandsForStore o blocks m6 (record s { queues = with_value s.queues q (s.queues q ++ v ∷ []) })
   stands = record {
     chains = chains;
-    owner = changed t.owner b (33 + q);
+    owner = with_value t.owner b (33 + q);
     heap = heap6;
-    none_out = changed_other (changed t.chains_after 37 []) (33 + q) (t.chains_after (33 + q) ++ b ∷ []) 37 (λ (e : 37 ≡ 33 + q). omega (arith, q_in)) ∙ changed_same t.chains_after 37 [];
+    none_out = changed_other (with_value t.chains_after 37 []) (33 + q) (t.chains_after (33 + q) ++ b ∷ []) 37 (λ (e : 37 ≡ 33 + q). omega (arith, q_in)) ∙ changed_same t.chains_after 37 [];
     room = h.room;
     sixteen = h.sixteen;
     holds = record {
@@ -160,10 +160,10 @@ module _ (o blocks : ℕ) (m : ℕ → ℕ) (s : Store) (h : Stands o blocks m s
     };
   }
     where
-      count : total chains 33 ≡ length (chains 0) + fin.len s.map
+      count : blocks_in_chains chains 33 ≡ length (chains 0) + fin.len s.map
       count =
-          let p1 : total chains 33 ≡ total (changed t.chains_after 37 []) 33 = total_changed_past (changed t.chains_after 37 []) (33 + q) (t.chains_after (33 + q) ++ b ∷ []) 33 (omega arith) in
-          let p2 : total (changed t.chains_after 37 []) 33 ≡ total t.chains_after 33 = total_changed_past t.chains_after 37 [] 33 (omega arith) in
+          let p1 : blocks_in_chains chains 33 ≡ blocks_in_chains (with_value t.chains_after 37 []) 33 = total_changed_past (with_value t.chains_after 37 []) (33 + q) (t.chains_after (33 + q) ++ b ∷ []) 33 (omega arith) in
+          let p2 : blocks_in_chains (with_value t.chains_after 37 []) 33 ≡ blocks_in_chains t.chains_after 33 = total_changed_past t.chains_after 37 [] 33 (omega arith) in
           omega (arith, ap length chain_free, t.sums, h.holds.key_blocks)
 
   last_is : last_cell o q (m3 (tail_at o q)) ≡ last
@@ -177,8 +177,8 @@ module _ (o blocks : ℕ) (m : ℕ → ℕ) (s : Store) (h : Stands o blocks m s
       go (inr e) = let k : last_pointer 0 old ≡ suc e.0 = e.1 ∙ (omega arith) in ap (last_cell o q) k ∙ sym e.2
 
   -- the program's writes are these
-  pub pushes : (after (push_new o q v (Some b)) m1 ≡ m6) × (answer (push_new o q v (Some b)) m1 ≡ true)
-  pushes = (ap (λ (x : ℕ). after (new_tail o q b) (changed m3 x (b + 1))) last_is, refl)
+  pub pushes : (memory_after (push_new o q v (Some b)) m1 ≡ m6) × (program_answer (push_new o q v (Some b)) m1 ≡ true)
+  pushes = (ap (λ (x : ℕ). memory_after (new_tail o q b) (with_value m3 x (b + 1))) last_is, refl)
 
   below_tail : m3 (tail_at o q) ≤ blocks
   below_tail = rw (changed_other m2 (link_at o b) 0 (tail_at o q) (λ e. omega (arith, q_in)), changed_other m1 (first_at o b) v (tail_at o q) (λ e. omega (arith, q_in)), t.cells (tail_at o q) (λ e. omega arith) (λ e. omega arith)) (tail_small o blocks m s h q q_in)
@@ -188,11 +188,11 @@ module _ (o blocks : ℕ) (m : ℕ → ℕ) (s : Store) (h : Stands o blocks m s
   cell_inside (suc p) l = (omega arith, omega arith)
 
   -- they are inside, and each number is a word
-  pub new_inside : blocks ≤ MOST_BLOCKS → Inside o (cells_at o blocks) (push_new o q v (Some b)) m1
+  pub new_inside : blocks ≤ MOST_BLOCKS → StaysBetween o (cells_at o blocks) (push_new o q v (Some b)) m1
   new_inside few =
       let b_in : b < blocks = omega (arith, out.0, t.heap.few) in
       let c = cell_inside (m3 (tail_at o q)) below_tail in
-      let n : changed (changed m3 (last_cell o q (m3 (tail_at o q))) (b + 1)) (tail_at o q) (b + 1) (length_at o q) + 1 < 4294967296 = rw last_is (omega (arith, ap (λ (x : ℕ). x) length_read, length_small o blocks m s h q q_in)) in (
+      let n : with_value (with_value m3 (last_cell o q (m3 (tail_at o q))) (b + 1)) (tail_at o q) (b + 1) (length_at o q) + 1 < 4294967296 = rw last_is (omega (arith, ap (λ (x : ℕ). x) length_read, length_small o blocks m s h q q_in)) in (
         omega arith,
         omega arith,
         omega (arith, v_in),
@@ -222,7 +222,7 @@ module _ (o blocks : ℕ) (m : ℕ → ℕ) (s : Store) (h : Stands o blocks m s
         ),
       )
     where
-      length_read : changed m4 (tail_at o q) (b + 1) (length_at o q) ≡ m (length_at o q)
+      length_read : with_value m4 (tail_at o q) (b + 1) (length_at o q) ≡ m (length_at o q)
       length_read = changed_other m4 (tail_at o q) (b + 1) (length_at o q) (λ e. omega arith)
           ∙ changed_other m3 last (b + 1) (length_at o q) (not_last (length_at o q) (λ e. omega (arith, head_is)) (λ y e. omega (arith, q_in))) ∙ changed_other m2 (link_at o b) 0 (length_at o q) (λ e. omega (arith, q_in))
           ∙ changed_other m1 (first_at o b) v (length_at o q) (λ e. omega (arith, q_in)) ∙ t.cells (length_at o q) (λ e. omega arith) (λ e. omega arith)

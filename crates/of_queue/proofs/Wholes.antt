@@ -3,14 +3,14 @@ use Rattle.std.proofs.Common.{◌≡◌, ℕ, suc, ◌+◌, ◌<◌, ◌≤◌, 
 use Rattle.of_mem.specs.declared.plot.TheConstants.{MOST_BLOCKS}
 use Rattle.std.specs.Prelude.{Result}
 use Rattle.of_mem.specs.Places.{head_at, cells_at}
-use Rattle.of_mem.specs.Pad.{Pad}
-use Rattle.of_mem.specs.Programs.{answer, after, Inside}
+use Rattle.of_mem.specs.Pad.{Part}
+use Rattle.of_mem.specs.Programs.{program_answer, memory_after, StaysBetween}
 use Rattle.of_mem.specs.Numbers.{IsNumber}
-use Rattle.of_mem.specs.Stores.{Store, Stands, IsChain, front_at, first_at}
+use Rattle.of_mem.specs.Stores.{CellStore, StandsForStore, IsChain, front_at, first_at}
 use Rattle.of_mem.specs.declared.part.Need.{Need}
 use Rattle.of_mem.specs.declared.plot.Plot.{Plot}
 use Rattle.of_mem.specs.Plots.{base}
-use Rattle.of_mem.specs.Calls.{RunsOn, Acts, Answers}
+use Rattle.of_mem.specs.Calls.{RunsProgram, ActsOnStore, AnswersOfStore}
 use Rattle.of_mem.proofs.Calls.{acts, answered}
 use Rattle.of_mem.proofs.Heaps.{front_head}
 use Rattle.of_mem.proofs.Runs.{answer_then, after_then, inside_then}
@@ -22,26 +22,26 @@ use Rattle.of_queue.specs.Means.{IsItem, has_room, after_push, front_of, front_i
 use Rattle.of_queue.proofs.Pushes.{stands, pushes, new_inside}
 use Rattle.of_queue.proofs.Pops.{front_inside, pop_acts}
 
-module _ (o blocks : ℕ) (few : blocks ≤ MOST_BLOCKS) (m : ℕ → ℕ) (s : Store) (h : Stands o blocks m s) (q : ℕ) (q_in : q < 4) where
+module _ (o blocks : ℕ) (few : blocks ≤ MOST_BLOCKS) (m : ℕ → ℕ) (s : CellStore) (h : StandsForStore o blocks m s) (q : ℕ) (q_in : q < 4) where
   module _ (v : ℕ) (v_in : IsNumber v) where
     abbrev Pushes : Bool → (ℕ → ℕ) → Type 0
-    Pushes r n = (r ≡ has_room blocks s) × Stands o blocks n (after_push blocks q v s)
+    Pushes r n = (r ≡ has_room blocks s) × StandsForStore o blocks n (after_push blocks q v s)
 
-    new_pushes : (r : Option ℕ) (n : ℕ → ℕ) → TakesOff o blocks m h.chains r n → Inside o (cells_at o blocks) (push_new o q v r) n × Pushes (answer (push_new o q v r) n) (after (push_new o q v r) n)
-    new_pushes None n t = rw (none_left o blocks few m s h n t) (tt, (refl, subst (λ (x : ℕ → ℕ). Stands o blocks x s) (sym t.0) h))
+    new_pushes : (r : Option ℕ) (n : ℕ → ℕ) → TakesOff o blocks m h.chains r n → StaysBetween o (cells_at o blocks) (push_new o q v r) n × Pushes (program_answer (push_new o q v r) n) (memory_after (push_new o q v r) n)
+    new_pushes None n t = rw (none_left o blocks few m s h n t) (tt, (refl, subst (λ (x : ℕ → ℕ). StandsForStore o blocks x s) (sym t.0) h))
     new_pushes (Some b) n t =
         let g = pushes o blocks m s h q v q_in v_in b n t in
         (new_inside o blocks m s h q v q_in v_in b n t few, rw (room_left o blocks few m s h b n t, g.0, g.1) (refl, stands o blocks m s h q v q_in v_in b n t))
 
-    pub push_means : Inside o (cells_at o blocks) (push_program o blocks q v) m × Pushes (answer (push_program o blocks q v) m) (after (push_program o blocks q v) m)
+    pub push_means : StaysBetween o (cells_at o blocks) (push_program o blocks q v) m × Pushes (program_answer (push_program o blocks q v) m) (memory_after (push_program o blocks q v) m)
     push_means =
-        let k = new_pushes (answer (take_program o blocks) m) (after (take_program o blocks) m) (takes_off o blocks few m s h) in (
+        let k = new_pushes (program_answer (take_program o blocks) m) (memory_after (take_program o blocks) m) (takes_off o blocks few m s h) in (
           inside_then o (cells_at o blocks) (take_program o blocks) (push_new o q v) m (take_inside o blocks few m s h) k.0,
           rw (answer_then (take_program o blocks) (push_new o q v) m, after_then (take_program o blocks) (push_new o q v) m) k.1,
         )
 
   abbrev Popped : Option ℕ → (ℕ → ℕ) → Type 0
-  Popped r n = (r ≡ front_of (s.queues q)) × Stands o blocks n (after_pop q s)
+  Popped r n = (r ≡ front_of (s.queues q)) × StandsForStore o blocks n (after_pop q s)
 
   linked : (l : List ℕ) → h.chains (33 + q) ≡ l → IsChain o m (head_at o q) l
   linked l is = subst (λ (a : ℕ). IsChain o m a l) (front_head o q) (subst (IsChain o m (front_at o (33 + q))) is (h.heap.linked (33 + q) (omega (arith, q_in))))
@@ -49,33 +49,33 @@ module _ (o blocks : ℕ) (few : blocks ≤ MOST_BLOCKS) (m : ℕ → ℕ) (s : 
   items_are : (l : List ℕ) → h.chains (33 + q) ≡ l → s.queues q ≡ map (λ (x : ℕ). m (first_at o x)) l
   items_are l is = sym (h.holds.queues q q_in).listed ∙ ap (map (λ (x : ℕ). m (first_at o x))) is
 
-  by_head : (f : ℕ) → m (head_at o q) ≡ f → Inside o (cells_at o blocks) (with_head o q f) m × Popped (answer (with_head o q f) m) (after (with_head o q f) m)
-      → Inside o (cells_at o blocks) (pop_program o q) m × Popped (answer (pop_program o q) m) (after (pop_program o q) m)
+  by_head : (f : ℕ) → m (head_at o q) ≡ f → StaysBetween o (cells_at o blocks) (with_head o q f) m × Popped (program_answer (with_head o q f) m) (memory_after (with_head o q f) m)
+      → StaysBetween o (cells_at o blocks) (pop_program o q) m × Popped (program_answer (pop_program o q) m) (memory_after (pop_program o q) m)
   by_head f e k =
-      let g = subst (λ (x : ℕ). Inside o (cells_at o blocks) (with_head o q x) m × Popped (answer (with_head o q x) m) (after (with_head o q x) m)) (sym e) k in
+      let g = subst (λ (x : ℕ). StaysBetween o (cells_at o blocks) (with_head o q x) m × Popped (program_answer (with_head o q x) m) (memory_after (with_head o q x) m)) (sym e) k in
       ((omega arith, omega (arith, q_in), g.0), g.1)
 
-  by_chain : (l : List ℕ) → h.chains (33 + q) ≡ l → Inside o (cells_at o blocks) (pop_program o q) m × Popped (answer (pop_program o q) m) (after (pop_program o q) m)
+  by_chain : (l : List ℕ) → h.chains (33 + q) ≡ l → StaysBetween o (cells_at o blocks) (pop_program o q) m × Popped (program_answer (pop_program o q) m) (memory_after (pop_program o q) m)
   by_chain [] is = by_head 0 (linked [] is) (tt, rw (items_are [] is) (refl, h))
   by_chain (b ∷ rest) is =
       let items = map (λ (x : ℕ). m (first_at o x)) rest in
       by_head (suc b) ((linked (b ∷ rest) is).0 ∙ (omega arith)) (front_inside o blocks m s h q b rest items q_in is (items_are (b ∷ rest) is) few, pop_acts o blocks m s h q b rest items q_in is (items_are (b ∷ rest) is))
 
-  pub pop_means : Inside o (cells_at o blocks) (pop_program o q) m × Popped (answer (pop_program o q) m) (after (pop_program o q) m)
+  pub pop_means : StaysBetween o (cells_at o blocks) (pop_program o q) m × Popped (program_answer (pop_program o q) m) (memory_after (pop_program o q) m)
   pop_means = by_chain (h.chains (33 + q)) refl
 
 -- what a push does
-pub push_acts : (plot : Plot) (q v : ℕ) → IsItem q v → (p n : Pad) (result : Result Bool Need) → RunsOn (push plot q v) p n result → Acts plot p n result (has_room plot.blocks) (after_push plot.blocks q v)
+pub push_acts : (plot : Plot) (q v : ℕ) → IsItem q v → (p n : Part) (result : Result Bool Need) → RunsProgram (push plot q v) p n result → ActsOnStore plot p n result (has_room plot.blocks) (after_push plot.blocks q v)
 push_acts plot q v item p n result = acts plot (push plot q v) (has_room plot.blocks) (after_push plot.blocks q v) (λ m s h.
     let g = push_means (base plot) plot.blocks plot.few_blocks m s h q item.0 v item.1 in
     record { inside = g.0; answers = g.1.0; stands = g.1.1 }) p n result
 
 -- what a pop does
-pub pop_acts_whole : (plot : Plot) (q : ℕ) → q < 4 → (p n : Pad) (result : Result (Option ℕ) Need) → RunsOn (pop plot q) p n result → Acts plot p n result (front_item q) (after_pop q)
+pub pop_acts_whole : (plot : Plot) (q : ℕ) → q < 4 → (p n : Part) (result : Result (Option ℕ) Need) → RunsProgram (pop plot q) p n result → ActsOnStore plot p n result (front_item q) (after_pop q)
 pop_acts_whole plot q q_in p n result = acts plot (pop plot q) (front_item q) (after_pop q) (λ m s h.
     let g = pop_means (base plot) plot.blocks plot.few_blocks m s h q q_in in
     record { inside = g.0; answers = g.1.0; stands = g.1.1 }) p n result
 
 -- what len answers
-pub len_answers : (plot : Plot) (q : ℕ) → q < 4 → (p : Pad) (result : Result ℕ Need) → RunsOn (len plot q) p p result → Answers plot p result (λ s. length (s.queues q))
+pub len_answers : (plot : Plot) (q : ℕ) → q < 4 → (p : Part) (result : Result ℕ Need) → RunsProgram (len plot q) p p result → AnswersOfStore plot p result (λ s. length (s.queues q))
 len_answers plot q q_in p result = answered plot (len plot q) (λ s. length (s.queues q)) (λ m s h. ((omega arith, omega (arith, q_in), tt), (h.holds.queues q q_in).counted)) p result

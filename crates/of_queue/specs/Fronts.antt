@@ -4,40 +4,40 @@ use Rattle.of_mem.specs.declared.plot.Plot.{Plot}
 use Rattle.of_mem.specs.declared.plot.TheConstants.{QUEUES}
 use Rattle.of_mem.specs.Numbers.{FitsCell}
 use Rattle.of_mem.specs.Places.{tail_at, length_at}
-use Rattle.of_mem.specs.Plots.{base, size}
-use Rattle.of_mem.specs.Pad.{Pad, newest}
+use Rattle.of_mem.specs.Plots.{base, data_cell_count}
+use Rattle.of_mem.specs.Pad.{Part, newest_at}
 use Rattle.of_mem.specs.Programs.{IsPartOf}
-use Rattle.of_mem.specs.Stores.{Store}
-use Rattle.of_mem.specs.Calls.{StandsOn}
+use Rattle.of_mem.specs.Stores.{CellStore}
+use Rattle.of_mem.specs.Calls.{PlotStandsForStore}
 use Rattle.of_alloc.specs.Blocks.{HasOut}
 
 -- this block of the plot can be put behind the queue, and one item more can be counted
-pub record CanAppend (plot : Plot) (p : Pad) (q b : ℕ) : Type 0 where
-  pub fits : length p.known ≡ size plot
+pub record CanAppend (plot : Plot) (p : Part) (q b : ℕ) : Type 0 where
+  pub fits : length p.known ≡ data_cell_count plot
   pub queue : q < QUEUES
   pub below : b < plot.blocks
-  pub tail : (t : ℕ) → newest p (tail_at (base plot) q) ≡ Some t → t ≤ plot.blocks
-  pub items : (n : ℕ) → newest p (length_at (base plot) q) ≡ Some n → FitsCell (n + 1)
+  pub tail : (t : ℕ) → newest_at p (tail_at (base plot) q) ≡ Some t → t ≤ plot.blocks
+  pub items : (n : ℕ) → newest_at p (length_at (base plot) q) ≡ Some n → FitsCell (n + 1)
 
 -- one item less can be counted
-pub record CanCount (plot : Plot) (p : Pad) (q : ℕ) : Type 0 where
-  pub fits : length p.known ≡ size plot
+pub record CanCount (plot : Plot) (p : Part) (q : ℕ) : Type 0 where
+  pub fits : length p.known ≡ data_cell_count plot
   pub queue : q < QUEUES
-  pub items : (n : ℕ) → newest p (length_at (base plot) q) ≡ Some n → 1 ≤ n
+  pub items : (n : ℕ) → newest_at p (length_at (base plot) q) ≡ Some n → 1 ≤ n
 
 -- the partial memory has a store, and the block is the front of this queue in it
-pub record IsFront (plot : Plot) (p : Pad) (q b : ℕ) : Type 0 where
-  pub fits : length p.known ≡ size plot
+pub record IsFront (plot : Plot) (p : Part) (q b : ℕ) : Type 0 where
+  pub fits : length p.known ≡ data_cell_count plot
   pub queue : q < QUEUES
   pub memory : ℕ → ℕ
-  pub store : Store
+  pub store : CellStore
   pub part : IsPartOf p memory
-  pub stands : StandsOn plot memory store
+  pub stands : PlotStandsForStore plot memory store
   pub rest : List ℕ
   pub front : stands.chains (33 + q) ≡ b ∷ rest
 
 -- the block is out, and an item is still counted for it
-pub record IsPopped (plot : Plot) (p : Pad) (q b : ℕ) : Type 0 where
+pub record IsPopped (plot : Plot) (p : Part) (q b : ℕ) : Type 0 where
   pub queue : q < QUEUES
   pub block : HasOut plot p b
   pub items : 1 ≤ block.memory (length_at (base plot) q)

@@ -1,36 +1,36 @@
 -- What the calls of a queue do to a store.
 use Rattle.std.specs.Prelude.{◌≡◌, ◌<◌, ℕ, Result, IfOk, Bool, true, false, ltb, List, [], ◌∷◌, ◌++◌, Option, Some, None}
-use Rattle.of_mem.specs.Programs.{changed}
+use Rattle.of_mem.specs.Programs.{with_value}
 use Rattle.of_mem.specs.declared.part.Need.{Need}
 use Rattle.of_mem.specs.declared.plot.Plot.{Plot}
 use Rattle.of_mem.specs.declared.plot.TheConstants.{QUEUES}
 use Rattle.of_mem.specs.Numbers.{IsNumber}
-use Rattle.of_mem.specs.Pad.{Pad}
-use Rattle.of_mem.specs.Stores.{Store, things}
-use Rattle.of_mem.specs.Calls.{Acts}
+use Rattle.of_mem.specs.Pad.{Part}
+use Rattle.of_mem.specs.Stores.{CellStore, thing_count}
+use Rattle.of_mem.specs.Calls.{ActsOnStore}
 
 -- a queue, and a number for it
 abbrev pub IsItem : ℕ → ℕ → Type 0
 IsItem q v = (q < QUEUES) × IsNumber v
 
-abbrev pub with_queue : Store → ℕ → List ℕ → Store
-with_queue s q items = record s { queues = changed s.queues q items }
+abbrev pub with_queue : CellStore → ℕ → List ℕ → CellStore
+with_queue s q items = record s { queues = with_value s.queues q items }
 
 -- whether there is a block for one thing more
-abbrev pub has_room : ℕ → Store → Bool
-has_room blocks s = ltb (things s) blocks
+abbrev pub has_room : ℕ → CellStore → Bool
+has_room blocks s = ltb (thing_count s) blocks
 
-abbrev pub push_store : Store → ℕ → ℕ → Bool → Store
+abbrev pub push_store : CellStore → ℕ → ℕ → Bool → CellStore
 push_store s q v true = with_queue s q (s.queues q ++ v ∷ [])
 push_store s q v false = s
 
 -- the store after a push: the item stands behind the queue, where there is room
-abbrev pub after_push : ℕ → ℕ → ℕ → Store → Store
+abbrev pub after_push : ℕ → ℕ → ℕ → CellStore → CellStore
 after_push blocks q v s = push_store s q v (has_room blocks s)
 
 -- the call put the item behind this queue, or found no room, and then it wrote nothing
-pub record Pushes (plot : Plot) (before after : Pad) (q v : ℕ) (result : Result Bool Need) : Type 0 where
-  pub acts : Acts plot before after result (has_room plot.blocks) (after_push plot.blocks q v)
+pub record PushesItem (plot : Plot) (before after : Part) (q v : ℕ) (result : Result Bool Need) : Type 0 where
+  pub acts : ActsOnStore plot before after result (has_room plot.blocks) (after_push plot.blocks q v)
   pub full : IfOk result (λ r. r ≡ false → after ≡ before)
 
 abbrev pub front_of : List ℕ → Option ℕ
@@ -38,13 +38,13 @@ front_of [] = None
 front_of (v ∷ items) = Some v
 
 -- the item at the front of a queue
-abbrev pub front_item : ℕ → Store → Option ℕ
+abbrev pub front_item : ℕ → CellStore → Option ℕ
 front_item q s = front_of (s.queues q)
 
-abbrev pub pop_store : Store → ℕ → List ℕ → Store
+abbrev pub pop_store : CellStore → ℕ → List ℕ → CellStore
 pop_store s q [] = s
 pop_store s q (v ∷ items) = with_queue s q items
 
 -- the store after a pop: the front item is gone, where there was one
-abbrev pub after_pop : ℕ → Store → Store
+abbrev pub after_pop : ℕ → CellStore → CellStore
 after_pop q s = pop_store s q (s.queues q)

@@ -9,11 +9,11 @@ use Rattle.of_alloc.specs.BlockPrograms.{take_program, give_program}
 
 -- Pushing an item behind a queue: whether there was a block for it.
 
-abbrev pub longer : ℕ → ℕ → ℕ → Program Bool
-longer o q n = Write (length_at o q) (n + 1) (Done true)
+abbrev pub count_up : ℕ → ℕ → ℕ → Program Bool
+count_up o q n = Write (length_at o q) (n + 1) (Done true)
 
 abbrev pub new_tail : ℕ → ℕ → ℕ → Program Bool
-new_tail o q b = Write (tail_at o q) (b + 1) (Read (length_at o q) (longer o q))
+new_tail o q b = Write (tail_at o q) (b + 1) (Read (length_at o q) (count_up o q))
 
 -- the pointer cell behind the last block, by the pointer that tail holds
 abbrev pub last_cell : ℕ → ℕ → ℕ → ℕ
@@ -32,15 +32,15 @@ push_program o blocks q v = then_do (take_program o blocks) (push_new o q v)
 
 -- Popping the front item.
 
-abbrev pub shorter : ℕ → ℕ → ℕ → ℕ → Program (Option ℕ)
-shorter o q v n = Write (length_at o q) (n - 1) (Done (Some v))
+abbrev pub count_down_program : ℕ → ℕ → ℕ → ℕ → Program (Option ℕ)
+count_down_program o q v n = Write (length_at o q) (n - 1) (Done (Some v))
 
-abbrev pub given : ℕ → ℕ → ℕ → Unit {0} → Program (Option ℕ)
-given o q v u = Read (length_at o q) (shorter o q v)
+abbrev pub item_after_give : ℕ → ℕ → ℕ → Unit {0} → Program (Option ℕ)
+item_after_give o q v u = Read (length_at o q) (count_down_program o q v)
 
 -- the block goes back, and one item less is counted
 abbrev pub drop_block : ℕ → ℕ → ℕ → ℕ → Program (Option ℕ)
-drop_block o q b v = then_do (give_program o b) (given o q v)
+drop_block o q b v = then_do (give_program o b) (item_after_give o q v)
 
 -- by the link of the block that leaves: where it is 0 nothing is left
 abbrev pub new_end : ℕ → ℕ → ℕ → ℕ → ℕ → Program (Option ℕ)
@@ -90,7 +90,7 @@ abbrev pub give_back : Plot → ℕ → ℕ → ℕ → Program (Option ℕ)
 give_back plot q b v = drop_block (base plot) q b v
 
 abbrev pub count_down : Plot → ℕ → ℕ → Program (Option ℕ)
-count_down plot q v = given (base plot) q v tt
+count_down plot q v = item_after_give (base plot) q v tt
 
 abbrev pub len : Plot → ℕ → Program ℕ
 len plot q = len_program (base plot) q

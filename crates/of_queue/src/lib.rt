@@ -3,13 +3,13 @@
 
 ghost use Rattle.std.specs.Prelude.{◌≡◌, ◌<◌, ◌≤◌, ℕ, Some, false, true, length, IfOk};
 ghost use Rattle.of_mem.specs.declared.plot.TheConstants.{QUEUES};
-ghost use Rattle.of_mem.specs.Plots.{base, size};
+ghost use Rattle.of_mem.specs.Plots.{base, data_cell_count};
 ghost use Rattle.of_mem.specs.Places.{length_at};
-ghost use Rattle.of_mem.specs.Pad.{newest};
-ghost use Rattle.of_mem.specs.Calls.{RunsOn, HasStore, Answers, Acts};
+ghost use Rattle.of_mem.specs.Pad.{newest_at};
+ghost use Rattle.of_mem.specs.Calls.{RunsProgram, HasStore, AnswersOfStore, ActsOnStore};
 ghost use Rattle.of_queue.specs.QueuePrograms.{last_cell as last_cell_of, push, append, pop, pop_front, close, give_back, count_down, len};
 ghost use Rattle.of_queue.specs.Fronts.{CanAppend, CanCount, IsFront, IsPopped};
-ghost use Rattle.of_queue.specs.Means.{IsItem, Pushes, front_item, after_pop};
+ghost use Rattle.of_queue.specs.Means.{IsItem, PushesItem, front_item, after_pop};
 
 use of_mem::{Need, Part, Plot};
 
@@ -19,8 +19,8 @@ use of_mem::{Need, Part, Plot};
 pub fn push(plot: &Plot, part: &mut Part, queue: u32, value: u32) -> Result<bool, Need>
     requires stands { HasStore plot.now part.old }
     requires item { IsItem queue value }
-    ensures runs { RunsOn (push plot.now queue value) part.old part.new result }
-    ensures pushes { Pushes plot.now part.old part.new queue value result }
+    ensures runs { RunsProgram (push plot.now queue value) part.old part.new result }
+    ensures pushes { PushesItem plot.now part.old part.new queue value result }
 {
     match of_alloc::take(plot, part)? {
         None => Ok(false),
@@ -31,7 +31,7 @@ pub fn push(plot: &Plot, part: &mut Part, queue: u32, value: u32) -> Result<bool
 /// Makes a block that was taken the last of its queue.
 fn append(plot: &Plot, part: &mut Part, queue: u32, value: u32, block: u32) -> Result<bool, Need>
     requires { CanAppend plot.now part.old queue block }
-    ensures runs { RunsOn (append plot.now queue value block) part.old part.new result }
+    ensures runs { RunsProgram (append plot.now queue value block) part.old part.new result }
     ensures pushed { IfOk result (λ r. r ≡ true) }
 {
     part.write(plot.block(block, 0), value);
@@ -49,7 +49,7 @@ fn last_cell(plot: &Plot, queue: u32, tail: u32) -> u32
     requires queue { queue < QUEUES }
     requires tail { tail ≤ plot.now.blocks }
     ensures value { result ≡ last_cell_of (base plot.now) queue tail }
-    ensures below { result < size plot.now }
+    ensures below { result < data_cell_count plot.now }
 {
     if tail == 0 {
         plot.head(queue)
@@ -63,8 +63,8 @@ fn last_cell(plot: &Plot, queue: u32, tail: u32) -> u32
 pub fn pop(plot: &Plot, part: &mut Part, queue: u32) -> Result<Option<u32>, Need>
     requires stands { HasStore plot.now part.old }
     requires queue { queue < QUEUES }
-    ensures runs { RunsOn (pop plot.now queue) part.old part.new result }
-    ensures acts { Acts plot.now part.old part.new result (front_item queue) (after_pop queue) }
+    ensures runs { RunsProgram (pop plot.now queue) part.old part.new result }
+    ensures acts { ActsOnStore plot.now part.old part.new result (front_item queue) (after_pop queue) }
 {
     let head = part.read(plot.head(queue))?;
     if head == 0 {
@@ -76,7 +76,7 @@ pub fn pop(plot: &Plot, part: &mut Part, queue: u32) -> Result<Option<u32>, Need
 /// Takes a queue's front block out of it.
 fn pop_front(plot: &Plot, part: &mut Part, queue: u32, block: u32) -> Result<Option<u32>, Need>
     requires { IsFront plot.now part.old queue block }
-    ensures { RunsOn (pop_front plot.now queue block) part.old part.new result }
+    ensures { RunsProgram (pop_front plot.now queue block) part.old part.new result }
 {
     let item = part.read(plot.block(block, 0))?;
     let link = part.read(plot.block(block, 2))?;
@@ -94,7 +94,7 @@ fn close(
     link: u32,
 ) -> Result<Option<u32>, Need>
     requires { IsPopped plot.now part.old queue block }
-    ensures { RunsOn (close plot.now queue block item link) part.old part.new result }
+    ensures { RunsProgram (close plot.now queue block item link) part.old part.new result }
 {
     if link == 0 {
         part.write(plot.tail(queue), 0);
@@ -113,7 +113,7 @@ fn give_back(
     item: u32,
 ) -> Result<Option<u32>, Need>
     requires { IsPopped plot.now part.old queue block }
-    ensures { RunsOn (give_back plot.now queue block item) part.old part.new result }
+    ensures { RunsProgram (give_back plot.now queue block item) part.old part.new result }
 {
     of_alloc::give(plot, part, block)?;
     count_down(plot, part, queue, item)
@@ -122,7 +122,7 @@ fn give_back(
 /// Counts one item less.
 fn count_down(plot: &Plot, part: &mut Part, queue: u32, item: u32) -> Result<Option<u32>, Need>
     requires { CanCount plot.now part.old queue }
-    ensures { RunsOn (count_down plot.now queue item) part.old part.new result }
+    ensures { RunsProgram (count_down plot.now queue item) part.old part.new result }
 {
     let items = part.read(plot.length(queue))?;
     part.write(plot.length(queue), items - 1);
@@ -133,8 +133,8 @@ fn count_down(plot: &Plot, part: &mut Part, queue: u32, item: u32) -> Result<Opt
 pub fn len(plot: &Plot, part: &Part, queue: u32) -> Result<u32, Need>
     requires stands { HasStore plot.now part.now }
     requires queue { queue < QUEUES }
-    ensures runs { RunsOn (len plot.now queue) part.now part.now result }
-    ensures answers { Answers plot.now part.now result (λ s. length (s.queues queue)) }
+    ensures runs { RunsProgram (len plot.now queue) part.now part.now result }
+    ensures answers { AnswersOfStore plot.now part.now result (λ s. length (s.queues queue)) }
 {
     part.read(plot.length(queue))
 }

@@ -6,12 +6,12 @@ use Rattle.std.proofs.lemmas.Bool.{cases_eq, cases_lt}
 use Rattle.std.proofs.lemmas.List.{take_all, get_or-set_same, get_or-set_other}
 use Rattle.std.proofs.lemmas.List.FromFn.{length-map-range_with_len, take-map-range_with_len, map-range_with_len_more}
 use Rattle.std.proofs.lemmas.List.Sums.{fold-append}
-use Rattle.of_cell.specs.Words.{word, seq, pay}
+use Rattle.of_cell.specs.Words.{pack, seq_of, payload_of}
 use Rattle.of_cell.specs.Cells.{data_cell, request_cell}
 use Rattle.of_cell.proofs.Order.{seq_word, pay_word, pay_small, seq_zero}
 use Rattle.of_recover.specs.Row.{IsDurableRow, is_open}
 use Rattle.of_recover.specs.Recovered.{is_data}
-use Rattle.of_recover.specs.Renumbered.{renumbered_word, renumbered, renumbering_writes, BeginsAnewPartly}
+use Rattle.of_recover.specs.Renumbered.{renumbered_word, renumbered_words, renumbering_writes, BeginsAnewPartly}
 use Rattle.of_recover.specs.Writes.{row_after}
 use Rattle.of_recover.proofs.Rows.{left_alone, inside}
 use Rattle.of_recover.proofs.Kept.{on_data, not_data}
@@ -60,10 +60,10 @@ module _ (N M : ℕ) (ws : List ℕ) where
   all_taken = take_all (length ws) (renumbering_writes N M ws) (omega (arith, length-writes))
 
   -- the writes of all cells
-  pub all_anew : row_after (renumbering_writes N M ws) ws ≡ renumbered N M ws
+  pub all_anew : row_after (renumbering_writes N M ws) ws ≡ renumbered_words N M ws
   all_anew = ap (λ (x : List (ℕ × ℕ)). row_after x ws) (sym all_taken) ∙ go (last_anew (length ws) (omega arith))
     where
-      go : LastAnew N M ws (length ws) (row_after (take (length ws) (renumbering_writes N M ws)) ws) → row_after (take (length ws) (renumbering_writes N M ws)) ws ≡ renumbered N M ws
+      go : LastAnew N M ws (length ws) (row_after (take (length ws) (renumbering_writes N M ws)) ws) → row_after (take (length ws) (renumbering_writes N M ws)) ws ≡ renumbered_words N M ws
       go h = same_renumbered N M ws (row_after (take (length ws) (renumbering_writes N M ws)) ws) h.size (λ c l. h.done c l (omega arith))
 
   -- as many writes as there are, or fewer
@@ -80,7 +80,7 @@ module _ (N M : ℕ) (ws : List ℕ) where
   next_anew k vs x l e f =
       let h : LastAnew N M ws k (row_after (take k (renumbering_writes N M ws)) ws) = last_anew k (omega arith) in
       let old : get_or vs (length ws - 1 - k) 0 ≡ get_or ws (length ws - 1 - k) 0 = ap (λ (y : List ℕ). get_or y (length ws - 1 - k) 0) e ∙ h.left (length ws - 1 - k) (omega arith) in
-      ap (λ (y : ℕ). set vs (length ws - 1 - k) y) (f ∙ ap (λ (w : ℕ). if is_data N M (length ws - 1 - k) then word 0 (pay w) else 0) old)
+      ap (λ (y : ℕ). set vs (length ws - 1 - k) y) (f ∙ ap (λ (w : ℕ). if is_data N M (length ws - 1 - k) then pack 0 (payload_of w) else 0) old)
       ∙ ap (λ (y : List ℕ). set y (length ws - 1 - k) (renumbered_word N M (λ c. get_or ws c 0) (length ws - 1 - k))) e
       ∙ sym (write_more k l)
 
@@ -108,42 +108,42 @@ module _ (N M : ℕ) (ws vs : List ℕ) (k : ℕ) (size : IsDurableRow N M ws) (
 
   still_closed : is_open N (λ c. get_or vs c 0) ≡ false
   still_closed = elim current [
-    | inl e ↦ ap (λ (w : ℕ). nat_le 1 (seq w) && (nat_lt (pay w) N && (get_or vs (request_cell (pay w)) 0 == word (seq w) 0))) e ∙ same (nat_le 1 (seq (get_or ws 0 0))) (nat_lt (pay (get_or ws 0 0)) N) refl refl
-    | inr e ↦ ap (λ (w : ℕ). nat_le 1 (seq w) && (nat_lt (pay w) N && (get_or vs (request_cell (pay w)) 0 == word (seq w) 0))) e ∙ rw seq_zero refl
+    | inl e ↦ ap (λ (w : ℕ). nat_le 1 (seq_of w) && (nat_lt (payload_of w) N && (get_or vs (request_cell (payload_of w)) 0 == pack (seq_of w) 0))) e ∙ same (nat_le 1 (seq_of (get_or ws 0 0))) (nat_lt (payload_of (get_or ws 0 0)) N) refl refl
+    | inr e ↦ ap (λ (w : ℕ). nat_le 1 (seq_of w) && (nat_lt (payload_of w) N && (get_or vs (request_cell (payload_of w)) 0 == pack (seq_of w) 0))) e ∙ rw seq_zero refl
   ]
     where
-      same : (a b : Bool) → nat_le 1 (seq (get_or ws 0 0)) ≡ a → nat_lt (pay (get_or ws 0 0)) N ≡ b
-          → (nat_le 1 (seq (get_or ws 0 0)) && (nat_lt (pay (get_or ws 0 0)) N && (get_or vs (request_cell (pay (get_or ws 0 0))) 0 == word (seq (get_or ws 0 0)) 0))) ≡ false
+      same : (a b : Bool) → nat_le 1 (seq_of (get_or ws 0 0)) ≡ a → nat_lt (payload_of (get_or ws 0 0)) N ≡ b
+          → (nat_le 1 (seq_of (get_or ws 0 0)) && (nat_lt (payload_of (get_or ws 0 0)) N && (get_or vs (request_cell (payload_of (get_or ws 0 0))) 0 == pack (seq_of (get_or ws 0 0)) 0))) ≡ false
       same false b ea eb = rw ea refl
       same true false ea eb = rw (ea, eb) refl
-      same true true ea eb = elim (word_now (request_cell (pay (get_or ws 0 0))) (omega (arith, size, below (pay (get_or ws 0 0)) N eb))) [
-        | inl q ↦ ap (λ (w : ℕ). nat_le 1 (seq (get_or ws 0 0)) && (nat_lt (pay (get_or ws 0 0)) N && (w == word (seq (get_or ws 0 0)) 0))) q ∙ closed
-        | inr q ↦ rw (ea, eb) (differs (get_or vs (request_cell (pay (get_or ws 0 0))) 0) (word (seq (get_or ws 0 0)) 0) (λ f. absurd (
-            let none : seq (word (seq (get_or ws 0 0)) 0) ≡ 0 = ap seq (sym f ∙ q ∙ rw (not_data N M (request_cell (pay (get_or ws 0 0))) (inl (omega (arith, below (pay (get_or ws 0 0)) N eb)))) refl) ∙ seq_zero in
-            omega (arith, none, seq_word (seq (get_or ws 0 0)) 0 (omega arith), at_least 1 (seq (get_or ws 0 0)) ea))))
+      same true true ea eb = elim (word_now (request_cell (payload_of (get_or ws 0 0))) (omega (arith, size, below (payload_of (get_or ws 0 0)) N eb))) [
+        | inl q ↦ ap (λ (w : ℕ). nat_le 1 (seq_of (get_or ws 0 0)) && (nat_lt (payload_of (get_or ws 0 0)) N && (w == pack (seq_of (get_or ws 0 0)) 0))) q ∙ closed
+        | inr q ↦ rw (ea, eb) (differs (get_or vs (request_cell (payload_of (get_or ws 0 0))) 0) (pack (seq_of (get_or ws 0 0)) 0) (λ f. absurd (
+            let none : seq_of (pack (seq_of (get_or ws 0 0)) 0) ≡ 0 = ap seq_of (sym f ∙ q ∙ rw (not_data N M (request_cell (payload_of (get_or ws 0 0))) (inl (omega (arith, below (payload_of (get_or ws 0 0)) N eb)))) refl) ∙ seq_zero in
+            omega (arith, none, seq_word (seq_of (get_or ws 0 0)) 0 (omega arith), at_least 1 (seq_of (get_or ws 0 0)) ea))))
       ]
 
-  number_kept : (a : ℕ) → a < M → pay (get_or vs (data_cell N a) 0) ≡ pay (get_or ws (data_cell N a) 0)
+  number_kept : (a : ℕ) → a < M → payload_of (get_or vs (data_cell N a) 0) ≡ payload_of (get_or ws (data_cell N a) 0)
   number_kept a m = elim (word_now (data_cell N a) (omega (arith, size))) [
-    | inl e ↦ ap pay e
-    | inr e ↦ ap pay (e ∙ rw (on_data N M a m) refl) ∙ pay_word 0 (pay (get_or ws (data_cell N a) 0)) (pay_small (get_or ws (data_cell N a) 0))
+    | inl e ↦ ap payload_of e
+    | inr e ↦ ap payload_of (e ∙ rw (on_data N M a m) refl) ∙ pay_word 0 (payload_of (get_or ws (data_cell N a) 0)) (pay_small (get_or ws (data_cell N a) 0))
   ]
 
-  newer_none : ((a : ℕ) → a < M → seq (get_or ws (data_cell N a) 0) ≤ seq (get_or ws 0 0)) → (a : ℕ) → a < M → seq (get_or vs (data_cell N a) 0) ≤ seq (get_or vs 0 0)
+  newer_none : ((a : ℕ) → a < M → seq_of (get_or ws (data_cell N a) 0) ≤ seq_of (get_or ws 0 0)) → (a : ℕ) → a < M → seq_of (get_or vs (data_cell N a) 0) ≤ seq_of (get_or vs 0 0)
   newer_none old a m = elim (cases_lt (data_cell N a + k) (length ws)) [
     | inl n ↦ rw (h.left (data_cell N a) n, h.left 0 (omega arith)) (old a m)
-    | inr n ↦ rw (h.done (data_cell N a) (omega (arith, size)) n) (rw (on_data N M a m) (rw (seq_word 0 (pay (get_or ws (data_cell N a) 0)) (pay_small (get_or ws (data_cell N a) 0))) (omega arith)))
+    | inr n ↦ rw (h.done (data_cell N a) (omega (arith, size)) n) (rw (on_data N M a m) (rw (seq_word 0 (payload_of (get_or ws (data_cell N a) 0)) (pay_small (get_or ws (data_cell N a) 0))) (omega arith)))
   ]
 
-  again : renumbered N M vs ≡ renumbered N M ws
-  again = same_renumbered N M ws (renumbered N M vs) (length-renumbered N M vs ∙ h.size) (λ c m. renumbered_at N M vs c 0 (omega (arith, h.size)) ∙ go c (is_data N M c) refl)
+  again : renumbered_words N M vs ≡ renumbered_words N M ws
+  again = same_renumbered N M ws (renumbered_words N M vs) (length-renumbered N M vs ∙ h.size) (λ c m. renumbered_at N M vs c 0 (omega (arith, h.size)) ∙ go c (is_data N M c) refl)
     where
-      go : (c : ℕ) (b : Bool) → is_data N M c ≡ b → (if b then word 0 (pay (get_or vs c 0)) else 0) ≡ (if b then word 0 (pay (get_or ws c 0)) else 0)
+      go : (c : ℕ) (b : Bool) → is_data N M c ≡ b → (if b then pack 0 (payload_of (get_or vs c 0)) else 0) ≡ (if b then pack 0 (payload_of (get_or ws c 0)) else 0)
       go c false e = refl
       go c true e =
           let i = inside N M c e in
           let at : data_cell N (c - (N + 1)) ≡ c = omega (arith, i.0) in
-          ap (word 0) (subst (λ (x : ℕ). pay (get_or vs x 0) ≡ pay (get_or ws x 0)) at (number_kept (c - (N + 1)) (omega (arith, i.0, i.1))))
+          ap (pack 0) (subst (λ (x : ℕ). payload_of (get_or vs x 0) ≡ payload_of (get_or ws x 0)) at (number_kept (c - (N + 1)) (omega (arith, i.0, i.1))))
 
   pub begins_partly : BeginsAnewPartly N M ws vs
   begins_partly = record {

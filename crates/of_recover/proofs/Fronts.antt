@@ -8,13 +8,13 @@ use Rattle.std.proofs.lemmas.Grind.{same_number_lists, flat_map-append}
 use Rattle.std.proofs.lemmas.List.{append-nil, take_all, take-append-le}
 use Rattle.std.proofs.Math.Seq.{take-nil}
 use Rattle.std.proofs.lemmas.List.Sums.{fold-append}
-use Rattle.of_cell.specs.Words.{word, seq, pay}
+use Rattle.of_cell.specs.Words.{pack, seq_of, payload_of}
 use Rattle.of_cell.specs.Cells.{data_cell, request_cell, log_cell}
 use Rattle.of_cell.proofs.Order.{seq_word, pay_small}
 use Rattle.of_recover.specs.Row.{IsDurableRow, current_seq, current_owner, is_open}
-use Rattle.of_recover.specs.Log.{log_word, entry_count, entry_addr, entry_value, counts, names, first_naming}
-use Rattle.of_recover.specs.Recovered.{replayed_data, recovered_data, is_data, recovered_word, recovered}
-use Rattle.of_recover.specs.Walk.{after_entry, Replays}
+use Rattle.of_recover.specs.Log.{owner_log_word, entry_count, entry_addr, entry_value, entry_counts, entry_names, first_naming}
+use Rattle.of_recover.specs.Recovered.{replayed_data, recovered_data, is_data, recovered_word, recovered_words}
+use Rattle.of_recover.specs.Walk.{after_entry, HasReplayed}
 use Rattle.of_recover.specs.Writes.{row_after, entry_writes, log_writes, recovery_writes, IsUnderway}
 use Rattle.of_recover.proofs.Entries.{picked, first_more, range_push, replays_none, replays_more, same_entry, entry_within}
 use Rattle.of_recover.proofs.Rows.{length-recovered, recovered_at, left_alone, brought_to_end, inside, outside}
@@ -37,10 +37,10 @@ below : (a b : ℕ) → nat_lt a b ≡ true → a < b
 below a b e = grind (arith, nat_tests)
 
 -- a picked word is picked again
-picked_again : (older : Bool) (o : Option ℕ) (value : ℕ → ℕ) (own s : ℕ) → nat_lt (seq own) s ≡ older → ((k : ℕ) → seq (value k) ≡ s)
-    → picked (nat_lt (seq (picked older o value own)) s) o value (picked older o value own) ≡ picked older o value own
+picked_again : (older : Bool) (o : Option ℕ) (value : ℕ → ℕ) (own s : ℕ) → nat_lt (seq_of own) s ≡ older → ((k : ℕ) → seq_of (value k) ≡ s)
+    → picked (nat_lt (seq_of (picked older o value own)) s) o value (picked older o value own) ≡ picked older o value own
 picked_again true None value own s e f = rw e refl
-picked_again true (Some k) value own s e f = rw (not_less (seq (value k)) s (f k)) refl
+picked_again true (Some k) value own s e f = rw (not_less (seq_of (value k)) s (f k)) refl
 picked_again false o value own s e f = rw e refl
 
 -- two readers that agree on every cell that isn't a data cell, and each data cell has the word of the one, or what recovery makes of it
@@ -49,49 +49,49 @@ module _ (N M : ℕ) (r q : ℕ → ℕ) (others : (c : ℕ) → (c ≤ N) ⊎ (
   first : q 0 ≡ r 0
   first = others 0 (inl (omega arith))
 
-  log_same : (x : ℕ) → log_word N M q x ≡ log_word N M r x
-  log_same x = others (log_cell N M (pay (q 0)) x) (inr (omega arith)) ∙ ap (λ (w : ℕ). r (log_cell N M (pay w) x)) first
+  log_same : (x : ℕ) → owner_log_word N M q x ≡ owner_log_word N M r x
+  log_same x = others (log_cell N M (payload_of (q 0)) x) (inr (omega arith)) ∙ ap (λ (w : ℕ). r (log_cell N M (payload_of w) x)) first
 
   count_same : entry_count N M q ≡ entry_count N M r
   count_same =
-      ap (λ (w : ℕ). if (seq w == seq (q 0)) && nat_le (pay w) M then pay w else 0) (log_same 0)
-      ∙ ap (λ (s : ℕ). if (seq (log_word N M r 0) == seq s) && nat_le (pay (log_word N M r 0)) M then pay (log_word N M r 0) else 0) first
+      ap (λ (w : ℕ). if (seq_of w == seq_of (q 0)) && nat_le (payload_of w) M then payload_of w else 0) (log_same 0)
+      ∙ ap (λ (s : ℕ). if (seq_of (owner_log_word N M r 0) == seq_of s) && nat_le (payload_of (owner_log_word N M r 0)) M then payload_of (owner_log_word N M r 0) else 0) first
 
-  names_same : (a j : ℕ) → names N M q a j ≡ names N M r a j
+  names_same : (a j : ℕ) → entry_names N M q a j ≡ entry_names N M r a j
   names_same a j =
-      ap (λ (w : ℕ). ((seq w == seq (q 0)) && (nat_lt (pay w) M && (seq (log_word N M q (2 * j + 2)) == seq (q 0)))) && (pay w == a)) (log_same (2 * j + 1))
-      ∙ ap (λ (w : ℕ). ((seq (log_word N M r (2 * j + 1)) == seq (q 0)) && (nat_lt (pay (log_word N M r (2 * j + 1))) M && (seq w == seq (q 0)))) && (pay (log_word N M r (2 * j + 1)) == a)) (log_same (2 * j + 2))
-      ∙ ap (λ (w : ℕ). ((seq (log_word N M r (2 * j + 1)) == seq w) && (nat_lt (pay (log_word N M r (2 * j + 1))) M && (seq (log_word N M r (2 * j + 2)) == seq w))) && (pay (log_word N M r (2 * j + 1)) == a)) first
+      ap (λ (w : ℕ). ((seq_of w == seq_of (q 0)) && (nat_lt (payload_of w) M && (seq_of (owner_log_word N M q (2 * j + 2)) == seq_of (q 0)))) && (payload_of w == a)) (log_same (2 * j + 1))
+      ∙ ap (λ (w : ℕ). ((seq_of (owner_log_word N M r (2 * j + 1)) == seq_of (q 0)) && (nat_lt (payload_of (owner_log_word N M r (2 * j + 1))) M && (seq_of w == seq_of (q 0)))) && (payload_of (owner_log_word N M r (2 * j + 1)) == a)) (log_same (2 * j + 2))
+      ∙ ap (λ (w : ℕ). ((seq_of (owner_log_word N M r (2 * j + 1)) == seq_of w) && (nat_lt (payload_of (owner_log_word N M r (2 * j + 1))) M && (seq_of (owner_log_word N M r (2 * j + 2)) == seq_of w))) && (payload_of (owner_log_word N M r (2 * j + 1)) == a)) first
 
-  value_same : (j : ℕ) → word (current_seq q) (entry_value N M q j) ≡ word (current_seq r) (entry_value N M r j)
-  value_same j = ap (λ (w : ℕ). word (seq w) (entry_value N M q j)) first ∙ ap (λ (w : ℕ). word (current_seq r) (pay w)) (log_same (2 * j + 2))
+  value_same : (j : ℕ) → pack (current_seq q) (entry_value N M q j) ≡ pack (current_seq r) (entry_value N M r j)
+  value_same j = ap (λ (w : ℕ). pack (seq_of w) (entry_value N M q j)) first ∙ ap (λ (w : ℕ). pack (current_seq r) (payload_of w)) (log_same (2 * j + 2))
 
-  logged_same : (a : ℕ) → option_map (λ j. word (current_seq q) (entry_value N M q j)) (first_naming N M q (entry_count N M q) a) ≡ option_map (λ j. word (current_seq r) (entry_value N M r j)) (first_naming N M r (entry_count N M r) a)
+  logged_same : (a : ℕ) → option_map (λ j. pack (current_seq q) (entry_value N M q j)) (first_naming N M q (entry_count N M q) a) ≡ option_map (λ j. pack (current_seq r) (entry_value N M r j)) (first_naming N M r (entry_count N M r) a)
   logged_same a =
-      map_ext (λ j. word (current_seq q) (entry_value N M q j)) (λ j. word (current_seq r) (entry_value N M r j)) value_same (first_naming N M q (entry_count N M q) a)
-      ∙ ap (option_map (λ j. word (current_seq r) (entry_value N M r j)))
-      (find_ext (names N M q a) (names N M r a) (names_same a) (range_with_len 0 (entry_count N M q)) ∙ ap (first_naming_of a) count_same)
+      map_ext (λ j. pack (current_seq q) (entry_value N M q j)) (λ j. pack (current_seq r) (entry_value N M r j)) value_same (first_naming N M q (entry_count N M q) a)
+      ∙ ap (option_map (λ j. pack (current_seq r) (entry_value N M r j)))
+      (find_ext (entry_names N M q a) (entry_names N M r a) (names_same a) (range_with_len 0 (entry_count N M q)) ∙ ap (first_naming_of a) count_same)
     where
       first_naming_of : (a n : ℕ) → Option ℕ
       first_naming_of a n = first_naming N M r n a
 
   open_same : is_open N q ≡ is_open N r
-  open_same = go (nat_lt (pay (r 0)) N) refl
+  open_same = go (nat_lt (payload_of (r 0)) N) refl
     where
-      go : (b : Bool) → nat_lt (pay (r 0)) N ≡ b → is_open N q ≡ is_open N r
+      go : (b : Bool) → nat_lt (payload_of (r 0)) N ≡ b → is_open N q ≡ is_open N r
       go false e =
-          ap (λ (w : ℕ). nat_le 1 (seq w) && (nat_lt (pay w) N && (q (request_cell (pay w)) == word (seq w) 0))) first
-          ∙ ap (λ (b : Bool). nat_le 1 (seq (r 0)) && (b && (q (request_cell (pay (r 0))) == word (seq (r 0)) 0))) e
-          ∙ sym (ap (λ (b : Bool). nat_le 1 (seq (r 0)) && (b && (r (request_cell (pay (r 0))) == word (seq (r 0)) 0))) e)
+          ap (λ (w : ℕ). nat_le 1 (seq_of w) && (nat_lt (payload_of w) N && (q (request_cell (payload_of w)) == pack (seq_of w) 0))) first
+          ∙ ap (λ (b : Bool). nat_le 1 (seq_of (r 0)) && (b && (q (request_cell (payload_of (r 0))) == pack (seq_of (r 0)) 0))) e
+          ∙ sym (ap (λ (b : Bool). nat_le 1 (seq_of (r 0)) && (b && (r (request_cell (payload_of (r 0))) == pack (seq_of (r 0)) 0))) e)
       go true e =
-          ap (λ (w : ℕ). nat_le 1 (seq w) && (nat_lt (pay w) N && (q (request_cell (pay w)) == word (seq w) 0))) first
-          ∙ ap (λ (w : ℕ). nat_le 1 (seq (r 0)) && (nat_lt (pay (r 0)) N && (w == word (seq (r 0)) 0))) (others (request_cell (pay (r 0))) (inl (omega (arith, below (pay (r 0)) N e))))
+          ap (λ (w : ℕ). nat_le 1 (seq_of w) && (nat_lt (payload_of w) N && (q (request_cell (payload_of w)) == pack (seq_of w) 0))) first
+          ∙ ap (λ (w : ℕ). nat_le 1 (seq_of (r 0)) && (nat_lt (payload_of (r 0)) N && (w == pack (seq_of (r 0)) 0))) (others (request_cell (payload_of (r 0))) (inl (omega (arith, below (payload_of (r 0)) N e))))
 
   replayed_same : (a : ℕ) → replayed_data N M q (entry_count N M q) a
-      ≡ picked (nat_lt (seq (q (data_cell N a))) (current_seq r)) (first_naming N M r (entry_count N M r) a) (λ j. word (current_seq r) (entry_value N M r j)) (q (data_cell N a))
+      ≡ picked (nat_lt (seq_of (q (data_cell N a))) (current_seq r)) (first_naming N M r (entry_count N M r) a) (λ j. pack (current_seq r) (entry_value N M r j)) (q (data_cell N a))
   replayed_same a =
-      ap (λ (o : Option ℕ). if nat_lt (seq (q (data_cell N a))) (seq (q 0)) then unwrap_or o (q (data_cell N a)) else q (data_cell N a)) (logged_same a)
-      ∙ ap (λ (w : ℕ). picked (nat_lt (seq (q (data_cell N a))) (seq w)) (first_naming N M r (entry_count N M r) a) (λ j. word (current_seq r) (entry_value N M r j)) (q (data_cell N a))) first
+      ap (λ (o : Option ℕ). if nat_lt (seq_of (q (data_cell N a))) (seq_of (q 0)) then unwrap_or o (q (data_cell N a)) else q (data_cell N a)) (logged_same a)
+      ∙ ap (λ (w : ℕ). picked (nat_lt (seq_of (q (data_cell N a))) (seq_of w)) (first_naming N M r (entry_count N M r) a) (λ j. pack (current_seq r) (entry_value N M r j)) (q (data_cell N a))) first
 
   data_same : (a : ℕ) → a < M → recovered_data N M q a ≡ recovered_data N M r a
   data_same a l = go (is_open N r) refl (on_data a l)
@@ -99,28 +99,28 @@ module _ (N M : ℕ) (r q : ℕ → ℕ) (others : (c : ℕ) → (c ≤ N) ⊎ (
       go : (b : Bool) → is_open N r ≡ b → (q (data_cell N a) ≡ r (data_cell N a)) ⊎ (q (data_cell N a) ≡ recovered_data N M r a) → recovered_data N M q a ≡ recovered_data N M r a
       go false e (inl o) = rw (open_same ∙ e, e) o
       go false e (inr o) = rw (open_same ∙ e) o
-      go true e (inl o) = rw (open_same ∙ e, e) (replayed_same a ∙ ap (λ (w : ℕ). picked (nat_lt (seq w) (current_seq r)) (first_naming N M r (entry_count N M r) a) (λ j. word (current_seq r) (entry_value N M r j)) w) o)
+      go true e (inl o) = rw (open_same ∙ e, e) (replayed_same a ∙ ap (λ (w : ℕ). picked (nat_lt (seq_of w) (current_seq r)) (first_naming N M r (entry_count N M r) a) (λ j. pack (current_seq r) (entry_value N M r j)) w) o)
       go true e (inr o) =
           let p : q (data_cell N a) ≡ replayed_data N M r (entry_count N M r) a = o ∙ rw e refl in
           rw (open_same ∙ e, e) (replayed_same a
-          ∙ ap (λ (w : ℕ). picked (nat_lt (seq w) (current_seq r)) (first_naming N M r (entry_count N M r) a) (λ j. word (current_seq r) (entry_value N M r j)) w) p
-          ∙ picked_again (nat_lt (seq (r (data_cell N a))) (current_seq r)) (first_naming N M r (entry_count N M r) a) (λ j. word (current_seq r) (entry_value N M r j)) (r (data_cell N a)) (current_seq r) refl
-          (λ j. seq_word (current_seq r) (entry_value N M r j) (pay_small (log_word N M r (2 * j + 2)))))
+          ∙ ap (λ (w : ℕ). picked (nat_lt (seq_of w) (current_seq r)) (first_naming N M r (entry_count N M r) a) (λ j. pack (current_seq r) (entry_value N M r j)) w) p
+          ∙ picked_again (nat_lt (seq_of (r (data_cell N a))) (current_seq r)) (first_naming N M r (entry_count N M r) a) (λ j. pack (current_seq r) (entry_value N M r j)) (r (data_cell N a)) (current_seq r) refl
+          (λ j. seq_word (current_seq r) (entry_value N M r j) (pay_small (owner_log_word N M r (2 * j + 2)))))
 
   word_same : (c : ℕ) → recovered_word N M q c ≡ recovered_word N M r c
   word_same c = go (is_data N M c) refl
     where
-      go : (b : Bool) → is_data N M c ≡ b → (if b then recovered_data N M q (c - (N + 1)) else (if is_open N q && (c == request_cell (pay (q 0))) then word (seq (q 0)) 1 else q c))
-          ≡ (if b then recovered_data N M r (c - (N + 1)) else (if is_open N r && (c == request_cell (pay (r 0))) then word (seq (r 0)) 1 else r c))
+      go : (b : Bool) → is_data N M c ≡ b → (if b then recovered_data N M q (c - (N + 1)) else (if is_open N q && (c == request_cell (payload_of (q 0))) then pack (seq_of (q 0)) 1 else q c))
+          ≡ (if b then recovered_data N M r (c - (N + 1)) else (if is_open N r && (c == request_cell (payload_of (r 0))) then pack (seq_of (r 0)) 1 else r c))
       go true e = let i = inside N M c e in data_same (c - (N + 1)) (omega (arith, i.0, i.1))
       go false e =
-          ap (λ (b : Bool). if b && (c == request_cell (pay (q 0))) then word (seq (q 0)) 1 else q c) open_same
-          ∙ ap (λ (w : ℕ). if is_open N r && (c == request_cell (pay w)) then word (seq w) 1 else q c) first
-          ∙ ap (λ (w : ℕ). if is_open N r && (c == request_cell (pay (r 0))) then word (seq (r 0)) 1 else w) (others c (outside N M c e))
+          ap (λ (b : Bool). if b && (c == request_cell (payload_of (q 0))) then pack (seq_of (q 0)) 1 else q c) open_same
+          ∙ ap (λ (w : ℕ). if is_open N r && (c == request_cell (payload_of w)) then pack (seq_of w) 1 else q c) first
+          ∙ ap (λ (w : ℕ). if is_open N r && (c == request_cell (payload_of (r 0))) then pack (seq_of (r 0)) 1 else w) (others c (outside N M c e))
 
-pub underway_recovers : (N M : ℕ) (old new : List ℕ) → IsDurableRow N M old → IsUnderway N M old new → recovered N M new ≡ recovered N M old
+pub underway_recovers : (N M : ℕ) (old new : List ℕ) → IsDurableRow N M old → IsUnderway N M old new → recovered_words N M new ≡ recovered_words N M old
 underway_recovers N M old new size h =
-    same_number_lists (recovered N M new) (recovered N M old) (length-recovered N M new ∙ h.size ∙ sym (length-recovered N M old ∙ size)) (λ c l.
+    same_number_lists (recovered_words N M new) (recovered_words N M old) (length-recovered N M new ∙ h.size ∙ sym (length-recovered N M old ∙ size)) (λ c l.
     let m : c < length new = omega (arith, length-recovered N M new) in
     let n : c < length old = omega (arith, h.size, size) in
     recovered_at N M new c 0 m ∙ word_same N M (λ x. get_or old x 0) (λ x. get_or new x 0) h.others h.on_data c ∙ sym (recovered_at N M old c 0 n))
@@ -128,10 +128,10 @@ underway_recovers N M old new size h =
 -- ---- the log's writes, entry by entry
 
 -- a word that the first entries have picked is older where none of them named the cell
-pub still_older : (older : Bool) (o : Option ℕ) (value : ℕ → ℕ) (own s : ℕ) → nat_lt (seq own) s ≡ older → ((k : ℕ) → seq (value k) ≡ s)
-    → nat_lt (seq (picked older o value own)) s ≡ (is_none o && older)
+pub still_older : (older : Bool) (o : Option ℕ) (value : ℕ → ℕ) (own s : ℕ) → nat_lt (seq_of own) s ≡ older → ((k : ℕ) → seq_of (value k) ≡ s)
+    → nat_lt (seq_of (picked older o value own)) s ≡ (is_none o && older)
 still_older true None value own s e f = e
-still_older true (Some k) value own s e f = not_less (seq (value k)) s (f k)
+still_older true (Some k) value own s e f = not_less (seq_of (value k)) s (f k)
 still_older false None value own s e f = e
 still_older false (Some k) value own s e f = e
 
@@ -145,34 +145,34 @@ module _ (N M : ℕ) (row : ℕ → ℕ) where
 
   -- an entry makes one write at most
   pub one_at_most : (j : ℕ) → length (entry_writes N M row j) ≤ 1
-  one_at_most j = go (counts N M row j && (is_none (first_naming N M row j (entry_addr N M row j)) && nat_lt (seq (row (data_cell N (entry_addr N M row j)))) (current_seq row)))
+  one_at_most j = go (entry_counts N M row j && (is_none (first_naming N M row j (entry_addr N M row j)) && nat_lt (seq_of (row (data_cell N (entry_addr N M row j)))) (current_seq row)))
     where
-      go : (b : Bool) → length {A = ℕ × ℕ} (if b then (data_cell N (entry_addr N M row j), word (current_seq row) (entry_value N M row j)) ∷ [] else []) ≤ 1
+      go : (b : Bool) → length {A = ℕ × ℕ} (if b then (data_cell N (entry_addr N M row j), pack (current_seq row) (entry_value N M row j)) ∷ [] else []) ≤ 1
       go true = omega arith
       go false = omega arith
 
   -- entry n does what its write says
-  pub entry_step : (n : ℕ) (ws : List ℕ) → Replays N M row n ws → after_entry N M ws n ≡ row_after (entry_writes N M row n) ws
-  entry_step n ws h = same_entry N M row n ws h ∙ go (counts N M row n) refl
+  pub entry_step : (n : ℕ) (ws : List ℕ) → HasReplayed N M row n ws → after_entry N M ws n ≡ row_after (entry_writes N M row n) ws
+  entry_step n ws h = same_entry N M row n ws h ∙ go (entry_counts N M row n) refl
     where
-      done : (t : Bool) → (if t then set ws (data_cell N (entry_addr N M row n)) (word (current_seq row) (entry_value N M row n)) else ws)
-          ≡ row_after (if t then (data_cell N (entry_addr N M row n), word (current_seq row) (entry_value N M row n)) ∷ [] else []) ws
+      done : (t : Bool) → (if t then set ws (data_cell N (entry_addr N M row n)) (pack (current_seq row) (entry_value N M row n)) else ws)
+          ≡ row_after (if t then (data_cell N (entry_addr N M row n), pack (current_seq row) (entry_value N M row n)) ∷ [] else []) ws
       done true = refl
       done false = refl
 
-      go : (b : Bool) → counts N M row n ≡ b
-          → (if b && nat_lt (seq (get_or ws (data_cell N (entry_addr N M row n)) 0)) (current_seq row) then set ws (data_cell N (entry_addr N M row n)) (word (current_seq row) (entry_value N M row n)) else ws)
-          ≡ row_after (if b && (is_none (first_naming N M row n (entry_addr N M row n)) && nat_lt (seq (row (data_cell N (entry_addr N M row n)))) (current_seq row)) then (data_cell N (entry_addr N M row n), word (current_seq row) (entry_value N M row n)) ∷ [] else []) ws
+      go : (b : Bool) → entry_counts N M row n ≡ b
+          → (if b && nat_lt (seq_of (get_or ws (data_cell N (entry_addr N M row n)) 0)) (current_seq row) then set ws (data_cell N (entry_addr N M row n)) (pack (current_seq row) (entry_value N M row n)) else ws)
+          ≡ row_after (if b && (is_none (first_naming N M row n (entry_addr N M row n)) && nat_lt (seq_of (row (data_cell N (entry_addr N M row n)))) (current_seq row)) then (data_cell N (entry_addr N M row n), pack (current_seq row) (entry_value N M row n)) ∷ [] else []) ws
       go false e = refl
       go true e =
-          ap (λ (t : Bool). if t then set ws (data_cell N (entry_addr N M row n)) (word (current_seq row) (entry_value N M row n)) else ws)
-          (ap (λ (w : ℕ). nat_lt (seq w) (current_seq row)) (h.on_data (entry_addr N M row n) (entry_within N M row n ws h e))
-          ∙ still_older (nat_lt (seq (row (data_cell N (entry_addr N M row n)))) (current_seq row)) (first_naming N M row n (entry_addr N M row n)) (λ j. word (current_seq row) (entry_value N M row j)) (row (data_cell N (entry_addr N M row n))) (current_seq row) refl
-          (λ j. seq_word (current_seq row) (entry_value N M row j) (pay_small (log_word N M row (2 * j + 2)))))
-          ∙ done (is_none (first_naming N M row n (entry_addr N M row n)) && nat_lt (seq (row (data_cell N (entry_addr N M row n)))) (current_seq row))
+          ap (λ (t : Bool). if t then set ws (data_cell N (entry_addr N M row n)) (pack (current_seq row) (entry_value N M row n)) else ws)
+          (ap (λ (w : ℕ). nat_lt (seq_of w) (current_seq row)) (h.on_data (entry_addr N M row n) (entry_within N M row n ws h e))
+          ∙ still_older (nat_lt (seq_of (row (data_cell N (entry_addr N M row n)))) (current_seq row)) (first_naming N M row n (entry_addr N M row n)) (λ j. pack (current_seq row) (entry_value N M row j)) (row (data_cell N (entry_addr N M row n))) (current_seq row) refl
+          (λ j. seq_word (current_seq row) (entry_value N M row j) (pay_small (owner_log_word N M row (2 * j + 2)))))
+          ∙ done (is_none (first_naming N M row n (entry_addr N M row n)) && nat_lt (seq_of (row (data_cell N (entry_addr N M row n)))) (current_seq row))
 
   -- so after n entries the words are those with the writes of n entries
-  pub log_written : (n : ℕ) (old : List ℕ) → IsDurableRow N M old → ((c : ℕ) → get_or old c 0 ≡ row c) → Replays N M row n (row_after (log_writes N M row n) old)
+  pub log_written : (n : ℕ) (old : List ℕ) → IsDurableRow N M old → ((c : ℕ) → get_or old c 0 ≡ row c) → HasReplayed N M row n (row_after (log_writes N M row n) old)
   unfolding log_writes
   log_written zero old size same = replays_none N M row old size same
   log_written (suc n) old size same =
@@ -181,7 +181,7 @@ module _ (N M : ℕ) (row : ℕ → ℕ) where
       ap (λ (x : List (ℕ × ℕ)). row_after x old) (log_writes_more n)
       ∙ fold-append (λ ws w. set ws w.0 w.1) old (log_writes N M row n) (entry_writes N M row n)
       ∙ sym (entry_step n (row_after (log_writes N M row n) old) h) in
-      subst (λ (x : List ℕ). Replays N M row (suc n) x) (sym e) (rw add-one at (replays_more N M row n (row_after (log_writes N M row n) old) h))
+      subst (λ (x : List ℕ). HasReplayed N M row (suc n) x) (sym e) (rw add-one at (replays_more N M row n (row_after (log_writes N M row n) old) h))
 
   -- a front of the log's writes is the writes of its first entries
   pub front_of_log : (k n : ℕ) → (m : ℕ) × ((m ≤ n) × (take k (log_writes N M row n) ≡ log_writes N M row m))
@@ -213,11 +213,11 @@ module _ (N M : ℕ) (row : ℕ → ℕ) where
 
   -- a data cell has its word still, or the one that all entries give it
   fewer : (a m n : ℕ) → m ≤ n → (replayed_data N M row m a ≡ row (data_cell N a)) ⊎ (replayed_data N M row m a ≡ replayed_data N M row n a)
-  fewer a m n l = go (found_already (names N M row a) m n l) (nat_lt (seq (row (data_cell N a))) (current_seq row))
+  fewer a m n l = go (found_already (entry_names N M row a) m n l) (nat_lt (seq_of (row (data_cell N a))) (current_seq row))
     where
       go : (first_naming N M row m a ≡ None) ⊎ (first_naming N M row n a ≡ first_naming N M row m a) → (older : Bool)
-          → (picked older (first_naming N M row m a) (λ j. word (current_seq row) (entry_value N M row j)) (row (data_cell N a)) ≡ row (data_cell N a))
-          ⊎ (picked older (first_naming N M row m a) (λ j. word (current_seq row) (entry_value N M row j)) (row (data_cell N a)) ≡ picked older (first_naming N M row n a) (λ j. word (current_seq row) (entry_value N M row j)) (row (data_cell N a)))
+          → (picked older (first_naming N M row m a) (λ j. pack (current_seq row) (entry_value N M row j)) (row (data_cell N a)) ≡ row (data_cell N a))
+          ⊎ (picked older (first_naming N M row m a) (λ j. pack (current_seq row) (entry_value N M row j)) (row (data_cell N a)) ≡ picked older (first_naming N M row n a) (λ j. pack (current_seq row) (entry_value N M row j)) (row (data_cell N a)))
       go h false = inl refl
       go (inl e) true = inl (rw e refl)
       go (inr e) true = inr (rw e refl)
@@ -227,7 +227,7 @@ all_of xs x k l = take_all k (xs ++ x ∷ []) (omega (arith, length-append xs (x
 
 module _ (N M : ℕ) (old : List ℕ) (size : IsDurableRow N M old) where
   -- a front of the log's writes is underway
-  front_underway : (m : ℕ) (new : List ℕ) → is_open N (λ c. get_or old c 0) ≡ true → m ≤ entry_count N M (λ c. get_or old c 0) → Replays N M (λ c. get_or old c 0) m new → IsUnderway N M old new
+  front_underway : (m : ℕ) (new : List ℕ) → is_open N (λ c. get_or old c 0) ≡ true → m ≤ entry_count N M (λ c. get_or old c 0) → HasReplayed N M (λ c. get_or old c 0) m new → IsUnderway N M old new
   front_underway m new e l h = record {
     size = h.size;
     on_data = λ a b. elim (fewer N M (λ c. get_or old c 0) a m (entry_count N M (λ c. get_or old c 0)) l) [
@@ -238,34 +238,34 @@ module _ (N M : ℕ) (old : List ℕ) (size : IsDurableRow N M old) where
   }
 
   open_written : is_open N (λ c. get_or old c 0) ≡ true
-      → row_after (log_writes N M (λ c. get_or old c 0) (entry_count N M (λ c. get_or old c 0)) ++ (request_cell (current_owner (λ c. get_or old c 0)), word (current_seq (λ c. get_or old c 0)) 1) ∷ []) old ≡ recovered N M old
+      → row_after (log_writes N M (λ c. get_or old c 0) (entry_count N M (λ c. get_or old c 0)) ++ (request_cell (current_owner (λ c. get_or old c 0)), pack (current_seq (λ c. get_or old c 0)) 1) ∷ []) old ≡ recovered_words N M old
   open_written e =
-      fold-append (λ ws w. set ws w.0 w.1) old (log_writes N M (λ c. get_or old c 0) (entry_count N M (λ c. get_or old c 0))) ((request_cell (current_owner (λ c. get_or old c 0)), word (current_seq (λ c. get_or old c 0)) 1) ∷ [])
+      fold-append (λ ws w. set ws w.0 w.1) old (log_writes N M (λ c. get_or old c 0) (entry_count N M (λ c. get_or old c 0))) ((request_cell (current_owner (λ c. get_or old c 0)), pack (current_seq (λ c. get_or old c 0)) 1) ∷ [])
       ∙ brought_to_end N M old size (row_after (log_writes N M (λ c. get_or old c 0) (entry_count N M (λ c. get_or old c 0))) old) e (log_written N M (λ c. get_or old c 0) (entry_count N M (λ c. get_or old c 0)) old size (λ c. refl))
 
   -- all writes leave the recovered list
-  pub all_written : row_after (recovery_writes N M (λ c. get_or old c 0)) old ≡ recovered N M old
+  pub all_written : row_after (recovery_writes N M (λ c. get_or old c 0)) old ≡ recovered_words N M old
   all_written = go (is_open N (λ c. get_or old c 0)) refl
     where
-      go : (b : Bool) → is_open N (λ c. get_or old c 0) ≡ b → row_after (recovery_writes N M (λ c. get_or old c 0)) old ≡ recovered N M old
+      go : (b : Bool) → is_open N (λ c. get_or old c 0) ≡ b → row_after (recovery_writes N M (λ c. get_or old c 0)) old ≡ recovered_words N M old
       go false e = rw e (left_alone N M old size e)
       go true e = rw e (open_written e)
 
   -- and each front of them leaves a row that recovers to it
-  pub fronts_recover : (k : ℕ) → recovered N M (row_after (take k (recovery_writes N M (λ c. get_or old c 0))) old) ≡ recovered N M old
+  pub fronts_recover : (k : ℕ) → recovered_words N M (row_after (take k (recovery_writes N M (λ c. get_or old c 0))) old) ≡ recovered_words N M old
   fronts_recover k = go (is_open N (λ c. get_or old c 0)) refl
     where
-      go : (b : Bool) → is_open N (λ c. get_or old c 0) ≡ b → recovered N M (row_after (take k (recovery_writes N M (λ c. get_or old c 0))) old) ≡ recovered N M old
+      go : (b : Bool) → is_open N (λ c. get_or old c 0) ≡ b → recovered_words N M (row_after (take k (recovery_writes N M (λ c. get_or old c 0))) old) ≡ recovered_words N M old
       go false e = rw (e, take-nil k) refl
       go true e = rw e (on (cases_lt (length (log_writes N M (λ c. get_or old c 0) (entry_count N M (λ c. get_or old c 0)))) k))
         where
           on : (length (log_writes N M (λ c. get_or old c 0) (entry_count N M (λ c. get_or old c 0))) < k) ⊎ (k ≤ length (log_writes N M (λ c. get_or old c 0) (entry_count N M (λ c. get_or old c 0))))
-              → recovered N M (row_after (take k (log_writes N M (λ c. get_or old c 0) (entry_count N M (λ c. get_or old c 0)) ++ (request_cell (current_owner (λ c. get_or old c 0)), word (current_seq (λ c. get_or old c 0)) 1) ∷ [])) old) ≡ recovered N M old
-          on (inl l) = ap (recovered N M) (ap (λ (x : List (ℕ × ℕ)). row_after x old) (all_of (log_writes N M (λ c. get_or old c 0) (entry_count N M (λ c. get_or old c 0))) (request_cell (current_owner (λ c. get_or old c 0)), word (current_seq (λ c. get_or old c 0)) 1) k l) ∙ open_written e) ∙ recovered_twice N M old size
+              → recovered_words N M (row_after (take k (log_writes N M (λ c. get_or old c 0) (entry_count N M (λ c. get_or old c 0)) ++ (request_cell (current_owner (λ c. get_or old c 0)), pack (current_seq (λ c. get_or old c 0)) 1) ∷ [])) old) ≡ recovered_words N M old
+          on (inl l) = ap (recovered_words N M) (ap (λ (x : List (ℕ × ℕ)). row_after x old) (all_of (log_writes N M (λ c. get_or old c 0) (entry_count N M (λ c. get_or old c 0))) (request_cell (current_owner (λ c. get_or old c 0)), pack (current_seq (λ c. get_or old c 0)) 1) k l) ∙ open_written e) ∙ recovered_twice N M old size
           on (inr l) = front (front_of_log N M (λ c. get_or old c 0) k (entry_count N M (λ c. get_or old c 0)))
             where
               front : (m : ℕ) × ((m ≤ entry_count N M (λ c. get_or old c 0)) × (take k (log_writes N M (λ c. get_or old c 0) (entry_count N M (λ c. get_or old c 0))) ≡ log_writes N M (λ c. get_or old c 0) m))
-                  → recovered N M (row_after (take k (log_writes N M (λ c. get_or old c 0) (entry_count N M (λ c. get_or old c 0)) ++ (request_cell (current_owner (λ c. get_or old c 0)), word (current_seq (λ c. get_or old c 0)) 1) ∷ [])) old) ≡ recovered N M old
+                  → recovered_words N M (row_after (take k (log_writes N M (λ c. get_or old c 0) (entry_count N M (λ c. get_or old c 0)) ++ (request_cell (current_owner (λ c. get_or old c 0)), pack (current_seq (λ c. get_or old c 0)) 1) ∷ [])) old) ≡ recovered_words N M old
               front (m, (le, q)) =
-                  ap (λ (x : List (ℕ × ℕ)). recovered N M (row_after x old)) (take-append-le k (log_writes N M (λ c. get_or old c 0) (entry_count N M (λ c. get_or old c 0))) _ l ∙ q)
+                  ap (λ (x : List (ℕ × ℕ)). recovered_words N M (row_after x old)) (take-append-le k (log_writes N M (λ c. get_or old c 0) (entry_count N M (λ c. get_or old c 0))) _ l ∙ q)
                   ∙ underway_recovers N M old (row_after (log_writes N M (λ c. get_or old c 0) m) old) size (front_underway m (row_after (log_writes N M (λ c. get_or old c 0) m) old) e le (log_written N M (λ c. get_or old c 0) m old size (λ c. refl)))

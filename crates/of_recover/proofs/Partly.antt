@@ -5,12 +5,12 @@ use Rattle.std.proofs.lemmas.Bool.Decides.{nat_tests}
 use Rattle.std.proofs.lemmas.List.{take_all, take-append-le}
 use Rattle.std.proofs.lemmas.List.Sums.{fold-append}
 use Rattle.std.proofs.Math.Seq.{take-nil}
-use Rattle.of_cell.specs.Words.{word, seq, pay}
+use Rattle.of_cell.specs.Words.{pack, seq_of, payload_of}
 use Rattle.of_cell.specs.Cells.{data_cell, request_cell}
 use Rattle.of_cell.proofs.Order.{seq_word, pay_small}
 use Rattle.of_recover.specs.Row.{IsDurableRow, current_seq, current_owner, is_open}
-use Rattle.of_recover.specs.Log.{log_word, entry_count, entry_addr, entry_value, counts, first_naming}
-use Rattle.of_recover.specs.Walk.{after_entry, lands, Replays}
+use Rattle.of_recover.specs.Log.{owner_log_word, entry_count, entry_addr, entry_value, entry_counts, first_naming}
+use Rattle.of_recover.specs.Walk.{after_entry, lands, HasReplayed}
 use Rattle.of_recover.specs.Writes.{row_after, entry_writes, log_writes, recovery_writes}
 use Rattle.of_recover.proofs.Entries.{same_zero, same_log, entry_within, replays_none, replays_more}
 use Rattle.of_recover.proofs.Fronts.{still_older, log_writes_more, one_at_most, entry_step, log_written, all_of}
@@ -20,12 +20,12 @@ use Rattle.of_recover.proofs.Fronts.{still_older, log_writes_more, one_at_most, 
 pub record IsPartlyReplayed (callers cells : ℕ) (old : List ℕ) (most n left : ℕ) (words : List ℕ) : Type 0 where
   pub row : words ≡ row_after (take most (log_writes callers cells (λ c. get_or old c 0) n)) old
   pub more : left ≡ most - length (log_writes callers cells (λ c. get_or old c 0) n)
-  pub replays : 0 < left → Replays callers cells (λ c. get_or old c 0) n words
+  pub replays : 0 < left → HasReplayed callers cells (λ c. get_or old c 0) n words
 
 -- whether an entry with these words lands
 abbrev landing : (callers cells : ℕ) → List ℕ → (current addr value : ℕ) → Bool
 landing callers cells ws current a v =
-    ((seq a == seq current) && (nat_lt (pay a) cells && (seq v == seq current))) && nat_lt (seq (get_or ws (data_cell callers (pay a)) 0)) (seq current)
+    ((seq_of a == seq_of current) && (nat_lt (payload_of a) cells && (seq_of v == seq_of current))) && nat_lt (seq_of (get_or ws (data_cell callers (payload_of a)) 0)) (seq_of current)
 
 module _ (N M : ℕ) (row : ℕ → ℕ) where
   -- before the first entry there is no write
@@ -34,31 +34,31 @@ module _ (N M : ℕ) (row : ℕ → ℕ) where
   no_writes = refl
 
   -- how many writes one entry more makes
-  pub one_more : (n : ℕ) (ws : List ℕ) → Replays N M row n ws → length (log_writes N M row (n + 1)) ≡ length (log_writes N M row n) + (if lands N M (λ c. get_or ws c 0) n then 1 else 0)
+  pub one_more : (n : ℕ) (ws : List ℕ) → HasReplayed N M row n ws → length (log_writes N M row (n + 1)) ≡ length (log_writes N M row n) + (if lands N M (λ c. get_or ws c 0) n then 1 else 0)
   one_more n ws h =
       rw (add-one n, log_writes_more N M row n) (length-append (log_writes N M row n) (entry_writes N M row n)
-      ∙ ap (λ (x : ℕ). length (log_writes N M row n) + x) (sym (ap (λ (b : Bool). if b then 1 else 0) same ∙ go (counts N M row n) refl)))
+      ∙ ap (λ (x : ℕ). length (log_writes N M row n) + x) (sym (ap (λ (b : Bool). if b then 1 else 0) same ∙ go (entry_counts N M row n) refl)))
     where
-      same : lands N M (λ c. get_or ws c 0) n ≡ landing N M ws (row 0) (log_word N M row (2 * n + 1)) (log_word N M row (2 * n + 2))
+      same : lands N M (λ c. get_or ws c 0) n ≡ landing N M ws (row 0) (owner_log_word N M row (2 * n + 1)) (owner_log_word N M row (2 * n + 2))
       same =
-          ap (λ (w : ℕ). landing N M ws w (log_word N M (λ c. get_or ws c 0) (2 * n + 1)) (log_word N M (λ c. get_or ws c 0) (2 * n + 2))) (same_zero N M row n ws h)
-          ∙ ap (λ (w : ℕ). landing N M ws (row 0) w (log_word N M (λ c. get_or ws c 0) (2 * n + 2))) (same_log N M row n ws h (2 * n + 1))
-          ∙ ap (λ (w : ℕ). landing N M ws (row 0) (log_word N M row (2 * n + 1)) w) (same_log N M row n ws h (2 * n + 2))
+          ap (λ (w : ℕ). landing N M ws w (owner_log_word N M (λ c. get_or ws c 0) (2 * n + 1)) (owner_log_word N M (λ c. get_or ws c 0) (2 * n + 2))) (same_zero N M row n ws h)
+          ∙ ap (λ (w : ℕ). landing N M ws (row 0) w (owner_log_word N M (λ c. get_or ws c 0) (2 * n + 2))) (same_log N M row n ws h (2 * n + 1))
+          ∙ ap (λ (w : ℕ). landing N M ws (row 0) (owner_log_word N M row (2 * n + 1)) w) (same_log N M row n ws h (2 * n + 2))
 
-      many : (t : Bool) → (if t then 1 else 0) ≡ length {A = ℕ × ℕ} (if t then (data_cell N (entry_addr N M row n), word (current_seq row) (entry_value N M row n)) ∷ [] else [])
+      many : (t : Bool) → (if t then 1 else 0) ≡ length {A = ℕ × ℕ} (if t then (data_cell N (entry_addr N M row n), pack (current_seq row) (entry_value N M row n)) ∷ [] else [])
       many true = refl
       many false = refl
 
-      go : (b : Bool) → counts N M row n ≡ b
-          → (if b && nat_lt (seq (get_or ws (data_cell N (entry_addr N M row n)) 0)) (current_seq row) then 1 else 0)
-          ≡ length {A = ℕ × ℕ} (if b && (is_none (first_naming N M row n (entry_addr N M row n)) && nat_lt (seq (row (data_cell N (entry_addr N M row n)))) (current_seq row)) then (data_cell N (entry_addr N M row n), word (current_seq row) (entry_value N M row n)) ∷ [] else [])
+      go : (b : Bool) → entry_counts N M row n ≡ b
+          → (if b && nat_lt (seq_of (get_or ws (data_cell N (entry_addr N M row n)) 0)) (current_seq row) then 1 else 0)
+          ≡ length {A = ℕ × ℕ} (if b && (is_none (first_naming N M row n (entry_addr N M row n)) && nat_lt (seq_of (row (data_cell N (entry_addr N M row n)))) (current_seq row)) then (data_cell N (entry_addr N M row n), pack (current_seq row) (entry_value N M row n)) ∷ [] else [])
       go false e = refl
       go true e =
           ap (λ (t : Bool). if t then 1 else 0)
-          (ap (λ (w : ℕ). nat_lt (seq w) (current_seq row)) (h.on_data (entry_addr N M row n) (entry_within N M row n ws h e))
-          ∙ still_older (nat_lt (seq (row (data_cell N (entry_addr N M row n)))) (current_seq row)) (first_naming N M row n (entry_addr N M row n)) (λ j. word (current_seq row) (entry_value N M row j)) (row (data_cell N (entry_addr N M row n))) (current_seq row) refl
-          (λ j. seq_word (current_seq row) (entry_value N M row j) (pay_small (log_word N M row (2 * j + 2)))))
-          ∙ many (is_none (first_naming N M row n (entry_addr N M row n)) && nat_lt (seq (row (data_cell N (entry_addr N M row n)))) (current_seq row))
+          (ap (λ (w : ℕ). nat_lt (seq_of w) (current_seq row)) (h.on_data (entry_addr N M row n) (entry_within N M row n ws h e))
+          ∙ still_older (nat_lt (seq_of (row (data_cell N (entry_addr N M row n)))) (current_seq row)) (first_naming N M row n (entry_addr N M row n)) (λ j. pack (current_seq row) (entry_value N M row j)) (row (data_cell N (entry_addr N M row n))) (current_seq row) refl
+          (λ j. seq_word (current_seq row) (entry_value N M row j) (pay_small (owner_log_word N M row (2 * j + 2)))))
+          ∙ many (is_none (first_naming N M row n (entry_addr N M row n)) && nat_lt (seq_of (row (data_cell N (entry_addr N M row n)))) (current_seq row))
 
   -- where none may be made any more, the next entry makes none
   pub spent : (most n : ℕ) → most ≤ length (log_writes N M row n) → take most (log_writes N M row (n + 1)) ≡ take most (log_writes N M row n)
@@ -136,23 +136,23 @@ module _ (N M : ℕ) (old : List ℕ) where
   -- where one more may be made
   pub closed : (most : ℕ) (ws : List ℕ) → is_open N (λ c. get_or old c 0) ≡ true → length (log_writes N M (λ c. get_or old c 0) (entry_count N M (λ c. get_or old c 0))) < most
       → ws ≡ row_after (take most (log_writes N M (λ c. get_or old c 0) (entry_count N M (λ c. get_or old c 0)))) old
-      → set ws (request_cell (current_owner (λ c. get_or old c 0))) (word (current_seq (λ c. get_or old c 0)) 1) ≡ row_after (take most (recovery_writes N M (λ c. get_or old c 0))) old
+      → set ws (request_cell (current_owner (λ c. get_or old c 0))) (pack (current_seq (λ c. get_or old c 0)) 1) ≡ row_after (take most (recovery_writes N M (λ c. get_or old c 0))) old
   closed most ws e l h =
-      rw e (ap (λ (x : List ℕ). set x (request_cell (current_owner (λ c. get_or old c 0))) (word (current_seq (λ c. get_or old c 0)) 1))
+      rw e (ap (λ (x : List ℕ). set x (request_cell (current_owner (λ c. get_or old c 0))) (pack (current_seq (λ c. get_or old c 0)) 1))
       (h ∙ ap (λ (x : List (ℕ × ℕ)). row_after x old) (take_all most (log_writes N M (λ c. get_or old c 0) (entry_count N M (λ c. get_or old c 0))) (omega arith)))
-      ∙ sym (fold-append (λ ws w. set ws w.0 w.1) old (log_writes N M (λ c. get_or old c 0) (entry_count N M (λ c. get_or old c 0))) ((request_cell (current_owner (λ c. get_or old c 0)), word (current_seq (λ c. get_or old c 0)) 1) ∷ []))
-      ∙ ap (λ (x : List (ℕ × ℕ)). row_after x old) (sym (all_of (log_writes N M (λ c. get_or old c 0) (entry_count N M (λ c. get_or old c 0))) (request_cell (current_owner (λ c. get_or old c 0)), word (current_seq (λ c. get_or old c 0)) 1) most l)))
+      ∙ sym (fold-append (λ ws w. set ws w.0 w.1) old (log_writes N M (λ c. get_or old c 0) (entry_count N M (λ c. get_or old c 0))) ((request_cell (current_owner (λ c. get_or old c 0)), pack (current_seq (λ c. get_or old c 0)) 1) ∷ []))
+      ∙ ap (λ (x : List (ℕ × ℕ)). row_after x old) (sym (all_of (log_writes N M (λ c. get_or old c 0) (entry_count N M (λ c. get_or old c 0))) (request_cell (current_owner (λ c. get_or old c 0)), pack (current_seq (λ c. get_or old c 0)) 1) most l)))
 
   few_entries : entry_count N M (λ c. get_or old c 0) ≤ M
-  few_entries = few (seq (log_word N M (λ c. get_or old c 0) 0) == current_seq (λ c. get_or old c 0)) (pay (log_word N M (λ c. get_or old c 0) 0)) M (nat_le (pay (log_word N M (λ c. get_or old c 0) 0)) M) refl
+  few_entries = few (seq_of (owner_log_word N M (λ c. get_or old c 0) 0) == current_seq (λ c. get_or old c 0)) (payload_of (owner_log_word N M (λ c. get_or old c 0) 0)) M (nat_le (payload_of (owner_log_word N M (λ c. get_or old c 0) 0)) M) refl
 
   -- a recovery makes at most one write for each data cell, and one more
   pub not_many : length (recovery_writes N M (λ c. get_or old c 0)) ≤ M + 1
   not_many = go (is_open N (λ c. get_or old c 0))
     where
-      go : (b : Bool) → length {A = ℕ × ℕ} (if b then log_writes N M (λ c. get_or old c 0) (entry_count N M (λ c. get_or old c 0)) ++ (request_cell (current_owner (λ c. get_or old c 0)), word (current_seq (λ c. get_or old c 0)) 1) ∷ [] else []) ≤ M + 1
+      go : (b : Bool) → length {A = ℕ × ℕ} (if b then log_writes N M (λ c. get_or old c 0) (entry_count N M (λ c. get_or old c 0)) ++ (request_cell (current_owner (λ c. get_or old c 0)), pack (current_seq (λ c. get_or old c 0)) 1) ∷ [] else []) ≤ M + 1
       go false = omega arith
-      go true = omega (arith, length-append (log_writes N M (λ c. get_or old c 0) (entry_count N M (λ c. get_or old c 0))) ((request_cell (current_owner (λ c. get_or old c 0)), word (current_seq (λ c. get_or old c 0)) 1) ∷ []), few_writes N M (λ c. get_or old c 0) (entry_count N M (λ c. get_or old c 0)), few_entries)
+      go true = omega (arith, length-append (log_writes N M (λ c. get_or old c 0) (entry_count N M (λ c. get_or old c 0))) ((request_cell (current_owner (λ c. get_or old c 0)), pack (current_seq (λ c. get_or old c 0)) 1) ∷ []), few_writes N M (λ c. get_or old c 0) (entry_count N M (λ c. get_or old c 0)), few_entries)
 
 -- so a recovery that may make a write for each data cell and one more makes all of them
 pub all_made : (N M : ℕ) (old : List ℕ) (most : ℕ) → M + 1 ≤ most → take most (recovery_writes N M (λ c. get_or old c 0)) ≡ recovery_writes N M (λ c. get_or old c 0)

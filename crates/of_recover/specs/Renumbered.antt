@@ -1,18 +1,18 @@
 -- A recovered row whose sequences begin anew.
 use Rattle.std.specs.Prelude.{◌≡◌, ℕ, ◌-◌, ◌<◌, ◌≤◌, ◌⊎◌, false, if◌then◌else◌, List, length, map, slice_index}
 use Rattle.std.specs.List.{range_with_len}
-use Rattle.of_cell.specs.Words.{word, seq, pay}
+use Rattle.of_cell.specs.Words.{pack, seq_of, payload_of}
 use Rattle.of_cell.specs.Cells.{data_cell}
 use Rattle.of_recover.specs.Row.{IsDurableRow, current_seq, current_owner}
-use Rattle.of_recover.specs.Recovered.{is_data, recovered}
+use Rattle.of_recover.specs.Recovered.{is_data, recovered_words}
 
 -- a data cell keeps its number, at sequence 0, and every other cell is 0
 abbrev pub renumbered_word : (callers cells : ℕ) → (ℕ → ℕ) → (c : ℕ) → ℕ
-renumbered_word callers cells row c = if is_data callers cells c then word 0 (pay (row c)) else 0
+renumbered_word callers cells row c = if is_data callers cells c then pack 0 (payload_of (row c)) else 0
 
 -- the whole row
-unfoldable pub renumbered : (callers cells : ℕ) → List ℕ → List ℕ
-renumbered callers cells words =
+unfoldable pub renumbered_words : (callers cells : ℕ) → List ℕ → List ℕ
+renumbered_words callers cells words =
     map (renumbered_word callers cells (slice_index words)) (range_with_len 0 (length words))
 
 -- nothing has happened yet on the row `new`, and its data cells have the numbers that they have in
@@ -22,10 +22,10 @@ pub record BeginsAnew (callers cells : ℕ) (old new : List ℕ) : Type 0 where
   pub seq : current_seq (slice_index new) ≡ 0
   pub owner : current_owner (slice_index new) ≡ 0
   -- recovery finds nothing to do
-  pub settled : recovered callers cells new ≡ new
+  pub settled : recovered_words callers cells new ≡ new
   pub numbers : (addr : ℕ) → addr < cells
       → slice_index new (data_cell callers addr)
-      ≡ word 0 (pay (slice_index old (data_cell callers addr)))
+      ≡ pack 0 (payload_of (slice_index old (data_cell callers addr)))
   pub others : (c : ℕ) → c < length old → is_data callers cells c ≡ false → slice_index new c ≡ 0
 
 -- the writes of a renumbering, in its order: from the last cell to the current transaction
@@ -40,16 +40,16 @@ renumbering_writes callers cells words =
 pub record BeginsAnewPartly (callers cells : ℕ) (old new : List ℕ) : Type 0 where
   pub size : IsDurableRow callers cells new
   -- recovery finds nothing to do
-  pub settled : recovered callers cells new ≡ new
+  pub settled : recovered_words callers cells new ≡ new
   pub numbers : (addr : ℕ) → addr < cells
-      → pay (slice_index new (data_cell callers addr))
-      ≡ pay (slice_index old (data_cell callers addr))
+      → payload_of (slice_index new (data_cell callers addr))
+      ≡ payload_of (slice_index old (data_cell callers addr))
   -- the current transaction is what it was, or there is none yet
   pub current : (slice_index new 0 ≡ slice_index old 0) ⊎ (slice_index new 0 ≡ 0)
   -- no data cell becomes newer than the current transaction
   pub none_newer : ((addr : ℕ) → addr < cells
-      → seq (slice_index old (data_cell callers addr)) ≤ current_seq (slice_index old))
+      → seq_of (slice_index old (data_cell callers addr)) ≤ current_seq (slice_index old))
       → (addr : ℕ) → addr < cells
-      → seq (slice_index new (data_cell callers addr)) ≤ current_seq (slice_index new)
+      → seq_of (slice_index new (data_cell callers addr)) ≤ current_seq (slice_index new)
   -- a renumbering that begins again ends with the same row
-  pub again : renumbered callers cells new ≡ renumbered callers cells old
+  pub again : renumbered_words callers cells new ≡ renumbered_words callers cells old

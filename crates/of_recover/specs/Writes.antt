@@ -3,10 +3,10 @@
 use Rattle.std.specs.Prelude.{◌≡◌, ℕ, ◌<◌, ◌≤◌, ◌⊎◌, ◌&&◌, nat_lt, List, [], ◌∷◌, ◌++◌, if◌then◌else◌, slice_index, slice_set}
 use Rattle.std.specs.Option.{is_none}
 use Rattle.std.specs.List.{fold, flat_map, range_with_len}
-use Rattle.of_cell.specs.Words.{word, seq}
+use Rattle.of_cell.specs.Words.{pack, seq_of}
 use Rattle.of_cell.specs.Cells.{request_cell, data_cell}
 use Rattle.of_recover.specs.Row.{IsDurableRow, current_seq, current_owner, is_open}
-use Rattle.of_recover.specs.Log.{entry_count, entry_addr, entry_value, counts, first_naming}
+use Rattle.of_recover.specs.Log.{entry_count, entry_addr, entry_value, entry_counts, first_naming}
 use Rattle.of_recover.specs.Recovered.{recovered_data}
 
 -- the row after these writes, each a cell and its new word
@@ -19,9 +19,9 @@ abbrev pub entry_writes : (callers cells : ℕ) → (ℕ → ℕ) → ℕ → Li
 entry_writes callers cells row j =
     let addr = entry_addr callers cells row j in
     let cell = data_cell callers addr in
-    if counts callers cells row j
-    && (is_none (first_naming callers cells row j addr) && nat_lt (seq (row cell)) (current_seq row))
-    then (cell, word (current_seq row) (entry_value callers cells row j)) ∷ [] else []
+    if entry_counts callers cells row j
+    && (is_none (first_naming callers cells row j addr) && nat_lt (seq_of (row cell)) (current_seq row))
+    then (cell, pack (current_seq row) (entry_value callers cells row j)) ∷ [] else []
 
 -- the writes of the first n entries, in the log's order
 unfoldable pub log_writes : (callers cells : ℕ) → (ℕ → ℕ) → (n : ℕ) → List (ℕ × ℕ)
@@ -33,7 +33,7 @@ abbrev pub recovery_writes : (callers cells : ℕ) → (ℕ → ℕ) → List (�
 recovery_writes callers cells row =
     if is_open callers row
     then log_writes callers cells row (entry_count callers cells row)
-    ++ ((request_cell (current_owner row), word (current_seq row) 1) ∷ [])
+    ++ ((request_cell (current_owner row), pack (current_seq row) 1) ∷ [])
     else []
 
 -- the row `new` is `old` after some of the log's writes, any of them and in any order, and no

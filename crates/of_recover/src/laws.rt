@@ -4,8 +4,8 @@
 ghost use Rattle.std.specs.Prelude.{◌≡◌, false, slice_index};
 ghost use Rattle.std.proofs.Common.{take};
 ghost use Rattle.of_recover.specs.Row.{IsDurableRow, is_open};
-ghost use Rattle.of_recover.specs.Recovered.{recovered, RecoversData, ClosesRequest, KeepsOthers, KeepsUnnamed};
-ghost use Rattle.of_recover.specs.Renumbered.{renumbered, renumbering_writes, BeginsAnew, BeginsAnewPartly};
+ghost use Rattle.of_recover.specs.Recovered.{recovered_words, RecoversData, ClosesRequest, KeepsOthers, KeepsUnnamed};
+ghost use Rattle.of_recover.specs.Renumbered.{renumbered_words, renumbering_writes, BeginsAnew, BeginsAnewPartly};
 ghost use Rattle.of_recover.specs.Writes.{row_after, recovery_writes, IsUnderway};
 
 use of_cell::Shape;
@@ -13,8 +13,8 @@ use of_cell::Shape;
 /// A second recovery finds nothing to do.
 pub fn recovered_twice(shape: &Shape, durable: &[u64])
     requires { IsDurableRow shape.now.callers shape.now.cells durable.now }
-    ensures closed { is_open shape.now.callers (slice_index (recovered shape.now.callers shape.now.cells durable.now)) ≡ false }
-    ensures same { let once = recovered shape.now.callers shape.now.cells durable.now in recovered shape.now.callers shape.now.cells once ≡ once }
+    ensures closed { is_open shape.now.callers (slice_index (recovered_words shape.now.callers shape.now.cells durable.now)) ≡ false }
+    ensures same { let once = recovered_words shape.now.callers shape.now.cells durable.now in recovered_words shape.now.callers shape.now.cells once ≡ once }
 {}
 
 /// A recovery that stops between two of its writes loses nothing. It makes them in order, and after
@@ -22,10 +22,10 @@ pub fn recovered_twice(shape: &Shape, durable: &[u64])
 pub fn recovered_midway(shape: &Shape, durable: &[u64], made: usize)
     requires { IsDurableRow shape.now.callers shape.now.cells durable.now }
     ensures all { let writes = recovery_writes shape.now.callers shape.now.cells (slice_index durable.now) in
-        row_after writes durable.now ≡ recovered shape.now.callers shape.now.cells durable.now }
+        row_after writes durable.now ≡ recovered_words shape.now.callers shape.now.cells durable.now }
     ensures midway { let writes = recovery_writes shape.now.callers shape.now.cells (slice_index durable.now) in
-        recovered shape.now.callers shape.now.cells (row_after (take made writes) durable.now)
-        ≡ recovered shape.now.callers shape.now.cells durable.now }
+        recovered_words shape.now.callers shape.now.cells (row_after (take made writes) durable.now)
+        ≡ recovered_words shape.now.callers shape.now.cells durable.now }
 {}
 
 /// Nor does it matter in which order the data cells are written, or which of them are. As long as
@@ -33,25 +33,25 @@ pub fn recovered_midway(shape: &Shape, durable: &[u64], made: usize)
 pub fn recovered_underway(shape: &Shape, durable: &[u64], later: &[u64])
     requires row { IsDurableRow shape.now.callers shape.now.cells durable.now }
     requires underway { IsUnderway shape.now.callers shape.now.cells durable.now later.now }
-    ensures { recovered shape.now.callers shape.now.cells later.now
-        ≡ recovered shape.now.callers shape.now.cells durable.now }
+    ensures { recovered_words shape.now.callers shape.now.cells later.now
+        ≡ recovered_words shape.now.callers shape.now.cells durable.now }
 {}
 
 /// What becomes of each cell: the data cells have their recovered words, the request of an open
 /// transaction is closed, and nothing else changes. A data cell that the log does not name stays.
 pub fn recovered_cells(shape: &Shape, durable: &[u64])
     requires { IsDurableRow shape.now.callers shape.now.cells durable.now }
-    ensures size { IsDurableRow shape.now.callers shape.now.cells (recovered shape.now.callers shape.now.cells durable.now) }
-    ensures on_data { RecoversData shape.now.callers shape.now.cells durable.now (recovered shape.now.callers shape.now.cells durable.now) }
-    ensures closed { ClosesRequest shape.now.callers durable.now (recovered shape.now.callers shape.now.cells durable.now) }
-    ensures others { KeepsOthers shape.now.callers shape.now.cells durable.now (recovered shape.now.callers shape.now.cells durable.now) }
-    ensures unnamed { KeepsUnnamed shape.now.callers shape.now.cells durable.now (recovered shape.now.callers shape.now.cells durable.now) }
+    ensures size { IsDurableRow shape.now.callers shape.now.cells (recovered_words shape.now.callers shape.now.cells durable.now) }
+    ensures on_data { RecoversData shape.now.callers shape.now.cells durable.now (recovered_words shape.now.callers shape.now.cells durable.now) }
+    ensures closed { ClosesRequest shape.now.callers durable.now (recovered_words shape.now.callers shape.now.cells durable.now) }
+    ensures others { KeepsOthers shape.now.callers shape.now.cells durable.now (recovered_words shape.now.callers shape.now.cells durable.now) }
+    ensures unnamed { KeepsUnnamed shape.now.callers shape.now.cells durable.now (recovered_words shape.now.callers shape.now.cells durable.now) }
 {}
 
 /// What becomes of a row whose sequences begin anew.
 pub fn renumbered_row(shape: &Shape, durable: &[u64])
     requires { IsDurableRow shape.now.callers shape.now.cells durable.now }
-    ensures { BeginsAnew shape.now.callers shape.now.cells durable.now (renumbered shape.now.callers shape.now.cells durable.now) }
+    ensures { BeginsAnew shape.now.callers shape.now.cells durable.now (renumbered_words shape.now.callers shape.now.cells durable.now) }
 {}
 
 /// A renumbering that stops between two of its writes loses nothing. After any number of them the
@@ -61,7 +61,7 @@ pub fn renumbered_midway(shape: &Shape, durable: &[u64], made: usize)
     requires row { IsDurableRow shape.now.callers shape.now.cells durable.now }
     requires closed { is_open shape.now.callers (slice_index durable.now) ≡ false }
     ensures all { let writes = renumbering_writes shape.now.callers shape.now.cells durable.now in
-        row_after writes durable.now ≡ renumbered shape.now.callers shape.now.cells durable.now }
+        row_after writes durable.now ≡ renumbered_words shape.now.callers shape.now.cells durable.now }
     ensures midway { let writes = renumbering_writes shape.now.callers shape.now.cells durable.now in
         BeginsAnewPartly shape.now.callers shape.now.cells durable.now
         (row_after (take made writes) durable.now) }

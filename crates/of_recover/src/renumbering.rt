@@ -5,7 +5,7 @@ ghost use Rattle.std.specs.Prelude.{◌≡◌, false, slice_index};
 ghost use Rattle.std.proofs.Common.{take};
 ghost use Rattle.of_recover.specs.Row.{IsDurableRow, is_open};
 ghost use Rattle.of_recover.specs.Recovered.{is_data};
-ghost use Rattle.of_recover.specs.Renumbered.{renumbered, renumbered_word, renumbering_writes};
+ghost use Rattle.of_recover.specs.Renumbered.{renumbered_words, renumbered_word, renumbering_writes};
 ghost use Rattle.of_recover.specs.Writes.{row_after};
 
 use of_cell::{Shape, pack, payload_of};
@@ -35,7 +35,7 @@ fn renumbered_word(shape: &Shape, cell: usize, word: u64) -> u64
 pub fn renumber(shape: &Shape, durable: &mut [u64])
     requires row { IsDurableRow shape.now.callers shape.now.cells durable.old }
     requires closed { is_open shape.now.callers (slice_index durable.old) ≡ false }
-    ensures { durable.new ≡ renumbered shape.now.callers shape.now.cells durable.old }
+    ensures { durable.new ≡ renumbered_words shape.now.callers shape.now.cells durable.old }
 {
     let cells = durable.len();
     renumber_partly(shape, durable, cells);

@@ -7,10 +7,10 @@ use Rattle.std.specs.Str.Parse.{digits_value}
 use Rattle.std.proofs.lemmas.Fmt.{decimal_is_IsNumeral}
 use Rattle.of_script.specs.declared.instr.Cause.{Cause}
 use Rattle.of_script.specs.declared.instr.Cause.TheVariants.{Overflow, Short, NoRoom, Differs, BadOp}
-use Rattle.of_store.specs.State.{Response, Answered, Aborted}
-use Rattle.of_plan.specs.Report.{CallEntry, EndState, done, stopped, spent, CallerLine, Report}
+use Rattle.of_store.specs.State.{Reply, Answered, Aborted}
+use Rattle.of_plan.specs.Report.{Entry, EndState, done, stopped, spent, Line, Report}
 use Rattle.of_report.specs.StoreText.{store_text}
-use Rattle.of_report.specs.ReportText.{value_text, cause_text, reply_text, kind_text, entry_line, state_text, caller_line, seq_line, report_text}
+use Rattle.of_report.specs.ReportText.{reply_value_text, cause_text, reply_text, kind_text, entry_line, state_text, caller_line, seq_line, report_text}
 
 -- ---- a text up to the first byte that is this one
 
@@ -79,13 +79,13 @@ number_cut b n m x y low small other e =
 
 -- ---- a reply is on one line
 
-value_line : (o : Option ℕ) → Lacks 10 (value_text o)
+value_line : (o : Option ℕ) → Lacks 10 (reply_value_text o)
 value_line None = ((λ e. omega (arith, e)), ((λ e. omega (arith, e)), ((λ e. omega (arith, e)), ((λ e. omega (arith, e)), ((λ e. omega (arith, e)), tt)))))
 value_line (Some n) = ((λ e. omega (arith, e)), number_lacks 10 n (omega arith))
 
-values_line : (values : List (Option ℕ)) → Lacks 10 (flat_map value_text values)
+values_line : (values : List (Option ℕ)) → Lacks 10 (flat_map reply_value_text values)
 values_line [] = tt
-values_line (v ∷ vs) = lacks_both 10 (value_text v) (flat_map value_text vs) (value_line v) (values_line vs)
+values_line (v ∷ vs) = lacks_both 10 (reply_value_text v) (flat_map reply_value_text vs) (value_line v) (values_line vs)
 
 -- letters
 letters_line : (w : List ℕ) → Each (λ c. 48 ≤ c) w → Lacks 10 w
@@ -98,7 +98,7 @@ cause_line NoRoom = letters_line (codes "noroom") (omega arith, (omega arith, (o
 cause_line Differs = letters_line (codes "differs") (omega arith, (omega arith, (omega arith, (omega arith, (omega arith, (omega arith, (omega arith, tt)))))))
 cause_line BadOp = letters_line (codes "badop") (omega arith, (omega arith, (omega arith, (omega arith, (omega arith, tt)))))
 
-reply_line : (r : Response) → Lacks 10 (reply_text r)
+reply_line : (r : Reply) → Lacks 10 (reply_text r)
 reply_line (Answered values) = values_line values
 reply_line (Aborted place cause) =
     lacks_both 10 (codes " abort " ++ decimal place ++ codes " ") (cause_text cause)
@@ -129,19 +129,19 @@ state_cut spent spent x y e = (refl, ap (drop 5) e)
 -- ---- entries
 
 -- its numbers are printed in full
-pub record IsSmallEntry (e : CallEntry) : Type 0 where
+pub record IsSmallEntry (e : Entry) : Type 0 where
   pub seq : e.seq < 2 ^ 64
   pub caller : e.caller < 2 ^ 64
   pub index : e.index < 2 ^ 64
 
 -- the entries are alike but for their replies
-pub record IsAlike (e f : CallEntry) : Type 0 where
+pub record IsAlike (e f : Entry) : Type 0 where
   pub seq : e.seq ≡ f.seq
   pub caller : e.caller ≡ f.caller
   pub index : e.index ≡ f.index
   pub announced : e.announced ≡ f.announced
 
-abbrev pub AreAlike : List CallEntry → List CallEntry → Type 0
+abbrev pub AreAlike : List Entry → List Entry → Type 0
 AreAlike [] [] = Unit {0}
 AreAlike [] (f ∷ fs) = ⊥
 AreAlike (e ∷ es) [] = ⊥
@@ -150,13 +150,13 @@ AreAlike (e ∷ es) (f ∷ fs) = IsAlike e f × AreAlike es fs
 entry_parts : (a s c i k r rest : List ℕ) → (((a ++ s ++ codes " " ++ c) ++ (codes " " ++ i ++ codes " " ++ k)) ++ r ++ codes "\n") ++ rest ≡ a ++ (s ++ (32 ∷ (c ++ (32 ∷ (i ++ (32 ∷ (k ++ (r ++ (10 ∷ rest)))))))))
 entry_parts a s c i k r rest = simp append_assoc refl
 
-abbrev entry_then : CallEntry → List ℕ → List ℕ
+abbrev entry_then : Entry → List ℕ → List ℕ
 entry_then e rest = codes "entry " ++ (decimal e.seq ++ (32 ∷ (decimal e.caller ++ (32 ∷ (decimal e.index ++ (32 ∷ (kind_text e.announced ++ (reply_text e.reply ++ (10 ∷ rest)))))))))
 
-entry_is : (e : CallEntry) (rest : List ℕ) → entry_line e ++ rest ≡ entry_then e rest
+entry_is : (e : Entry) (rest : List ℕ) → entry_line e ++ rest ≡ entry_then e rest
 entry_is e rest = entry_parts (codes "entry ") (decimal e.seq) (decimal e.caller) (decimal e.index) (kind_text e.announced) (reply_text e.reply) rest
 
-entry_cut : (e f : CallEntry) (x y : List ℕ) → IsSmallEntry e → IsSmallEntry f → entry_then e x ≡ entry_then f y → IsAlike e f × (x ≡ y)
+entry_cut : (e f : Entry) (x y : List ℕ) → IsSmallEntry e → IsSmallEntry f → entry_then e x ≡ entry_then f y → IsAlike e f × (x ≡ y)
 entry_cut e f x y h k same =
     let seqs = number_cut 32 e.seq f.seq _ _ (omega arith) h.seq k.seq (ap (drop 6) same) in
     let callers = number_cut 32 e.caller f.caller _ _ (omega arith) h.caller k.caller seqs.1 in
@@ -169,7 +169,7 @@ entry_cut e f x y h k same =
 abbrev BeginsNoEntry : List ℕ → Type 0
 BeginsNoEntry x = get_or x 0 0 ≢ 101
 
-entries_cut : (es fs : List CallEntry) (x y : List ℕ) → Each IsSmallEntry es → Each IsSmallEntry fs → BeginsNoEntry x → BeginsNoEntry y → flat_map entry_line es ++ x ≡ flat_map entry_line fs ++ y → AreAlike es fs × (x ≡ y)
+entries_cut : (es fs : List Entry) (x y : List ℕ) → Each IsSmallEntry es → Each IsSmallEntry fs → BeginsNoEntry x → BeginsNoEntry y → flat_map entry_line es ++ x ≡ flat_map entry_line fs ++ y → AreAlike es fs × (x ≡ y)
 entries_cut [] [] x y h k nx ny e = (tt, e)
 entries_cut [] (f ∷ fs) x y h k nx ny e = absurd (nx (ap (λ (l : List ℕ). get_or l 0 0) e))
 entries_cut (e ∷ es) [] x y h k nx ny same = absurd (ny (ap (λ (l : List ℕ). get_or l 0 0) (sym same)))
@@ -181,7 +181,7 @@ entries_cut (e ∷ es) (f ∷ fs) x y h k nx ny same =
 
 -- ---- lines of callers
 
-pub record IsSmallLine (l : CallerLine) : Type 0 where
+pub record IsSmallLine (l : Line) : Type 0 where
   pub answered : l.answered < 2 ^ 64
   pub entries : l.entries < 2 ^ 64
   pub longest : l.longest < 2 ^ 64
@@ -189,13 +189,13 @@ pub record IsSmallLine (l : CallerLine) : Type 0 where
 line_parts : (a c s n m l rest : List ℕ) → ((a ++ c ++ codes " " ++ s) ++ (codes " " ++ n ++ codes " " ++ m) ++ (codes " " ++ l ++ codes "\n")) ++ rest ≡ a ++ (c ++ (32 ∷ (s ++ (32 ∷ (n ++ (32 ∷ (m ++ (32 ∷ (l ++ (10 ∷ rest))))))))))
 line_parts a c s n m l rest = simp append_assoc refl
 
-abbrev line_then : ℕ → CallerLine → List ℕ → List ℕ
+abbrev line_then : ℕ → Line → List ℕ → List ℕ
 line_then c l rest = codes "caller " ++ (decimal c ++ (32 ∷ (state_text l.state ++ (32 ∷ (decimal l.answered ++ (32 ∷ (decimal l.entries ++ (32 ∷ (decimal l.longest ++ (10 ∷ rest))))))))))
 
-line_is : (c : ℕ) (l : CallerLine) (rest : List ℕ) → caller_line (c, l) ++ rest ≡ line_then c l rest
+line_is : (c : ℕ) (l : Line) (rest : List ℕ) → caller_line (c, l) ++ rest ≡ line_then c l rest
 line_is c l rest = line_parts (codes "caller ") (decimal c) (state_text l.state) (decimal l.answered) (decimal l.entries) (decimal l.longest) rest
 
-line_cut : (c : ℕ) (l m : CallerLine) (x y : List ℕ) → IsSmallLine l → IsSmallLine m → line_then c l x ≡ line_then c m y → (l ≡ m) × (x ≡ y)
+line_cut : (c : ℕ) (l m : Line) (x y : List ℕ) → IsSmallLine l → IsSmallLine m → line_then c l x ≡ line_then c m y → (l ≡ m) × (x ≡ y)
 line_cut c l m x y h k same =
     let callers = cut_once 32 (decimal c) (decimal c) _ _ (number_lacks 32 c (omega arith)) (number_lacks 32 c (omega arith)) (ap (drop 7) same) in
     let states = state_cut l.state m.state _ _ callers.1 in
@@ -208,7 +208,7 @@ line_cut c l m x y h k same =
 abbrev BeginsNoLine : List ℕ → Type 0
 BeginsNoLine x = get_or x 0 0 ≢ 99
 
-lines_cut : (n : ℕ) (ls ms : List CallerLine) (x y : List ℕ) → Each IsSmallLine ls → Each IsSmallLine ms → BeginsNoLine x → BeginsNoLine y
+lines_cut : (n : ℕ) (ls ms : List Line) (x y : List ℕ) → Each IsSmallLine ls → Each IsSmallLine ms → BeginsNoLine x → BeginsNoLine y
     → flat_map caller_line (enumerate_from n ls) ++ x ≡ flat_map caller_line (enumerate_from n ms) ++ y → (ls ≡ ms) × (x ≡ y)
 lines_cut n [] [] x y h k nx ny e = (refl, e)
 lines_cut n [] (m ∷ ms) x y h k nx ny e = absurd (nx (ap (λ (l : List ℕ). get_or l 0 0) e))
@@ -229,7 +229,7 @@ seq_parts a n rest = simp append_assoc refl
 text_parts : (t e c s x n : List ℕ) → ((((t ++ e) ++ c) ++ s) ++ x) ++ n ≡ t ++ (e ++ (c ++ (s ++ (x ++ n))))
 text_parts t e c s x n = simp append_assoc refl
 
-lines_no_entry : (ls : List CallerLine) (seq : ℕ) (x : List ℕ) → BeginsNoEntry (flat_map caller_line (enumerate_from 0 ls) ++ (seq_line seq ++ x))
+lines_no_entry : (ls : List Line) (seq : ℕ) (x : List ℕ) → BeginsNoEntry (flat_map caller_line (enumerate_from 0 ls) ++ (seq_line seq ++ x))
 lines_no_entry [] seq x = λ e. omega (arith, e)
 lines_no_entry (l ∷ ls) seq x = λ e. omega (arith, e)
 

@@ -1,16 +1,16 @@
 -- The text of the report of a load: its size and the store, summed up.
 use Rattle.std.specs.Prelude.{ℕ, List, ◌++◌, length, sum_by, codes, decimal}
 use Rattle.std.specs.FinMap as fm
-use Rattle.of_store.specs.State.{State}
+use Rattle.of_store.specs.State.{Store}
 use Rattle.of_plan.specs.Report.{Report}
 use Rattle.of_report.specs.StoreText.{register_lines}
 
 -- the sum of the numbers at all keys
-abbrev pub sum_of_values : State → ℕ
+abbrev pub sum_of_values : Store → ℕ
 sum_of_values s = sum_by (λ e. e.1) (fm.entries s.keys)
 
 -- how many keys there are, and that sum
-abbrev pub sum_lines : State → List ℕ
+abbrev pub sum_lines : Store → List ℕ
 sum_lines s = (codes "keys " ++ decimal (fm.len s.keys) ++ codes "\n") ++ codes "values " ++ decimal (sum_of_values s) ++ codes "\n"
 
 -- how many callers and entries there are, the registers that aren't 0, and the keys summed up

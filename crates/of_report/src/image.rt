@@ -25,13 +25,13 @@ pub struct Image {
 }
 
 impl Image {
-    ghost use Rattle.of_report.specs.Image.{IsImage, image_of, ticket_in};
+    ghost use Rattle.of_report.specs.Image.{IsImage, image_value, image_ticket};
 
     /// The ticket of a caller: how many of its calls the store has seen.
     pub fn ticket(&self, caller: u32) -> u32
-        requires image { IsImage MOST_INSTRS (image_of self.now) }
+        requires image { IsImage MOST_INSTRS (image_value self.now) }
         requires caller { caller < self.now.callers }
-        ensures { result ≡ ticket_in (image_of self.now) caller }
+        ensures { result ≡ image_ticket (image_value self.now) caller }
     {
         let first = 1 + self.callers + caller * (MOST_INSTRS as u32 + 2);
         payload_of(self.durable[first as usize])

@@ -2,7 +2,7 @@
 
 ghost use Rattle.std.specs.Prelude.{◌≡◌, ◌++◌, IfOk, OnOk, string_bytes};
 ghost use Rattle.std.specs.FinMap as fm;
-ghost use Rattle.of_report.specs.Report.{report_of};
+ghost use Rattle.of_report.specs.Report.{report_value};
 ghost use Rattle.of_report.specs.LoadText.{sum_of_values, sum_lines, load_text};
 
 use crate::report::Report;
@@ -37,7 +37,7 @@ impl Report {
     /// The text of the report as one of a load: how many callers and calls there are, the registers that are not 0, how many keys
     /// there are, and the sum of their numbers.
     pub fn load_print(&self, alloc: Global) -> Result<Vec<u8>, AllocError>
-        ensures { IfOk result (λ text. text.items ≡ load_text (report_of self.now)) }
+        ensures { IfOk result (λ text. text.items ≡ load_text (report_value self.now)) }
     {
         let callers = self.callers.len();
         let calls = self.entries.len();

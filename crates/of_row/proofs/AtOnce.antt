@@ -5,21 +5,21 @@ use Rattle.std.proofs.lemmas.Bool.{cases_eq}
 use Rattle.std.proofs.lemmas.List.{append_assoc, append-nil, map-append, get_or-set_same, get_or-set_other, get_or_default, set-set, set_comm}
 use lib.Seq.{set-get_or}
 use Rattle.of_cell.specs.declared.word.TheConstants.{PAYLOADS}
-use Rattle.of_cell.specs.Words.{word}
+use Rattle.of_cell.specs.Words.{pack}
 use Rattle.of_core.specs.declared.place.Place.{Place}
 use Rattle.of_core.specs.declared.place.Place.TheVariants.{Idle, ExchangeCurrent}
 use Rattle.of_core.specs.declared.place.Op.{Op}
 use Rattle.of_core.specs.declared.place.Op.TheVariants.{Load, Store, Exchange, Raise}
-use Rattle.of_core.specs.Table.{Setup, size, table_size, durable_at, durable_word}
-use Rattle.of_core.specs.Machine.{Data, IsOpen, no_machine, opened}
-use Rattle.of_core.specs.Steps.{want, took, word_of, left, words_after, finds, FoundBy}
-use Rattle.of_core.specs.World.{World, Start, added, answered, one_batch, commits_at, stepped}
-use Rattle.of_core.specs.Invariant.{Good}
-use Rattle.of_core.specs.Events.{Event, Begins, Turns, Loads, Evicts, Raises, machine, happens, run, IsSchedule, MayHappen, turns, one_turn}
-use Rattle.of_core.specs.Calls.{only, operations, outcomes, begun_by, ended_by, ended_in, NeverIdle}
+use Rattle.of_core.specs.Table.{Setup, cell_count, words_before_members, durable_at, durable_word}
+use Rattle.of_core.specs.Machine.{CallState, IsOpen, no_machine, begin}
+use Rattle.of_core.specs.Steps.{want, take_word, word_of, word_left, words_after, word_found, IsFoundBy}
+use Rattle.of_core.specs.World.{Moment, TableStart, step_batches, step_reads, one_batch, step_batches_at, after_step}
+use Rattle.of_core.specs.Invariant.{MeetsInvariant}
+use Rattle.of_core.specs.Events.{Event, Begins, Turns, Loads, Evicts, Raises, machine_in, after_event, after_events, IsSchedule, MayHappen, turn_count, turns_in_event}
+use Rattle.of_core.specs.Calls.{if_so, operations_begun, outcomes, operation_begun, outcome_of_event, outcome_of_step, TurnsFindOpenCalls}
 use Rattle.of_core.specs.Laws.{IsRaise, GoesBlindly}
 use Rattle.of_core.proofs.Parts.{run_append, operations_append, outcomes_append}
-use Rattle.of_row.specs.Views.{bare, Each}
+use Rattle.of_row.specs.Views.{seen_batch, Each}
 use Rattle.of_core.specs.Shared.{MayStart}
 use Rattle.of_row.specs.Trail.{first_of, whole_of, at_once, TurnIsNext, IsPrompt, AreSteps, evictions}
 use Rattle.of_row.specs.RowLaws.{RowLaws}
@@ -30,7 +30,7 @@ use Rattle.of_row.proofs.Events.{schedule_append, turns_append, busy_append}
 -- ---- words with what was loaded raised
 
 abbrev pub Inside : Setup → List (ℕ × ℕ) → Type 0
-Inside S es = Each (λ (e : ℕ × ℕ). e.0 < size S) es
+Inside S es = Each (λ (e : ℕ × ℕ). e.0 < cell_count S) es
 
 -- the words, with the durable words raised to these words that were loaded of their cells
 abbrev pub lifted : Setup → List (ℕ × ℕ) → List ℕ → List ℕ
@@ -42,7 +42,7 @@ lifted_length S [] ws = refl
 lifted_length S (e ∷ es) ws = length-set (lifted S es ws) (durable_at S e.0) (max (get_or (lifted S es ws) (durable_at S e.0) 0) e.1) ∙ lifted_length S es ws
 
 -- no word of its own changes that is on no durable word
-lifted_else : (S : Setup) (es : List (ℕ × ℕ)) (ws : List ℕ) (c : ℕ) → Inside S es → ((k : ℕ) → k < size S → c ≡ durable_at S k → ⊥) → get_or (lifted S es ws) c 0 ≡ get_or ws c 0
+lifted_else : (S : Setup) (es : List (ℕ × ℕ)) (ws : List ℕ) (c : ℕ) → Inside S es → ((k : ℕ) → k < cell_count S → c ≡ durable_at S k → ⊥) → get_or (lifted S es ws) c 0 ≡ get_or ws c 0
 lifted_else S [] ws c i off = refl
 lifted_else S (e ∷ es) ws c i off = get_or-set_other (lifted S es ws) (durable_at S e.0) c (max (get_or (lifted S es ws) (durable_at S e.0) 0) e.1) 0 (off e.0 i.0) ∙ lifted_else S es ws c i.1 off
 
@@ -54,7 +54,7 @@ step_raise o ws a x inside how = go (cases_eq (word_of o) a)
     c = word_of o
 
     y : ℕ
-    y = left o (get_or ws (word_of o) 0)
+    y = word_left o (get_or ws (word_of o) 0)
 
     same_word : (q : Op) (ws : List ℕ) (x : ℕ) → word_of q < length ws → IsRaise q → set (words_after q ws) (word_of q) (max (get_or (words_after q ws) (word_of q) 0) x) ≡ words_after q (set ws (word_of q) (max (get_or ws (word_of q) 0) x))
     same_word (Load b) ws x l r = absurd r
@@ -71,13 +71,13 @@ step_raise o ws a x inside how = go (cases_eq (word_of o) a)
     go (inl e) =
         subst (λ (z : ℕ). set (words_after o ws) z (max (get_or (words_after o ws) z 0) x) ≡ words_after o (set ws z (max (get_or ws z 0) x))) e (same_word o ws x (omega (arith, e, inside)) (how e))
     go (inr ne) =
-        let there : get_or (set ws (word_of o) (left o (get_or ws (word_of o) 0))) a 0 ≡ get_or ws a 0 = get_or-set_other ws (word_of o) a (left o (get_or ws (word_of o) 0)) 0 (λ e. ne (sym e)) in
+        let there : get_or (set ws (word_of o) (word_left o (get_or ws (word_of o) 0))) a 0 ≡ get_or ws a 0 = get_or-set_other ws (word_of o) a (word_left o (get_or ws (word_of o) 0)) 0 (λ e. ne (sym e)) in
         let here : get_or (set ws a (max (get_or ws a 0) x)) (word_of o) 0 ≡ get_or ws (word_of o) 0 = get_or-set_other ws a (word_of o) (max (get_or ws a 0) x) 0 ne in
         ap (λ (z : ℕ). set (words_after o ws) a (max z x)) there
-        ∙ (set_comm ws (word_of o) a (left o (get_or ws (word_of o) 0)) (max (get_or ws a 0) x) ne
-        ∙ ap (λ (z : ℕ). set (set ws a (max (get_or ws a 0) x)) (word_of o) (left o z)) (sym here))
+        ∙ (set_comm ws (word_of o) a (word_left o (get_or ws (word_of o) 0)) (max (get_or ws a 0) x) ne
+        ∙ ap (λ (z : ℕ). set (set ws a (max (get_or ws a 0) x)) (word_of o) (word_left o z)) (sym here))
 
-lifted_step : (S : Setup) (o : Op) (es : List (ℕ × ℕ)) (ws : List ℕ) → Inside S es → table_size S ≤ length ws → ((k : ℕ) → k < size S → word_of o ≡ durable_at S k → IsRaise o) → lifted S es (words_after o ws) ≡ words_after o (lifted S es ws)
+lifted_step : (S : Setup) (o : Op) (es : List (ℕ × ℕ)) (ws : List ℕ) → Inside S es → words_before_members S ≤ length ws → ((k : ℕ) → k < cell_count S → word_of o ≡ durable_at S k → IsRaise o) → lifted S es (words_after o ws) ≡ words_after o (lifted S es ws)
 lifted_step S o [] ws i room how = refl
 lifted_step S o (e ∷ es) ws i room how =
     ap (λ (z : List ℕ). set z (durable_at S e.0) (max (get_or z (durable_at S e.0) 0) e.1)) (lifted_step S o es ws i.1 room how)
@@ -100,11 +100,11 @@ lifted_done S (e ∷ es) ws d =
     ap (λ (z : List ℕ). set z (durable_at S e.0) (max (get_or z (durable_at S e.0) 0) e.1)) rest ∙ raised_already ws (durable_at S e.0) e.1 d.0
 
 -- to raise a durable word, and the others: either may come first
-lifted_raise : (S : Setup) (c x : ℕ) (es : List (ℕ × ℕ)) (ws : List ℕ) → Inside S es → table_size S ≤ length ws → lifted S es (set ws (durable_at S c) (max (get_or ws (durable_at S c) 0) x)) ≡ set (lifted S es ws) (durable_at S c) (max (get_or (lifted S es ws) (durable_at S c) 0) x)
+lifted_raise : (S : Setup) (c x : ℕ) (es : List (ℕ × ℕ)) (ws : List ℕ) → Inside S es → words_before_members S ≤ length ws → lifted S es (set ws (durable_at S c) (max (get_or ws (durable_at S c) 0) x)) ≡ set (lifted S es ws) (durable_at S c) (max (get_or (lifted S es ws) (durable_at S c) 0) x)
 lifted_raise S c x es ws i room = lifted_step S (Raise (durable_at S c) x) es ws i room (λ k l e. tt)
 
 -- a durable word has what was loaded
-lifted_has : (S : Setup) (es : List (ℕ × ℕ)) (ws : List ℕ) (k : ℕ) → Inside S es → table_size S ≤ length ws → k < length es → (get_or es k (0, 0)).1 ≤ durable_word S (lifted S es ws) (get_or es k (0, 0)).0
+lifted_has : (S : Setup) (es : List (ℕ × ℕ)) (ws : List ℕ) (k : ℕ) → Inside S es → words_before_members S ≤ length ws → k < length es → (get_or es k (0, 0)).1 ≤ durable_word S (lifted S es ws) (get_or es k (0, 0)).0
 lifted_has S [] ws k i room l = absurd (omega (arith, l))
 lifted_has S (e ∷ es) ws zero i room l =
     let is = get_or-set_same (lifted S es ws) (durable_at S e.0) (max (get_or (lifted S es ws) (durable_at S e.0) 0) e.1) 0 (omega (arith, lifted_length S es ws, i.0, room)) in
@@ -120,53 +120,53 @@ lifted_has S (e ∷ es) ws (suc k) i room l = go (get_or es k (0, 0)) (lifted_ha
         subst (λ (a : ℕ). f.1 ≤ get_or (lifted S (e ∷ es) ws) a 0) (sym q) (omega (arith, up, here))
     go f old (inr ne) = subst (λ (y : ℕ). f.1 ≤ y) (sym (get_or-set_other (lifted S es ws) (durable_at S e.0) (durable_at S f.0) (max (get_or (lifted S es ws) (durable_at S e.0) 0) e.1) 0 ne)) old
 
-raise_finds : (o : Op) (ws : List ℕ) → IsRaise o → FoundBy o ws (get_or ws (word_of o) 0)
+raise_finds : (o : Op) (ws : List ℕ) → IsRaise o → IsFoundBy o ws (get_or ws (word_of o) 0)
 raise_finds (Load c) ws r = absurd r
 raise_finds (Store c v) ws r = absurd r
 raise_finds (Exchange c a b) ws r = absurd r
 raise_finds (Raise c v) ws r = refl
 
-same_log : (S : Setup) (xs ys : List ℕ) (d : Data) (n : ℕ) → map bare (added S xs d n) ≡ map bare (added S ys d n)
-unfolding added
+same_log : (S : Setup) (xs ys : List ℕ) (d : CallState) (n : ℕ) → map seen_batch (step_batches S xs d n) ≡ map seen_batch (step_batches S ys d n)
+unfolding step_batches
 same_log S xs ys d n = go d.place
   where
-    one : (b : Bool) → map bare (one_batch S xs d b) ≡ map bare (one_batch S ys d b)
+    one : (b : Bool) → map seen_batch (one_batch S xs d b) ≡ map seen_batch (one_batch S ys d b)
     one true = refl
     one false = refl
 
-    go : (p : Place) → map bare (commits_at S xs d n p) ≡ map bare (commits_at S ys d n p)
-    go ExchangeCurrent = one (n == word d.seq d.owner)
+    go : (p : Place) → map seen_batch (step_batches_at S xs d n p) ≡ map seen_batch (step_batches_at S ys d n p)
+    go ExchangeCurrent = one (n == pack d.seq d.owner)
     go p = refl
 
 -- ---- worlds that are alike
 
 -- the second world is the first one with what was loaded raised
-pub record Alike (S : Setup) (w v : World) : Type 0 where
+pub record Alike (S : Setup) (w v : Moment) : Type 0 where
   pub words : v.words ≡ lifted S w.loaded w.words
   pub machines : w.machines ≡ v.machines
-  pub batches : map bare w.batches ≡ map bare v.batches
+  pub batches : map seen_batch w.batches ≡ map seen_batch v.batches
   pub reads : w.reads ≡ v.reads
 
 -- the world has the words of its table, and cells alone were loaded
-pub record HasRoom (S : Setup) (w : World) : Type 0 where
-  pub long : table_size S ≤ length w.words
+pub record HasRoom (S : Setup) (w : Moment) : Type 0 where
+  pub long : words_before_members S ≤ length w.words
   pub inside : Inside S w.loaded
 
 -- what events do to the first world, and other events to the second
-pub record Follows (S : Setup) (w v : World) (es ds : List Event) : Type 0 where
+pub record Follows (S : Setup) (w v : Moment) (es ds : List Event) : Type 0 where
   pub schedule : IsSchedule S v ds
-  pub alike : Alike S (run S w es) (run S v ds)
+  pub alike : Alike S (after_events S w es) (after_events S v ds)
   pub ended : (i : ℕ) → outcomes S v ds i ≡ outcomes S w es i
-  pub busy : (i : ℕ) → NeverIdle S w es i → NeverIdle S v ds i
+  pub busy : (i : ℕ) → TurnsFindOpenCalls S w es i → TurnsFindOpenCalls S v ds i
 
-begins_same : (e : Event) (i : ℕ) → operations (whole_of e) i ≡ begun_by e i
-begins_same (Begins j op) i = append-nil (only (i == j) (op ∷ []))
+begins_same : (e : Event) (i : ℕ) → operations_begun (whole_of e) i ≡ operation_begun e i
+begins_same (Begins j op) i = append-nil (if_so (i == j) (op ∷ []))
 begins_same (Turns j) i = refl
 begins_same (Loads c) i = refl
 begins_same (Evicts k) i = refl
 begins_same (Raises c) i = refl
 
-turns_same : (e : Event) (i : ℕ) → turns i (whole_of e) ≡ one_turn i e
+turns_same : (e : Event) (i : ℕ) → turn_count i (whole_of e) ≡ turns_in_event i e
 turns_same (Begins j op) i = refl
 turns_same (Turns j) i = omega arith
 turns_same (Loads c) i = refl
@@ -174,32 +174,32 @@ turns_same (Evicts k) i = refl
 turns_same (Raises c) i = refl
 
 -- the calls that are begun, and the turns, are the same
-pub operations_at_once : (es : List Event) (i : ℕ) → operations (at_once es) i ≡ operations es i
+pub operations_at_once : (es : List Event) (i : ℕ) → operations_begun (at_once es) i ≡ operations_begun es i
 operations_at_once [] i = refl
 operations_at_once (e ∷ es) i = operations_append (whole_of e) (at_once es) i ∙ λ k. begins_same e i k ++ operations_at_once es i k
 
-pub turns_at_once : (es : List Event) (i : ℕ) → turns i (at_once es) ≡ turns i es
+pub turns_at_once : (es : List Event) (i : ℕ) → turn_count i (at_once es) ≡ turn_count i es
 turns_at_once [] i = refl
 turns_at_once (e ∷ es) i = omega (arith, turns_append i (whole_of e) (at_once es), turns_same e i, turns_at_once es i)
 
-module _ (S : Setup) (L : List ℕ → Type 0) (laws : RowLaws S L) (B : Start) where
-  module _ (w v : World) (good : Good S L B w) (room : HasRoom S w) (same : Alike S w v) where
-    machine_same : (i : ℕ) → machine w i ≡ machine v i
-    machine_same i = ap (λ (ms : List Data). get_or ms i no_machine) same.machines
+module _ (S : Setup) (L : List ℕ → Type 0) (laws : RowLaws S L) (B : TableStart) where
+  module _ (w v : Moment) (good : MeetsInvariant S L B w) (room : HasRoom S w) (same : Alike S w v) where
+    machine_same : (i : ℕ) → machine_in w i ≡ machine_in v i
+    machine_same i = ap (λ (ms : List CallState). get_or ms i no_machine) same.machines
 
     -- a word that is no durable one
-    word_same : (c : ℕ) → ((k : ℕ) → k < size S → c ≡ durable_at S k → ⊥) → get_or v.words c 0 ≡ get_or w.words c 0
+    word_same : (c : ℕ) → ((k : ℕ) → k < cell_count S → c ≡ durable_at S k → ⊥) → get_or v.words c 0 ≡ get_or w.words c 0
     word_same c off = ap (λ (z : List ℕ). get_or z c 0) same.words ∙ lifted_else S w.loaded w.words c room.inside off
 
-    cell_same : (c : ℕ) → c < size S → get_or v.words c 0 ≡ get_or w.words c 0
+    cell_same : (c : ℕ) → c < cell_count S → get_or v.words c 0 ≡ get_or w.words c 0
     cell_same c low = word_same c (λ k l e. omega (arith, low, e))
 
     module _ (i : ℕ) (may : i < S.callers) where
-      abbrev d : Data
-      d = machine w i
+      abbrev d : CallState
+      d = machine_in w i
 
       abbrev n : ℕ
-      n = finds S w.words d
+      n = word_found S w.words d
 
       inside : i < length w.machines
       inside = omega (arith, may, (laws.sound B w good).members)
@@ -210,12 +210,12 @@ module _ (S : Setup) (L : List ℕ → Type 0) (laws : RowLaws S L) (B : Start) 
       -- what the step finds there, where the machine goes on as it does here
       record Finds : Type 0 where
         pub number : ℕ
-        pub found : FoundBy (want S d) v.words number
-        pub same_machine : took S d n ≡ took S d number
-        pub same_bare : map bare (added S w.words d n) ≡ map bare (added S v.words d number)
-        pub raise_only : (c : ℕ) → c < size S → word_of (want S d) ≡ durable_at S c → IsRaise (want S d)
+        pub found : IsFoundBy (want S d) v.words number
+        pub same_machine : take_word S d n ≡ take_word S d number
+        pub same_bare : map seen_batch (step_batches S w.words d n) ≡ map seen_batch (step_batches S v.words d number)
+        pub raise_only : (c : ℕ) → c < cell_count S → word_of (want S d) ≡ durable_at S c → IsRaise (want S d)
 
-      finds_by : ((c : ℕ) → c < size S → word_of (want S d) ≡ durable_at S c → ⊥) ⊎ GoesBlindly S d → Finds
+      finds_by : ((c : ℕ) → c < cell_count S → word_of (want S d) ≡ durable_at S c → ⊥) ⊎ GoesBlindly S d → Finds
       finds_by (inl off) = record {
         number = n;
         found = found_as (want S d) w.words v.words n (sym (word_same (word_of (want S d)) off)) (laws.finds S w.words d);
@@ -229,7 +229,7 @@ module _ (S : Setup) (L : List ℕ → Type 0) (laws : RowLaws S L) (B : Start) 
             number = k;
             found = raise_finds (want S d) v.words b.0;
             same_machine = b.1 n k;
-            same_bare = ap (map bare) (b.2 w.words n ∙ sym (b.2 v.words k));
+            same_bare = ap (map seen_batch) (b.2 w.words n ∙ sym (b.2 v.words k));
             raise_only = λ c l e. b.0;
           }
 
@@ -237,31 +237,31 @@ module _ (S : Setup) (L : List ℕ → Type 0) (laws : RowLaws S L) (B : Start) 
       f = finds_by (laws.blind B w good i d may here)
 
       -- the turn there
-      to : happens S v (Turns i) ≡ stepped S i d f.number v
+      to : after_event S v (Turns i) ≡ after_step S i d f.number v
       to =
-          let at : machine v i ≡ d = sym (machine_same i) in
-          laws.turn_is S v i f.number (subst (λ (m : Data). FoundBy (want S m) v.words f.number) (sym at) f.found) ∙ ap (λ (m : Data). stepped S i m f.number v) at
+          let at : machine_in v i ≡ d = sym (machine_same i) in
+          laws.turn_is S v i f.number (subst (λ (m : CallState). IsFoundBy (want S m) v.words f.number) (sym at) f.found) ∙ ap (λ (m : CallState). after_step S i m f.number v) at
 
-      turn_alike : Alike S (happens S w (Turns i)) (happens S v (Turns i))
-      turn_alike = subst (Alike S (happens S w (Turns i))) (sym to) record {
+      turn_alike : Alike S (after_event S w (Turns i)) (after_event S v (Turns i))
+      turn_alike = subst (Alike S (after_event S w (Turns i))) (sym to) record {
         words = ap (words_after (want S d)) same.words ∙ sym (lifted_step S (want S d) w.loaded w.words room.inside room.long f.raise_only);
         machines = λ k. set (same.machines k) i (f.same_machine k);
-        batches = map-append bare w.batches (added S w.words d n) ∙ ((λ k. same.batches k ++ f.same_bare k) ∙ sym (map-append bare v.batches (added S v.words d f.number)));
-        reads = λ k. same.reads k ++ answered d (f.same_machine k);
+        batches = map-append seen_batch w.batches (step_batches S w.words d n) ∙ ((λ k. same.batches k ++ f.same_bare k) ∙ sym (map-append seen_batch v.batches (step_batches S v.words d f.number)));
+        reads = λ k. same.reads k ++ step_reads d (f.same_machine k);
       }
 
       turn_follows : Follows S w v (Turns i ∷ []) (Turns i ∷ [])
       turn_follows = record {
         schedule = (may, tt);
         alike = turn_alike;
-        ended = λ j k. only (j == i) (ended_in (sym (machine_same i) k) (get_or (sym turn_alike.machines k) i no_machine)) ++ [];
-        busy = λ j b. (λ e. subst (λ (m : Data). IsOpen m.place) (machine_same j) (b.0 e), tt);
+        ended = λ j k. if_so (j == i) (outcome_of_step (sym (machine_same i) k) (get_or (sym turn_alike.machines k) i no_machine)) ++ [];
+        busy = λ j b. (λ e. subst (λ (m : CallState). IsOpen m.place) (machine_same j) (b.0 e), tt);
       }
 
     follows : (e : Event) → MayHappen S w e → Follows S w v (e ∷ []) (whole_of e)
     follows (Begins i op) may = record {
-      schedule = (subst (λ (m : Data). (i < S.callers) × (m.place ≡ Idle) × (1 ≤ length op) × (length op ≤ S.instrs) × (m.made + 1 < PAYLOADS)) (machine_same i) may, tt);
-      alike = record { words = same.words; machines = λ k. set (same.machines k) i (opened S (machine_same i k) op); batches = same.batches; reads = same.reads };
+      schedule = (subst (λ (m : CallState). (i < S.callers) × (m.place ≡ Idle) × (1 ≤ length op) × (length op ≤ S.instrs) × (m.made + 1 < PAYLOADS)) (machine_same i) may, tt);
+      alike = record { words = same.words; machines = λ k. set (same.machines k) i (begin S (machine_same i k) op); batches = same.batches; reads = same.reads };
       ended = λ j. refl;
       busy = λ j b. (tt, tt);
     }
@@ -310,36 +310,36 @@ module _ (S : Setup) (L : List ℕ → Type 0) (laws : RowLaws S L) (B : Start) 
         }
 
     -- cells alone are loaded, and the table keeps its words
-    still_room : (e : Event) → MayHappen S w e → HasRoom S (happens S w e)
+    still_room : (e : Event) → MayHappen S w e → HasRoom S (after_event S w e)
     still_room (Begins i op) may = record { long = room.long; inside = room.inside }
     still_room (Turns i) may =
-        let o : Op = want S (machine w i) in
-        record { long = omega (arith, room.long, length-set w.words (word_of o) (left o (get_or w.words (word_of o) 0))); inside = room.inside }
-    still_room (Loads c) may = record { long = room.long; inside = each_append (λ (e : ℕ × ℕ). e.0 < size S) w.loaded ((c, get_or w.words c 0) ∷ []) room.inside (may, tt) }
+        let o : Op = want S (machine_in w i) in
+        record { long = omega (arith, room.long, length-set w.words (word_of o) (word_left o (get_or w.words (word_of o) 0))); inside = room.inside }
+    still_room (Loads c) may = record { long = room.long; inside = each_append (λ (e : ℕ × ℕ). e.0 < cell_count S) w.loaded ((c, get_or w.words c 0) ∷ []) room.inside (may, tt) }
     still_room (Evicts k) may =
         let e : ℕ × ℕ = get_or w.loaded k (0, 0) in
         record { long = omega (arith, room.long, length-set w.words (durable_at S e.0) (max (get_or w.words (durable_at S e.0) 0) e.1)); inside = room.inside }
     still_room (Raises c) may = record { long = omega (arith, room.long, length-set w.words (durable_at S c) (max (get_or w.words (durable_at S c) 0) (get_or w.words c 0))); inside = room.inside }
 
-  all_follow : (w v : World) → Good S L B w → HasRoom S w → Alike S w v → (es : List Event) → IsSchedule S w es → Follows S w v es (at_once es)
+  all_follow : (w v : Moment) → MeetsInvariant S L B w → HasRoom S w → Alike S w v → (es : List Event) → IsSchedule S w es → Follows S w v es (at_once es)
   all_follow w v good room same [] s = record { schedule = tt; alike = same; ended = λ i. refl; busy = λ i b. tt }
   all_follow w v good room same (e ∷ es) s =
       let f = follows w v good room same e s.0 in
-      let v2 : World = run S v (whole_of e) in
-      let g = all_follow (happens S w e) v2 (laws.runs B w good (e ∷ []) (s.0, tt)) (still_room w v good room same e s.0) f.alike es s.1 in
+      let v2 : Moment = after_events S v (whole_of e) in
+      let g = all_follow (after_event S w e) v2 (laws.runs B w good (e ∷ []) (s.0, tt)) (still_room w v good room same e s.0) f.alike es s.1 in
       record {
         schedule = schedule_append S v (whole_of e) (at_once es) f.schedule g.schedule;
-        alike = subst (Alike S (run S (happens S w e) es)) (sym (run_append S v (whole_of e) (at_once es))) g.alike;
-        ended = λ i. outcomes_append S v (whole_of e) (at_once es) i ∙ λ k. (f.ended i ∙ append-nil (ended_by S w e i)) k ++ g.ended i k;
+        alike = subst (Alike S (after_events S (after_event S w e) es)) (sym (run_append S v (whole_of e) (at_once es))) g.alike;
+        ended = λ i. outcomes_append S v (whole_of e) (at_once es) i ∙ λ k. (f.ended i ∙ append-nil (outcome_of_event S w e i)) k ++ g.ended i k;
         busy = λ i b. busy_append S v (whole_of e) (at_once es) i (f.busy i (b.0, tt)) (g.busy i b.1);
       }
 
   -- from a row's start on
   pub at_once_follows : MayStart S L B → (es : List Event) → IsSchedule S (first_of S B) es → Follows S (first_of S B) (first_of S B) es (at_once es)
   at_once_follows may es s =
-      let w : World = first_of S B in
-      let long : length w.words ≡ table_size S + 1 = (laws.words B may.start (table_size S + 1) (omega arith)).long in
-      all_follow w w (laws.start B may (table_size S + 1) (omega arith)).0 record { long = omega (arith, long); inside = tt } record { words = refl; machines = refl; batches = refl; reads = refl } es s
+      let w : Moment = first_of S B in
+      let long : length w.words ≡ words_before_members S + 1 = (laws.words B may.start (words_before_members S + 1) (omega arith)).long in
+      all_follow w w (laws.start B may (words_before_members S + 1) (omega arith)).0 record { long = omega (arith, long); inside = tt } record { words = refl; machines = refl; batches = refl; reads = refl } es s
 
 -- steps on a row, with evictions made at once, are as in the schedule of a plan
 pub prompt_at_once : (es : List Event) → AreSteps es → IsPrompt (at_once es)
@@ -359,13 +359,13 @@ prompt_at_once (Evicts k ∷ es) a = prompt_at_once es a
 prompt_at_once (Raises c ∷ es) a = absurd a
 
 -- and evict the cells that were loaded
-pub evicts_loaded : (S : Setup) (w : World) (es : List Event) → AreSteps es → map (λ (e : ℕ × ℕ). e.0) (run S w es).loaded ≡ map (λ (e : ℕ × ℕ). e.0) w.loaded ++ evictions (at_once es)
+pub evicts_loaded : (S : Setup) (w : Moment) (es : List Event) → AreSteps es → map (λ (e : ℕ × ℕ). e.0) (after_events S w es).loaded ≡ map (λ (e : ℕ × ℕ). e.0) w.loaded ++ evictions (at_once es)
 evicts_loaded S w [] a = sym (append-nil (map (λ (e : ℕ × ℕ). e.0) w.loaded))
-evicts_loaded S w (Begins i op ∷ es) a = evicts_loaded S (happens S w (Begins i op)) es a.1
-evicts_loaded S w (Turns i ∷ es) a = evicts_loaded S (happens S w (Turns i)) es a
+evicts_loaded S w (Begins i op ∷ es) a = evicts_loaded S (after_event S w (Begins i op)) es a.1
+evicts_loaded S w (Turns i ∷ es) a = evicts_loaded S (after_event S w (Turns i)) es a
 evicts_loaded S w (Loads c ∷ es) a =
-    evicts_loaded S (happens S w (Loads c)) es a
+    evicts_loaded S (after_event S w (Loads c)) es a
     ∙ (ap (λ (z : List ℕ). z ++ evictions (at_once es)) (map-append (λ (e : ℕ × ℕ). e.0) w.loaded ((c, get_or w.words c 0) ∷ []))
     ∙ append_assoc (map (λ (e : ℕ × ℕ). e.0) w.loaded) (c ∷ []) (evictions (at_once es)))
-evicts_loaded S w (Evicts k ∷ es) a = evicts_loaded S (happens S w (Evicts k)) es a
+evicts_loaded S w (Evicts k ∷ es) a = evicts_loaded S (after_event S w (Evicts k)) es a
 evicts_loaded S w (Raises c ∷ es) a = absurd a

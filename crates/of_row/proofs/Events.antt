@@ -2,32 +2,32 @@
 use Rattle.std.proofs.Common.{◌≡◌, ◌==◌, ℕ, ◌+◌, ◌<◌, get_or, Bool, true, false, List, [], ◌∷◌, ◌++◌, refl, sym, ◌∙◌, ap, arith}
 use Rattle.std.proofs.lemmas.List.{append-nil, get_or-set_other}
 use Rattle.of_core.specs.declared.place.Outcome.{Outcome}
-use Rattle.of_core.specs.Table.{Setup, table_size}
-use Rattle.of_core.specs.Machine.{Data, no_machine, opened}
-use Rattle.of_core.specs.Steps.{took, finds}
-use Rattle.of_core.specs.World.{World, Start}
-use Rattle.of_core.specs.Events.{Event, Begins, Turns, Loads, Evicts, Raises, machine, happens, run, IsSchedule, turns, counted}
-use Rattle.of_core.specs.Calls.{only, operations, outcomes, ended_in, NeverIdle}
-use Rattle.of_core.specs.Laws.{FirstMachines}
+use Rattle.of_core.specs.Table.{Setup, words_before_members}
+use Rattle.of_core.specs.Machine.{CallState, no_machine, begin}
+use Rattle.of_core.specs.Steps.{take_word, word_found}
+use Rattle.of_core.specs.World.{Moment, TableStart}
+use Rattle.of_core.specs.Events.{Event, Begins, Turns, Loads, Evicts, Raises, machine_in, after_event, after_events, IsSchedule, turn_count, one_if}
+use Rattle.of_core.specs.Calls.{if_so, operations_begun, outcomes, outcome_of_step, TurnsFindOpenCalls}
+use Rattle.of_core.specs.Laws.{FirstMachinesAreIdle}
 use Rattle.of_core.proofs.Tests.{same_number}
 use Rattle.of_core.proofs.Parts.{run_append, operations_append, outcomes_append}
-use Rattle.of_row.specs.Views.{Kept}
-use Rattle.of_row.specs.Turned.{newcomer}
+use Rattle.of_row.specs.Views.{KnownCaller}
+use Rattle.of_row.specs.Turned.{new_known_caller}
 use Rattle.of_row.specs.Trail.{first_of, moment, TurnIsNext, AreSteps, IsRunBy, HasDoneNothing}
 
 -- ---- lists of events in two parts
 
-pub schedule_append : (S : Setup) (w : World) (es ds : List Event) → IsSchedule S w es → IsSchedule S (run S w es) ds → IsSchedule S w (es ++ ds)
+pub schedule_append : (S : Setup) (w : Moment) (es ds : List Event) → IsSchedule S w es → IsSchedule S (after_events S w es) ds → IsSchedule S w (es ++ ds)
 schedule_append S w [] ds a b = b
-schedule_append S w (e ∷ es) ds a b = (a.0, schedule_append S (happens S w e) es ds a.1 b)
+schedule_append S w (e ∷ es) ds a b = (a.0, schedule_append S (after_event S w e) es ds a.1 b)
 
-pub turns_append : (i : ℕ) (es ds : List Event) → turns i (es ++ ds) ≡ turns i es + turns i ds
+pub turns_append : (i : ℕ) (es ds : List Event) → turn_count i (es ++ ds) ≡ turn_count i es + turn_count i ds
 turns_append i [] ds = omega arith
 turns_append i (e ∷ es) ds = omega (arith, turns_append i es ds)
 
-pub busy_append : (S : Setup) (w : World) (es ds : List Event) (i : ℕ) → NeverIdle S w es i → NeverIdle S (run S w es) ds i → NeverIdle S w (es ++ ds) i
+pub busy_append : (S : Setup) (w : Moment) (es ds : List Event) (i : ℕ) → TurnsFindOpenCalls S w es i → TurnsFindOpenCalls S (after_events S w es) ds i → TurnsFindOpenCalls S w (es ++ ds) i
 busy_append S w [] ds i a b = b
-busy_append S w (e ∷ es) ds i a b = (a.0, busy_append S (happens S w e) es ds i a.1 b)
+busy_append S w (e ∷ es) ds i a b = (a.0, busy_append S (after_event S w e) es ds i a.1 b)
 
 next_append : (i : ℕ) (es ds : List Event) → TurnIsNext i es → TurnIsNext i (es ++ ds)
 next_append i [] ds t = absurd t
@@ -49,59 +49,59 @@ steps_append (Raises c ∷ es) ds a b = absurd a
 
 module _ (S : Setup) (n : ℕ) where
   -- a turn of another
-  not_turn : (j k : ℕ) → counted (n == j) + k ≡ 0 → ((n == j) ≡ false) × (k ≡ 0)
+  not_turn : (j k : ℕ) → one_if (n == j) + k ≡ 0 → ((n == j) ≡ false) × (k ≡ 0)
   not_turn j k = go (n == j)
     where
-      go : (b : Bool) → counted b + k ≡ 0 → (b ≡ false) × (k ≡ 0)
+      go : (b : Bool) → one_if b + k ≡ 0 → (b ≡ false) × (k ≡ 0)
       go true z = absurd (omega (arith, z))
       go false z = (refl, omega (arith, z))
 
   -- a call of another
-  not_begin : (j : ℕ) (op : List ℕ) (ops : List (List ℕ)) → only (n == j) (op ∷ []) ++ ops ≡ [] → ((n == j) ≡ false) × (ops ≡ [])
+  not_begin : (j : ℕ) (op : List ℕ) (ops : List (List ℕ)) → if_so (n == j) (op ∷ []) ++ ops ≡ [] → ((n == j) ≡ false) × (ops ≡ [])
   not_begin j op ops = go (n == j)
     where
-      go : (b : Bool) → only b (op ∷ []) ++ ops ≡ [] → (b ≡ false) × (ops ≡ [])
+      go : (b : Bool) → if_so b (op ∷ []) ++ ops ≡ [] → (b ≡ false) × (ops ≡ [])
       go true z = cc
       go false z = (refl, z)
 
   apart : (j : ℕ) → (n == j) ≡ false → n ≡ j → ⊥
   apart j b e = let t : true ≡ false = sym (ap (λ (k : ℕ). n == k) (sym e) ∙ same_number n) ∙ b in cc
 
-  pub no_outcomes : (w : World) (es : List Event) → turns n es ≡ 0 → outcomes S w es n ≡ []
+  pub no_outcomes : (w : Moment) (es : List Event) → turn_count n es ≡ 0 → outcomes S w es n ≡ []
   no_outcomes w [] z = refl
-  no_outcomes w (Begins j op ∷ es) z = no_outcomes (happens S w (Begins j op)) es (omega (arith, z))
+  no_outcomes w (Begins j op ∷ es) z = no_outcomes (after_event S w (Begins j op)) es (omega (arith, z))
   no_outcomes w (Turns j ∷ es) z =
-      let t = not_turn j (turns n es) z in
-      (λ k. only (t.0 k) (ended_in (machine w j) (machine (happens S w (Turns j)) j)) ++ outcomes S (happens S w (Turns j)) es n) ∙ no_outcomes (happens S w (Turns j)) es t.1
-  no_outcomes w (Loads c ∷ es) z = no_outcomes (happens S w (Loads c)) es (omega (arith, z))
-  no_outcomes w (Evicts c ∷ es) z = no_outcomes (happens S w (Evicts c)) es (omega (arith, z))
-  no_outcomes w (Raises c ∷ es) z = no_outcomes (happens S w (Raises c)) es (omega (arith, z))
+      let t = not_turn j (turn_count n es) z in
+      (λ k. if_so (t.0 k) (outcome_of_step (machine_in w j) (machine_in (after_event S w (Turns j)) j)) ++ outcomes S (after_event S w (Turns j)) es n) ∙ no_outcomes (after_event S w (Turns j)) es t.1
+  no_outcomes w (Loads c ∷ es) z = no_outcomes (after_event S w (Loads c)) es (omega (arith, z))
+  no_outcomes w (Evicts c ∷ es) z = no_outcomes (after_event S w (Evicts c)) es (omega (arith, z))
+  no_outcomes w (Raises c ∷ es) z = no_outcomes (after_event S w (Raises c)) es (omega (arith, z))
 
-  pub no_idle_turn : (w : World) (es : List Event) → turns n es ≡ 0 → NeverIdle S w es n
+  pub no_idle_turn : (w : Moment) (es : List Event) → turn_count n es ≡ 0 → TurnsFindOpenCalls S w es n
   no_idle_turn w [] z = tt
-  no_idle_turn w (Begins j op ∷ es) z = (tt, no_idle_turn (happens S w (Begins j op)) es (omega (arith, z)))
-  no_idle_turn w (Turns j ∷ es) z = let t = not_turn j (turns n es) z in (λ e. absurd (apart j t.0 e), no_idle_turn (happens S w (Turns j)) es t.1)
-  no_idle_turn w (Loads c ∷ es) z = (tt, no_idle_turn (happens S w (Loads c)) es (omega (arith, z)))
-  no_idle_turn w (Evicts c ∷ es) z = (tt, no_idle_turn (happens S w (Evicts c)) es (omega (arith, z)))
-  no_idle_turn w (Raises c ∷ es) z = (tt, no_idle_turn (happens S w (Raises c)) es (omega (arith, z)))
+  no_idle_turn w (Begins j op ∷ es) z = (tt, no_idle_turn (after_event S w (Begins j op)) es (omega (arith, z)))
+  no_idle_turn w (Turns j ∷ es) z = let t = not_turn j (turn_count n es) z in (λ e. absurd (apart j t.0 e), no_idle_turn (after_event S w (Turns j)) es t.1)
+  no_idle_turn w (Loads c ∷ es) z = (tt, no_idle_turn (after_event S w (Loads c)) es (omega (arith, z)))
+  no_idle_turn w (Evicts c ∷ es) z = (tt, no_idle_turn (after_event S w (Evicts c)) es (omega (arith, z)))
+  no_idle_turn w (Raises c ∷ es) z = (tt, no_idle_turn (after_event S w (Raises c)) es (omega (arith, z)))
 
-  pub machine_stays : (w : World) (es : List Event) → HasDoneNothing es n → machine (run S w es) n ≡ machine w n
+  pub machine_stays : (w : Moment) (es : List Event) → HasDoneNothing es n → machine_in (after_events S w es) n ≡ machine_in w n
   machine_stays w [] h = refl
   machine_stays w (Begins j op ∷ es) h =
-      let b = not_begin j op (operations es n) h.0 in
-      machine_stays (happens S w (Begins j op)) es (b.1, omega (arith, h.1)) ∙ get_or-set_other w.machines j n (opened S (machine w j) op) no_machine (apart j b.0)
+      let b = not_begin j op (operations_begun es n) h.0 in
+      machine_stays (after_event S w (Begins j op)) es (b.1, omega (arith, h.1)) ∙ get_or-set_other w.machines j n (begin S (machine_in w j) op) no_machine (apart j b.0)
   machine_stays w (Turns j ∷ es) h =
-      let t = not_turn j (turns n es) h.1 in
-      machine_stays (happens S w (Turns j)) es (h.0, t.1) ∙ get_or-set_other w.machines j n (took S (machine w j) (finds S w.words (machine w j))) no_machine (apart j t.0)
-  machine_stays w (Loads c ∷ es) h = machine_stays (happens S w (Loads c)) es (h.0, omega (arith, h.1))
-  machine_stays w (Evicts c ∷ es) h = machine_stays (happens S w (Evicts c)) es (h.0, omega (arith, h.1))
-  machine_stays w (Raises c ∷ es) h = machine_stays (happens S w (Raises c)) es (h.0, omega (arith, h.1))
+      let t = not_turn j (turn_count n es) h.1 in
+      machine_stays (after_event S w (Turns j)) es (h.0, t.1) ∙ get_or-set_other w.machines j n (take_word S (machine_in w j) (word_found S w.words (machine_in w j))) no_machine (apart j t.0)
+  machine_stays w (Loads c ∷ es) h = machine_stays (after_event S w (Loads c)) es (h.0, omega (arith, h.1))
+  machine_stays w (Evicts c ∷ es) h = machine_stays (after_event S w (Evicts c)) es (h.0, omega (arith, h.1))
+  machine_stays w (Raises c ∷ es) h = machine_stays (after_event S w (Raises c)) es (h.0, omega (arith, h.1))
 
 -- so a newcomer is what they leave of its number
-pub new_runs : (S : Setup) (B : Start) → FirstMachines S → (es : List Event) (n since : ℕ) → n < S.callers → HasDoneNothing es n → IsRunBy S B es (newcomer S B n since)
+pub new_runs : (S : Setup) (B : TableStart) → FirstMachinesAreIdle S → (es : List Event) (n since : ℕ) → n < S.callers → HasDoneNothing es n → IsRunBy S B es (new_known_caller S B n since)
 new_runs S B first es n since below h = record {
   told = record { begun = sym h.0; ended = sym (no_outcomes S n (first_of S B) es h.1); turned = sym h.1; busy = no_idle_turn S n (first_of S B) es h.1 };
-  machine_is = machine_stays S n (first_of S B) es h ∙ (first B (table_size S + 1)).1 n no_machine below;
+  machine_is = machine_stays S n (first_of S B) es h ∙ (first B (words_before_members S + 1)).1 n no_machine below;
 }
 
 -- ---- the events of evictions
@@ -114,18 +114,18 @@ OfEviction (Loads c) = Unit {0}
 OfEviction (Evicts k) = Unit {0}
 OfEviction (Raises c) = Unit {0}
 
-module _ (S : Setup) (B : Start) (es : List Event) (e : Event) (is : OfEviction e) where
+module _ (S : Setup) (B : TableStart) (es : List Event) (e : Event) (is : OfEviction e) where
   abbrev after : List Event
   after = es ++ e ∷ []
 
-  same_batches : (w : World) (e : Event) → OfEviction e → (happens S w e).batches ≡ w.batches
+  same_batches : (w : Moment) (e : Event) → OfEviction e → (after_event S w e).batches ≡ w.batches
   same_batches w (Loads c) o = refl
   same_batches w (Evicts k) o = refl
   same_batches w (Raises c) o = refl
   same_batches w (Begins i op) o = absurd o
   same_batches w (Turns i) o = absurd o
 
-  same_machines : (w : World) (e : Event) → OfEviction e → (happens S w e).machines ≡ w.machines
+  same_machines : (w : Moment) (e : Event) → OfEviction e → (after_event S w e).machines ≡ w.machines
   same_machines w (Loads c) o = refl
   same_machines w (Evicts k) o = refl
   same_machines w (Raises c) o = refl
@@ -133,44 +133,44 @@ module _ (S : Setup) (B : Start) (es : List Event) (e : Event) (is : OfEviction 
   same_machines w (Turns i) o = absurd o
 
   pub eviction_batches : (moment S B after).batches ≡ (moment S B es).batches
-  eviction_batches = ap (λ (w : World). w.batches) (run_append S (first_of S B) es (e ∷ [])) ∙ same_batches (moment S B es) e is
+  eviction_batches = ap (λ (w : Moment). w.batches) (run_append S (first_of S B) es (e ∷ [])) ∙ same_batches (moment S B es) e is
 
-  begins : (e : Event) (j : ℕ) → OfEviction e → operations (e ∷ []) j ≡ []
+  begins : (e : Event) (j : ℕ) → OfEviction e → operations_begun (e ∷ []) j ≡ []
   begins (Loads c) j o = refl
   begins (Evicts k) j o = refl
   begins (Raises c) j o = refl
   begins (Begins i op) j o = absurd o
   begins (Turns i) j o = absurd o
 
-  ends : (w : World) (e : Event) (j : ℕ) → OfEviction e → outcomes S w (e ∷ []) j ≡ []
+  ends : (w : Moment) (e : Event) (j : ℕ) → OfEviction e → outcomes S w (e ∷ []) j ≡ []
   ends w (Loads c) j o = refl
   ends w (Evicts k) j o = refl
   ends w (Raises c) j o = refl
   ends w (Begins i op) j o = absurd o
   ends w (Turns i) j o = absurd o
 
-  turned : (e : Event) (j : ℕ) → OfEviction e → turns j (e ∷ []) ≡ 0
+  turned : (e : Event) (j : ℕ) → OfEviction e → turn_count j (e ∷ []) ≡ 0
   turned (Loads c) j o = refl
   turned (Evicts k) j o = refl
   turned (Raises c) j o = refl
   turned (Begins i op) j o = absurd o
   turned (Turns i) j o = absurd o
 
-  busy : (w : World) (e : Event) (j : ℕ) → OfEviction e → NeverIdle S w (e ∷ []) j
+  busy : (w : Moment) (e : Event) (j : ℕ) → OfEviction e → TurnsFindOpenCalls S w (e ∷ []) j
   busy w (Loads c) j o = (tt, tt)
   busy w (Evicts k) j o = (tt, tt)
   busy w (Raises c) j o = (tt, tt)
   busy w (Begins i op) j o = absurd o
   busy w (Turns i) j o = absurd o
 
-  begun_still : (j : ℕ) → operations after j ≡ operations es j
-  begun_still j = operations_append es (e ∷ []) j ∙ (ap (λ (l : List (List ℕ)). operations es j ++ l) (begins e j is) ∙ append-nil (operations es j))
+  begun_still : (j : ℕ) → operations_begun after j ≡ operations_begun es j
+  begun_still j = operations_append es (e ∷ []) j ∙ (ap (λ (l : List (List ℕ)). operations_begun es j ++ l) (begins e j is) ∙ append-nil (operations_begun es j))
 
-  turned_still : (j : ℕ) → turns j after ≡ turns j es
+  turned_still : (j : ℕ) → turn_count j after ≡ turn_count j es
   turned_still j = omega (arith, turns_append j es (e ∷ []), turned e j is)
 
   -- each caller has run as before
-  pub eviction_runs : (x : Kept) → IsRunBy S B es x → IsRunBy S B after x
+  pub eviction_runs : (x : KnownCaller) → IsRunBy S B es x → IsRunBy S B after x
   eviction_runs x r =
       let i : ℕ = x.machine.caller in
       record {
@@ -180,7 +180,7 @@ module _ (S : Setup) (B : Start) (es : List Event) (e : Event) (is : OfEviction 
           turned = r.told.turned ∙ sym (turned_still i);
           busy = busy_append S (first_of S B) es (e ∷ []) i r.told.busy (busy (moment S B es) e i is);
         };
-        machine_is = ap (λ (w : World). machine w i) (run_append S (first_of S B) es (e ∷ [])) ∙ (ap (λ (ms : List Data). get_or ms i no_machine) (same_machines (moment S B es) e is) ∙ r.machine_is);
+        machine_is = ap (λ (w : Moment). machine_in w i) (run_append S (first_of S B) es (e ∷ [])) ∙ (ap (λ (ms : List CallState). get_or ms i no_machine) (same_machines (moment S B es) e is) ∙ r.machine_is);
       }
 
   pub eviction_free : (n : ℕ) → HasDoneNothing es n → HasDoneNothing after n

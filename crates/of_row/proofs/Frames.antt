@@ -8,13 +8,13 @@ use lib.ListN.{get_elem?}
 use Rattle.atomic_table.proofs.Lists.{at_set}
 use Rattle.of_core.specs.declared.place.Op.{Op}
 use Rattle.of_core.specs.declared.place.Op.TheVariants.{Load, Store, Exchange, Raise}
-use Rattle.of_core.specs.Table.{Setup, size, durable_word}
-use Rattle.of_core.specs.Steps.{word_of, left, words_after, FoundBy}
-use Rattle.of_core.specs.World.{Start, Batch}
+use Rattle.of_core.specs.Table.{Setup, cell_count, durable_word}
+use Rattle.of_core.specs.Steps.{word_of, word_left, words_after, IsFoundBy}
+use Rattle.of_core.specs.World.{TableStart, Batch}
 use Rattle.of_core.specs.Events.{Event}
-use Rattle.of_row.specs.Views.{Kept, Sight, IsFront, reach, Each}
+use Rattle.of_row.specs.Views.{KnownCaller, View, IsSeenPrefix, seen_seq, Each}
 use Rattle.of_row.specs.Trail.{IsRunBy}
-use Rattle.of_row.specs.Rule.{members_of, IsAsked, IsChief, IsRaised, Stays, Knows, Fits}
+use Rattle.of_row.specs.Rule.{members_of, IsAsked, IsFirstPassView, IsRaised, IsAtHome, KnowsCallsOf, ViewFits}
 use Rattle.of_row.proofs.Pasts.{prefix_more}
 use Rattle.of_row.proofs.Fronts.{each_map}
 use Rattle.of_row.proofs.Events.{OfEviction, eviction_batches, eviction_runs}
@@ -29,16 +29,16 @@ set_apart ws T c x low = set_comm ws c T x 0 (λ e. omega (arith, low, e))
 pub step_apart : (o : Op) (ws : List ℕ) (T : ℕ) → word_of o < T → set (words_after o ws) T 0 ≡ words_after o (set ws T 0)
 step_apart o ws T low =
     let same : get_or (set ws T 0) (word_of o) 0 ≡ get_or ws (word_of o) 0 = get_or-set_other ws T (word_of o) 0 0 (λ e. omega (arith, low, e)) in
-    set_apart ws T (word_of o) (left o (get_or ws (word_of o) 0)) low ∙ ap (λ (n : ℕ). set (set ws T 0) (word_of o) (left o n)) (sym same)
+    set_apart ws T (word_of o) (word_left o (get_or ws (word_of o) 0)) low ∙ ap (λ (n : ℕ). set (set ws T 0) (word_of o) (word_left o n)) (sym same)
 
-pub found_as : (o : Op) (xs ys : List ℕ) (n : ℕ) → get_or xs (word_of o) 0 ≡ get_or ys (word_of o) 0 → FoundBy o xs n → FoundBy o ys n
+pub found_as : (o : Op) (xs ys : List ℕ) (n : ℕ) → get_or xs (word_of o) 0 ≡ get_or ys (word_of o) 0 → IsFoundBy o xs n → IsFoundBy o ys n
 found_as (Load c) xs ys n e f = f ∙ e
 found_as (Store c v) xs ys n e f = tt
 found_as (Exchange c a b) xs ys n e f = f ∙ e
 found_as (Raise c v) xs ys n e f = f ∙ e
 
 -- what was raised stays so where no durable word falls
-pub raised_on : (S : Setup) (ws ws2 : List ℕ) → ((c : ℕ) → c < size S → durable_word S ws c ≤ durable_word S ws2 c) → (l : List (ℕ × ℕ)) → Each (IsRaised S ws) l → Each (IsRaised S ws2) l
+pub raised_on : (S : Setup) (ws ws2 : List ℕ) → ((c : ℕ) → c < cell_count S → durable_word S ws c ≤ durable_word S ws2 c) → (l : List (ℕ × ℕ)) → Each (IsRaised S ws) l → Each (IsRaised S ws2) l
 raised_on S ws ws2 rise l all = each_map (IsRaised S ws) (IsRaised S ws2) l (λ e q. (q.0, let up = rise e.0 q.0 in omega (arith, q.1, up))) all
 
 -- no word falls where one is raised
@@ -58,21 +58,21 @@ at_end (x ∷ xs) a b zero e = inl (omega arith, e)
 at_end (x ∷ xs) a b (suc j) e = ⊎_elim (λ t. inl (omega (arith, t.0), t.1)) (λ t. inr (ap suc t.0, t.1)) (at_end xs a b j e)
 
 -- a fact of each seat's view
-abbrev pub EachSeat : (ℕ → Sight → Type 0) → List Sight → Type 0
-EachSeat P vs = (j : ℕ) (v : Sight) → get_elem? vs j ≡ some v → v.spent ≡ false → P j v
+abbrev pub EachSeat : (ℕ → View → Type 0) → List View → Type 0
+EachSeat P vs = (j : ℕ) (v : View) → get_elem? vs j ≡ some v → v.spent ≡ false → P j v
 
 -- another view for one seat
-pub seats_set : (P Q : ℕ → Sight → Type 0) (vs : List Sight) (id : ℕ) (w : Sight) → EachSeat P vs → ((j : ℕ) (u : Sight) → j ≢ id → get_elem? vs j ≡ some u → u.spent ≡ false → P j u → Q j u) → (w.spent ≡ false → Q id w) → EachSeat Q (set vs id w)
+pub seats_set : (P Q : ℕ → View → Type 0) (vs : List View) (id : ℕ) (w : View) → EachSeat P vs → ((j : ℕ) (u : View) → j ≢ id → get_elem? vs j ≡ some u → u.spent ≡ false → P j u → Q j u) → (w.spent ≡ false → Q id w) → EachSeat Q (set vs id w)
 seats_set P Q vs id w all other mine j u p alive = ⊎_elim
-    (λ (t : (j ≡ id) × (w ≡ u)). subst (λ (z : ℕ × Sight). Q z.0 z.1) (λ k. (sym t.0 k, t.1 k)) (mine (ap (λ (z : Sight). z.spent) t.1 ∙ alive)))
+    (λ (t : (j ≡ id) × (w ≡ u)). subst (λ (z : ℕ × View). Q z.0 z.1) (λ k. (sym t.0 k, t.1 k)) (mine (ap (λ (z : View). z.spent) t.1 ∙ alive)))
     (λ (t : (j ≢ id) × (get_elem? vs j ≡ some u)). other j u t.0 t.1 alive (all j u t.1 alive))
     (at_set vs id j w u p)
 
 -- one seat more
-pub seats_push : (P : ℕ → Sight → Type 0) (vs : List Sight) (b : Sight) → EachSeat P vs → (b.spent ≡ false → P (length vs) b) → EachSeat P (vs ++ b ∷ [])
+pub seats_push : (P : ℕ → View → Type 0) (vs : List View) (b : View) → EachSeat P vs → (b.spent ≡ false → P (length vs) b) → EachSeat P (vs ++ b ∷ [])
 seats_push P vs b all new j u p alive = ⊎_elim
     (λ (t : (j < length vs) × (get_elem? vs j ≡ some u)). all j u t.1 alive)
-    (λ (t : (j ≡ length vs) × (b ≡ u)). subst (λ (z : ℕ × Sight). P z.0 z.1) (λ k. (sym t.0 k, t.1 k)) (new (ap (λ (z : Sight). z.spent) t.1 ∙ alive)))
+    (λ (t : (j ≡ length vs) × (b ≡ u)). subst (λ (z : ℕ × View). P z.0 z.1) (λ k. (sym t.0 k, t.1 k)) (new (ap (λ (z : View). z.spent) t.1 ∙ alive)))
     (at_end vs b u j p)
 
 -- ---- the homes of numbers
@@ -97,13 +97,13 @@ taken_own home other id i e = ap (λ (t : Bool). cond t id (home i)) (eq-eqb (ho
 pub taken_else : (home : ℕ → ℕ) (other id i : ℕ) → home i ≢ other → taken_to home other id i ≡ home i
 taken_else home other id i ne = ap (λ (t : Bool). cond t id (home i)) (ne_eqb (home i) other ne)
 
-pub rehomed : (S : Setup) (home home2 : ℕ → ℕ) (m j j2 : ℕ) (y : Kept) → home2 y.machine.caller ≡ j2 → Stays S home m j y → Stays S home2 m j2 y
+pub rehomed : (S : Setup) (home home2 : ℕ → ℕ) (m j j2 : ℕ) (y : KnownCaller) → home2 y.machine.caller ≡ j2 → IsAtHome S home m j y → IsAtHome S home2 m j2 y
 rehomed S home home2 m j j2 y e q = record { in_range = q.in_range; home_is = e; taken = q.taken }
 
 -- ---- views that go on fitting
 
 -- the first pass, where members, evictions and its lists are the same
-pub chief_as : (m m2 : ℕ) (l l2 : List (ℕ × ℕ)) (chief j : ℕ) (v w : Sight) → m2 ≡ m → l2 ≡ l → w.asked ≡ v.asked → w.evicted ≡ v.evicted → w.loaded ≡ v.loaded → IsChief m l chief j v → IsChief m2 l2 chief j w
+pub chief_as : (m m2 : ℕ) (l l2 : List (ℕ × ℕ)) (chief j : ℕ) (v w : View) → m2 ≡ m → l2 ≡ l → w.asked ≡ v.asked → w.evicted ≡ v.evicted → w.loaded ≡ v.loaded → IsFirstPassView m l chief j v → IsFirstPassView m2 l2 chief j w
 chief_as m m2 l l2 chief j v w e d a b c q = record {
   here = q.here;
   asked = λ n on. subst (IsAsked n) (sym a) (q.asked n (sym (ap (λ (z : ℕ). bit_at z n) e) ∙ on));
@@ -112,12 +112,12 @@ chief_as m m2 l l2 chief j v w e d a b c q = record {
 }
 
 -- homes have changed, and none of its own
-pub fits_home : (S : Setup) (B : Start) (ws : List ℕ) (es : List Event) (home home2 : ℕ → ℕ) (chief j : ℕ) (u : Sight) → Fits S B ws es home chief j u → ((i : ℕ) → home i ≡ j → home2 i ≡ j) → Fits S B ws es home2 chief j u
+pub fits_home : (S : Setup) (B : TableStart) (ws : List ℕ) (es : List Event) (home home2 : ℕ → ℕ) (chief j : ℕ) (u : View) → ViewFits S B ws es home chief j u → ((i : ℕ) → home i ≡ j → home2 i ≡ j) → ViewFits S B ws es home2 chief j u
 fits_home S B ws es home home2 chief j u f same = record {
   seen = f.seen;
   past = f.past;
   met = f.met;
-  kept = each_map (Stays S home (members_of S ws) j) (Stays S home2 (members_of S ws) j) u.kept (λ y q. rehomed S home home2 (members_of S ws) j j y (same y.machine.caller q.home_is) q) f.kept;
+  kept = each_map (IsAtHome S home (members_of S ws) j) (IsAtHome S home2 (members_of S ws) j) u.kept (λ y q. rehomed S home home2 (members_of S ws) j j y (same y.machine.caller q.home_is) q) f.kept;
   apart = f.apart;
   runs = f.runs;
   knows = f.knows;
@@ -126,16 +126,16 @@ fits_home S B ws es home home2 chief j u f same = record {
 }
 
 -- an event of an eviction has come, and its view isn't the first pass's
-pub fits_eviction : (S : Setup) (B : Start) (ws ws2 : List ℕ) (es : List Event) (e : Event) (home : ℕ → ℕ) (chief j : ℕ) (u : Sight) → OfEviction e → members_of S ws2 ≡ members_of S ws → ((c : ℕ) → c < size S → durable_word S ws c ≤ durable_word S ws2 c) → (u.first ≡ true → ⊥)
-    → Fits S B ws es home chief j u → Fits S B ws2 (es ++ e ∷ []) home chief j u
+pub fits_eviction : (S : Setup) (B : TableStart) (ws ws2 : List ℕ) (es : List Event) (e : Event) (home : ℕ → ℕ) (chief j : ℕ) (u : View) → OfEviction e → members_of S ws2 ≡ members_of S ws → ((c : ℕ) → c < cell_count S → durable_word S ws c ≤ durable_word S ws2 c) → (u.first ≡ true → ⊥)
+    → ViewFits S B ws es home chief j u → ViewFits S B ws2 (es ++ e ∷ []) home chief j u
 fits_eviction S B ws ws2 es e home chief j u is still rise other f = record {
-  seen = subst (IsFront u.seen) (sym (eviction_batches S B es e is)) f.seen;
+  seen = subst (IsSeenPrefix u.seen) (sym (eviction_batches S B es e is)) f.seen;
   past = prefix_more u.past es (e ∷ []) f.past;
   met = f.met;
-  kept = each_map (Stays S home (members_of S ws) j) (Stays S home (members_of S ws2) j) u.kept (λ y q. record { in_range = q.in_range; home_is = q.home_is; taken = ap (λ (z : ℕ). bit_at z y.machine.caller) still ∙ q.taken }) f.kept;
+  kept = each_map (IsAtHome S home (members_of S ws) j) (IsAtHome S home (members_of S ws2) j) u.kept (λ y q. record { in_range = q.in_range; home_is = q.home_is; taken = ap (λ (z : ℕ). bit_at z y.machine.caller) still ∙ q.taken }) f.kept;
   apart = f.apart;
   runs = each_map (IsRunBy S B es) (IsRunBy S B (es ++ e ∷ [])) u.kept (λ y q. eviction_runs S B es e is y q) f.runs;
-  knows = subst (λ (bs : List Batch). Each (Knows S B bs (reach B u.seen)) u.kept) (sym (eviction_batches S B es e is)) f.knows;
+  knows = subst (λ (bs : List Batch). Each (KnowsCallsOf S B bs (seen_seq B u.seen)) u.kept) (sym (eviction_batches S B es e is)) f.knows;
   raised = raised_on S ws ws2 rise u.evicted f.raised;
   first = λ q. absurd (other q);
 }

@@ -3,33 +3,33 @@ use Rattle.std.proofs.Common.{◌≡◌, ℕ, ◌+◌, ◌≤◌, ◌<◌, inl, 
 use Rattle.std.specs.List.{All}
 use Rattle.std.proofs.lemmas.List.{length-map, get_or-map, get_or_append_left}
 use Rattle.atomic_table.specs.Table.{State}
-use Rattle.of_cell.specs.Words.{pay}
+use Rattle.of_cell.specs.Words.{payload_of}
 use Rattle.of_recover.proofs.Agreeing.{recovered_data-same}
 use Rattle.of_core.specs.declared.place.Outcome.{Outcome}
-use Rattle.of_core.specs.Table.{Setup, size, table_size, durable_at, durable_word, ticket_cell, shape_cell, reply_cell}
+use Rattle.of_core.specs.Table.{Setup, cell_count, words_before_members, durable_at, durable_word, ticket_cell, shape_cell, reply_cell}
 use Rattle.of_core.specs.Machine.{Call, no_call}
-use Rattle.of_core.specs.World.{World, Start}
+use Rattle.of_core.specs.World.{Moment, TableStart}
 use Rattle.of_core.specs.Starts.{IsDurable}
-use Rattle.of_core.specs.Invariant.{Good}
+use Rattle.of_core.specs.Invariant.{MeetsInvariant}
 use Rattle.of_core.specs.Grounds.{HasGrounds}
 use Rattle.of_core.specs.Events.{Event}
-use Rattle.of_core.specs.Calls.{operations, outcomes, no_outcome}
-use Rattle.of_core.specs.Laws.{EveryOrder, Restarts}
+use Rattle.of_core.specs.Calls.{operations_begun, outcomes, no_outcome}
+use Rattle.of_core.specs.Laws.{EveryOrder, RecoveredRowsMayStart}
 use Rattle.of_core.specs.Linear.{Explains, Linearizes, recovered_number, FindsCall, Detects, IsRecovered, IsDurablyLinearizable}
 use Rattle.of_core.proofs.Logs.{room_for}
-use Rattle.of_row.specs.Views.{Ended, Kept, Sight, no_ended, Each}
-use Rattle.of_row.specs.Rule.{members_of, ticket_at, op_at, outcome_at, Stays, Fits, Ruled, Meets}
+use Rattle.of_row.specs.Views.{EndedCall, KnownCaller, View, no_ended, Each}
+use Rattle.of_row.specs.Rule.{members_of, ticket_at, operation_at, outcome_at, IsAtHome, ViewFits, MeetsRule, ViewMeetsRule}
 use Rattle.of_row.specs.Trail.{first_of, moment, IsToldBy, IsRunBy, EachView}
 use Rattle.of_row.specs.RowLaws.{RowLaws}
 use Rattle.of_row.specs.Moments.{IsReachedBy, ExplainsAll, words_alone, LosesNothing, HoldsCalls}
 use Rattle.of_row.proofs.RowLaws.{good_of, word_at}
 use Rattle.of_row.proofs.Fronts.{each_both}
 
-module _ (S : Setup) (L : List ℕ → Type 0) (B : Start) (s : State (Unit {0}) Sight) (r : Ruled S L B s) where
+module _ (S : Setup) (L : List ℕ → Type 0) (B : TableStart) (s : State (Unit {0}) View) (r : MeetsRule S L B s) where
   abbrev es : List Event
   es = r.events
 
-  abbrev W : World
+  abbrev W : Moment
   W = moment S B es
 
   pub reached : IsReachedBy S B s es
@@ -44,18 +44,18 @@ module _ (S : Setup) (L : List ℕ → Type 0) (B : Start) (s : State (Unit {0})
 
   -- ---- recovery of the words as they are
 
-  durable_same : (c : ℕ) → c < size S → durable_word S s.words c ≡ durable_word S W.words c
+  durable_same : (c : ℕ) → c < cell_count S → durable_word S s.words c ≡ durable_word S W.words c
   durable_same c low = word_at S L B s r (durable_at S c) (omega (arith, low))
 
   module _ (laws : RowLaws S L) where
-    good : Good S L B W
+    good : MeetsInvariant S L B W
     good = good_of S L laws B s r
 
     grounds : HasGrounds S L B W
     grounds = laws.grounds B W good
 
     found_same : (a : ℕ) → a < S.cells → recovered_number S (words_alone s.words) a ≡ recovered_number S W a
-    found_same a low = ap pay (recovered_data-same S.callers S.cells (durable_word S s.words) (durable_word S W.words) durable_same a low (omega (arith, low, grounds.cells)))
+    found_same a low = ap payload_of (recovered_data-same S.callers S.cells (durable_word S s.words) (durable_word S W.words) durable_same a low (omega (arith, low, grounds.cells)))
 
     -- a caller's own cells are cells
     own_in : (i x : ℕ) → i < S.callers → x < S.instrs + 2 → ticket_cell S i + x < S.cells
@@ -88,27 +88,27 @@ module _ (S : Setup) (L : List ℕ → Type 0) (B : Start) (s : State (Unit {0})
 
       -- ---- the calls of those whom a seat keeps
 
-      explained_by : Linearizes S B (first_of S B) es order → (x : Kept) → x.machine.caller < S.callers → IsToldBy S B es x.machine.caller x → ExplainsAll S B order x
+      explained_by : Linearizes S B (first_of S B) es order → (x : KnownCaller) → x.machine.caller < S.callers → IsToldBy S B es x.machine.caller x → ExplainsAll S B order x
       explained_by h x below t y low =
           let i : ℕ = x.machine.caller in
-          let ops : List (List ℕ) = map (λ (e : Ended). e.op) x.ended in
-          let outs : outcomes S (first_of S B) es i ≡ map (λ (e : Ended). e.outcome) x.ended = sym t.ended in
-          let many : y < length (outcomes S (first_of S B) es i) = omega (arith, low, ap length outs, length-map x.ended (λ (e : Ended). e.outcome)) in
-          let op : get_or (operations es i) y [] ≡ op_at x.ended y =
+          let ops : List (List ℕ) = map (λ (e : EndedCall). e.op) x.ended in
+          let outs : outcomes S (first_of S B) es i ≡ map (λ (e : EndedCall). e.outcome) x.ended = sym t.ended in
+          let many : y < length (outcomes S (first_of S B) es i) = omega (arith, low, ap length outs, length-map x.ended (λ (e : EndedCall). e.outcome)) in
+          let op : get_or (operations_begun es i) y [] ≡ operation_at x.ended y =
           ap (λ (z : List (List ℕ)). get_or z y []) (sym t.begun)
-          ∙ (get_or_append_left ops _ [] y (omega (arith, low, length-map x.ended (λ (e : Ended). e.op))) ∙ get_or-map (λ (e : Ended). e.op) x.ended y no_ended [] low) in
+          ∙ (get_or_append_left ops _ [] y (omega (arith, low, length-map x.ended (λ (e : EndedCall). e.op))) ∙ get_or-map (λ (e : EndedCall). e.op) x.ended y no_ended [] low) in
           let out : get_or (outcomes S (first_of S B) es i) y no_outcome ≡ outcome_at x.ended y =
-          ap (λ (z : List Outcome). get_or z y no_outcome) outs ∙ get_or-map (λ (e : Ended). e.outcome) x.ended y no_ended no_outcome low in
+          ap (λ (z : List Outcome). get_or z y no_outcome) outs ∙ get_or-map (λ (e : EndedCall). e.outcome) x.ended y no_ended no_outcome low in
           subst (λ (z : List ℕ × Outcome). Explains S order i (ticket_at S B x y) z.0 z.1) (λ k. (op k, out k)) (h.ended i y below many)
 
       explained : Linearizes S B (first_of S B) es order → EachView (λ v. Each (ExplainsAll S B order) v.kept) s.views
       explained h j v at live =
-          let f : Fits S B s.words es r.home r.chief j v = r.each j v at live in
-          each_both (Stays S r.home (members_of S s.words) j) (IsRunBy S B es) (ExplainsAll S B order) v.kept (λ x q t. explained_by h x q.in_range t.told) f.kept f.runs
+          let f : ViewFits S B s.words es r.home r.chief j v = r.each j v at live in
+          each_both (IsAtHome S r.home (members_of S s.words) j) (IsRunBy S B es) (ExplainsAll S B order) v.kept (λ x q t. explained_by h x q.in_range t.told) f.kept f.runs
 
-    pub loses_nothing : EveryOrder S L → Restarts S L → LosesNothing S L B s
+    pub loses_nothing : EveryOrder S L → RecoveredRowsMayStart S L → LosesNothing S L B s
     loses_nothing orders restarts =
-        let h : IsDurablyLinearizable S B (first_of S B) es = orders B r.from (table_size S + 1) (omega arith) es r.schedule in
+        let h : IsDurablyLinearizable S B (first_of S B) es = orders B r.from (words_before_members S + 1) (omega arith) es r.schedule in
         record {
           events = es;
           reached = reached;
@@ -120,7 +120,7 @@ module _ (S : Setup) (L : List ℕ → Type 0) (B : Start) (s : State (Unit {0})
         }
 
 -- a closed row stops at its last moment
-pub closed_holds : (S : Setup) (L : List ℕ → Type 0) → RowLaws S L → EveryOrder S L → Restarts S L → (B : Start) (ws : List ℕ) (v : Sight) → Meets S L B ws v → v.spent ≡ false → HoldsCalls S L B ws v
+pub closed_holds : (S : Setup) (L : List ℕ → Type 0) → RowLaws S L → EveryOrder S L → RecoveredRowsMayStart S L → (B : TableStart) (ws : List ℕ) (v : View) → ViewMeetsRule S L B ws v → v.spent ≡ false → HoldsCalls S L B ws v
 closed_holds S L laws orders restarts B ws v m live =
     let h : LosesNothing S L B m.state = loses_nothing S L B m.state m.rule laws orders restarts in
     record {

@@ -4,9 +4,9 @@ use Rattle.std.proofs.lemmas.Bool.{cases_lt, lt-leb}
 use Rattle.std.proofs.lemmas.List.{append-nil, length-append}
 use mathlib.Core.List.{IsPrefix}
 use Rattle.of_core.specs.Events.{Event}
-use Rattle.of_core.specs.Calls.{operations}
+use Rattle.of_core.specs.Calls.{operations_begun}
 use Rattle.of_core.proofs.Parts.{operations_append}
-use Rattle.of_row.specs.Views.{longer}
+use Rattle.of_row.specs.Views.{longer_history}
 
 pub prefix_self : {A : Type 0} (xs : List A) → IsPrefix xs xs
 prefix_self xs = ([], append-nil xs)
@@ -33,15 +33,15 @@ abbrev IsAbove : {A : Type 0} (xs ys zs ls : List A) → Type 0
 IsAbove xs ys zs ls = IsPrefix ls zs × IsPrefix xs ls × IsPrefix ys ls
 
 -- so does the longer of the two
-pub longer_past : {A : Type 0} (xs ys zs : List A) → IsPrefix xs zs → IsPrefix ys zs → IsPrefix (longer xs ys) zs × IsPrefix xs (longer xs ys) × IsPrefix ys (longer xs ys)
+pub longer_past : {A : Type 0} (xs ys zs : List A) → IsPrefix xs zs → IsPrefix ys zs → IsPrefix (longer_history xs ys) zs × IsPrefix xs (longer_history xs ys) × IsPrefix ys (longer_history xs ys)
 longer_past {A} xs ys zs p q = go (cases_lt (length ys) (length xs))
   where
-    go : (length ys < length xs) ⊎ (length xs ≤ length ys) → IsAbove xs ys zs (longer xs ys)
+    go : (length ys < length xs) ⊎ (length xs ≤ length ys) → IsAbove xs ys zs (longer_history xs ys)
     go (inl l) = subst (λ (t : Bool). IsAbove xs ys zs (cond t ys xs)) (sym (lt-leb (length xs) (length ys) l)) (p, prefix_self xs, prefix_shorter ys xs zs q p (omega (arith, l)))
     go (inr l) = subst (λ (t : Bool). IsAbove xs ys zs (cond t ys xs)) (sym (le-leb (length xs) (length ys) l)) (q, prefix_shorter xs ys zs p q l, prefix_self ys)
 
 -- a past begins with no more calls of a caller
-pub begun_before : (es ds : List Event) (i : ℕ) → IsPrefix es ds → length (operations es i) ≤ length (operations ds i)
+pub begun_before : (es ds : List Event) (i : ℕ) → IsPrefix es ds → length (operations_begun es i) ≤ length (operations_begun ds i)
 begun_before es ds i p =
-    let e : operations ds i ≡ operations es i ++ operations p.0 i = ap (λ (l : List Event). operations l i) (sym p.1) ∙ operations_append es p.0 i in
-    omega (arith, ap length e, length-append (operations es i) (operations p.0 i))
+    let e : operations_begun ds i ≡ operations_begun es i ++ operations_begun p.0 i = ap (λ (l : List Event). operations_begun l i) (sym p.1) ∙ operations_append es p.0 i in
+    omega (arith, ap length e, length-append (operations_begun es i) (operations_begun p.0 i))

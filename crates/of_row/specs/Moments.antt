@@ -3,25 +3,25 @@
 use Rattle.std.specs.Prelude.{◌≡◌, ℕ, ◌<◌, List, [], length, false}
 use Rattle.std.proofs.Common.{get_or}
 use Rattle.atomic_table.specs.Table.{State}
-use Rattle.of_recover.specs.Recovered.{recovered}
-use Rattle.of_core.specs.Table.{Setup, table_size}
+use Rattle.of_recover.specs.Recovered.{recovered_words}
+use Rattle.of_core.specs.Table.{Setup, words_before_members}
 use Rattle.of_core.specs.Machine.{Call}
-use Rattle.of_core.specs.World.{World, Start}
+use Rattle.of_core.specs.World.{Moment, TableStart}
 use Rattle.of_core.specs.Starts.{IsDurable, IsStartRow}
 use Rattle.of_core.specs.Events.{Event, IsSchedule}
 use Rattle.of_core.specs.Linear.{Explains, Linearizes, IsRecovered}
-use Rattle.of_row.specs.Views.{Kept, Sight, IsFront, Each}
-use Rattle.of_row.specs.Rule.{IsRaised, Ruled, Meets, ticket_at, op_at, outcome_at}
+use Rattle.of_row.specs.Views.{KnownCaller, View, IsSeenPrefix, Each}
+use Rattle.of_row.specs.Rule.{IsRaised, MeetsRule, ViewMeetsRule, ticket_at, operation_at, outcome_at}
 use Rattle.of_row.specs.Trail.{first_of, moment, HasPast, IsRunBy, EachView}
 
 -- The events lead from the row's start to this moment. A step of a member is a turn of its caller; a
 -- call begins right before its first turn; an eviction is a load and, later, a raise.
-pub record IsReachedBy (S : Setup) (B : Start) (s : State (Unit {0}) Sight) (es : List Event) : Type 0 where
+pub record IsReachedBy (S : Setup) (B : TableStart) (s : State (Unit {0}) View) (es : List Event) : Type 0 where
   pub schedule : IsSchedule S (first_of S B) es
   -- the table's own words are those that the events leave
-  pub words : (c : ℕ) → c < table_size S → get_or s.words c 0 ≡ get_or (moment S B es).words c 0
+  pub words : (c : ℕ) → c < words_before_members S → get_or s.words c 0 ≡ get_or (moment S B es).words c 0
   -- what a pass or a member has seen is how the history begins
-  pub seen : EachView (λ v. IsFront v.seen (moment S B es).batches) s.views
+  pub seen : EachView (λ v. IsSeenPrefix v.seen (moment S B es).batches) s.views
   -- its past is how the events begin
   pub pasts : EachView (HasPast es) s.views
   -- each eviction that it has made has raised the durable word of its cell
@@ -30,19 +30,19 @@ pub record IsReachedBy (S : Setup) (B : Start) (s : State (Unit {0}) Sight) (es 
   pub callers : EachView (λ v. Each (IsRunBy S B es) v.kept) s.views
 
 -- the order has each call of the caller that was answered, with its reply, and none that was spent
-abbrev pub ExplainsAll : Setup → Start → (order : List Call) → Kept → Type 0
+abbrev pub ExplainsAll : Setup → TableStart → (order : List Call) → KnownCaller → Type 0
 ExplainsAll S B order x =
     (y : ℕ) → y < length x.ended
-    → Explains S order x.machine.caller (ticket_at S B x y) (op_at x.ended y) (outcome_at x.ended y)
+    → Explains S order x.machine.caller (ticket_at S B x y) (operation_at x.ended y) (outcome_at x.ended y)
 
 -- a world with these words, and nothing else
-abbrev pub words_alone : List ℕ → World
+abbrev pub words_alone : List ℕ → Moment
 words_alone ws = record { words = ws; machines = []; batches = []; reads = []; loaded = [] }
 
 -- What a row leaves that stops at this moment: one serial order of calls explains how all calls have
 -- ended, and recovery of the row's words as they are finds what that order leads to.
-pub record LosesNothing (S : Setup) (Lawful : List ℕ → Type 0) (B : Start)
-    (s : State (Unit {0}) Sight) : Type 0 where
+pub record LosesNothing (S : Setup) (Lawful : List ℕ → Type 0) (B : TableStart)
+    (s : State (Unit {0}) View) : Type 0 where
   pub events : List Event
   pub reached : IsReachedBy S B s events
   pub order : List Call
@@ -53,26 +53,26 @@ pub record LosesNothing (S : Setup) (Lawful : List ℕ → Type 0) (B : Start)
   pub recovered_so : IsRecovered S B (words_alone s.words) order
   -- and from the row that recovery makes a table may start
   pub restarts : (row : List ℕ) → IsDurable S s.words row
-      → IsStartRow S Lawful (recovered S.callers S.cells row)
+      → IsStartRow S Lawful (recovered_words S.callers S.cells row)
 
 -- at each moment that meets the row's rule, as each does between any two steps on it
 abbrev pub StopsLoseNothing : (List ℕ → Type 0) → Setup → Type 0
 StopsLoseNothing Lawful S =
-    (B : Start) (s : State (Unit {0}) Sight) → Ruled S Lawful B s → LosesNothing S Lawful B s
+    (B : TableStart) (s : State (Unit {0}) View) → MeetsRule S Lawful B s → LosesNothing S Lawful B s
 
 -- What the words of a closed row hold of the calls of a pass with this view: one serial order has them
 -- as they ended, recovery of the words finds what that order leads to, and from the row that it makes
 -- a table may start.
-pub record HoldsCalls (S : Setup) (Lawful : List ℕ → Type 0) (B : Start) (ws : List ℕ) (v : Sight)
+pub record HoldsCalls (S : Setup) (Lawful : List ℕ → Type 0) (B : TableStart) (ws : List ℕ) (v : View)
     : Type 0 where
   pub order : List Call
   pub explained : Each (ExplainsAll S B order) v.kept
   pub recovered_so : IsRecovered S B (words_alone ws) order
   pub restarts : (row : List ℕ) → IsDurable S ws row
-      → IsStartRow S Lawful (recovered S.callers S.cells row)
+      → IsStartRow S Lawful (recovered_words S.callers S.cells row)
 
 -- so it is of each pass with which words meet the rule, as after the close
 abbrev pub ClosedHoldsCalls : (List ℕ → Type 0) → Setup → Type 0
 ClosedHoldsCalls Lawful S =
-    (B : Start) (ws : List ℕ) (v : Sight) → Meets S Lawful B ws v → v.spent ≡ false
+    (B : TableStart) (ws : List ℕ) (v : View) → ViewMeetsRule S Lawful B ws v → v.spent ≡ false
     → HoldsCalls S Lawful B ws v

@@ -6,14 +6,14 @@ use Rattle.atomic_table.specs.declared.shared.Seat.{Seat}
 use Rattle.of_mem.specs.Meaning.{Meaning}
 use Rattle.of_core.specs.declared.place.Op.{Op}
 use Rattle.of_core.specs.declared.place.Op.TheVariants.{Load, Store, Exchange, Raise}
-use Rattle.of_core.specs.Steps.{word_of, left}
-use Rattle.of_core.specs.World.{Start}
-use Rattle.of_core.specs.Seen.{Seen}
+use Rattle.of_core.specs.Steps.{word_of, word_left}
+use Rattle.of_core.specs.World.{TableStart}
+use Rattle.of_core.specs.Seen.{Machine}
 use Rattle.of_row.specs.declared.view.Key.{Key}
 use Rattle.of_row.specs.declared.view.View.{View}
-use Rattle.of_row.specs.Rule.{Ruled}
+use Rattle.of_row.specs.Rule.{MeetsRule}
 use Rattle.of_row.specs.Keys.{FitsWork, key_setup, key_start}
-use Rattle.of_row.specs.Turned.{TurnedBy}
+use Rattle.of_row.specs.Turned.{MakesStepOf}
 
 -- the number that a step gives which found n: a store gives what it stored
 abbrev pub told : Op → ℕ → ℕ
@@ -25,19 +25,19 @@ told (Raise c v) n = n
 -- the seat is at this table, the word is there, and the rule allows the step on it: whatever the
 -- words are, it keeps the rule with a view that is turned as the machine is
 abbrev pub Takes : {W : Type 0} → (many size : W → ℕ) → (W → Meaning) → (W → List ℕ → Type 0)
-    → Start → Option (Seen W) → Key W → TableId → Seat (Unit {0}) View → Op → Type 0
+    → TableStart → Option (Machine W) → Key W → TableId → Seat (Unit {0}) View → Op → Type 0
 Takes many size meaning lawful B m key table seat op =
     (seat.table_id ≡ table) × (word_of op < table.words)
     × Allows (λ s. FitsWork many size key
-    × Ruled (key_setup meaning key) (lawful key.work) (key_start meaning key) s)
-    table.slots seat.id seat.me (word_of op) (left op)
+    × MeetsRule (key_setup meaning key) (lawful key.work) (key_start meaning key) s)
+    table.slots seat.id seat.me (word_of op) (word_left op)
     (λ n after. (after.1 ≡ seat.me.1)
-    × TurnedBy meaning lawful B m seat.me.0 (told op n) after.0)
+    × MakesStepOf meaning lawful B m seat.me.0 (told op n) after.0)
 
 -- after a step the seat is where it was, and its view was turned by what the step gave
 abbrev pub Makes : {W : Type 0} → (W → Meaning) → (W → List ℕ → Type 0)
-    → Start → Option (Seen W) → (seat : Seat (Unit {0}) View) → (found : ℕ)
+    → TableStart → Option (Machine W) → (seat : Seat (Unit {0}) View) → (found : ℕ)
     → (after : Seat (Unit {0}) View) → Type 0
 Makes meaning lawful B m seat found after =
     (after.table_id ≡ seat.table_id) × (after.me.1 ≡ seat.me.1)
-    × TurnedBy meaning lawful B m seat.me.0 found after.me.0
+    × MakesStepOf meaning lawful B m seat.me.0 found after.me.0

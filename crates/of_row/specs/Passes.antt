@@ -6,46 +6,46 @@ use Rattle.of_row.specs.declared.member.Member.{Member}
 use Rattle.of_row.specs.declared.member.Pass.{Pass}
 use Rattle.of_row.specs.declared.member.Taken.{Taken}
 use Rattle.of_row.specs.declared.row.Row.{Row}
-use Rattle.of_row.specs.Views.{Kept, first_sight, reach}
-use Rattle.of_row.specs.Rule.{HasOwn, IsLegalFront, IsAsked, Meets, done_before}
-use Rattle.of_row.specs.Turned.{noted, given, newcomer, apart_from, fetched, raised}
-use Rattle.of_row.specs.Rows.{key_of, setup_at, start_at, IsOf}
+use Rattle.of_row.specs.Views.{KnownCaller, first_view, seen_seq}
+use Rattle.of_row.specs.Rule.{HasOwn, IsLegalFront, IsAsked, ViewMeetsRule, done_before}
+use Rattle.of_row.specs.Turned.{after_ask, after_number_given, new_known_caller, last_alone, after_fetch, after_evict}
+use Rattle.of_row.specs.Rows.{key_of, setup_at, start_at, IsSeatOf}
 
 -- whoever has the number n now has made no call on this row, and has seen what this pass had
-abbrev pub entrant : {W : Type 0} → (W → Meaning) → Row W → ℕ → Pass → Kept
-entrant meaning r n p =
-    newcomer (setup_at meaning r) (start_at meaning r) n (reach (start_at meaning r) p.seat.me.0.seen)
+abbrev pub enrolled_caller : {W : Type 0} → (W → Meaning) → Row W → ℕ → Pass → KnownCaller
+enrolled_caller meaning r n p =
+    new_known_caller (setup_at meaning r) (start_at meaning r) n (seen_seq (start_at meaning r) p.seat.me.0.seen)
 
 -- the pass is the row's first one, which has made no step
 abbrev pub IsFirst : {W : Type 0} → Row W → Pass → Type 0
-IsFirst r p = IsOf r p.seat × (p.seat.me.0 ≡ first_sight)
+IsFirst r p = IsSeatOf r p.seat × (p.seat.me.0 ≡ first_view)
 
 -- The number n is taken: the word found has its bit. This pass had asked for it already, and has the word
 -- in its list.
-abbrev pub IsRefused : {W : Type 0} → Row W → ℕ → (before now : Pass) → Taken → Type 0
-IsRefused r n before now taken =
-    IsOf r now.seat × (bit_at taken.members n ≡ 1) × IsAsked n before.seat.me.0.asked
-    × (now.seat.me.0 ≡ noted n taken.members before.seat.me.0)
+abbrev pub NumberIsRefused : {W : Type 0} → Row W → ℕ → (before now : Pass) → Taken → Type 0
+NumberIsRefused r n before now taken =
+    IsSeatOf r now.seat × (bit_at taken.members n ≡ 1) × IsAsked n before.seat.me.0.asked
+    × (now.seat.me.0 ≡ after_ask n taken.members before.seat.me.0)
 
 -- The number n was free in the word found, and now a member has it that has seen what the pass has, and
 -- has made no call on this row.
 pub record HasEnrolled {W : Type 0} (meaning : W → Meaning) (r : Row W) (n : ℕ) (before : Pass) (member : Member) (now : Pass) : Type 0 where
-  pub at_row : IsOf r member.seat × IsOf r now.seat
+  pub at_row : IsSeatOf r member.seat × IsSeatOf r now.seat
   pub number : member.number ≡ n
   pub made : member.made ≡ done_before (setup_at meaning r) (start_at meaning r) n
   pub found : ℕ
   pub free : bit_at found n ≡ 0
   pub member_is : member.seat.me.0
-      ≡ apart_from (given (setup_at meaning r) (start_at meaning r) n found before.seat.me.0)
-  pub pass_is : now.seat.me.0 ≡ noted n found before.seat.me.0
-  pub own : HasOwn (setup_at meaning r) (start_at meaning r) before.seat.me.0.seen (entrant meaning r n before)
+      ≡ last_alone (after_number_given (setup_at meaning r) (start_at meaning r) n found before.seat.me.0)
+  pub pass_is : now.seat.me.0 ≡ after_ask n found before.seat.me.0
+  pub own : HasOwn (setup_at meaning r) (start_at meaning r) before.seat.me.0.seen (enrolled_caller meaning r n before)
   pub legal : IsLegalFront (setup_at meaning r) (start_at meaning r) before.seat.me.0.seen
 
 -- the pass has evicted the cell: it loaded it, and raised its durable word to what it loaded
 abbrev pub HasEvicted : ℕ → (before now : Pass) → Type 0
-HasEvicted cell before now = (n : ℕ) × (now.seat.me.0 ≡ raised (fetched cell n before.seat.me.0))
+HasEvicted cell before now = (n : ℕ) × (now.seat.me.0 ≡ after_evict (after_fetch cell n before.seat.me.0))
 
 -- the words meet the row's rule, and so does what the pass knew
 abbrev pub ClosesWith : {W : Type 0} → (W → Meaning) → (W → List ℕ → Type 0) → Row W → Pass → List ℕ → Type 0
 ClosesWith meaning lawful r p ws =
-    Meets (setup_at meaning r) (lawful (key_of r).work) (start_at meaning r) ws p.seat.me.0
+    ViewMeetsRule (setup_at meaning r) (lawful (key_of r).work) (start_at meaning r) ws p.seat.me.0

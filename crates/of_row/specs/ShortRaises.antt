@@ -4,28 +4,28 @@ use Rattle.std.specs.Prelude.{◌≡◌, ◌≢◌, ℕ, ◌≤◌, ◌<◌, Lis
 use Rattle.std.proofs.Common.{get_or, take, drop}
 use Rattle.atomic_table.specs.Table.{State}
 use Rattle.of_core.specs.declared.place.Op.TheVariants.{Raise}
-use Rattle.of_core.specs.Table.{Setup, size, durable_at, durable_word}
+use Rattle.of_core.specs.Table.{Setup, cell_count, durable_at, durable_word}
 use Rattle.of_core.specs.Steps.{want}
-use Rattle.of_core.specs.World.{World, Start}
-use Rattle.of_core.specs.Events.{Event, machine}
+use Rattle.of_core.specs.World.{Moment, TableStart}
+use Rattle.of_core.specs.Events.{Event, machine_in}
 use Rattle.of_core.specs.Raised.{lower_changes}
-use Rattle.of_row.specs.Views.{Sight}
-use Rattle.of_row.specs.Rule.{Ruled}
+use Rattle.of_row.specs.Views.{View}
+use Rattle.of_row.specs.Rule.{MeetsRule}
 use Rattle.of_row.specs.Trail.{moment}
 use Rattle.of_row.specs.Runs.{HasRun}
 use Rattle.of_row.specs.Moments.{IsReachedBy}
 
 -- the moment after the first k events
-abbrev pub moment_at : Setup → Start → List Event → ℕ → World
+abbrev pub moment_at : Setup → TableStart → List Event → ℕ → Moment
 moment_at S B es k = moment S B (take k es)
 
 -- the durable word of the cell c at that moment
-abbrev pub durable_after : Setup → Start → List Event → (k c : ℕ) → ℕ
+abbrev pub durable_after : Setup → TableStart → List Event → (k c : ℕ) → ℕ
 durable_after S B es k c = durable_word S (moment_at S B es k).words c
 
 -- from the moment after the first k events on, the loop that raises the durable word of the cell c
 -- to v is short
-pub record IsShort (S : Setup) (B : Start) (es : List Event) (k c v : ℕ) : Type 0 where
+pub record IsShort (S : Setup) (B : TableStart) (es : List Event) (k c v : ℕ) : Type 0 where
   -- no later event changes that word to one that is still below v
   pub undisturbed : lower_changes S (moment_at S B es k) (drop k es) c v ≡ 0
   -- if an exchange fails, since it finds another word than was loaded, each later load finds at
@@ -35,26 +35,26 @@ pub record IsShort (S : Setup) (B : Start) (es : List Event) (k c v : ℕ) : Typ
       → v ≤ durable_after S B es again c
 
 -- each raise of the events is short, from each moment on at which it is still to be made
-pub record HasShortRaises (S : Setup) (B : Start) (es : List Event) : Type 0 where
+pub record HasShortRaises (S : Setup) (B : TableStart) (es : List Event) : Type 0 where
   -- that of a caller that is about to raise a durable word
-  pub calls : (k i c v : ℕ) → i < S.callers → c < size S
-      → want S (machine (moment_at S B es k) i) ≡ Raise (durable_at S c) v
+  pub calls : (k i c v : ℕ) → i < S.callers → c < cell_count S
+      → want S (machine_in (moment_at S B es k) i) ≡ Raise (durable_at S c) v
       → IsShort S B es k c v
   -- that of an eviction that has loaded its cell, to the word that it found
   pub evictions : (k n : ℕ) → n < length (moment_at S B es k).loaded →
       let e : ℕ × ℕ = get_or (moment_at S B es k).loaded n (0, 0) in IsShort S B es k e.0 e.1
   -- that of an eviction that is made at once, to the word that its cell holds
-  pub at_once : (k c : ℕ) → c < size S
+  pub at_once : (k c : ℕ) → c < cell_count S
       → IsShort S B es k c (get_or (moment_at S B es k).words c 0)
 
 -- so are the raises of each schedule that leads to a moment that meets the row's rule
 abbrev pub MomentsHaveShortRaises : (List ℕ → Type 0) → Setup → Type 0
 MomentsHaveShortRaises Lawful S =
-    (B : Start) (s : State (Unit {0}) Sight) → Ruled S Lawful B s
+    (B : TableStart) (s : State (Unit {0}) View) → MeetsRule S Lawful B s
     → (es : List Event) → IsReachedBy S B s es → HasShortRaises S B es
 
 -- and those of the run of a closed row
 abbrev pub RunsHaveShortRaises : (List ℕ → Type 0) → Setup → Type 0
 RunsHaveShortRaises Lawful S =
-    (B : Start) (ws : List ℕ) (v : Sight) (es : List Event) → HasRun S Lawful B ws v es
+    (B : TableStart) (ws : List ℕ) (v : View) (es : List Event) → HasRun S Lawful B ws v es
     → HasShortRaises S B es

@@ -4,18 +4,18 @@ use Rattle.of_cell.specs.declared.shape.Shape.{Shape}
 use Rattle.of_mem.specs.declared.work.TheConstants.{MOST_INSTRS}
 use Rattle.of_row.specs.declared.sizes.Sizes.TheInside.{Inside}
 
-pub record Sized (W : Type 0) : Type 0 where
+pub record Sizes (W : Type 0) : Type 0 where
   pub shape : Shape
   -- the last sequence that may be committed
   pub limit : ℕ
   -- what runs operations
   pub work : W
 
-abbrev pub sized : {W : Type 0} → Inside W → Sized W
-sized m = record { shape = m.shape; limit = m.limit; work = m.work }
+abbrev pub sizes_value : {W : Type 0} → Inside W → Sizes W
+sizes_value m = record { shape = m.shape; limit = m.limit; work = m.work }
 
 -- the shape is the work's, and the log words of a sequence behind the limit are words still
-pub record Fit {W : Type 0} (many size : W → ℕ) (m : Sized W) : Type 0 where
+pub record SizesFit {W : Type 0} (many size : W → ℕ) (m : Sizes W) : Type 0 where
   pub callers : m.shape.callers ≡ many m.work
   pub instrs : m.shape.instrs ≡ MOST_INSTRS
   pub cells : m.shape.cells ≡ size m.work

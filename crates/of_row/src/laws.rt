@@ -1,12 +1,12 @@
 //! What follows from the rule of a row: functions that do nothing, whose contracts are theorems.
 
-ghost use Rattle.of_row.specs.Laws.{SeesWhole, SeesOwn, SeesLegal, EvictionsAreRaised};
-ghost use Rattle.of_row.specs.Laws.{NewRuns, StillRuns};
+ghost use Rattle.of_row.specs.Laws.{SeesWholeHistory, SeesOwnCalls, SeesLegal, EvictionsAreRaised};
+ghost use Rattle.of_row.specs.Laws.{NewMachinesRun, MachinesKeepRunning};
 ghost use Rattle.of_core.specs.Laws.{setup_for};
 ghost use Rattle.of_row.specs.Runs.{RunsAreSchedules, RunsAreLinearizable};
 ghost use Rattle.of_row.specs.Moments.{StopsLoseNothing, ClosedHoldsCalls};
 ghost use Rattle.of_row.specs.ShortRaises.{MomentsHaveShortRaises, RunsHaveShortRaises};
-ghost use Rattle.of_row.specs.Laws.{FreshMember, IdleMember, MemberInRange, NewMember, BegunMember};
+ghost use Rattle.of_row.specs.Laws.{MembersStandForFresh, IdleMembersHaveNoCall, MemberInRange, NewMembersHaveNoCall, BegunMembersStand};
 
 use crate::protocol::protocol;
 use of_core::laws::{every_moment, every_order, starts, step_kept};
@@ -14,7 +14,7 @@ use of_mem::Work;
 
 /// A pass or a member that keeps every number that is taken has seen the whole history.
 pub fn sees_whole<W: Work>(limit: u32, work: W)
-    ensures { SeesWhole (W.lawful work) (setup_for W.many W.size W.meaning limit work) }
+    ensures { SeesWholeHistory (W.lawful work) (setup_for W.many W.size W.meaning limit work) }
 {
     protocol(limit, work);
 }
@@ -22,7 +22,7 @@ pub fn sees_whole<W: Work>(limit: u32, work: W)
 /// A pass or a member that keeps a caller has its own calls in what was seen, each as it ended,
 /// whatever passes and members were parted, met or joined before. What was seen is a legal history.
 pub fn sees_own<W: Work>(limit: u32, work: W)
-    ensures own { SeesOwn (W.lawful work) (setup_for W.many W.size W.meaning limit work) }
+    ensures own { SeesOwnCalls (W.lawful work) (setup_for W.many W.size W.meaning limit work) }
     ensures legal { SeesLegal (W.lawful work) (setup_for W.many W.size W.meaning limit work) }
 {
     protocol(limit, work);
@@ -37,22 +37,22 @@ pub fn evictions_are_raised<W: Work>(work: W)
 /// When a member stands for a machine: while it has no open call, as at first, for a fresh one of its
 /// number, and on from the begin of a call.
 pub fn members<W: Work>(work: W)
-    ensures fresh { FreshMember W.meaning }
+    ensures fresh { MembersStandForFresh W.meaning }
     ensures range { MemberInRange work }
-    ensures first { NewMember W.meaning work }
-    ensures begun { BegunMember W.meaning work }
+    ensures first { NewMembersHaveNoCall W.meaning work }
+    ensures begun { BegunMembersStand W.meaning work }
 {}
 
 /// A member that stands for an idle machine has no open call, and has begun as many as the machine.
 pub fn idle_members<W: Work>()
-    ensures { IdleMember W.meaning }
+    ensures { IdleMembersHaveNoCall W.meaning }
 {}
 
 /// When a machine runs on a row: at first by its sizes and its work, and on from the begin of a
 /// call.
 pub fn machines<W: Work>(work: W)
-    ensures first { NewRuns work }
-    ensures begun { StillRuns work }
+    ensures first { NewMachinesRun work }
+    ensures begun { MachinesKeepRunning work }
 {}
 
 /// A run of threads is a schedule: the words of a closed row, and what its first pass keeps if it keeps

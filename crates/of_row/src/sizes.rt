@@ -16,19 +16,19 @@ pub struct Sizes<W: Work> {
 }
 
 impl<W: Work> Model for Sizes<W> {
-    ghost use Rattle.of_row.specs.Sizes.{Sized};
+    ghost use Rattle.of_row.specs.Sizes.{Sizes};
 
-    ghost Value = { Sized W };
+    ghost Value = { Sizes W };
 
-    ghost use Rattle.of_row.specs.Sizes.{sized, Fit};
+    ghost use Rattle.of_row.specs.Sizes.{sizes_value, SizesFit};
 
-    ghost view = { sized };
+    ghost view = { sizes_value };
 
-    ghost invariant = { λ m. Fit W.many W.size (sized m) };
+    ghost invariant = { λ m. SizesFit W.many W.size (sizes_value m) };
 }
 
 impl<W: Work> Sizes<W> {
-    ghost use Rattle.of_row.specs.Sizes.{Fit};
+    ghost use Rattle.of_row.specs.Sizes.{SizesFit};
 
     /// The sizes of a row with this shape and limit, and this work.
     pub(crate) fn new(shape: Shape, limit: u32, work: W) -> Self
@@ -46,7 +46,7 @@ impl<W: Work> Sizes<W> {
     /// The shape.
     pub(crate) fn shape(&self) -> Shape
         ensures is { result ≡ self.now.shape }
-        ensures fit { Fit W.many W.size self.now }
+        ensures fit { SizesFit W.many W.size self.now }
     {
         self.shape
     }

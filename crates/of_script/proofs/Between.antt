@@ -5,7 +5,7 @@ use Rattle.std.specs.List.{AllByRecursion}
 use Rattle.std.specs.Str.{bytes_eq}
 use Rattle.of_script.specs.declared.instr.Instr.{Instr}
 use Rattle.of_script.specs.declared.instr.Instr.TheVariants.{Load, Store, Add, Sub, Get, Put, Del, Need, Push, Pop, Len, Count, First, Next, DropBelow}
-use Rattle.of_script.specs.Table.{instr_name, forms, is_between, form_between, form_named}
+use Rattle.of_script.specs.Table.{instr_name, instr_forms, is_between, form_between, form_named}
 use Rattle.of_script.proofs.Forms.{form, fits, is_form, named_is}
 
 -- what is found is one of those that were looked through
@@ -20,7 +20,7 @@ found_all P p (g ∷ fs) f h e = elim (p g) as (λ b. cond b (Some g) (find p fs
 abbrev IsForm : Instr → Type 0
 IsForm f = form f ≡ f
 
-forms_are : AllByRecursion IsForm forms
+forms_are : AllByRecursion IsForm instr_forms
 forms_are = (refl, (refl, (refl, (refl, (refl, (refl, (refl, (refl, (refl, (refl, (refl, (refl, (refl, (refl, (refl, tt)))))))))))))))
 
 -- the ends of its name tell it
@@ -47,11 +47,11 @@ told (DropBelow k) = refl
 
 named_form : (name : List ℕ) (f : Instr) → form_named name ≡ Some f → form f ≡ f
 unfolding form_named
-named_form name f e = found_all IsForm (λ g. bytes_eq name (instr_name g)) forms f forms_are e
+named_form name f e = found_all IsForm (λ g. bytes_eq name (instr_name g)) instr_forms f forms_are e
 
 between_form : (first last : ℕ) (f : Instr) → form_between first last ≡ Some f → form f ≡ f
 unfolding form_between
-between_form first last f e = found_all IsForm (λ g. is_between first last (instr_name g)) forms f forms_are e
+between_form first last f e = found_all IsForm (λ g. is_between first last (instr_name g)) instr_forms f forms_are e
 
 -- the form with a name is the one between its ends
 pub named_between : (name : List ℕ) (f : Instr) → form_named name ≡ Some f → between_ends name ≡ Some f

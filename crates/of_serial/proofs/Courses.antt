@@ -5,34 +5,34 @@ use Rattle.std.proofs.lemmas.List.{length-map, map-append, append-nil, get_or-ta
 use Rattle.std.proofs.lemmas.Grind.{flat_map-append}
 use Rattle.std.proofs.lemmas.List.FromFn.{map-range_with_len_more, take-map-range_with_len, length-map-range_with_len}
 use Rattle.of_script.specs.declared.instr.Instr.{Instr}
-use Rattle.of_store.specs.State.{State, Response, run, empty_store, replies, last_store}
+use Rattle.of_store.specs.State.{Store, Reply, run, empty_store, replies_in_order, last_store}
 use Rattle.of_plan.specs.Plan.{Plan, scripts_of}
-use Rattle.of_plan.specs.Report.{CallEntry}
-use Rattle.of_plan.specs.Serial.{Call, called_script, calls_of, serial_calls, serial_entry, serial_line, serial_report}
+use Rattle.of_plan.specs.Report.{Entry}
+use Rattle.of_plan.specs.Serial.{CallId, called_script, calls_of, serial_calls, serial_entry, serial_line, serial_report}
 use Rattle.of_plan.proofs.SerialEntries.{length-replies}
-use Rattle.of_serial.specs.Replay.{Has, after_call, course_after}
+use Rattle.of_serial.specs.Replay.{HasComeTo, after_call, course_after}
 use Rattle.of_serial.specs.declared.replay.Replay.{Replay}
-use Rattle.of_report.specs.declared.report.Entry.{Entry}
+use Rattle.of_report.specs.declared.report.Entry.{Entry as RustEntry}
 use Rattle.of_report.specs.declared.report.Report.{Report}
-use Rattle.of_report.specs.Report.{entry_of, line_of, report_of}
+use Rattle.of_report.specs.Report.{entry_value, line_value, report_value}
 use Rattle.std.specs.Prelude.{count_by}
 use Rattle.std.proofs.lemmas.List.Sums.{sum_by-cons}
 
-entries_more : (n : ℕ) (calls : List Call) (rs : List Response) (call : Call) (r : Response) → length rs ≡ length calls
+entries_more : (n : ℕ) (calls : List CallId) (rs : List Reply) (call : CallId) (r : Reply) → length rs ≡ length calls
     → map serial_entry (enumerate_from n (zip (calls ++ call ∷ []) (rs ++ r ∷ []))) ≡ map serial_entry (enumerate_from n (zip calls rs)) ++ serial_entry (n + length calls, (call, r)) ∷ []
 entries_more n [] [] call r same = ap (λ (m : ℕ). serial_entry (m, (call, r)) ∷ []) (sym (add-zero n))
 entries_more n [] (q ∷ qs) call r same = absurd (omega arith)
 entries_more n (c ∷ cs) [] call r same = absurd (omega arith)
 entries_more n (c ∷ cs) (q ∷ qs) call r same =
     let place : n + 1 + length cs ≡ n + suc (length cs) = omega arith in
-    ap (λ (t : List CallEntry). serial_entry (n, (c, q)) ∷ t) (entries_more (n + 1) cs qs call r (omega arith))
+    ap (λ (t : List Entry). serial_entry (n, (c, q)) ∷ t) (entries_more (n + 1) cs qs call r (omega arith))
     ∙ ap (λ (m : ℕ). serial_entry (n, (c, q)) ∷ (map serial_entry (enumerate_from (n + 1) (zip cs qs)) ++ serial_entry (m, (call, r)) ∷ [])) place
 
-replies_more : (s : State) (scripts : List (List Instr)) (script : List Instr) → replies s (scripts ++ script ∷ []) ≡ replies s scripts ++ (run (last_store s scripts) script).1 ∷ []
+replies_more : (s : Store) (scripts : List (List Instr)) (script : List Instr) → replies_in_order s (scripts ++ script ∷ []) ≡ replies_in_order s scripts ++ (run (last_store s scripts) script).1 ∷ []
 replies_more s [] script = refl
-replies_more s (first ∷ others) script = ap (λ (t : List Response). (run s first).1 ∷ t) (replies_more (run s first).0 others script)
+replies_more s (first ∷ others) script = ap (λ (t : List Reply). (run s first).1 ∷ t) (replies_more (run s first).0 others script)
 
-last_store_more : (s : State) (scripts : List (List Instr)) (script : List Instr) → last_store s (scripts ++ script ∷ []) ≡ (run (last_store s scripts) script).0
+last_store_more : (s : Store) (scripts : List (List Instr)) (script : List Instr) → last_store s (scripts ++ script ∷ []) ≡ (run (last_store s scripts) script).0
 last_store_more s [] script = refl
 last_store_more s (first ∷ others) script = last_store_more (run s first).0 others script
 
@@ -40,18 +40,18 @@ length-more : {X : Type 0} (xs : List X) (x : X) → length (xs ++ x ∷ []) ≡
 length-more xs x = length-append xs (x ∷ [])
 
 -- one more call of a plan, with its script
-pub one_more_call : (p : Plan) (calls : List Call) (call : Call) → after_call (course_after p calls) call (called_script p call) ≡ course_after p (calls ++ call ∷ [])
+pub one_more_call : (p : Plan) (calls : List CallId) (call : CallId) → after_call (course_after p calls) call (called_script p call) ≡ course_after p (calls ++ call ∷ [])
 one_more_call p calls call =
     let s = empty_store p.blocks in
     let scripts = map (called_script p) calls in
     let script = called_script p call in
     let more : map (called_script p) (calls ++ call ∷ []) ≡ scripts ++ script ∷ [] = map-append (called_script p) calls (call ∷ []) in
-    let each : length (replies s scripts) ≡ length calls = length-replies s scripts ∙ length-map calls (called_script p) in
+    let each : length (replies_in_order s scripts) ≡ length calls = length-replies s scripts ∙ length-map calls (called_script p) in
     let place : 1 + length calls ≡ length calls + 1 = omega arith in
-    let entries : map serial_entry (enumerate_from 1 (zip calls (replies s scripts))) ++ serial_entry (length calls + 1, (call, (run (last_store s scripts) script).1)) ∷ [] ≡ map serial_entry (enumerate_from 1 (zip (calls ++ call ∷ []) (replies s (map (called_script p) (calls ++ call ∷ []))))) =
-    ap (λ (m : ℕ). map serial_entry (enumerate_from 1 (zip calls (replies s scripts))) ++ serial_entry (m, (call, (run (last_store s scripts) script).1)) ∷ []) (sym place)
-    ∙ sym (entries_more 1 calls (replies s scripts) call (run (last_store s scripts) script).1 each)
-    ∙ ap (λ (t : List Response). map serial_entry (enumerate_from 1 (zip (calls ++ call ∷ []) t))) (sym (replies_more s scripts script) ∙ ap (replies s) (sym more)) in
+    let entries : map serial_entry (enumerate_from 1 (zip calls (replies_in_order s scripts))) ++ serial_entry (length calls + 1, (call, (run (last_store s scripts) script).1)) ∷ [] ≡ map serial_entry (enumerate_from 1 (zip (calls ++ call ∷ []) (replies_in_order s (map (called_script p) (calls ++ call ∷ []))))) =
+    ap (λ (m : ℕ). map serial_entry (enumerate_from 1 (zip calls (replies_in_order s scripts))) ++ serial_entry (m, (call, (run (last_store s scripts) script).1)) ∷ []) (sym place)
+    ∙ sym (entries_more 1 calls (replies_in_order s scripts) call (run (last_store s scripts) script).1 each)
+    ∙ ap (λ (t : List Reply). map serial_entry (enumerate_from 1 (zip (calls ++ call ∷ []) t))) (sym (replies_more s scripts script) ∙ ap (replies_in_order s) (sym more)) in
     let seq : length calls + 1 ≡ length (calls ++ call ∷ []) = sym (length-more calls call) in
     let store : (run (last_store s scripts) script).0 ≡ last_store s (map (called_script p) (calls ++ call ∷ [])) = sym (last_store_more s scripts script) ∙ ap (last_store s) (sym more) in
     λ i. record { entries = entries i; seq = seq i; store = store i }
@@ -64,13 +64,13 @@ range_more a (suc n) =
     ap (range_with_len a) (add-one (suc n)) ∙ ap (λ (t : List ℕ). a ∷ t) (ap (range_with_len (a + 1)) (sym (add-one n)) ∙ range_more (a + 1) n) ∙ ap (λ (m : ℕ). a ∷ (range_with_len (a + 1) n ++ m ∷ [])) place
 
 -- the calls of the first callers
-abbrev pub calls_below : Plan → ℕ → List Call
+abbrev pub calls_below : Plan → ℕ → List CallId
 calls_below p c = flat_map (calls_of p) (range_with_len 0 c)
 
 calls_more : (p : Plan) (c : ℕ) → calls_below p (c + 1) ≡ calls_below p c ++ calls_of p c
 calls_more p c =
     ap (flat_map (calls_of p)) (range_more 0 c) ∙ flat_map-append (calls_of p) (range_with_len 0 c) ((0 + c) ∷ [])
-    ∙ ap (λ (t : List Call). calls_below p c ++ t) (ap (λ (d : ℕ). calls_of p d ++ []) (zero-add c) ∙ append-nil (calls_of p c))
+    ∙ ap (λ (t : List CallId). calls_below p c ++ t) (ap (λ (d : ℕ). calls_of p d ++ []) (zero-add c) ∙ append-nil (calls_of p c))
 
 -- the first elements of two lists
 take_of_two : {X : Type 0} (n : ℕ) (xs ys : List X) → take n (xs ++ ys) ≡ take n xs ++ take (n - length (take n xs)) ys
@@ -86,9 +86,9 @@ pub one_more_caller : (p : Plan) (c : ℕ) → take p.limit (calls_below p c) ++
 one_more_caller p c = sym (take_of_two p.limit (calls_below p c) (calls_of p c)) ∙ ap (take p.limit) (sym (calls_more p c))
 
 -- the next call of a caller
-pub next_call : (p : Plan) (calls : List Call) (c i : ℕ) → course_after p ((calls ++ map (λ j. (c, j)) (range_with_len 0 i)) ++ (c, i) ∷ []) ≡ course_after p (calls ++ map (λ j. (c, j)) (range_with_len 0 (i + 1)))
+pub next_call : (p : Plan) (calls : List CallId) (c i : ℕ) → course_after p ((calls ++ map (λ j. (c, j)) (range_with_len 0 i)) ++ (c, i) ∷ []) ≡ course_after p (calls ++ map (λ j. (c, j)) (range_with_len 0 (i + 1)))
 next_call p calls c i =
-    ap (course_after p) (append_assoc calls (map (λ j. (c, j)) (range_with_len 0 i)) ((c, i) ∷ []) ∙ ap (λ (t : List Call). calls ++ t) (sym (map-range_with_len_more (λ j. (c, j)) 0 i i (zero-add i))))
+    ap (course_after p) (append_assoc calls (map (λ j. (c, j)) (range_with_len 0 i)) ((c, i) ∷ []) ∙ ap (λ (t : List CallId). calls ++ t) (sym (map-range_with_len_more (λ j. (c, j)) 0 i i (zero-add i))))
 
 -- the first calls of a caller
 pub first_calls : (p : Plan) (c i : ℕ) → i ≤ length (scripts_of p c) → map (λ j. (c, j)) (range_with_len 0 i) ≡ take i (calls_of p c)
@@ -112,48 +112,48 @@ take_at_most xs n i e = elim (le_or_more n (length xs)) [
 pub length-calls_of : (p : Plan) (c : ℕ) → length (calls_of p c) ≡ length (scripts_of p c)
 length-calls_of p c = length-map-range_with_len (λ j. (c, j)) 0 (length (scripts_of p c))
 
-entries_length : (n : ℕ) (calls : List Call) (rs : List Response) → length rs ≡ length calls → length (map serial_entry (enumerate_from n (zip calls rs))) ≡ length calls
+entries_length : (n : ℕ) (calls : List CallId) (rs : List Reply) → length rs ≡ length calls → length (map serial_entry (enumerate_from n (zip calls rs))) ≡ length calls
 entries_length n [] [] same = refl
 entries_length n [] (r ∷ rs) same = absurd (omega arith)
 entries_length n (c ∷ cs) [] same = absurd (omega arith)
 entries_length n (c ∷ cs) (r ∷ rs) same = ap suc (entries_length (n + 1) cs rs (omega arith))
 
-reply_each : (p : Plan) (calls : List Call) → length (replies (empty_store p.blocks) (map (called_script p) calls)) ≡ length calls
+reply_each : (p : Plan) (calls : List CallId) → length (replies_in_order (empty_store p.blocks) (map (called_script p) calls)) ≡ length calls
 reply_each p calls = length-replies (empty_store p.blocks) (map (called_script p) calls) ∙ length-map calls (called_script p)
 
 -- each call has an entry
-pub entry_each : (p : Plan) (calls : List Call) (replay : Replay) → Has replay (course_after p calls) → length replay.entries.items ≡ replay.seq
+pub entry_each : (p : Plan) (calls : List CallId) (replay : Replay) → HasComeTo replay (course_after p calls) → length replay.entries.items ≡ replay.seq
 entry_each p calls replay has =
-    sym (length-map replay.entries.items entry_of) ∙ ap length has.entries ∙ entries_length 1 calls _ (reply_each p calls) ∙ sym has.seq
+    sym (length-map replay.entries.items entry_value) ∙ ap length has.entries ∙ entries_length 1 calls _ (reply_each p calls) ∙ sym has.seq
 
-counted_entries : (c : ℕ) (es : List Entry) → count_by (λ (e : Entry). eqb e.caller c) es ≡ count_by (λ (e : CallEntry). eqb e.caller c) (map entry_of es)
+counted_entries : (c : ℕ) (es : List RustEntry) → count_by (λ (e : RustEntry). eqb e.caller c) es ≡ count_by (λ (e : Entry). eqb e.caller c) (map entry_value es)
 counted_entries c [] = refl
 counted_entries c (e ∷ es) =
-    sum_by-cons (λ (e : Entry). cond (eqb e.caller c) 1 0) e es ∙ ap (λ (n : ℕ). cond (eqb e.caller c) 1 0 + n) (counted_entries c es)
-    ∙ sym (sum_by-cons (λ (e : CallEntry). cond (eqb e.caller c) 1 0) (entry_of e) (map entry_of es))
+    sum_by-cons (λ (e : RustEntry). cond (eqb e.caller c) 1 0) e es ∙ ap (λ (n : ℕ). cond (eqb e.caller c) 1 0 + n) (counted_entries c es)
+    ∙ sym (sum_by-cons (λ (e : Entry). cond (eqb e.caller c) 1 0) (entry_value e) (map entry_value es))
 
-counted_calls : (c n : ℕ) (calls : List Call) (rs : List Response) → length rs ≡ length calls
-    → count_by (λ (e : CallEntry). eqb e.caller c) (map serial_entry (enumerate_from n (zip calls rs))) ≡ count_by (λ (call : Call). eqb call.0 c) calls
+counted_calls : (c n : ℕ) (calls : List CallId) (rs : List Reply) → length rs ≡ length calls
+    → count_by (λ (e : Entry). eqb e.caller c) (map serial_entry (enumerate_from n (zip calls rs))) ≡ count_by (λ (call : CallId). eqb call.0 c) calls
 counted_calls c n [] [] same = refl
 counted_calls c n [] (r ∷ rs) same = absurd (omega arith)
 counted_calls c n (call ∷ cs) [] same = absurd (omega arith)
 counted_calls c n (call ∷ cs) (r ∷ rs) same =
-    sum_by-cons (λ (e : CallEntry). cond (eqb e.caller c) 1 0) (serial_entry (n, (call, r))) (map serial_entry (enumerate_from (n + 1) (zip cs rs)))
+    sum_by-cons (λ (e : Entry). cond (eqb e.caller c) 1 0) (serial_entry (n, (call, r))) (map serial_entry (enumerate_from (n + 1) (zip cs rs)))
     ∙ ap (λ (m : ℕ). cond (eqb call.0 c) 1 0 + m) (counted_calls c (n + 1) cs rs (omega arith))
-    ∙ sym (sum_by-cons (λ (call : Call). cond (eqb call.0 c) 1 0) call cs)
+    ∙ sym (sum_by-cons (λ (call : CallId). cond (eqb call.0 c) 1 0) call cs)
 
 -- a caller has as many entries as calls
-pub entries_of_caller : (p : Plan) (calls : List Call) (replay : Replay) (c : ℕ) → Has replay (course_after p calls)
-    → count_by (λ (e : Entry). eqb e.caller c) replay.entries.items ≡ count_by (λ (call : Call). eqb call.0 c) calls
+pub entries_of_caller : (p : Plan) (calls : List CallId) (replay : Replay) (c : ℕ) → HasComeTo replay (course_after p calls)
+    → count_by (λ (e : RustEntry). eqb e.caller c) replay.entries.items ≡ count_by (λ (call : CallId). eqb call.0 c) calls
 entries_of_caller p calls replay c has =
-    counted_entries c replay.entries.items ∙ ap (count_by (λ (e : CallEntry). eqb e.caller c)) has.entries ∙ counted_calls c 1 calls _ (reply_each p calls)
+    counted_entries c replay.entries.items ∙ ap (count_by (λ (e : Entry). eqb e.caller c)) has.entries ∙ counted_calls c 1 calls _ (reply_each p calls)
 
 -- what was made caller by caller is the report
-pub report_made : (p : Plan) (replay : Replay) (report : Report) → Has replay (course_after p (serial_calls p))
-    → map line_of report.callers.items ≡ map (λ c. serial_line (count_by (λ (e : Entry). eqb e.caller c) replay.entries.items) (length (scripts_of p c))) (range_with_len 0 p.callers)
-    → report.entries.items ≡ replay.entries.items → report.seq ≡ replay.seq → report.store ≡ (course_after p (serial_calls p)).store → report_of report ≡ serial_report p
+pub report_made : (p : Plan) (replay : Replay) (report : Report) → HasComeTo replay (course_after p (serial_calls p))
+    → map line_value report.callers.items ≡ map (λ c. serial_line (count_by (λ (e : RustEntry). eqb e.caller c) replay.entries.items) (length (scripts_of p c))) (range_with_len 0 p.callers)
+    → report.entries.items ≡ replay.entries.items → report.seq ≡ replay.seq → report.store ≡ (course_after p (serial_calls p)).store → report_value report ≡ serial_report p
 report_made p replay report has lines same_entries same_seq store =
-    let entries = ap (map entry_of) same_entries ∙ has.entries in
+    let entries = ap (map entry_value) same_entries ∙ has.entries in
     let callers = lines ∙ (λ i. map (λ c. serial_line (entries_of_caller p (serial_calls p) replay c has i) (length (scripts_of p c))) (range_with_len 0 p.callers)) in
     let seq = same_seq ∙ has.seq in
     λ i. record { entries = entries i; callers = callers i; seq = seq i; store = store i }

@@ -2,8 +2,8 @@
 
 ghost use Rattle.std.specs.Prelude.{◌≡◌, ◌+◌, ◌-◌, ◌^◌, ◌<◌, ◌≤◌, ◌++◌, ◌==◌, List, [], ◌∷◌, length, take, IfOk, OnOk, count_by};
 ghost use Rattle.of_plan.specs.Plan.{Plan};
-ghost use Rattle.of_plan.specs.Serial.{Call, calls_of, serial_calls, serial_line, serial_report};
-ghost use Rattle.of_report.specs.Report.{line_of, report_of, HasWholeReplies};
+ghost use Rattle.of_plan.specs.Serial.{CallId, calls_of, serial_calls, serial_line, serial_report};
+ghost use Rattle.of_report.specs.Report.{line_value, report_value, HasWholeReplies};
 
 mod cells;
 
@@ -24,14 +24,14 @@ struct Replay {
 impl Replay {
     ghost use Rattle.std.specs.Prelude.{◌≡◌, ◌+◌, ◌-◌, ◌^◌, ◌<◌, ◌≤◌, ◌++◌, List, length, take, OnOk};
     ghost use Rattle.of_plan.specs.Plan.{Plan};
-    ghost use Rattle.of_plan.specs.Serial.{Call, calls_of};
-    ghost use Rattle.of_serial.specs.Replay.{Course, Has, after_call, course_after};
+    ghost use Rattle.of_plan.specs.Serial.{CallId, calls_of};
+    ghost use Rattle.of_serial.specs.Replay.{SerialRun, HasComeTo, after_call, course_after};
 
     // Runs the next script of a caller.
     fn run_call(&mut self, caller: u32, index: u32, script: &Script) -> Result<(), AllocError>
         requires room { self.old.seq < 2 ^ 32 - 1 }
-        requires has { (course : Course) × Has self.old course }
-        ensures { OnOk result ((course : Course) → Has self.old course → Has self.new (after_call course (caller, index) script.now)) }
+        requires has { (course : SerialRun) × HasComeTo self.old course }
+        ensures { OnOk result ((course : SerialRun) → HasComeTo self.old course → HasComeTo self.new (after_call course (caller, index) script.now)) }
     {
         let reply = self.cells.run(script);
         self.seq += 1;
@@ -49,10 +49,10 @@ impl Replay {
     fn run_caller(&mut self, plan: &Plan, caller: u32) -> Result<(), AllocError>
         requires caller { caller < plan.now.callers }
         requires within { self.old.seq ≤ plan.now.limit }
-        requires has { (calls : List Call) × Has self.old (course_after plan.now calls) }
+        requires has { (calls : List CallId) × HasComeTo self.old (course_after plan.now calls) }
         ensures within { OnOk result (self.new.seq ≤ plan.now.limit) }
-        ensures runs { OnOk result ((calls : List Call) → Has self.old (course_after plan.now calls)
-            → Has self.new (course_after plan.now (calls ++ take (plan.now.limit - self.old.seq) (calls_of plan.now caller)))) }
+        ensures runs { OnOk result ((calls : List CallId) → HasComeTo self.old (course_after plan.now calls)
+            → HasComeTo self.new (course_after plan.now (calls ++ take (plan.now.limit - self.old.seq) (calls_of plan.now caller)))) }
     {
         let scripts = plan.scripts(caller);
         let left = (plan.limit() - self.seq) as usize;
@@ -67,7 +67,7 @@ impl Replay {
 // How a caller ended: it is done where each of its scripts has an entry.
 fn line(entries: &[Entry], caller: u32, scripts: usize) -> Line
     requires { length entries.now < 2 ^ 32 }
-    ensures { line_of result ≡ serial_line (count_by (λ entry. entry.caller == caller) entries.now) scripts }
+    ensures { line_value result ≡ serial_line (count_by (λ entry. entry.caller == caller) entries.now) scripts }
 {
     let answered = entries
         .iter()
@@ -90,7 +90,7 @@ fn line(entries: &[Entry], caller: u32, scripts: usize) -> Line
 /// so on, up to the limit. The error is that there is no memory.
 pub fn serial(alloc: Global, plan: &Plan) -> Result<Report, AllocError>
     ensures whole { IfOk result HasWholeReplies }
-    ensures report { IfOk result (λ report. report_of report ≡ serial_report plan.now) }
+    ensures report { IfOk result (λ report. report_value report ≡ serial_report plan.now) }
 {
     let mut replay = Replay {
         entries: Vec::new(alloc),

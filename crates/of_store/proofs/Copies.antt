@@ -3,7 +3,7 @@ use Rattle.std.proofs.Common.{◌≡◌, ℕ, zero, suc, ◌<◌, List, [], ◌�
 use Rattle.std.specs.FinMap as fm
 use Rattle.std.specs.List.{AllZip}
 use Rattle.of_script.specs.declared.instr.TheConstants.{QUEUES}
-use Rattle.of_store.specs.State.{State}
+use Rattle.of_store.specs.State.{Store}
 
 -- a queue as the state sees it
 pub at_queue : {A : Type 0} (f : A → List ℕ) (xs : List A) (i : ℕ) (x : A) → x ≡ get_or xs i x → i < length xs → f x ≡ get_or (map f xs) i []
@@ -28,5 +28,5 @@ four f (x ∷ y ∷ z ∷ w ∷ v ∷ qs) a b c d e = absurd (omega arith)
 pub four_same : (a b c d a' b' c' d' : List ℕ) → a ≡ a' → b ≡ b' → c ≡ c' → d ≡ d' → a ∷ b ∷ c ∷ d ∷ [] ≡ a' ∷ b' ∷ c' ∷ d' ∷ []
 four_same a b c d a' b' c' d' e f g h = cc
 
-pub same_state : (registers : List ℕ) (es fs : List (ℕ × ℕ)) (qs rs : List (List ℕ)) (room : ℕ) → fs ≡ es → rs ≡ qs → ◌≡◌ {A = State} (record { registers = registers; keys = fm.from_entries fs; queues = rs; room = room }) (record { registers = registers; keys = fm.from_entries es; queues = qs; room = room })
+pub same_state : (registers : List ℕ) (es fs : List (ℕ × ℕ)) (qs rs : List (List ℕ)) (room : ℕ) → fs ≡ es → rs ≡ qs → ◌≡◌ {A = Store} (record { registers = registers; keys = fm.from_entries fs; queues = rs; room = room }) (record { registers = registers; keys = fm.from_entries es; queues = qs; room = room })
 same_state registers es fs qs rs room e f = λ i. record { registers = registers; keys = fm.from_entries (e i); queues = f i; room = room }

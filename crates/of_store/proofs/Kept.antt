@@ -7,7 +7,7 @@ use Rattle.std.specs.Ordering.{nat_cmp}
 use Rattle.std.specs.Cmp.{nat_cmp_total}
 use Rattle.std.specs.Option.{option_to_list}
 use Rattle.std.proofs.lemmas.List.Sums.{sum_by-set}
-use Rattle.of_store.specs.State.{State, queue, kept, with_key, without_key, with_queue, empty_store}
+use Rattle.of_store.specs.State.{Store, queue, stored_count, with_key, without_key, with_queue, empty_store}
 
 -- how many things more, or fewer
 abbrev pub grown : Option ℕ → ℕ
@@ -29,20 +29,20 @@ len_removed : (m : fm.FinMap nat_cmp ℕ) (k : ℕ) (before : Option ℕ) → fm
 len_removed m k None e = let h = len-remove nat_cmp_total m k in let g = rw e at h in omega (arith, g)
 len_removed m k (Some w) e = let h = len-remove nat_cmp_total m k in let g = rw e at h in let some = some_there m k w e in elim (eqb_tells (fm.len m) 0) [ inl p ↦ absurd (some p.1) | inr p ↦ (let not_none = p.1 in omega (arith, g, not_none)) ]
 
-pub kept_put : (s : State) (k v : ℕ) (before : Option ℕ) → fm.get s.keys k ≡ before → kept (with_key s k v) ≡ kept s + grown before
+pub kept_put : (s : Store) (k v : ℕ) (before : Option ℕ) → fm.get s.keys k ≡ before → stored_count (with_key s k v) ≡ stored_count s + grown before
 kept_put s k v before e = omega (arith, len_put s.keys k v before e)
 
-pub kept_removed : (s : State) (k : ℕ) (before : Option ℕ) → fm.get s.keys k ≡ before → kept (without_key s k) + fewer before ≡ kept s
+pub kept_removed : (s : Store) (k : ℕ) (before : Option ℕ) → fm.get s.keys k ≡ before → stored_count (without_key s k) + fewer before ≡ stored_count s
 kept_removed s k before e = omega (arith, len_removed s.keys k before e)
 
-pub kept_queue : (s : State) (q : ℕ) (items : List ℕ) → q < length s.queues → kept (with_queue s q items) + length (queue s q) ≡ kept s + length items
+pub kept_queue : (s : Store) (q : ℕ) (items : List ℕ) → q < length s.queues → stored_count (with_queue s q items) + length (queue s q) ≡ stored_count s + length items
 kept_queue s q items lt = omega (arith, sum_by-set length s.queues q items [] lt)
 
 -- a queue's items are among what is kept
-pub queue_within : (s : State) (q : ℕ) → q < length s.queues → length (queue s q) ≤ kept s
+pub queue_within : (s : Store) (q : ℕ) → q < length s.queues → length (queue s q) ≤ stored_count s
 queue_within s q lt = omega (arith, kept_queue s q [] lt)
 
-pub kept_empty : (room : ℕ) → kept (empty_store room) ≡ 0
+pub kept_empty : (room : ℕ) → stored_count (empty_store room) ≡ 0
 kept_empty room = ap (λ (n : ℕ). n + 0) (len-empty nat_cmp ℕ)
 
 -- ---- how many, for each answer

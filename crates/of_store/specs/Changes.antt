@@ -4,18 +4,18 @@
 use Rattle.std.specs.Prelude.{◌≡◌, ℕ, zero, suc, ◌-◌, ◌<◌, ◌≤◌, Bool, true, false, List, length, take, slice_get, slice_index_or, Option, Some, None, IsSome, IsNone, Result, Ok, Err}
 use Rattle.std.specs.FinMap as fm
 use Rattle.of_script.specs.declared.instr.Instr.{Instr}
-use Rattle.of_script.specs.declared.instr.Instr.TheVariants.{Load, Store, Add, Sub, Get, Put, Del, Need, Push, Pop, Len, Count, First, Next, DropBelow}
+use Rattle.of_script.specs.declared.instr.Instr.TheVariants.{Load, Store as RustStore, Add, Sub, Get, Put, Del, Need, Push, Pop, Len, Count, First, Next, DropBelow}
 use Rattle.of_script.specs.declared.instr.TheConstants.{REGISTERS, QUEUES}
 use Rattle.of_script.specs.declared.instr.Reply.{Reply}
 use Rattle.of_script.specs.Language.{greatest}
-use Rattle.of_store.specs.State.{State, register, queue, with_register, with_key, without_key, with_queue}
+use Rattle.of_store.specs.State.{Store, register, queue, with_register, with_key, without_key, with_queue}
 use Rattle.of_store.specs.declared.change.Change.{Change}
 use Rattle.of_store.specs.declared.change.Change.TheVariants.{Nothing, Register, Key, Pushed}
 
 -- the instruction takes a key or an item out
 abbrev pub takes_out : Instr → Bool
 takes_out (Load r) = false
-takes_out (Store r v) = false
+takes_out (RustStore r v) = false
 takes_out (Add r v) = false
 takes_out (Sub r v) = false
 takes_out (Get k) = false
@@ -33,7 +33,7 @@ takes_out (DropBelow k) = true
 -- the instruction may abort, or may want memory
 abbrev pub may_fail : Instr → Bool
 may_fail (Load r) = false
-may_fail (Store r v) = false
+may_fail (RustStore r v) = false
 may_fail (Add r v) = true
 may_fail (Sub r v) = true
 may_fail (Get k) = false
@@ -54,9 +54,9 @@ FailsFirst script = (i j : ℕ) (a b : Instr) → i < j → slice_get script i �
     → slice_get script j ≡ Some b → takes_out a ≡ true → may_fail b ≡ false
 
 -- what the instruction will have changed, of what can be taken back
-abbrev pub change_of : State → Instr → Change
+abbrev pub change_of : Store → Instr → Change
 change_of s (Load r) = Nothing
-change_of s (Store r v) = Register r (register s r)
+change_of s (RustStore r v) = Register r (register s r)
 change_of s (Add r v) = Register r (register s r)
 change_of s (Sub r v) = Register r (register s r)
 change_of s (Get k) = Nothing
@@ -72,42 +72,42 @@ change_of s (Next k) = Nothing
 change_of s (DropBelow k) = Nothing
 
 -- the store with this at a key, or without the key
-abbrev pub with_at : State → ℕ → Option ℕ → State
+abbrev pub with_at : Store → ℕ → Option ℕ → Store
 with_at s k None = without_key s k
 with_at s k (Some v) = with_key s k v
 
 -- the store without the change
-abbrev pub without : Change → State → State
+abbrev pub without : Change → Store → Store
 without Nothing s = s
 without (Register r v) s = with_register s r v
 without (Key k before) s = with_at s k before
 without (Pushed q) s = with_queue s q (take (length (queue s q) - 1) (queue s q))
 
 -- a number that is to stand at a key again, which has one
-abbrev pub IsReplaced : State → ℕ → Option ℕ → Type 0
+abbrev pub IsReplaced : Store → ℕ → Option ℕ → Type 0
 IsReplaced s k None = Unit {0}
 IsReplaced s k (Some v) = (v ≤ greatest) × IsSome (fm.get s.keys k)
 
 -- the store has the change
-abbrev pub IsChange : Change → State → Type 0
+abbrev pub IsChange : Change → Store → Type 0
 IsChange Nothing s = Unit {0}
 IsChange (Register r v) s = (r < REGISTERS) × (v ≤ greatest)
 IsChange (Key k before) s = (k ≤ greatest) × IsReplaced s k before
 IsChange (Pushed q) s = (q < QUEUES) × (1 ≤ length (queue s q))
 
 -- the store without the first n changes, the last of which was made last
-abbrev pub undone : List Change → ℕ → State → State
+abbrev pub undone : List Change → ℕ → Store → Store
 undone changes zero s = s
 undone changes (suc n) s = undone changes n (without (slice_index_or changes n Nothing) s)
 
 -- the store has each of them
-abbrev pub AreThere : List Change → ℕ → State → Type 0
+abbrev pub AreThere : List Change → ℕ → Store → Type 0
 AreThere changes zero s = Unit {0}
 AreThere changes (suc n) s = IsChange (slice_index_or changes n Nothing) s
     × AreThere changes n (without (slice_index_or changes n Nothing) s)
 
 -- the first n changes lead from the first store to this one
-pub record Leads (changes : List Change) (n : ℕ) (first now : State) : Type 0 where
+pub record Leads (changes : List Change) (n : ℕ) (first now : Store) : Type 0 where
   pub there : AreThere changes n now
   pub back : undone changes n now ≡ first
 

@@ -1,7 +1,7 @@
 //! What instructions have changed in a store, so that it can be taken back without memory.
 
 ghost use Rattle.std.specs.Prelude.{◌≡◌, ◌≤◌, length};
-ghost use Rattle.of_script.specs.Language.{InRange};
+ghost use Rattle.of_script.specs.Language.{IsInstrInRange};
 ghost use Rattle.of_script.specs.declared.instr.TheConstants.{MOST_INSTRS};
 ghost use Rattle.of_store.specs.Changes.{change_of, without, undone, IsChange, AreThere};
 
@@ -44,7 +44,7 @@ impl Changes {
 impl Store {
     /// What will take an instruction back once it has run.
     pub(crate) fn change_of(&self, instr: Instr) -> Change
-        requires { InRange instr }
+        requires { IsInstrInRange instr }
         ensures { result ≡ change_of self.now instr }
     {
         match instr {

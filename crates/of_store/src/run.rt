@@ -2,9 +2,9 @@
 
 ghost use Rattle.std.specs.Prelude.{◌≡◌, ◌≤◌, IfOk, OnOk, OnErr, IsTrue, IsFalse, IsNone, true, length};
 ghost use Rattle.of_script.specs.declared.instr.TheConstants.{MOST_INSTRS};
-ghost use Rattle.of_script.specs.Language.{InRange};
-ghost use Rattle.of_store.specs.State.{run, effect, IsEffect};
-ghost use Rattle.of_store.specs.Replies.{response_of, IsReply};
+ghost use Rattle.of_script.specs.Language.{IsInstrInRange};
+ghost use Rattle.of_store.specs.State.{run, instr_effect, IsEffect};
+ghost use Rattle.of_store.specs.Replies.{reply_value_of, IsReplyOfScript};
 ghost use Rattle.of_store.specs.Changes.{takes_out, may_fail, FailsFirst, HasFailed, HasEnded, Leads};
 
 use crate::change::Changes;
@@ -65,8 +65,8 @@ fn has_failed(ran: &Result<Reply, AllocError>) -> bool
 impl Store {
     // One instruction. Where it aborts, or memory is wanting, the store is what it was.
     fn step(&mut self, instr: Instr) -> Result<Answer, AllocError>
-        requires { InRange instr }
-        ensures effect { IfOk result (IsEffect (effect self.old instr) self.new) }
+        requires { IsInstrInRange instr }
+        ensures effect { IfOk result (IsEffect (instr_effect self.old instr) self.new) }
         ensures aborted { IfOk result (λ a. OnErr a (self.new ≡ self.old)) }
         ensures err { OnErr result ((self.new ≡ self.old) × (may_fail instr ≡ true)) }
     {
@@ -117,8 +117,8 @@ impl Store {
         requires none { changes.old.count ≡ 0 }
         requires room { length changes.old.list ≡ MOST_INSTRS }
         ensures store { IfOk result (λ r. IsNone r.abort → self.new ≡ (run self.old script.now).0) }
-        ensures reply { IfOk result (λ r. response_of r ≡ (run self.old script.now).1) }
-        ensures shape { IfOk result (IsReply (length script.now)) }
+        ensures reply { IfOk result (λ r. reply_value_of r ≡ (run self.old script.now).1) }
+        ensures shape { IfOk result (IsReplyOfScript (length script.now)) }
         ensures few { changes.new.count ≤ MOST_INSTRS }
         ensures back { FailsFirst script.now → HasFailed result
             → Leads changes.new.list changes.new.count self.old self.new }
@@ -157,8 +157,8 @@ impl Store {
     /// script, and after want of memory too.
     pub fn run(&mut self, script: &Script) -> Result<Reply, AllocError>
         ensures store { OnOk result (self.new ≡ (run self.old script.now).0) }
-        ensures reply { IfOk result (λ r. response_of r ≡ (run self.old script.now).1) }
-        ensures shape { IfOk result (IsReply (length script.now)) }
+        ensures reply { IfOk result (λ r. reply_value_of r ≡ (run self.old script.now).1) }
+        ensures shape { IfOk result (IsReplyOfScript (length script.now)) }
         ensures err { OnErr result (self.new ≡ self.old) }
     {
         let mut changes = Changes::new();

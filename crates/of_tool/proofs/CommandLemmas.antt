@@ -5,17 +5,17 @@ use Rattle.std.specs.Str.Parse.{digits_value}
 use Rattle.std.proofs.lemmas.Fmt.{decimal_is_IsNumeral, decimal_injective}
 use Rattle.std.specs.Str.{bytes_eq}
 use Rattle.std.specs.Option.{MatchOption}
-use Rattle.of_script.specs.Reading.{number_of}
+use Rattle.of_script.specs.Reading.{parsed_number}
 use Rattle.of_script.proofs.Numbers.{number_reads, number_again}
 use Rattle.of_tool.specs.declared.command.Command.{Command}
 use Rattle.of_tool.specs.declared.command.Command.TheVariants.{Serial, Play, Trace, Commits, Run, Load, Check, CheckLife, Part, Image, Recover, Renumber, Migrate, Continue, Help, Version}
-use Rattle.of_tool.specs.Commands.{words_of, IsInRange, IsTrace, IsLoad, IsPartNumber, SpellsUpTo, Are, IsNoCommand}
+use Rattle.of_tool.specs.Commands.{command_words, IsInRange, IsTrace, IsLoad, IsPartNumber, SpellsUpTo, AreWordsOf, IsNoCommand}
 use Rattle.of_tool.specs.Inputs.{input_of, AskForInput}
 
 -- ---- numbers
 
-pub number_is : (most : ℕ) (w : List ℕ) (o : Option ℕ) → most < 2 ^ 64 → o ≡ number_of most w → MatchOption o ((n : ℕ) → SpellsUpTo most w n → ⊥) (SpellsUpTo most w)
-number_is most w None small e = λ n h. (let again : ◌≡◌ {A = Option ℕ} None (Some n) = e ∙ ap (number_of most) h.1 ∙ number_again most n small h.0 in cc)
+pub number_is : (most : ℕ) (w : List ℕ) (o : Option ℕ) → most < 2 ^ 64 → o ≡ parsed_number most w → MatchOption o ((n : ℕ) → SpellsUpTo most w n → ⊥) (SpellsUpTo most w)
+number_is most w None small e = λ n h. (let again : ◌≡◌ {A = Option ℕ} None (Some n) = e ∙ ap (parsed_number most) h.1 ∙ number_again most n small h.0 in cc)
 number_is most w (Some n) small e = let r = number_reads most w n small (sym e) in (r.1, r.0)
 
 -- ---- words
@@ -119,7 +119,7 @@ command_of (w ∷ []) = named_by w
 command_of (w ∷ v ∷ []) = Some (Part (digits_value 10 v))
 command_of (w ∷ v ∷ u ∷ ws) = if bytes_eq w (codes "load") then Some (Load (digits_value 10 v) (digits_value 10 u)) else Some (Trace (digits_value 10 v) (digits_value 10 u))
 
-command_again : (c : Command) → IsInRange c → command_of (words_of c) ≡ Some c
+command_again : (c : Command) → IsInRange c → command_of (command_words c) ≡ Some c
 command_again Serial range = refl
 command_again Play range = refl
 command_again Commits range = refl
@@ -145,15 +145,15 @@ command_again (Load callers scripts) range =
     let second : digits_value 10 (decimal scripts) ≡ scripts = (decimal_is_IsNumeral scripts (omega (arith, range.each))).1 in
     cc
 
-pub words_of_injective : (c d : Command) → IsInRange c → IsInRange d → words_of c ≡ words_of d → c ≡ d
+pub words_of_injective : (c d : Command) → IsInRange c → IsInRange d → command_words c ≡ command_words d → c ≡ d
 words_of_injective c d here there e = let same : ◌≡◌ {A = Option Command} (Some c) (Some d) = sym (command_again c here) ∙ ap command_of e ∙ command_again d there in cc
 
 -- the words are one command alone
-pub same_command : (words : List (List ℕ)) (c d : Command) → Are words c → Are words d → c ≡ d
+pub same_command : (words : List (List ℕ)) (c d : Command) → AreWordsOf words c → AreWordsOf words d → c ≡ d
 same_command words c d here there = words_of_injective c d here.0 there.0 (sym here.1 ∙ there.1)
 
 -- a command that the words do not ask for input reads nothing
-pub unread_of : (words : List (List ℕ)) (c : Command) → Are words c → (AskForInput words → ⊥) → input_of c ≡ None
+pub unread_of : (words : List (List ℕ)) (c : Command) → AreWordsOf words c → (AskForInput words → ⊥) → input_of c ≡ None
 unread_of words c is none = by (input_of c) refl
   where
     by : (o : Option _) → input_of c ≡ o → input_of c ≡ None

@@ -1,9 +1,9 @@
 -- A command with a valid input is done, or what it judges is found wrong.
 use Rattle.std.proofs.Common.{◌≡◌, ℕ, List, Option, Some, refl, sym, subst}
-use Rattle.of_io.specs.Faults.{Rose, TakesMoreThan}
+use Rattle.of_io.specs.Faults.{HasRisen, TakesMoreThan}
 use Rattle.of_plan.specs.Grammar.{SpellsPlan}
 use Rattle.of_plan.specs.BadLine.{HasBadLine}
-use Rattle.of_plan.specs.Parts.{OneCut}
+use Rattle.of_plan.specs.Parts.{HasOneCut}
 use Rattle.of_image.specs.declared.version.Version.{Version as Edition}
 use Rattle.of_image.specs.declared.version.Version.TheVariants.{Two}
 use Rattle.of_image.specs.ImageText.{IsImageText}
@@ -12,7 +12,7 @@ use Rattle.of_report.specs.Image.{Image as AnImage}
 use Rattle.of_tool.specs.declared.top.TheConstants.{MOST_INPUT, MOST_WITH_REPORT, MOST_IMAGE}
 use Rattle.of_tool.specs.declared.command.Command.{Command}
 use Rattle.of_tool.specs.declared.command.Command.TheVariants.{Check, CheckLife, Continue}
-use Rattle.of_tool.specs.Commands.{Are}
+use Rattle.of_tool.specs.Commands.{AreWordsOf}
 use Rattle.of_tool.specs.Seen.{Change, ReadsAll}
 use Rattle.of_tool.specs.Inputs.{Input, PlanAlone, PlanAndReport, ImageAlone, ImageAndPlan, WholeLife, AnyTexts, input_of, most_of, AreLeft, IsInputOf, IsValidInput}
 use Rattle.of_tool.specs.Refusals.{Refusal, ReadFault, TooLong, BadPlan, BadImage, UnlawfulImage, DoesNotFit, Illegal, status_of, HasBadPlan, HasBadImage, HasMisfit, IsIllegal, IsRefused}
@@ -54,7 +54,7 @@ not_too_long input source valid takes =
 read_again : (source : Change) (most : ℕ) (bytes taken : List ℕ) → source.before ≡ Some bytes → ReadsAll most source taken → ReadsAll most source bytes
 read_again source most bytes taken known r = let P : List ℕ → Type 0 = λ b. ReadsAll most source b in subst P (sym (read_is source bytes known most taken r)) r
 
-not_bad : OneCut → (input : Input) (source : Change) (line : ℕ) → IsInputOf (Some input) source.before → HasBadPlan input source line → ⊥
+not_bad : HasOneCut → (input : Input) (source : Change) (line : ℕ) → IsInputOf (Some input) source.before → HasBadPlan input source line → ⊥
 not_bad one_cut PlanAlone source line v h = no_plan source v.bytes v.left_is.are v.plan line (v.bytes, read_again source MOST_INPUT v.bytes h.bytes v.left_is.are h.read, v.spelled) h
 not_bad one_cut PlanAndReport source line v h =
     let read = read_again source MOST_WITH_REPORT v.bytes h.bytes v.left_is.are h.read in
@@ -70,7 +70,7 @@ not_bad one_cut WholeLife source line v h =
     h.bad.none (v.plan, subst Q next.0 v.spelled)
 not_bad one_cut AnyTexts source line v h = h
 
-module _ (Is : Edition → List ℕ → Type 0) (apart : (edition : Edition) (text : List ℕ) (image : AnImage) → ReadsImage edition text image → Is edition text → ⊥) (one_cut : OneCut) where
+module _ (Is : Edition → List ℕ → Type 0) (apart : (edition : Edition) (text : List ℕ) (image : AnImage) → ReadsImage edition text image → Is edition text → ⊥) (one_cut : HasOneCut) where
   not_image : (input : Input) (source : Change) → IsInputOf (Some input) source.before → HasBadImage Is input source → ⊥
   not_image PlanAlone source v h = h
   not_image PlanAndReport source v h = h
@@ -110,7 +110,7 @@ illegal_ends c ImageAndPlan source status reads h e = absurd h
 illegal_ends c WholeLife source status reads h e = FindsLifeIllegal (lives c reads) e
 illegal_ends c AnyTexts source status reads h e = absurd h
 
-refused_ends : OneCut → UnlawfulHaveNone → (c : Command) (input : Input) (source : Change) (status : ℕ) → input_of c ≡ Some input → IsInputOf (Some input) source.before → ¬ (Rose source.faults source.faults_after)
+refused_ends : HasOneCut → UnlawfulHaveNone → (c : Command) (input : Input) (source : Change) (status : ℕ) → input_of c ≡ Some input → IsInputOf (Some input) source.before → ¬ (HasRisen source.faults source.faults_after)
     → (why : Refusal) → IsRefused input source why → status ≡ status_of why → Ends c status
 refused_ends one_cut none c input source status reads valid calm ReadFault h e = absurd (calm h.fault)
 refused_ends one_cut none c input source status reads valid calm TooLong h e = absurd (not_too_long input source valid h)
@@ -120,7 +120,7 @@ refused_ends one_cut none c input source status reads valid calm (UnlawfulImage 
 refused_ends one_cut none c input source status reads valid calm DoesNotFit h e = misfit_ends c input source status reads h e
 refused_ends one_cut none c input source status reads valid calm Illegal h e = illegal_ends c input source status reads h e
 
-ends : OneCut → UnlawfulHaveNone → (c : Command) (source : Change) (status : ℕ) (text : List ℕ) → IsValidInput c source.before → ¬ (Rose source.faults source.faults_after) → IsAnswerTo c source status text → Ends c status
+ends : HasOneCut → UnlawfulHaveNone → (c : Command) (source : Change) (status : ℕ) (text : List ℕ) → IsValidInput c source.before → ¬ (HasRisen source.faults source.faults_after) → IsAnswerTo c source status text → Ends c status
 ends one_cut none c source status text valid calm (Done is makes) = IsDone is
 ends one_cut none c source status text valid calm (Refused input reads refusal) =
     let P : Option Input → Type 0 = λ o. IsInputOf o source.before in
@@ -128,6 +128,6 @@ ends one_cut none c source status text valid calm (Refused input reads refusal) 
 
 -- a command with a valid input is done, or its report or its life is found illegal, or its plan not
 -- to fit
-pub ends_where_valid : OneCut → UnlawfulHaveNone → (words : List (List ℕ)) (c : Command) (source : Change) (status : ℕ) (text : List ℕ) → Are words c → IsValidInput c source.before → ¬ (Rose source.faults source.faults_after)
+pub ends_where_valid : HasOneCut → UnlawfulHaveNone → (words : List (List ℕ)) (c : Command) (source : Change) (status : ℕ) (text : List ℕ) → AreWordsOf words c → IsValidInput c source.before → ¬ (HasRisen source.faults source.faults_after)
     → IsAnswer words source status text → Ends c status
 ends_where_valid one_cut none words c source status text is valid calm a = ends one_cut none c source status text valid calm (answer_to words c source status text is a)

@@ -7,7 +7,7 @@ use Rattle.of_image.specs.declared.error.ImageErr.{ImageErr}
 use Rattle.of_image.specs.declared.error.ImageErr.TheVariants.{Memory, Bad, Unlawful}
 use Rattle.of_image.specs.declared.version.Version.{Version}
 use Rattle.of_image.specs.declared.version.Version.TheVariants.{Two}
-use Rattle.of_image.specs.Parsed.{IsRefused}
+use Rattle.of_image.specs.Parsed.{ImageIsRefused}
 use Rattle.of_tool.specs.declared.top.Answer.{Answer}
 use Rattle.of_tool.specs.declared.top.TheConstants.{MOST_IMAGE, MOST_WITH_REPORT}
 use Rattle.of_tool.specs.Answer.{TellsRefusal, Refuses}
@@ -16,7 +16,7 @@ use Rattle.of_tool.specs.Inputs.{ImageAlone, ImageAndPlan}
 use Rattle.of_tool.specs.Refusals.{BadImage, UnlawfulImage}
 
 -- the whole input has no image
-pub refusal_told : (v : Version) (source : Change) (bytes : List ℕ) → ReadsAll MOST_IMAGE source bytes → (err : ImageErr) (answer : Answer) → IsRefused v bytes err → TellsRefusal err answer
+pub refusal_told : (v : Version) (source : Change) (bytes : List ℕ) → ReadsAll MOST_IMAGE source bytes → (err : ImageErr) (answer : Answer) → ImageIsRefused v bytes err → TellsRefusal err answer
     → Refuses (ImageAlone v) source answer
 refusal_told v source bytes read Memory answer h t = absurd t
 refusal_told v source bytes read (Bad line) answer h t = record { why = BadImage line; cause = record { bytes = bytes; read = read; is = h }; status_is = t.0; text_is = t.1 }
@@ -24,7 +24,7 @@ refusal_told v source bytes read (Unlawful cell) answer h t = record { why = Unl
 
 -- the first part has no image
 pub first_refused : (source : Change) (bytes first second : List ℕ) (plan : Plan) → ReadsAll MOST_WITH_REPORT source bytes → AreParts bytes first second → SpellsPlan second plan → (err : ImageErr) (answer : Answer)
-    → IsRefused Two first err → TellsRefusal err answer → Refuses ImageAndPlan source answer
+    → ImageIsRefused Two first err → TellsRefusal err answer → Refuses ImageAndPlan source answer
 first_refused source bytes first second plan read are spelled Memory answer h t = absurd t
 first_refused source bytes first second plan read are spelled (Bad line) answer h t = record {
   why = BadImage line;

@@ -10,13 +10,13 @@ use Rattle.of_plan.specs.Plan.{Plan}
 use Rattle.of_tool.specs.declared.command.Command.TheVariants.{Check}
 use Rattle.of_tool.specs.declared.top.Answer.{Answer}
 use Rattle.of_tool.specs.declared.top.TheConstants.{MOST_WITH_REPORT}
-use Rattle.of_tool.specs.Answer.{Judges}
+use Rattle.of_tool.specs.Answer.{TellsVerdict}
 use Rattle.of_tool.specs.Seen.{Change, ReadsAll}
 use Rattle.of_tool.specs.Inputs.{PlanAndReport}
 use Rattle.of_tool.specs.Refusals.{Illegal as IsIllegalOne}
 use Rattle.of_tool.specs.Statuses.{IsAnswerTo, Done, Refused}
 
-pub found : (source : Change) (bytes first report : List ℕ) (p : Plan) (v : CheckVerdict) (a : Answer) → ReadsAll MOST_WITH_REPORT source bytes → AreParts bytes first report → SpellsPlan first p → IsVerdict p report v → Judges v a
+pub found : (source : Change) (bytes first report : List ℕ) (p : Plan) (v : CheckVerdict) (a : Answer) → ReadsAll MOST_WITH_REPORT source bytes → AreParts bytes first report → SpellsPlan first p → IsVerdict p report v → TellsVerdict v a
     → IsAnswerTo Check source a.status a.text.items
 found source bytes first report p Legal a read are spelled says judges =
     Done judges.0 (record { legal = record { plan = p; report = report; read = record { bytes = bytes; first = first; read = read; parts = are; spelled = spelled }; legal = says }; text_is = judges.1 })

@@ -10,10 +10,10 @@ use Rattle.of_image.specs.declared.error.ImageErr.{ImageErr}
 use Rattle.of_image.specs.declared.error.ImageErr.TheVariants.{Memory, Bad, Unlawful}
 use Rattle.of_image.specs.declared.version.Version.TheVariants.{Two}
 use Rattle.of_image.specs.ImageText.{IsImageText}
-use Rattle.of_image.specs.Parsed.{IsRefused, IsUnlawful, ReadsImage}
+use Rattle.of_image.specs.Parsed.{ImageIsRefused, IsUnlawful, ReadsImage}
 use Rattle.of_check.specs.declared.verdict.Verdict.{Verdict as CheckVerdict}
 use Rattle.of_check.specs.declared.verdict.Verdict.TheVariants.{Legal, Illegal}
-use Rattle.of_lives.specs.Images.{Fits}
+use Rattle.of_lives.specs.Images.{PlanFitsImage}
 use Rattle.of_tool.specs.declared.command.Command.TheVariants.{CheckLife}
 use Rattle.of_tool.specs.declared.top.Answer.{Answer}
 use Rattle.of_tool.specs.declared.top.TheConstants.{MOST_WITH_REPORT}
@@ -40,7 +40,7 @@ module _ (source : Change) (bytes first behind second others : List ℕ) (read :
     four Is h = record { bytes = bytes; first = first; behind = behind; second = second; others = others; read = read; parts = parts; second_parts = second_parts; last_parts = last_parts; is = h; spelled = spelled }
 
     -- the first part has no image
-    pub life_refused : (err : ImageErr) (answer : Answer) → IsRefused Two first err → TellsRefusal err answer → IsAnswerTo CheckLife source answer.status answer.text.items
+    pub life_refused : (err : ImageErr) (answer : Answer) → ImageIsRefused Two first err → TellsRefusal err answer → IsAnswerTo CheckLife source answer.status answer.text.items
     life_refused Memory answer h t = absurd t
     life_refused (Bad line) answer h t =
         refused source answer.status answer.text.items (BadImage line) (record { plan = plan; told = told; left = left; read = four (λ text. HasBadLine (IsImageText Two) text line) h }) t.0 t.1
@@ -49,12 +49,12 @@ module _ (source : Change) (bytes first behind second others : List ℕ) (read :
 
     module _ (image : Image) (reads : ReadsImage Two first image) where
       -- the plan doesn't fit the image
-      pub life_misfit : (text : List ℕ) → (Fits image plan → ⊥) → text ≡ codes "error: plan does not fit image\n" → IsAnswerTo CheckLife source DOES_NOT_FIT text
+      pub life_misfit : (text : List ℕ) → (PlanFitsImage image plan → ⊥) → text ≡ codes "error: plan does not fit image\n" → IsAnswerTo CheckLife source DOES_NOT_FIT text
       life_misfit text misfit text_is =
           refused source DOES_NOT_FIT text DoesNotFit (record { image = image; plan = plan; told = told; left = left; read = four (λ text. ReadsImage Two text image) reads; misfit = misfit }) refl text_is
 
       -- the life was judged
-      pub life_found : Fits image plan → (v : CheckVerdict) (answer : Answer) → IsLifeVerdict image plan told left v → JudgesLife v answer → IsAnswerTo CheckLife source answer.status answer.text.items
+      pub life_found : PlanFitsImage image plan → (v : CheckVerdict) (answer : Answer) → IsLifeVerdict image plan told left v → JudgesLife v answer → IsAnswerTo CheckLife source answer.status answer.text.items
       life_found fits Legal answer says judges =
           Done judges.0 (record {
             legal = record { image = image; plan = plan; told = told; left = left; read = four (λ text. ReadsImage Two text image) reads; fits = fits; legal = says };

@@ -12,7 +12,7 @@ use Rattle.std.proofs.lemmas.Bool.Decides.{eqb_tells, leb_tells}
 use Rattle.std.proofs.lemmas.Grind.{get_or-set_at}
 use Rattle.of_script.specs.declared.instr.Instr.{Instr}
 use Rattle.of_script.specs.declared.instr.Instr.TheVariants.{Add, Put}
-use Rattle.of_store.specs.State.{State, register, kept, effect, run, empty_store, with_register, with_key}
+use Rattle.of_store.specs.State.{Store, register, stored_count, instr_effect, run, empty_store, with_register, with_key}
 use Rattle.of_plan.specs.Generated.{load_script}
 
 is_equal : (r : Ordering) → is_eq r ≡ true → r ≡ Equal
@@ -91,7 +91,7 @@ put_at j (suc c) small = elim (eqb_tells (c % 31) j) [
 -- ---- stores
 
 -- a store that calls of a load leave, of which each caller has made so many
-pub record Holds (n : ℕ) (c : ℕ → ℕ) (s : State) : Type 0 where
+pub record Holds (n : ℕ) (c : ℕ → ℕ) (s : Store) : Type 0 where
   pub size : length s.registers ≡ 16
   pub sums : (r : ℕ) → get_or s.registers r 0 ≡ cond (ltb r 16) (total (λ u. adds r (c u)) n) 0
   pub keys : (k : ℕ) → fm.get s.keys k ≡ cond (ltb (k / 31) n) (last_put (k % 31) (c (k / 31))) None
@@ -99,7 +99,7 @@ pub record Holds (n : ℕ) (c : ℕ → ℕ) (s : State) : Type 0 where
   pub queues : s.queues ≡ replicate 4 []
   pub room : s.room ≡ 512
 
-pub held_same : (n : ℕ) (c d : ℕ → ℕ) (s : State) → ((u : ℕ) → u < n → c u ≡ d u) → Holds n c s → Holds n d s
+pub held_same : (n : ℕ) (c d : ℕ → ℕ) (s : Store) → ((u : ℕ) → u < n → c u ≡ d u) → Holds n c s → Holds n d s
 held_same n c d s same h = record {
   size = h.size;
   sums = λ r. h.sums r ∙ ap (λ (k : ℕ). cond (ltb r 16) k 0) (total_same (λ u. adds r (c u)) (λ u. adds r (d u)) n (λ u lt. ap (adds r) (same u lt)));
@@ -140,7 +140,7 @@ empty_holds n = record {
     none false = refl
 
 -- two stores with the same counts have the same registers and keys
-pub one_load : (n : ℕ) (c : ℕ → ℕ) (s t : State) → Holds n c s → Holds n c t → (s.registers ≡ t.registers) × (s.keys ≡ t.keys)
+pub one_load : (n : ℕ) (c : ℕ → ℕ) (s t : Store) → Holds n c s → Holds n c t → (s.registers ≡ t.registers) × (s.keys ≡ t.keys)
 one_load n c s t h k = (
   ext_get_or 0 s.registers t.registers (h.size ∙ sym k.size) (λ r lt. h.sums r ∙ sym (k.sums r)),
   same_map nat_cmp_total nat_cmp-IsAntisymmetric s.keys t.keys (λ q. h.keys q ∙ sym (k.keys q)),
@@ -152,17 +152,17 @@ and_false : (b : Bool) → (b && false) ≡ false
 and_false true = refl
 and_false false = refl
 
-two_done : (s t u : State) (a b : Instr) (x y : Option ℕ) → effect s a ≡ Ok (t, x) → effect t b ≡ Ok (u, y) → (run s (a ∷ b ∷ [])).0 ≡ u
+two_done : (s t u : Store) (a b : Instr) (x y : Option ℕ) → instr_effect s a ≡ Ok (t, x) → instr_effect t b ≡ Ok (u, y) → (run s (a ∷ b ∷ [])).0 ≡ u
 two_done s t u a b x y h k = rw h (rw k refl)
 
-add_done : (s : State) (r : ℕ) → register s r < 2147483647 → effect s (Add r 1) ≡ Ok (with_register s r (register s r + 1), Some (register s r + 1))
+add_done : (s : Store) (r : ℕ) → register s r < 2147483647 → instr_effect s (Add r 1) ≡ Ok (with_register s r (register s r + 1), Some (register s r + 1))
 add_done s r small =
     let no : ltb 2147483647 (register s r + 1) ≡ false = elim (leb_tells 2147483648 (register s r + 1)) [ inl p ↦ absurd (let q = p.1 in omega arith) | inr p ↦ p.0 ] in
     rw no refl
 
-put_done : (s : State) (k v : ℕ) → kept s < s.room → effect s (Put k v) ≡ Ok (with_key s k v, fm.get s.keys k)
+put_done : (s : Store) (k v : ℕ) → stored_count s < s.room → instr_effect s (Put k v) ≡ Ok (with_key s k v, fm.get s.keys k)
 put_done s k v room =
-    let no : leb s.room (kept s) ≡ false = elim (leb_tells s.room (kept s)) [ inl p ↦ absurd (let q = p.1 in omega arith) | inr p ↦ p.0 ] in
+    let no : leb s.room (stored_count s) ≡ false = elim (leb_tells s.room (stored_count s)) [ inl p ↦ absurd (let q = p.1 in omega arith) | inr p ↦ p.0 ] in
     rw no (rw (and_false (is_none (fm.get s.keys k))) refl)
 
 if_true : {A : Type 0} (b : Bool) (x y : A) → b ≡ true → cond b x y ≡ x
@@ -201,7 +201,7 @@ len_put m k v = len-insert nat_cmp_total m k v ∙ by (is_some (fm.get m k))
     by true = omega arith
     by false = omega arith
 
-module _ (n m : ℕ) (few : n ≤ 16) (all : n * m ≤ 20000) (c : ℕ → ℕ) (upto : (u : ℕ) → u < n → c u ≤ m) (t : ℕ) (lt : t < n) (s : State) (h : Holds n c s) where
+module _ (n m : ℕ) (few : n ≤ 16) (all : n * m ≤ 20000) (c : ℕ → ℕ) (upto : (u : ℕ) → u < n → c u ≤ m) (t : ℕ) (lt : t < n) (s : Store) (h : Holds n c s) where
   -- the register and the key of the caller's next call
   abbrev place : ℕ
   place = c t % 16
@@ -225,16 +225,16 @@ module _ (n m : ℕ) (few : n ≤ 16) (all : n * m ≤ 20000) (c : ℕ → ℕ) 
   no_items : sum_by length s.queues ≡ 0
   no_items = ap (sum_by length) h.queues
 
-  kept_upto : kept s < s.room
+  kept_upto : stored_count s < s.room
   kept_upto =
       let most = total_upto (λ u. keys_put (c u)) n 31 (λ u lt_u. keys_put_upto (c u)) in
       omega (arith, h.count, most, no_items, h.room, few)
 
   -- the store behind it
-  abbrev added : State
+  abbrev added : Store
   added = with_register s place (register s place + 1)
 
-  abbrev behind : State
+  abbrev behind : Store
   behind = with_key added own (c t)
 
   pub run_is : (run s (load_script t (c t))).0 ≡ behind

@@ -4,17 +4,17 @@ use Rattle.std.proofs.Common.{◌≡◌, ◌<◌, ◌≤◌, ◌⊎◌, inl, inr
 use Rattle.std.specs.Prelude.{◌^◌, ◌-◌, ◌+◌, min, IsTrue}
 use Rattle.std.proofs.lemmas.Bool.{cases_lt}
 use Rattle.std.proofs.lemmas.Bool.Decides.{eqb_tells}
-use Rattle.of_io.specs.Faults.{Rose, TakesMoreThan}
+use Rattle.of_io.specs.Faults.{HasRisen, TakesMoreThan}
 use Rattle.of_plan.specs.Plan.{Plan}
 use Rattle.of_plan.specs.Grammar.{SpellsPlan, IsPlanText}
 use Rattle.of_plan.specs.BadLine.{HasBadLine}
-use Rattle.of_plan.specs.Parts.{OneCut}
+use Rattle.of_plan.specs.Parts.{HasOneCut}
 use Rattle.of_check.specs.Verdict.{IsLegalText}
 use Rattle.of_image.specs.declared.version.Version.{Version as Edition}
 use Rattle.of_image.specs.declared.version.Version.TheVariants.{One, Two}
 use Rattle.of_image.specs.ImageText.{IsImageText}
-use Rattle.of_image.specs.Parsed.{ReadsImage, IsUnlawful, UnlawfulHaveNone, OneImage, OneFault}
-use Rattle.of_lives.specs.Images.{Fits}
+use Rattle.of_image.specs.Parsed.{ReadsImage, IsUnlawful, UnlawfulHaveNone, OneImage, HasOneFault}
+use Rattle.of_lives.specs.Images.{PlanFitsImage}
 use Rattle.of_report.specs.Image.{Image as AnImage}
 use Rattle.of_tool.specs.declared.top.TheConstants.{MOST_INPUT, MOST_WITH_REPORT, MOST_IMAGE}
 use Rattle.of_tool.specs.declared.command.Command.{Command}
@@ -101,13 +101,13 @@ one_rank i s a b x y = elim (cases_lt x.rank y.rank) [
 -- ---- what was read
 
 -- a count that can rise and stays has not risen
-stays : (n m : ℕ) → CanRise n → m ≡ n → Rose n m → ⊥
-stays n m can same rose = let P : ℕ → Type 0 = λ k. Rose n k in stayed n can (subst P same rose)
+stays : (n m : ℕ) → CanRise n → m ≡ n → HasRisen n m → ⊥
+stays n m can same rose = let P : ℕ → Type 0 = λ k. HasRisen n k in stayed n can (subst P same rose)
   where
     stayed : (n : ℕ) → n < 2 ^ 64 - 1 → min (n + 1) (2 ^ 64 - 1) ≤ n → ⊥
     stayed n can rose = omega arith
 
-module _ (one_cut : OneCut) (one_plan : (text : List ℕ) (plan other : Plan) → SpellsPlan text plan → SpellsPlan text other → plan ≡ other) (one_image : OneImage) (none : UnlawfulHaveNone) (s : Change) (all : List ℕ) (known : s.before ≡ Some all) (can : CanRise s.faults) where
+module _ (one_cut : HasOneCut) (one_plan : (text : List ℕ) (plan other : Plan) → SpellsPlan text plan → SpellsPlan text other → plan ≡ other) (one_image : OneImage) (none : UnlawfulHaveNone) (s : Change) (all : List ℕ) (known : s.before ≡ Some all) (can : CanRise s.faults) where
   -- an input that was read was not too long, and no read failed
   read_passes : (i : Input) (bytes : List ℕ) → ReadsAll (most_of i) s bytes → Passes 2 i s
   read_passes i bytes r = ((tt, not_longer s all known (most_of i) bytes r), λ fails. stays s.faults s.faults_after can r.no_fault fails.fault)
@@ -152,7 +152,7 @@ module _ (one_cut : OneCut) (one_plan : (text : List ℕ) (plan other : Plan) �
       wrong (inl h) = no_behind s all known one_cut (λ text. no_bad_line h.0 Two text image) plan h.1.0 r h.1.1
       wrong (inr h) = no_behind s all known one_cut (λ text. no_fault_cell none h.0 Two text image) plan h.1.0 r h.1.1
 
-  life_done : (image : AnImage) (plan : Plan) → ReadsLife s image plan → Fits image plan → Passes 6 ImageAndPlan s
+  life_done : (image : AnImage) (plan : Plan) → ReadsLife s image plan → PlanFitsImage image plan → Passes 6 ImageAndPlan s
   life_done image plan r fits = ((life_passes image plan r, wrong), λ c. c)
     where
       wrong : HasMisfit ImageAndPlan s → ⊥
@@ -162,8 +162,8 @@ module _ (one_cut : OneCut) (one_plan : (text : List ℕ) (plan other : Plan) �
           let Q : List ℕ → Type 0 = λ text. SpellsPlan text plan in
           let image_is = one_image Two c.read.first image c.image (subst P same.0 r.is) c.read.is in
           let plan_is = one_plan c.read.second plan c.plan (subst Q same.1 r.spelled) c.read.spelled in
-          let F : AnImage → Type 0 = λ i. Fits i c.plan in
-          let G : Plan → Type 0 = λ p. Fits image p in
+          let F : AnImage → Type 0 = λ i. PlanFitsImage i c.plan in
+          let G : Plan → Type 0 = λ p. PlanFitsImage image p in
           c.misfit (subst F image_is (subst G plan_is fits))
 
   -- four parts, the second of which is a plan
@@ -194,14 +194,14 @@ module _ (one_cut : OneCut) (one_plan : (text : List ℕ) (plan other : Plan) �
       }
 
   -- and the plan fits
-  fitting_passes : (image : AnImage) (plan : Plan) (told left : List ℕ) → ReadsLived s image plan told left → Fits image plan → Passes 5 WholeLife s
+  fitting_passes : (image : AnImage) (plan : Plan) (told left : List ℕ) → ReadsLived s image plan told left → PlanFitsImage image plan → Passes 5 WholeLife s
   fitting_passes image plan told left r fits = (lived_passes image plan told left r, wrong)
     where
       wrong : HasMisfit WholeLife s → ⊥
       wrong c =
           let one = lived_one image c.image plan c.plan told left c.told c.left r c.read in
-          let F : AnImage → Type 0 = λ i. Fits i c.plan in
-          let G : Plan → Type 0 = λ p. Fits image p in
+          let F : AnImage → Type 0 = λ i. PlanFitsImage i c.plan in
+          let G : Plan → Type 0 = λ p. PlanFitsImage image p in
           c.misfit (subst F one.image_is (subst G one.plan_is fits))
 
   whole_done : ReadsLegalLife s → Passes 6 WholeLife s
@@ -342,7 +342,7 @@ module _ (one_cut : OneCut) (one_plan : (text : List ℕ) (plan other : Plan) �
   no_both : (line cell : ℕ) (edition : Edition) (text : List ℕ) → HasBadLine (IsImageText edition) text line → IsUnlawful edition text cell → ⊥
   no_both line cell edition text bad fault = bad.none (fault.raw, fault.spelled)
 
-  module _ (one_fault : OneFault) where
+  module _ (one_fault : HasOneFault) where
     error_text : (i : Input) (x y : Refusal) → IsRefused i s x → IsRefused i s y → status_of x ≡ status_of y → text_of i x ≡ text_of i y
     error_text i ReadFault ReadFault h k e = refl
     error_text i ReadFault y h k e = absurd (omega (arith, e))
@@ -383,7 +383,7 @@ module _ (one_cut : OneCut) (one_plan : (text : List ℕ) (plan other : Plan) �
 
 -- ---- and what was written
 
-pub one_status : OneCut → ((text : List ℕ) (plan other : Plan) → SpellsPlan text plan → SpellsPlan text other → plan ≡ other) → OneImage → UnlawfulHaveNone → OneStatus
+pub one_status : HasOneCut → ((text : List ℕ) (plan other : Plan) → SpellsPlan text plan → SpellsPlan text other → plan ≡ other) → OneImage → UnlawfulHaveNone → OneStatus
 one_status cut plan image none words seen a b fresh (Told h) (Told k) = one_told cut plan image none seen.source fresh.bytes fresh.known fresh.source words a b h.text k.text h.answer k.answer
 one_status cut plan image none words seen a b fresh (Told h) (WriteFault k) = absurd (stays seen.sink.faults seen.sink.faults_after fresh.sink h.no_fault k.fault)
 one_status cut plan image none words seen a b fresh (Told h) (OutOfMemory k) = absurd (fresh.unfinished (subst IsTrue k.untouched.finished h.written.finished))
@@ -394,5 +394,5 @@ one_status cut plan image none words seen a b fresh (OutOfMemory h) (Told k) = a
 one_status cut plan image none words seen a b fresh (OutOfMemory h) (WriteFault k) = absurd (stays seen.sink.faults seen.sink.faults_after fresh.sink h.untouched.faults k.fault)
 one_status cut plan image none words seen a b fresh (OutOfMemory h) (OutOfMemory k) = h.is ∙ sym k.is
 
-pub one_error : OneCut → ((text : List ℕ) (plan other : Plan) → SpellsPlan text plan → SpellsPlan text other → plan ≡ other) → OneImage → UnlawfulHaveNone → OneFault → OneError
+pub one_error : HasOneCut → ((text : List ℕ) (plan other : Plan) → SpellsPlan text plan → SpellsPlan text other → plan ≡ other) → OneImage → UnlawfulHaveNone → HasOneFault → OneError
 one_error cut plan image none fault words seen a b x y fresh p q failed = one_said cut plan image none seen.source fresh.bytes fresh.known fresh.source fault words a b x y p q failed

@@ -2,23 +2,23 @@
 use Rattle.std.proofs.Common.{◌≡◌, ℕ, ◌<◌, List, ◌++◌, length, take, sym, ap, ◌∙◌}
 use Rattle.std.proofs.Math.Seq.{take-append_seam}
 use Rattle.of_plan.specs.Plan.{Plan}
-use Rattle.of_plan.specs.Report.{CallerLine, Start, Report, entries_of, finished_of}
+use Rattle.of_plan.specs.Report.{Line, Start, Report, entries_of, finished_of}
 use Rattle.of_plan.specs.Allowance.{answered_of}
-use Rattle.of_plan.specs.Ended.{Run, answers_of}
-use Rattle.of_eval.specs.Record.{answer_entries, IsLawful}
+use Rattle.of_plan.specs.Ended.{Ended, answers_of}
+use Rattle.of_eval.specs.Record.{answer_entries, IsLawfulRecord}
 use Rattle.of_eval.specs.Reported.{ReportsRun}
 use Rattle.of_caller.specs.InTime.{Mark, RespectsTime}
 use Rattle.of_caller.proofs.RecordsLists.{length-answer_entries}
 use Rattle.of_tool.specs.Ran.{TellsCallers, IsHistoryOf}
 
-module _ (p : Plan) (s : Start) (e : Run) (r : Report) where
-  tells_callers : IsLawful p s e r → TellsCallers p s e r
+module _ (p : Plan) (s : Start) (e : Ended) (r : Report) where
+  tells_callers : IsLawfulRecord p s e r → TellsCallers p s e r
   tells_callers lawful = record { lines = lawful.report.callers; answers = answers }
     where
       answers : (c : ℕ) → c < p.callers → answered_of r c ≡ answer_entries c (finished_of s c) (answers_of e c)
       answers c lt =
           let own = lawful.report.entries c lt in
-          ap (λ (l : CallerLine). take l.answered (entries_of r c)) (lawful.report.callers c lt)
+          ap (λ (l : Line). take l.answered (entries_of r c)) (lawful.report.callers c lt)
           ∙ ap (take (length (answers_of e c))) own.own
           ∙ ap (λ (n : ℕ). take n (answer_entries c (finished_of s c) (answers_of e c) ++ own.extra)) (sym (length-answer_entries c (finished_of s c) (answers_of e c)))
           ∙ take-append_seam (answer_entries c (finished_of s c) (answers_of e c)) own.extra

@@ -4,7 +4,7 @@ use Rattle.std.specs.Io.KnownBytes.{Consumes, IsAtEnd}
 use Rattle.of_io.specs.Faults.{TakesMoreThan, TakesAtMost}
 use Rattle.of_plan.specs.Plan.{Plan}
 use Rattle.of_plan.specs.Grammar.{SpellsPlan}
-use Rattle.of_plan.specs.Parts.{AreParts, OneCut}
+use Rattle.of_plan.specs.Parts.{AreParts, HasOneCut}
 use Rattle.of_tool.specs.declared.top.TheConstants.{MOST_INPUT}
 use Rattle.of_tool.specs.Seen.{Change, ReadsAll}
 use Rattle.of_tool.specs.Inputs.{ReadsPlan, ReadsNoPlan, ReadsBoth, ReadsNoFirst, ReadsOne, ReadsBehind, ReadsNoSecond, ReadsFour, ReadsNoLifePlan}
@@ -55,7 +55,7 @@ module _ (source : Change) (all : List ℕ) (known : source.before ≡ Some all)
   pub no_one : {P Q : List ℕ → Type 0} → ((text : List ℕ) → P text → Q text → ⊥) → ReadsOne P source → ReadsOne Q source → ⊥
   no_one {P} {Q} apart r n = apart n.bytes (subst P (same_read _ _ r.bytes n.bytes r.read n.read) r.is) n.is
 
-  module _ (one_cut : OneCut) where
+  module _ (one_cut : HasOneCut) where
     pub cut_same : (b c first second one other : List ℕ) → b ≡ c → AreParts b first second → AreParts c one other → (first ≡ one) × (second ≡ other)
     cut_same b c first second one other e h k = let P : List ℕ → Type 0 = λ bytes. AreParts bytes first second in one_cut c first second one other (subst P e h) k
 

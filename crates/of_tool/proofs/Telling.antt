@@ -2,10 +2,10 @@
 -- wrong with its input.
 use Rattle.std.proofs.Common.{◌≡◌, ℕ, List, Option, Some, refl, sym, subst, ◌∙◌, arith}
 use Rattle.std.specs.Prelude.{codes}
-use Rattle.of_io.specs.Faults.{Rose, TakesMoreThan, TakesAtMost}
+use Rattle.of_io.specs.Faults.{HasRisen, TakesMoreThan, TakesAtMost}
 use Rattle.of_tool.specs.declared.command.Command.{Command}
 use Rattle.of_tool.specs.declared.status.TheConstants.{DONE, READ_FAULT, TOO_LONG, ILLEGAL, DOES_NOT_FIT}
-use Rattle.of_tool.specs.Commands.{Are}
+use Rattle.of_tool.specs.Commands.{AreWordsOf}
 use Rattle.of_tool.specs.Seen.{Change, Seen, IsWritten}
 use Rattle.of_tool.specs.Inputs.{Input, input_of, most_of}
 use Rattle.of_tool.specs.Refusals.{Refusal, ReadFault, TooLong, BadPlan, BadImage, UnlawfulImage, DoesNotFit, Illegal, status_of, IsRefused, IsRefusal, IsIllegal, HasMisfit, FindsWrong}
@@ -14,7 +14,7 @@ use Rattle.of_tool.specs.Statuses.{IsAnswerTo, Done, Refused, IsAnswer, To, NoCo
 use Rattle.of_tool.proofs.CommandLemmas.{same_command}
 
 -- an answer to the words is one to their command
-pub answer_to : (words : List (List ℕ)) (c : Command) (source : Change) (status : ℕ) (text : List ℕ) → Are words c → IsAnswer words source status text → IsAnswerTo c source status text
+pub answer_to : (words : List (List ℕ)) (c : Command) (source : Change) (status : ℕ) (text : List ℕ) → AreWordsOf words c → IsAnswer words source status text → IsAnswerTo c source status text
 answer_to words c source status text is (To d are answer) = let P : Command → Type 0 = λ k. IsAnswerTo k source status text in subst P (same_command words d c are is) answer
 answer_to words c source status text is (NoCommand none status_is text_is) = absurd (none c is)
 
@@ -32,7 +32,7 @@ pub refusal_undone : (input : Input) (source : Change) (status : ℕ) (text : Li
 refusal_undone input source status text h done = not_done h.why (sym h.status_is ∙ done)
 
 -- an input of at most so many bytes that could not be read
-pub fault_refused : (most : ℕ) (source : Change) (text : List ℕ) → Rose source.faults source.faults_after → TakesAtMost most source.before source.after → text ≡ codes "error: read fault\n" → (input : Input) → most_of input ≡ most → IsRefusal input source READ_FAULT text
+pub fault_refused : (most : ℕ) (source : Change) (text : List ℕ) → HasRisen source.faults source.faults_after → TakesAtMost most source.before source.after → text ≡ codes "error: read fault\n" → (input : Input) → most_of input ≡ most → IsRefusal input source READ_FAULT text
 fault_refused most source text rose few text_is input is = record { why = ReadFault; cause = record { fault = rose; few = subst (λ (n : ℕ). TakesAtMost n source.before source.after) (sym is) few }; status_is = refl; text_is = text_is }
 
 -- or that is longer
@@ -45,7 +45,7 @@ made_of c source status text done (Done is makes) = makes
 made_of c source status text done (Refused input reads refusal) = absurd (not_done refusal.why (sym refusal.status_is ∙ done))
 
 -- what it did, once that is written
-pub did : (words : List (List ℕ)) (c : Command) (seen : Seen) (status : ℕ) (text : List ℕ) → Are words c → status ≡ DONE → IsAnswer words seen.source status text → IsWritten seen text → Did c seen
+pub did : (words : List (List ℕ)) (c : Command) (seen : Seen) (status : ℕ) (text : List ℕ) → AreWordsOf words c → status ≡ DONE → IsAnswer words seen.source status text → IsWritten seen text → Did c seen
 did words c seen status text is done answer written = record { text = text; makes = made_of c seen.source status text done (answer_to words c seen.source status text is answer); written = written }
 
 illegal_of : (input : Input) (source : Change) (why : Refusal) → IsRefused input source why → status_of why ≡ ILLEGAL → IsIllegal input source
@@ -75,5 +75,5 @@ judged_to c source status text (Refused other is refusal) input reads =
     let cause = subst P same refusal.cause in
     ((λ e. illegal_of input source refusal.why cause (sym refusal.status_is ∙ e)), (λ e. misfit_of input source refusal.why cause (sym refusal.status_is ∙ e)))
 
-pub judges : (words : List (List ℕ)) (c : Command) (source : Change) (status : ℕ) (text : List ℕ) → Are words c → IsAnswer words source status text → FindsWrong (input_of c) source status
+pub judges : (words : List (List ℕ)) (c : Command) (source : Change) (status : ℕ) (text : List ℕ) → AreWordsOf words c → IsAnswer words source status text → FindsWrong (input_of c) source status
 judges words c source status text is answer = judged_to c source status text (answer_to words c source status text is answer)

@@ -2,24 +2,24 @@
 -- the turns and evictions of a run is what `play` leaves of the plan with these for its schedule.
 use Rattle.std.proofs.Common.{◌≡◌, ℕ, ◌+◌, ◌==◌, Bool, true, false, List, [], ◌∷◌, ◌++◌, length, Option, refl, sym, ap, subst}
 use Rattle.std.specs.List.{flat_map}
-use Rattle.of_mem.specs.Places.{ticket_at}
+use Rattle.of_mem.specs.Places.{ticket_cell_at}
 use Rattle.of_script.specs.declared.instr.TheConstants.{MOST_INSTRS}
 use Rattle.of_plan.specs.declared.answer.Answer.{Answer}
 use Rattle.of_plan.specs.declared.answer.Ending.{Ending}
 use Rattle.of_plan.specs.declared.answer.Ending.TheVariants.{Done, Stopped, Spent as RanOut}
 use Rattle.of_plan.specs.declared.plan.Item.{Item}
 use Rattle.of_plan.specs.Plan.{Plan}
-use Rattle.of_plan.specs.Report.{CallEntry, Start, Report, finished_of}
+use Rattle.of_plan.specs.Report.{Entry, Start, Report, finished_of}
 use Rattle.of_plan.specs.Legal.{IsLegal}
-use Rattle.of_plan.specs.Ended.{Run, answers_of, ending_of}
+use Rattle.of_plan.specs.Ended.{Ended, answers_of, ending_of}
 use Rattle.of_plan.specs.Allowance.{KeepsAllowance}
-use Rattle.of_eval.specs.Record.{IsLawful, OpenCall, BeyondAnswers, recovered_number}
+use Rattle.of_eval.specs.Record.{IsLawfulRecord, OpenCall, BeyondAnswers, recovered_number}
 use Rattle.of_eval.specs.Reported.{MakeLeastSteps, ReportsRun}
-use Rattle.of_core.specs.World.{World}
-use Rattle.of_core.specs.Events.{Event, Begins, Turns, Loads, Evicts, Raises, happens, run}
-use Rattle.of_caller.specs.Tables.{setup_for, opening_for}
+use Rattle.of_core.specs.World.{Moment}
+use Rattle.of_core.specs.Events.{Event, Begins, Turns, Loads, Evicts, Raises, after_event, after_events}
+use Rattle.of_caller.specs.Tables.{plan_setup, opening_for}
 use Rattle.of_caller.specs.Left.{IsLeftBy}
-use Rattle.of_caller.specs.Scheduled.{moves_in, with_begin, events_from}
+use Rattle.of_caller.specs.Scheduled.{item_events, with_begin, events_from}
 use Rattle.of_play.specs.Play.{IsPlayed}
 use Rattle.of_tool.specs.Ran.{with_schedule}
 use Rattle.of_play.proofs.PlaysEvents.{events_of}
@@ -30,20 +30,20 @@ module _ (p : Plan) (items : List Item) where
 
   -- ---- events
 
-  same_events : (w : World) (ms : List Event) → events_from q w ms ≡ events_from p w ms
+  same_events : (w : Moment) (ms : List Event) → events_from q w ms ≡ events_from p w ms
   same_events w [] = refl
-  same_events w (Begins i op ∷ ms) = ap (λ (fs : List Event). Begins i op ∷ fs) (same_events (happens (setup_for p) w (Begins i op)) ms)
-  same_events w (Turns i ∷ ms) = ap (λ (fs : List Event). with_begin p w (Turns i) ++ fs) (same_events (run (setup_for p) w (with_begin p w (Turns i))) ms)
-  same_events w (Loads c ∷ ms) = ap (λ (fs : List Event). Loads c ∷ fs) (same_events (happens (setup_for p) w (Loads c)) ms)
-  same_events w (Evicts k ∷ ms) = ap (λ (fs : List Event). Evicts k ∷ fs) (same_events (happens (setup_for p) w (Evicts k)) ms)
-  same_events w (Raises c ∷ ms) = ap (λ (fs : List Event). Raises c ∷ fs) (same_events (happens (setup_for p) w (Raises c)) ms)
+  same_events w (Begins i op ∷ ms) = ap (λ (fs : List Event). Begins i op ∷ fs) (same_events (after_event (plan_setup p) w (Begins i op)) ms)
+  same_events w (Turns i ∷ ms) = ap (λ (fs : List Event). with_begin p w (Turns i) ++ fs) (same_events (after_events (plan_setup p) w (with_begin p w (Turns i))) ms)
+  same_events w (Loads c ∷ ms) = ap (λ (fs : List Event). Loads c ∷ fs) (same_events (after_event (plan_setup p) w (Loads c)) ms)
+  same_events w (Evicts k ∷ ms) = ap (λ (fs : List Event). Evicts k ∷ fs) (same_events (after_event (plan_setup p) w (Evicts k)) ms)
+  same_events w (Raises c ∷ ms) = ap (λ (fs : List Event). Raises c ∷ fs) (same_events (after_event (plan_setup p) w (Raises c)) ms)
 
   -- the events of the plan with this schedule are those of the items
   pub events_are : events_of (with_schedule p items) items ≡ events_of p items
-  events_are = same_events (opening_for p) (flat_map moves_in items)
+  events_are = same_events (opening_for p) (flat_map item_events items)
 
   -- what they leave is what `play` leaves
-  pub left_is_played : (e : Run) → IsLeftBy p (events_of p items) e → IsPlayed (with_schedule p items) e
+  pub left_is_played : (e : Ended) → IsLeftBy p (events_of p items) e → IsPlayed (with_schedule p items) e
   left_is_played e h = subst (λ (es : List Event). IsLeftBy (with_schedule p items) es e) (sym events_are) (record {
     answers = h.answers;
     endings = h.endings;
@@ -54,14 +54,14 @@ module _ (p : Plan) (items : List Item) where
 
   -- ---- reports
 
-  open_with : (e : Run) (c x : ℕ) (b : Bool) (extra : List CallEntry) → OpenCall p e c x b extra → OpenCall q e c x b extra
+  open_with : (e : Ended) (c x : ℕ) (b : Bool) (extra : List Entry) → OpenCall p e c x b extra → OpenCall q e c x b extra
   open_with e c x true extra h = h
   open_with e c x false extra h = h
 
-  beyond_with : (e : Run) (c x : ℕ) (o : Ending) (extra : List CallEntry) → BeyondAnswers p e c x o extra → BeyondAnswers q e c x o extra
+  beyond_with : (e : Ended) (c x : ℕ) (o : Ending) (extra : List Entry) → BeyondAnswers p e c x o extra → BeyondAnswers q e c x o extra
   beyond_with e c x Done extra h = h
   beyond_with e c x (RanOut t) extra h = h
-  beyond_with e c x (Stopped asked) extra h = open_with e c x (recovered_number p e (ticket_at MOST_INSTRS c) == x + 1) extra h
+  beyond_with e c x (Stopped asked) extra h = open_with e c x (recovered_number p e (ticket_cell_at MOST_INSTRS c) == x + 1) extra h
 
   legal_with : (s : Start) (r : Report) → IsLegal p s r → IsLegal q s r
   legal_with s r h = record {
@@ -74,7 +74,7 @@ module _ (p : Plan) (items : List Item) where
     within_bound = h.within_bound;
   }
 
-  lawful_with : (s : Start) (e : Run) (r : Report) → IsLawful p s e r → IsLawful q s e r
+  lawful_with : (s : Start) (e : Ended) (r : Report) → IsLawfulRecord p s e r → IsLawfulRecord q s e r
   lawful_with s e r h = record {
     answers = h.answers;
     endings = h.endings;
@@ -94,7 +94,7 @@ module _ (p : Plan) (items : List Item) where
   least_with c x [] h = tt
   least_with c x (a ∷ others) h = (h.0, least_with c (x + 1) others h.1)
 
-  pub reports_with : (s : Start) (e : Run) (r : Report) → ReportsRun p s e r → ReportsRun (with_schedule p items) s e r
+  pub reports_with : (s : Start) (e : Ended) (r : Report) → ReportsRun p s e r → ReportsRun (with_schedule p items) s e r
   reports_with s e r h = record {
     lawful = lawful_with s e r h.lawful;
     within_limit = h.within_limit;

@@ -3,13 +3,13 @@
 use Rattle.std.specs.Prelude.{◌≡◌, ℕ, List, Option, None, MatchOption, ◌++◌, codes, decimal}
 use Rattle.of_plan.specs.Plan.{Plan}
 use Rattle.of_plan.specs.Report.{Report}
-use Rattle.of_plan.specs.Ended.{Run as Record, run_of}
-use Rattle.of_plan.specs.Generated.{generated}
+use Rattle.of_plan.specs.Ended.{Ended as Record, ended_value}
+use Rattle.of_plan.specs.Generated.{generated_plan}
 use Rattle.of_plan.specs.declared.ended.Ended.{Ended}
 use Rattle.of_report.specs.ReportText.{report_text}
 use Rattle.of_report.specs.LoadText.{load_text}
 use Rattle.of_report.specs.Image.{Image}
-use Rattle.of_row.specs.Views.{Sight}
+use Rattle.of_row.specs.Views.{View}
 use Rattle.of_row.specs.declared.member.Pass.{Pass}
 use Rattle.of_image.specs.declared.error.ImageErr.{ImageErr}
 use Rattle.of_image.specs.declared.error.ImageErr.TheVariants.{Memory, Bad, Unlawful}
@@ -19,18 +19,18 @@ use Rattle.of_tool.specs.declared.status.TheConstants.{DONE, BAD_IMAGE, ILLEGAL}
 use Rattle.of_tool.specs.declared.top.Answer.{Answer}
 use Rattle.of_tool.specs.declared.command.Command.{Command}
 use Rattle.of_tool.specs.declared.command.Command.TheVariants.{Run, Load, Continue}
-use Rattle.of_tool.specs.Commands.{words_of, Are, RunTeam}
+use Rattle.of_tool.specs.Commands.{command_words, AreWordsOf, AreWordsOfTeam}
 use Rattle.of_tool.specs.Ran.{IsRunReport}
 use Rattle.of_tool.specs.Continued.{WritesLife}
 use Rattle.of_tool.specs.Seen.{Change, view_of}
 use Rattle.of_tool.specs.Inputs.{Input, most_of, ReadsPlan, ReadsLife}
 use Rattle.of_tool.specs.Refusals.{IsRefusal}
 use Rattle.of_tool.specs.Statuses.{IsAnswerTo}
-use Rattle.of_tool.specs.Headline.{IsWhole}
+use Rattle.of_tool.specs.Headline.{IsWholeLoad}
 
 -- it is one of the command
-abbrev pub Answered : Command → Change → Answer → Type 0
-Answered command source answer = IsAnswerTo command source answer.status answer.text.items
+abbrev pub IsOutputFor : Command → Change → Answer → Type 0
+IsOutputFor command source answer = IsAnswerTo command source answer.status answer.text.items
 
 -- it refuses an input of this kind
 abbrev pub Refuses : Input → Change → Answer → Type 0
@@ -52,9 +52,9 @@ TellsRefusal (Unlawful cell) answer =
     × (answer.text.items ≡ codes "error: unlawful image, cell " ++ decimal cell ++ codes "\n")
 
 -- the answer of `check`
-abbrev pub Judges : Verdict → Answer → Type 0
-Judges Legal answer = (answer.status ≡ DONE) × (answer.text.items ≡ codes "legal report\n")
-Judges Illegal answer =
+abbrev pub TellsVerdict : Verdict → Answer → Type 0
+TellsVerdict Legal answer = (answer.status ≡ DONE) × (answer.text.items ≡ codes "legal report\n")
+TellsVerdict Illegal answer =
     (answer.status ≡ ILLEGAL) × (answer.text.items ≡ codes "error: not a legal report\n")
 
 -- the answer of `check-life`
@@ -67,7 +67,7 @@ JudgesLife Illegal answer =
 
 -- the text is that of the report of the record, which is of the plan that was read
 pub record HoldsRun {A : Type 0} (left : A → Option (Option ℕ)) (brakes : List A) (source : Change)
-    (text : List ℕ) (e : Record) (w : Sight) : Type 0 where
+    (text : List ℕ) (e : Record) (w : View) : Type 0 where
   pub plan : Plan
   pub read : ReadsPlan source plan
   pub report : Report
@@ -76,16 +76,16 @@ pub record HoldsRun {A : Type 0} (left : A → Option (Option ℕ)) (brakes : Li
 
 -- the text is the summary of the report of the record, which is of the plan of a load
 pub record HoldsLoad {A : Type 0} (left : A → Option (Option ℕ)) (brakes : List A)
-    (callers scripts : ℕ) (text : List ℕ) (e : Record) (w : Sight) : Type 0 where
+    (callers scripts : ℕ) (text : List ℕ) (e : Record) (w : View) : Type 0 where
   pub report : Report
-  pub run : IsRunReport left brakes (generated callers scripts) report e w
-  pub whole : IsWhole left brakes (generated callers scripts) report
+  pub run : IsRunReport left brakes (generated_plan callers scripts) report e w
+  pub whole : IsWholeLoad left brakes (generated_plan callers scripts) report
   pub text_is : text ≡ load_text report
 
 -- the text is that of a life with this record, which has gone on from the image by the plan that
 -- were read
 pub record HoldsLife {A : Type 0} (left : A → Option (Option ℕ)) (brakes : List A) (source : Change)
-    (text : List ℕ) (e : Record) (w : Sight) : Type 0 where
+    (text : List ℕ) (e : Record) (w : View) : Type 0 where
   pub image : Image
   pub plan : Plan
   pub read : ReadsLife source image plan
@@ -96,10 +96,10 @@ abbrev pub Found : Type 0
 Found = Answer × Option (Ended × Pass)
 
 -- beside an answer that is done stands a record of which this holds, and beside no other one
-abbrev pub HasBeside : (List ℕ → Record → Sight → Type 0) → Found → Type 0
+abbrev pub HasBeside : (List ℕ → Record → View → Type 0) → Found → Type 0
 HasBeside Is found =
     MatchOption found.1 (found.0.status ≡ DONE → ⊥)
-    (λ ran. (found.0.status ≡ DONE) × Is found.0.text.items (run_of ran.0) (view_of ran.1))
+    (λ ran. (found.0.status ≡ DONE) × Is found.0.text.items (ended_value ran.0) (view_of ran.1))
 
 -- so it is with an answer to `run`
 abbrev pub CarriesRun : {A : Type 0} → (A → Option (Option ℕ)) → List A → Change → Found → Type 0
@@ -114,13 +114,13 @@ abbrev pub CarriesLoad : {A : Type 0} → (A → Option (Option ℕ)) → List A
     → Found → Type 0
 CarriesLoad left brakes callers scripts found =
     MatchOption found.1 ⊥ (λ ran. (found.0.status ≡ DONE)
-    × HoldsLoad left brakes callers scripts found.0.text.items (run_of ran.0) (view_of ran.1))
+    × HoldsLoad left brakes callers scripts found.0.text.items (ended_value ran.0) (view_of ran.1))
 
 -- what stands beside an answer to these words
 pub record Carries {A : Type 0} (left : A → Option (Option ℕ)) (brakes : List A)
     (words : List (List ℕ)) (source : Change) (found : Found) : Type 0 where
-  pub run : words ≡ words_of Run → CarriesRun left brakes source found
-  pub load : (callers scripts : ℕ) → Are words (Load callers scripts)
+  pub run : words ≡ command_words Run → CarriesRun left brakes source found
+  pub load : (callers scripts : ℕ) → AreWordsOf words (Load callers scripts)
       → CarriesLoad left brakes callers scripts found
-  pub continued : words ≡ words_of Continue → CarriesLife left brakes source found
-  pub none : (RunTeam words → ⊥) → found.1 ≡ None
+  pub continued : words ≡ command_words Continue → CarriesLife left brakes source found
+  pub none : (AreWordsOfTeam words → ⊥) → found.1 ≡ None

@@ -8,8 +8,8 @@ use Rattle.of_tool.specs.declared.command.TheConstants.{MOST_FIRST, MOST_EVENTS,
 use Rattle.of_tool.specs.declared.command.Command.TheVariants.{Serial, Play, Trace, Commits, Run, Load, Check, CheckLife, Part, Image, Recover, Renumber, Migrate, Continue, Help, Version}
 
 -- the bytes of each word
-abbrev pub texts : List (String Global) → List (List ℕ)
-texts words = map string_bytes words
+abbrev pub word_bytes : List (String Global) → List (List ℕ)
+word_bytes words = map string_bytes words
 
 -- the word spells this number, which is at most so great: digits alone, with no 0 in front of
 -- others
@@ -17,23 +17,23 @@ abbrev pub SpellsUpTo : (most : ℕ) → List ℕ → ℕ → Type 0
 SpellsUpTo most word n = (n ≤ most) × (word ≡ decimal n)
 
 -- the one list of words that is this command
-abbrev pub words_of : Command → List (List ℕ)
-words_of Serial = codes "serial" ∷ []
-words_of Play = codes "play" ∷ []
-words_of (Trace first count) = codes "trace" ∷ decimal first ∷ decimal count ∷ []
-words_of Commits = codes "commits" ∷ []
-words_of Run = codes "run" ∷ []
-words_of (Load callers scripts) = codes "load" ∷ decimal callers ∷ decimal scripts ∷ []
-words_of Check = codes "check" ∷ []
-words_of CheckLife = codes "check-life" ∷ []
-words_of (Part number) = codes "part" ∷ decimal number ∷ []
-words_of Image = codes "image" ∷ []
-words_of Recover = codes "recover" ∷ []
-words_of Renumber = codes "renumber" ∷ []
-words_of Migrate = codes "migrate" ∷ []
-words_of Continue = codes "continue" ∷ []
-words_of Help = codes "--help" ∷ []
-words_of Version = codes "--version" ∷ []
+abbrev pub command_words : Command → List (List ℕ)
+command_words Serial = codes "serial" ∷ []
+command_words Play = codes "play" ∷ []
+command_words (Trace first count) = codes "trace" ∷ decimal first ∷ decimal count ∷ []
+command_words Commits = codes "commits" ∷ []
+command_words Run = codes "run" ∷ []
+command_words (Load callers scripts) = codes "load" ∷ decimal callers ∷ decimal scripts ∷ []
+command_words Check = codes "check" ∷ []
+command_words CheckLife = codes "check-life" ∷ []
+command_words (Part number) = codes "part" ∷ decimal number ∷ []
+command_words Image = codes "image" ∷ []
+command_words Recover = codes "recover" ∷ []
+command_words Renumber = codes "renumber" ∷ []
+command_words Migrate = codes "migrate" ∷ []
+command_words Continue = codes "continue" ∷ []
+command_words Help = codes "--help" ∷ []
+command_words Version = codes "--version" ∷ []
 
 -- so many events from this one on
 pub record IsTrace (first count : ℕ) : Type 0 where
@@ -92,15 +92,15 @@ IsPlain Help = Unit {0}
 IsPlain Version = Unit {0}
 
 -- the words are this command
-abbrev pub Are : List (List ℕ) → Command → Type 0
-Are words command = IsInRange command × (words ≡ words_of command)
+abbrev pub AreWordsOf : List (List ℕ) → Command → Type 0
+AreWordsOf words command = IsInRange command × (words ≡ command_words command)
 
 -- the words are no command
 abbrev pub IsNoCommand : List (List ℕ) → Type 0
-IsNoCommand words = (command : Command) → Are words command → ⊥
+IsNoCommand words = (command : Command) → AreWordsOf words command → ⊥
 
 -- the words are a command that runs callers at once
-pub record RunTeam (words : List (List ℕ)) : Type 0 where
+pub record AreWordsOfTeam (words : List (List ℕ)) : Type 0 where
   pub command : Command
-  pub are : Are words command
+  pub are : AreWordsOf words command
   pub team : IsPlain command → ⊥

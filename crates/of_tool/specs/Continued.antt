@@ -2,56 +2,56 @@
 use Rattle.std.specs.Prelude.{◌≡◌, ℕ, List, ◌++◌, Option, All}
 use Rattle.of_plan.specs.Plan.{Plan}
 use Rattle.of_plan.specs.Report.{Report}
-use Rattle.of_plan.specs.Ended.{Run}
-use Rattle.of_report.specs.Image.{Image, start_of, durable_row}
+use Rattle.of_plan.specs.Ended.{Ended}
+use Rattle.of_report.specs.Image.{Image, start_of_image, durable_row}
 use Rattle.of_report.specs.ReportText.{report_text}
 use Rattle.of_image.specs.declared.version.Version.TheVariants.{Two}
 use Rattle.of_image.specs.ImageText.{image_text}
 use Rattle.of_image.specs.Parsed.{ReadsImage}
-use Rattle.of_row.specs.Views.{Sight}
+use Rattle.of_row.specs.Views.{View}
 use Rattle.of_caller.specs.InTime.{Mark}
 use Rattle.of_lives.specs.OneHistory.{IsBehind}
-use Rattle.of_lives.specs.Images.{Fits}
-use Rattle.of_lives.specs.Restarts.{start_in}
+use Rattle.of_lives.specs.Images.{PlanFitsImage}
+use Rattle.of_lives.specs.Restarts.{start_of_row}
 use Rattle.of_lives.specs.Continuing.{IsLifeOf, LeavesImage}
 use Rattle.of_tool.specs.Ran.{IsHistoryOf, KeepsPromises, IsRealRun}
 
 -- the text of the durable words that a life leaves
-abbrev pub left_text : Plan → Run → List ℕ
+abbrev pub left_text : Plan → Ended → List ℕ
 left_text p e = image_text Two (durable_row p e)
 
 -- the report, and after it the image of the durable words
-abbrev pub life_text : Plan → Report → Run → List ℕ
+abbrev pub life_text : Plan → Report → Ended → List ℕ
 life_text p r e = report_text r ++ left_text p e
 
 -- The life goes on from the image, which the plan fits, and the next life can go on from what it
 -- leaves.
-pub record GoesOnFrom (i : Image) (p : Plan) (r : Report) (e : Run) : Type 0 where
-  pub fits : Fits i p
+pub record GoesOnFrom (i : Image) (p : Plan) (r : Report) (e : Ended) : Type 0 where
+  pub fits : PlanFitsImage i p
   -- no call that the image holds was run again
-  pub not_again : All (IsBehind (start_of i)) r.entries
+  pub not_again : All (IsBehind (start_of_image i)) r.entries
   -- the text of the durable words is read again as an image, which is where the report ends: its
   -- sequence, its store, and each caller's ticket. So the next life can be given it
   pub next : Image
-  pub leaves : LeavesImage p (start_of i) e r next
+  pub leaves : LeavesImage p (start_of_image i) e r next
   pub reads : ReadsImage Two (left_text p e) next
 
 -- the run of a life is real: it is a schedule from the image's row
-abbrev pub IsRealLife : Image → Plan → List Mark → Run → Report → Type 0
-IsRealLife i p course e r = IsRealRun p (start_of i) (start_in p i.row.words) course e r
+abbrev pub IsRealLife : Image → Plan → List Mark → Ended → Report → Type 0
+IsRealLife i p course e r = IsRealRun p (start_of_image i) (start_of_row p i.row.words) course e r
 
 -- the report of a life that goes on from the image by the plan, with these brakes
 pub record IsLifeReport {A : Type 0} (left : A → Option (Option ℕ)) (brakes : List A) (i : Image)
-    (p : Plan) (r : Report) (e : Run) (w : Sight) : Type 0 where
+    (p : Plan) (r : Report) (e : Ended) (w : View) : Type 0 where
   pub course : List Mark
-  pub promises : KeepsPromises left brakes p (start_of i) course e r
+  pub promises : KeepsPromises left brakes p (start_of_image i) course e r
   pub goes_on : GoesOnFrom i p r e
   pub real : IsRealLife i p course e r
   pub table : IsLifeOf i p e w r
 
 -- a life has gone on so, and this is its text
 pub record WritesLife {A : Type 0} (left : A → Option (Option ℕ)) (brakes : List A) (i : Image)
-    (p : Plan) (e : Run) (w : Sight) (text : List ℕ) : Type 0 where
+    (p : Plan) (e : Ended) (w : View) (text : List ℕ) : Type 0 where
   pub report : Report
   pub life : IsLifeReport left brakes i p report e w
   pub text_is : text ≡ life_text p report e
@@ -59,10 +59,10 @@ pub record WritesLife {A : Type 0} (left : A → Option (Option ℕ)) (brakes : 
 -- the text is that of some life
 pub record IsSomeLifes (i : Image) (p : Plan) (text : List ℕ) : Type 0 where
   pub report : Report
-  pub left : Run
-  pub seen : Sight
+  pub left : Ended
+  pub seen : View
   pub course : List Mark
-  pub history : IsHistoryOf p (start_of i) course left report
+  pub history : IsHistoryOf p (start_of_image i) course left report
   pub goes_on : GoesOnFrom i p report left
   pub real : IsRealLife i p course left report
   pub table : IsLifeOf i p left seen report

@@ -2,21 +2,21 @@
 -- parts: what the report promises, and that it comes of a real run.
 use Rattle.std.specs.Prelude.{◌≡◌, ℕ, ◌<◌, List, Option, None}
 use Rattle.of_plan.specs.Plan.{Plan}
-use Rattle.of_plan.specs.Report.{Report, empty_start, done, line_of}
-use Rattle.of_plan.specs.Ended.{Run as Record}
+use Rattle.of_plan.specs.Report.{Report, empty_start, done, caller_line}
+use Rattle.of_plan.specs.Ended.{Ended as Record}
 use Rattle.of_plan.specs.declared.ended.Ended.{Ended}
 use Rattle.of_plan.specs.Serial.{serial_report}
-use Rattle.of_plan.specs.Generated.{generated}
+use Rattle.of_plan.specs.Generated.{generated_plan}
 use Rattle.of_report.specs.ReportText.{report_text}
 use Rattle.of_report.specs.LoadText.{load_text}
-use Rattle.of_report.specs.Image.{Image, start_of}
-use Rattle.of_row.specs.Views.{Sight}
+use Rattle.of_report.specs.Image.{Image, start_of_image}
+use Rattle.of_row.specs.Views.{View}
 use Rattle.of_row.specs.declared.member.Pass.{Pass}
 use Rattle.of_caller.specs.InTime.{Mark}
 use Rattle.of_lives.specs.Continuing.{IsLifeOf}
 use Rattle.of_tool.specs.declared.command.Command.{Command}
 use Rattle.of_tool.specs.declared.command.Command.TheVariants.{Run, Load, Continue}
-use Rattle.of_tool.specs.Ran.{AllTell, KeepsPromises, IsAsPlayed, ShowsZeros}
+use Rattle.of_tool.specs.Ran.{AllBrakesTell, KeepsPromises, IsAsPlayed, ShowsZeros}
 use Rattle.of_tool.specs.Continued.{GoesOnFrom, IsRealLife, life_text}
 use Rattle.of_tool.specs.Seen.{Seen, Holds, IsWritten}
 use Rattle.of_tool.specs.Inputs.{ReadsPlan, ReadsLife}
@@ -44,20 +44,20 @@ pub record RunsPlan {A : Type 0} (left : A → Option (Option ℕ)) (brakes : Li
 
 -- every caller of a plan is done
 abbrev pub AllDone : Plan → Report → Type 0
-AllDone p r = (c : ℕ) → c < p.callers → (line_of r c).state ≡ done
+AllDone p r = (c : ℕ) → c < p.callers → (caller_line r c).state ≡ done
 
 -- if no brake can deny, every caller is done, and the summary is that of the plan's serial report
-pub record IsWhole {A : Type 0} (left : A → Option (Option ℕ)) (brakes : List A) (p : Plan)
+pub record IsWholeLoad {A : Type 0} (left : A → Option (Option ℕ)) (brakes : List A) (p : Plan)
     (r : Report) : Type 0 where
-  pub all_done : AllTell left p 0 brakes → AllDone p r
-  pub serial : AllTell left p 0 brakes → load_text r ≡ load_text (serial_report p)
+  pub all_done : AllBrakesTell left p 0 brakes → AllDone p r
+  pub serial : AllBrakesTell left p 0 brakes → load_text r ≡ load_text (serial_report p)
 
 -- the summary of a report of the plan was written, which promises the same
 pub record PrintsSummary {A : Type 0} (left : A → Option (Option ℕ)) (brakes : List A)
     (seen : Seen) (plan : Plan) (course : List Mark) (e : Record) (report : Report) : Type 0 where
   pub written : IsWritten seen (load_text report)
   pub promises : KeepsPromises left brakes plan (empty_start plan) course e report
-  pub whole : IsWhole left brakes plan report
+  pub whole : IsWholeLoad left brakes plan report
 
 -- and it is of a real run of the plan that is made for this many callers with this many scripts
 -- each
@@ -65,8 +65,8 @@ pub record LoadsPlan {A : Type 0} (left : A → Option (Option ℕ)) (brakes : L
     (callers scripts : ℕ) (seen : Seen) (e : Record) : Type 0 where
   pub course : List Mark
   pub report : Report
-  pub prints : PrintsSummary left brakes seen (generated callers scripts) course e report
-  pub real : IsAsPlayed (generated callers scripts) course e report
+  pub prints : PrintsSummary left brakes seen (generated_plan callers scripts) course e report
+  pub real : IsAsPlayed (generated_plan callers scripts) course e report
 
 -- ---- `continue`
 
@@ -78,7 +78,7 @@ pub record PrintsLife {A : Type 0} (left : A → Option (Option ℕ)) (brakes : 
     (report : Report) : Type 0 where
   pub read : ReadsLife seen.source image plan
   pub written : IsWritten seen (life_text plan report e)
-  pub promises : KeepsPromises left brakes plan (start_of image) course e report
+  pub promises : KeepsPromises left brakes plan (start_of_image image) course e report
   pub goes_on : GoesOnFrom image plan report e
 
 -- and it is the report of a real run from there
@@ -95,19 +95,19 @@ pub record ContinuesImage {A : Type 0} (left : A → Option (Option ℕ)) (brake
 
 -- the same of `run`, and what its table and its pass have
 pub record RunsOnTable {A : Type 0} (left : A → Option (Option ℕ)) (brakes : List A) (seen : Seen)
-    (e : Record) (w : Sight) : Type 0 where
+    (e : Record) (w : View) : Type 0 where
   pub runs : RunsPlan left brakes seen e
   pub table : ShowsZeros runs.plan e w runs.report
 
 -- the same of `load`
 pub record LoadsOnTable {A : Type 0} (left : A → Option (Option ℕ)) (brakes : List A)
-    (callers scripts : ℕ) (seen : Seen) (e : Record) (w : Sight) : Type 0 where
+    (callers scripts : ℕ) (seen : Seen) (e : Record) (w : View) : Type 0 where
   pub loads : LoadsPlan left brakes callers scripts seen e
-  pub table : ShowsZeros (generated callers scripts) e w loads.report
+  pub table : ShowsZeros (generated_plan callers scripts) e w loads.report
 
 -- the same of `continue`
 pub record ContinuesOnTable {A : Type 0} (left : A → Option (Option ℕ)) (brakes : List A)
-    (seen : Seen) (e : Record) (w : Sight) : Type 0 where
+    (seen : Seen) (e : Record) (w : View) : Type 0 where
   pub continues : ContinuesImage left brakes seen e
   pub table : IsLifeOf continues.image continues.plan e w continues.report
 

@@ -11,11 +11,11 @@ use Rattle.of_image.specs.declared.version.Version.{Version as Edition}
 use Rattle.of_image.specs.declared.version.Version.TheVariants.{One, Two}
 use Rattle.of_image.specs.Parsed.{ReadsImage}
 use Rattle.of_image.specs.MovedRow.{Migrates}
-use Rattle.of_lives.specs.Images.{Fits}
+use Rattle.of_lives.specs.Images.{PlanFitsImage}
 use Rattle.of_tool.specs.declared.command.Command.{Command}
 use Rattle.of_tool.specs.declared.command.Command.TheVariants.{Serial, Play, Trace, Commits, Run, Load, Check, CheckLife, Part, Image, Recover, Renumber, Migrate, Continue, Help, Version}
 use Rattle.of_tool.specs.declared.top.TheConstants.{MOST_INPUT, MOST_WITH_REPORT, MOST_IMAGE}
-use Rattle.of_tool.specs.Commands.{Are}
+use Rattle.of_tool.specs.Commands.{AreWordsOf}
 use Rattle.of_tool.specs.Cutting.{IsPart}
 use Rattle.of_tool.specs.Lives.{IsLegalLife}
 use Rattle.of_tool.specs.Seen.{Change, ReadsAll}
@@ -64,7 +64,7 @@ most_of AnyTexts = MOST_WITH_REPORT
 -- the words are those of a command that reads
 pub record AskForInput (words : List (List ℕ)) : Type 0 where
   pub command : Command
-  pub are : Are words command
+  pub are : AreWordsOf words command
   pub input : Input
   pub reads : input_of command ≡ Some input
 
@@ -122,8 +122,8 @@ pub record ReadsOne (Is : List ℕ → Type 0) (source : Change) : Type 0 where
   pub is : Is bytes
 
 -- the whole input is the text of an image of this version, and this is the image
-abbrev pub ReadsItsImage : Edition → Change → AnImage → Type 0
-ReadsItsImage edition source image = ReadsOne (λ bytes. ReadsImage edition bytes image) source
+abbrev pub ReadsImageOf : Edition → Change → AnImage → Type 0
+ReadsImageOf edition source image = ReadsOne (λ bytes. ReadsImage edition bytes image) source
 
 -- the whole input is the text of a version 1 image, and this is what it is in version 2
 abbrev pub ReadsEarlier : Change → List ℕ → Type 0
@@ -160,7 +160,7 @@ pub record ReadsMisfit (source : Change) : Type 0 where
   pub image : AnImage
   pub plan : Plan
   pub read : ReadsLife source image plan
-  pub misfit : Fits image plan → ⊥
+  pub misfit : PlanFitsImage image plan → ⊥
 
 -- ---- an image, a plan, a report and an image
 
@@ -211,7 +211,7 @@ pub record ReadsLifeMisfit (source : Change) : Type 0 where
   pub told : List ℕ
   pub left : List ℕ
   pub read : ReadsLived source image plan told left
-  pub misfit : Fits image plan → ⊥
+  pub misfit : PlanFitsImage image plan → ⊥
 
 -- an image, a plan that fits it, and the report and the image of a life that goes on from it
 pub record ReadsLegalLife (source : Change) : Type 0 where
@@ -220,7 +220,7 @@ pub record ReadsLegalLife (source : Change) : Type 0 where
   pub told : List ℕ
   pub left : List ℕ
   pub read : ReadsLived source image plan told left
-  pub fits : Fits image plan
+  pub fits : PlanFitsImage image plan
   pub legal : IsLegalLife image plan told left
 
 -- an image, a plan that fits it, and what is no such life's
@@ -230,7 +230,7 @@ pub record ReadsIllegalLife (source : Change) : Type 0 where
   pub told : List ℕ
   pub left : List ℕ
   pub read : ReadsLived source image plan told left
-  pub fits : Fits image plan
+  pub fits : PlanFitsImage image plan
   pub illegal : IsLegalLife image plan told left → ⊥
 
 -- ---- any texts

@@ -6,8 +6,8 @@ use Rattle.of_plan.specs.BadLine.{HasBadLine}
 use Rattle.of_plan.specs.Report.{Report}
 use Rattle.of_plan.specs.Legal.{IsLegal}
 use Rattle.of_report.specs.ReportText.{report_text}
-use Rattle.of_report.specs.ImageRow.{Row}
-use Rattle.of_report.specs.Image.{Image, start_of}
+use Rattle.of_report.specs.ImageRow.{DurableRow}
+use Rattle.of_report.specs.Image.{Image, start_of_image}
 use Rattle.of_image.specs.declared.version.Version.TheVariants.{Two}
 use Rattle.of_image.specs.ImageText.{SpellsImage, IsImageText, image_text}
 use Rattle.of_image.specs.Parsed.{ReadsImage, IsUnlawful}
@@ -23,7 +23,7 @@ use Rattle.of_tool.specs.declared.lived.LifeCause.TheVariants.{Told, Left, Ends}
 
 -- the text is the printed one of a row
 pub record IsPrinted (text : List ℕ) : Type 0 where
-  pub row : Row
+  pub row : DurableRow
   pub spelled : SpellsImage Two text row
   pub is : text ≡ image_text Two row
 
@@ -36,11 +36,11 @@ pub record IsLeft (text : List ℕ) (i : Image) : Type 0 where
 -- second is the printed one of durable words in which recovery finds where that report ends.
 pub record IsLegalLife (i : Image) (p : Plan) (told left : List ℕ) : Type 0 where
   pub report : Report
-  pub legal : IsLegal p (start_of i) report
+  pub legal : IsLegal p (start_of_image i) report
   pub text_is : told ≡ report_text report
   pub next : Image
   pub left_is : IsLeft left next
-  pub ends : EndsAt p (start_of i) report next
+  pub ends : EndsAt p (start_of_image i) report next
 
 -- legal exactly where it is so
 abbrev pub IsLifeVerdict : Image → Plan → (told left : List ℕ) → Verdict → Type 0
@@ -57,7 +57,7 @@ IsLeftFault text NotPrinted = (i : Image) × ReadsImage Two text i × (IsPrinted
 pub record EndsElsewhere (i : Image) (p : Plan) (told left : List ℕ)
     (Breaks : Report → Image → Type 0) : Type 0 where
   pub report : Report
-  pub of_it : IsTextOf p (start_of i) told report
+  pub of_it : IsTextOf p (start_of_image i) told report
   pub next : Image
   pub left_is : IsLeft left next
   pub breaks : Breaks report next
@@ -65,8 +65,8 @@ pub record EndsElsewhere (i : Image) (p : Plan) (told left : List ℕ)
 -- the first thing that is wrong: the report is not legal; or it is, and the image is none; or both
 -- are right, and the report ends elsewhere
 abbrev pub IsLifeCause : Image → Plan → (told left : List ℕ) → LifeCause → Type 0
-IsLifeCause i p told left (Told cause) = IsCauseFrom p (start_of i) told cause
+IsLifeCause i p told left (Told cause) = IsCauseFrom p (start_of_image i) told cause
 IsLifeCause i p told left (Left fault) =
-    IsLegalFrom p (start_of i) told × IsLeftFault left fault
+    IsLegalFrom p (start_of_image i) told × IsLeftFault left fault
 IsLifeCause i p told left (Ends rule) =
-    EndsElsewhere i p told left (λ report next. BreaksLeft p (start_of i) report next rule)
+    EndsElsewhere i p told left (λ report next. BreaksLeft p (start_of_image i) report next rule)

@@ -4,7 +4,7 @@ use Rattle.of_plan.specs.Plan.{Plan}
 use Rattle.of_plan.specs.Report.{Report, empty_start}
 use Rattle.of_plan.specs.Legal.{IsLegal}
 use Rattle.of_plan.specs.Serial.{serial_report}
-use Rattle.of_plan.specs.Generated.{generated}
+use Rattle.of_plan.specs.Generated.{generated_plan}
 use Rattle.of_report.specs.ReportText.{report_text}
 use Rattle.of_report.specs.LoadText.{load_text}
 use Rattle.of_report.specs.Image.{Image as AnImage}
@@ -21,7 +21,7 @@ use Rattle.of_tool.specs.PlayedImage.{IsPlayedImage}
 use Rattle.of_tool.specs.Ran.{IsSomeRuns}
 use Rattle.of_tool.specs.Continued.{IsSomeLifes}
 use Rattle.of_tool.specs.Seen.{Change, Seen, IsWritten}
-use Rattle.of_tool.specs.Inputs.{ReadsPlan, ReadsLegal, ReadsLegalLife, ReadsPart, ReadsItsImage, ReadsEarlier, ReadsLife}
+use Rattle.of_tool.specs.Inputs.{ReadsPlan, ReadsLegal, ReadsLegalLife, ReadsPart, ReadsImageOf, ReadsEarlier, ReadsLife}
 
 -- the whole input is a plan's text, and the text is the report of its serial replay, which is a
 -- legal one
@@ -63,7 +63,7 @@ pub record MakesRun (source : Change) (text : List ℕ) : Type 0 where
 -- with so many scripts each
 pub record MakesLoad (callers scripts : ℕ) (text : List ℕ) : Type 0 where
   pub report : Report
-  pub run : IsSomeRuns (generated callers scripts) report
+  pub run : IsSomeRuns (generated_plan callers scripts) report
   pub text_is : text ≡ load_text report
 
 -- the report that was read is legal, and the text says so
@@ -85,13 +85,13 @@ pub record MakesImage (source : Change) (text : List ℕ) : Type 0 where
 -- the whole input is an image's text, and the text is what recovery finds in it
 pub record MakesRecovered (source : Change) (text : List ℕ) : Type 0 where
   pub image : AnImage
-  pub read : ReadsItsImage Two source image
+  pub read : ReadsImageOf Two source image
   pub text_is : text ≡ recovered_text image
 
 -- the whole input is an image's text, and the text is the image with its sequences begun anew
 pub record MakesRenumbered (source : Change) (text : List ℕ) : Type 0 where
   pub image : AnImage
-  pub read : ReadsItsImage Two source image
+  pub read : ReadsImageOf Two source image
   pub renumbers : Renumbers image text
 
 -- the whole input is an image's text and a plan's, and the text is that of some life that goes on

@@ -1,7 +1,7 @@
 -- What a plan's schedule leaves, as an image.
 use Rattle.std.specs.Prelude.{ℕ, List}
 use Rattle.of_plan.specs.Plan.{Plan}
-use Rattle.of_plan.specs.Ended.{Run}
+use Rattle.of_plan.specs.Ended.{Ended}
 use Rattle.of_plan.specs.Report.{Report, empty_start}
 use Rattle.of_image.specs.declared.version.Version.TheVariants.{Two}
 use Rattle.of_image.specs.ImageText.{SpellsImage}
@@ -13,7 +13,7 @@ use Rattle.of_play.specs.Played.{IsPlayedReport}
 -- report's sequence and store, and each caller's ticket is the one that is counted from its entries
 -- in the report. So a life that goes on from this image runs none of the report's announced calls
 -- again.
-pub record ShowsRun (p : Plan) (e : Run) (r : Report) (text : List ℕ) : Type 0 where
+pub record ShowsRun (p : Plan) (e : Ended) (r : Report) (text : List ℕ) : Type 0 where
   pub spelled : SpellsImage Two text (durable_row p e)
   pub image : IsImageOf p e r text
   pub leaves : LeavesImage p (empty_start p) e r image.image

@@ -1,6 +1,6 @@
 -- Why an input is refused: the statuses above 0 that have their cause in it, with their texts.
 use Rattle.std.specs.Prelude.{◌≡◌, ℕ, List, ◌++◌, codes, decimal, Option, Some}
-use Rattle.of_io.specs.Faults.{Rose, TakesMoreThan, TakesAtMost}
+use Rattle.of_io.specs.Faults.{HasRisen, TakesMoreThan, TakesAtMost}
 use Rattle.of_plan.specs.Plan.{Plan}
 use Rattle.of_plan.specs.BadLine.{HasBadLine}
 use Rattle.of_image.specs.declared.version.Version.{Version as Edition}
@@ -51,7 +51,7 @@ text_of input Illegal = illegal_text input
 
 -- a read failed, and no more than so many bytes were taken
 pub record ReadFails (most : ℕ) (source : Change) : Type 0 where
-  pub fault : Rose source.faults source.faults_after
+  pub fault : HasRisen source.faults source.faults_after
   pub few : TakesAtMost most source.before source.after
 
 -- the plan of the input is no plan's text, and this is its bad line

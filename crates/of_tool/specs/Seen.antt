@@ -1,9 +1,9 @@
 -- What a call of `tool` saw of its source and its sink, and what it did to them.
 use Rattle.std.specs.Prelude.{◌≡◌, ℕ, ◌-◌, ◌^◌, ◌<◌, ◌≤◌, Bool, IsTrue, List, length, Option, Some, None}
 use Rattle.std.specs.Io.KnownBytes.{Appends, Consumes, IsAtEnd}
-use Rattle.of_plan.specs.Ended.{Run, run_of}
-use Rattle.of_plan.specs.declared.ended.Ended.{Ended}
-use Rattle.of_row.specs.Views.{Sight}
+use Rattle.of_plan.specs.Ended.{Ended, ended_value}
+use Rattle.of_plan.specs.declared.ended.Ended.{Ended as RustEnded}
+use Rattle.of_row.specs.Views.{View}
 use Rattle.of_row.specs.declared.member.Pass.{Pass}
 
 -- a source or a sink before and after a call: the bytes that it has left or has written, where it
@@ -74,10 +74,10 @@ pub record IsFresh (seen : Seen) : Type 0 where
 -- ---- what a run hands out beside its status
 
 -- what a pass has seen
-abbrev pub view_of : Pass → Sight
+abbrev pub view_of : Pass → View
 view_of pass = pass.seat.me.0
 
 -- a run has left a record and a pass, and this holds of the record and of what the pass has seen
-abbrev pub Holds : Option (Ended × Pass) → (Run → Sight → Type 0) → Type 0
+abbrev pub Holds : Option (RustEnded × Pass) → (Ended → View → Type 0) → Type 0
 Holds None Is = ⊥
-Holds (Some ran) Is = Is (run_of ran.0) (view_of ran.1)
+Holds (Some ran) Is = Is (ended_value ran.0) (view_of ran.1)

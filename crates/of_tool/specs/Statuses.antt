@@ -1,10 +1,10 @@
 -- How a call of `tool` ends: each status comes for its cause, and there is no other.
 use Rattle.std.specs.Prelude.{◌≡◌, ℕ, List, codes, Some}
-use Rattle.of_io.specs.Faults.{Rose, AppendsFront}
+use Rattle.of_io.specs.Faults.{HasRisen, AppendsFront}
 use Rattle.of_tool.specs.declared.command.Command.{Command}
 use Rattle.of_tool.specs.declared.command.Command.TheVariants.{Check, CheckLife, Continue}
 use Rattle.of_tool.specs.declared.status.TheConstants.{DONE, OUT_OF_MEMORY, USAGE, WRITE_FAULT, ILLEGAL, DOES_NOT_FIT}
-use Rattle.of_tool.specs.Commands.{Are, IsNoCommand}
+use Rattle.of_tool.specs.Commands.{AreWordsOf, IsNoCommand}
 use Rattle.of_tool.specs.Seen.{Change, Seen, IsWritten, IsUntouched, IsFresh}
 use Rattle.of_tool.specs.Inputs.{Input, input_of}
 use Rattle.of_tool.specs.Refusals.{IsRefusal}
@@ -20,13 +20,13 @@ pub data IsAnswerTo (command : Command) (source : Change) (status : ℕ) (text :
 -- the answer to the words of a command line
 pub data IsAnswer (words : List (List ℕ)) (source : Change) (status : ℕ) (text : List ℕ)
     : Type 0 where
-  To : (command : Command) → Are words command → IsAnswerTo command source status text
+  To : (command : Command) → AreWordsOf words command → IsAnswerTo command source status text
       → IsAnswer words source status text
   NoCommand : IsNoCommand words → status ≡ USAGE → text ≡ codes "error: usage\n"
       → IsAnswer words source status text
 
 -- the status is that of an answer, and its text was written without a fault
-pub record IsTold (words : List (List ℕ)) (seen : Seen) (status : ℕ) : Type 0 where
+pub record IsAnsweredAndWritten (words : List (List ℕ)) (seen : Seen) (status : ℕ) : Type 0 where
   pub text : List ℕ
   pub answer : IsAnswer words seen.source status text
   pub written : IsWritten seen text
@@ -35,7 +35,7 @@ pub record IsTold (words : List (List ℕ)) (seen : Seen) (status : ℕ) : Type 
 -- writing failed: a front of an answer's text was written
 pub record IsWriteFault (words : List (List ℕ)) (seen : Seen) (status : ℕ) : Type 0 where
   pub is : status ≡ WRITE_FAULT
-  pub fault : Rose seen.sink.faults seen.sink.faults_after
+  pub fault : HasRisen seen.sink.faults seen.sink.faults_after
   pub text : List ℕ
   pub meant : ℕ
   pub answer : IsAnswer words seen.source meant text
@@ -47,16 +47,16 @@ pub record IsOutOfMemory (seen : Seen) (status : ℕ) : Type 0 where
   pub untouched : IsUntouched seen
 
 -- each status comes with its cause, and there is no other
-pub data Answers (words : List (List ℕ)) (seen : Seen) (status : ℕ) : Type 0 where
-  Told : IsTold words seen status → Answers words seen status
-  WriteFault : IsWriteFault words seen status → Answers words seen status
-  OutOfMemory : IsOutOfMemory seen status → Answers words seen status
+pub data AnswersWords (words : List (List ℕ)) (seen : Seen) (status : ℕ) : Type 0 where
+  Told : IsAnsweredAndWritten words seen status → AnswersWords words seen status
+  WriteFault : IsWriteFault words seen status → AnswersWords words seen status
+  OutOfMemory : IsOutOfMemory seen status → AnswersWords words seen status
 
 -- from one call two causes have one status
 abbrev pub OneStatus : Type 0
 OneStatus =
     (words : List (List ℕ)) (seen : Seen) (status other : ℕ) → IsFresh seen
-    → Answers words seen status → Answers words seen other → status ≡ other
+    → AnswersWords words seen status → AnswersWords words seen other → status ≡ other
 
 -- and an error, which is any status above 0, has one text
 abbrev pub OneError : Type 0

@@ -1,7 +1,7 @@
 //! The commands and their words.
 
 ghost use Rattle.std.specs.Prelude.{◌≡◌, ◌∷◌, [], ℕ, MatchOption, codes, string_bytes};
-ghost use Rattle.of_tool.specs.Commands.{texts, Are, IsNoCommand, SpellsUpTo};
+ghost use Rattle.of_tool.specs.Commands.{word_bytes, AreWordsOf, IsNoCommand, SpellsUpTo};
 
 use of_cell::MOST_CALLERS;
 use of_plan::MOST_SCRIPTS;
@@ -96,7 +96,7 @@ fn number(word: &str, most: u32) -> Option<u32>
 impl Command {
     // The command of one word.
     fn plain(word: &str) -> Option<Command>
-        ensures { MatchOption result (IsNoCommand (word.now ∷ [])) (Are (word.now ∷ [])) }
+        ensures { MatchOption result (IsNoCommand (word.now ∷ [])) (AreWordsOf (word.now ∷ [])) }
     {
         match word {
             "serial" => Some(Command::Serial),
@@ -120,7 +120,7 @@ impl Command {
     fn load(callers: &str, scripts: &str) -> Option<Command>
         ensures { MatchOption result
             (IsNoCommand (codes "load" ∷ callers.now ∷ scripts.now ∷ []))
-            (Are (codes "load" ∷ callers.now ∷ scripts.now ∷ [])) }
+            (AreWordsOf (codes "load" ∷ callers.now ∷ scripts.now ∷ [])) }
     {
         let callers = number(callers, MOST_CALLERS)?;
         let scripts = number(scripts, MOST_SCRIPTS)?;
@@ -134,7 +134,7 @@ impl Command {
     fn trace(first: &str, count: &str) -> Option<Command>
         ensures { MatchOption result
             (IsNoCommand (codes "trace" ∷ first.now ∷ count.now ∷ []))
-            (Are (codes "trace" ∷ first.now ∷ count.now ∷ [])) }
+            (AreWordsOf (codes "trace" ∷ first.now ∷ count.now ∷ [])) }
     {
         let first = number(first, MOST_FIRST)?;
         let count = number(count, MOST_EVENTS)?;
@@ -148,7 +148,7 @@ impl Command {
     fn part(number: &str) -> Option<Command>
         ensures { MatchOption result
             (IsNoCommand (codes "part" ∷ number.now ∷ []))
-            (Are (codes "part" ∷ number.now ∷ [])) }
+            (AreWordsOf (codes "part" ∷ number.now ∷ [])) }
     {
         let number = self::number(number, MOST_PART)?;
         if number == 0 {
@@ -160,7 +160,7 @@ impl Command {
     /// The command that the words are, where they are one. Numbers are spelled by digits alone,
     /// with no 0 in front of others.
     pub fn from_words(words: &[String]) -> Option<Command>
-        ensures { MatchOption result (IsNoCommand (texts words.now)) (Are (texts words.now)) }
+        ensures { MatchOption result (IsNoCommand (word_bytes words.now)) (AreWordsOf (word_bytes words.now)) }
     {
         match words {
             [word] => Command::plain(word.as_str()),

@@ -2,14 +2,14 @@
 
 ghost use Rattle.std.specs.Prelude.{◌≡◌, ◌≤◌, IfOk, MatchResult, vec_len};
 ghost use Rattle.of_mem.specs.declared.work.TheConstants.{MOST_INSTRS};
-ghost use Rattle.of_plan.specs.Ended.{run_of};
-ghost use Rattle.of_report.specs.Image.{IsImage, image_of};
-ghost use Rattle.of_lives.specs.Images.{Fits};
+ghost use Rattle.of_plan.specs.Ended.{ended_value};
+ghost use Rattle.of_report.specs.Image.{IsImage, image_value};
+ghost use Rattle.of_lives.specs.Images.{PlanFitsImage};
 ghost use Rattle.of_tool.specs.declared.command.Command.TheVariants.{Continue};
 ghost use Rattle.of_tool.specs.Continued.{WritesLife};
 ghost use Rattle.of_tool.specs.Seen.{change_of, view_of};
 ghost use Rattle.of_tool.specs.Inputs.{ImageAndPlan, ReadsLife};
-ghost use Rattle.of_tool.specs.Answer.{Answered, Refuses, CarriesLife};
+ghost use Rattle.of_tool.specs.Answer.{IsOutputFor, Refuses, CarriesLife};
 
 use crate::images::refused;
 use crate::status;
@@ -34,11 +34,11 @@ fn live<R: Threads + Sync>(
     plan: &Plan,
     brakes: Vec<Box<dyn Brake + Send>>,
 ) -> Result<(Vec<u8>, (Ended, Pass)), AllocError>
-    requires image { IsImage MOST_INSTRS (image_of image.now) }
-    requires fits { Fits (image_of image.now) plan.now }
+    requires image { IsImage MOST_INSTRS (image_value image.now) }
+    requires fits { PlanFitsImage (image_value image.now) plan.now }
     requires brakes { plan.now.callers ≤ vec_len brakes }
-    ensures { IfOk result (λ r. WritesLife (λ b. left b) brakes.items (image_of image.now) plan.now
-        (run_of r.1.0) (view_of r.1.1) r.0.items) }
+    ensures { IfOk result (λ r. WritesLife (λ b. left b) brakes.items (image_value image.now) plan.now
+        (ended_value r.1.0) (view_of r.1.1) r.0.items) }
 {
     reports_respect_time(plan);
     let Life {
@@ -59,10 +59,10 @@ fn read_life<S: Source>(
     source: &mut S,
 ) -> Result<Result<(Image, Plan), Answer>, AllocError>
     ensures read { IfOk result (λ read. MatchResult read
-        (λ r. ReadsLife (change_of S.remaining S.faults source.old source.new) (image_of r.0) r.1)
+        (λ r. ReadsLife (change_of S.remaining S.faults source.old source.new) (image_value r.0) r.1)
         (Refuses ImageAndPlan (change_of S.remaining S.faults source.old source.new))) }
-    ensures image { IfOk result (λ read. IfOk read (λ r. IsImage MOST_INSTRS (image_of r.0))) }
-    ensures fits { IfOk result (λ read. IfOk read (λ r. Fits (image_of r.0) r.1)) }
+    ensures image { IfOk result (λ read. IfOk read (λ r. IsImage MOST_INSTRS (image_value r.0))) }
+    ensures fits { IfOk result (λ read. IfOk read (λ r. PlanFitsImage (image_value r.0) r.1)) }
 {
     let bytes = match read_input(alloc, source, MOST_WITH_REPORT)? {
         Ok(bytes) => bytes,
@@ -100,7 +100,7 @@ pub(crate) fn continue_answer<R: Threads + Sync, S: Source>(
     brakes: Vec<Box<dyn Brake + Send>>,
 ) -> Result<(Answer, Ran), AllocError>
     requires { vec_len brakes ≡ 16 }
-    ensures answered { IfOk result (λ found. Answered Continue
+    ensures answered { IfOk result (λ found. IsOutputFor Continue
         (change_of S.remaining S.faults source.old source.new) found.0) }
     ensures carries { IfOk result (CarriesLife (λ b. left b) brakes.items
         (change_of S.remaining S.faults source.old source.new)) }

@@ -5,7 +5,7 @@ ghost use Rattle.of_tool.specs.declared.command.Command.TheVariants.{Part};
 ghost use Rattle.of_tool.specs.Commands.{IsPartNumber};
 ghost use Rattle.of_tool.specs.Cutting.{IsPart};
 ghost use Rattle.of_tool.specs.Seen.{change_of};
-ghost use Rattle.of_tool.specs.Answer.{Answered};
+ghost use Rattle.of_tool.specs.Answer.{IsOutputFor};
 
 use crate::status;
 use crate::top::{Answer, MOST_WITH_REPORT, read_input};
@@ -33,7 +33,7 @@ pub(crate) fn part_answer<S: Source>(
     number: u32,
 ) -> Result<Answer, AllocError>
     requires { IsPartNumber number }
-    ensures { IfOk result (Answered (Part number)
+    ensures { IfOk result (IsOutputFor (Part number)
         (change_of S.remaining S.faults source.old source.new)) }
 {
     match read_input(alloc, source, MOST_WITH_REPORT)? {

@@ -2,13 +2,13 @@
 
 ghost use Rattle.std.specs.Prelude.{IfOk, MatchResult};
 ghost use Rattle.of_mem.specs.declared.work.TheConstants.{MOST_INSTRS};
-ghost use Rattle.of_report.specs.Image.{IsImage, image_of};
+ghost use Rattle.of_report.specs.Image.{IsImage, image_value};
 ghost use Rattle.of_image.specs.declared.version.Version.TheVariants.{Two};
 ghost use Rattle.of_tool.specs.declared.command.Command.TheVariants.{Image as TheImage, Recover, Renumber, Migrate};
 ghost use Rattle.of_tool.specs.PlayedImage.{IsPlayedImage};
 ghost use Rattle.of_tool.specs.Seen.{change_of};
-ghost use Rattle.of_tool.specs.Inputs.{ImageAlone, ReadsItsImage};
-ghost use Rattle.of_tool.specs.Answer.{Answered, Refuses, TellsRefusal};
+ghost use Rattle.of_tool.specs.Inputs.{ImageAlone, ReadsImageOf};
+ghost use Rattle.of_tool.specs.Answer.{IsOutputFor, Refuses, TellsRefusal};
 
 use crate::status;
 use crate::top::{Answer, MOST_IMAGE, read_input, read_plan};
@@ -60,11 +60,11 @@ pub(crate) fn refused(alloc: Global, err: ImageErr) -> Result<Answer, AllocError
 // The image that the whole input has, or the answer that says why there is none.
 fn read_image<S: Source>(alloc: Global, source: &mut S) -> Result<Result<Image, Answer>, AllocError>
     ensures read { IfOk result (λ read. MatchResult read
-        (λ image. ReadsItsImage Two (change_of S.remaining S.faults source.old source.new)
-        (image_of image))
+        (λ image. ReadsImageOf Two (change_of S.remaining S.faults source.old source.new)
+        (image_value image))
         (Refuses (ImageAlone Two) (change_of S.remaining S.faults source.old source.new))) }
     ensures image { IfOk result (λ read.
-        IfOk read (λ image. IsImage MOST_INSTRS (image_of image))) }
+        IfOk read (λ image. IsImage MOST_INSTRS (image_value image))) }
 {
     let bytes = match read_input(alloc, source, MOST_IMAGE)? {
         Ok(bytes) => bytes,
@@ -78,7 +78,7 @@ fn read_image<S: Source>(alloc: Global, source: &mut S) -> Result<Result<Image, 
 
 /// What `image` answers.
 pub(crate) fn image_answer<S: Source>(alloc: Global, source: &mut S) -> Result<Answer, AllocError>
-    ensures { IfOk result (Answered TheImage
+    ensures { IfOk result (IsOutputFor TheImage
         (change_of S.remaining S.faults source.old source.new)) }
 {
     match read_plan(alloc, source)? {
@@ -92,7 +92,7 @@ pub(crate) fn image_answer<S: Source>(alloc: Global, source: &mut S) -> Result<A
 
 /// What `recover` answers.
 pub(crate) fn recover_answer<S: Source>(alloc: Global, source: &mut S) -> Result<Answer, AllocError>
-    ensures { IfOk result (Answered Recover
+    ensures { IfOk result (IsOutputFor Recover
         (change_of S.remaining S.faults source.old source.new)) }
 {
     match read_image(alloc, source)? {
@@ -109,7 +109,7 @@ pub(crate) fn renumber_answer<S: Source>(
     alloc: Global,
     source: &mut S,
 ) -> Result<Answer, AllocError>
-    ensures { IfOk result (Answered Renumber
+    ensures { IfOk result (IsOutputFor Renumber
         (change_of S.remaining S.faults source.old source.new)) }
 {
     match read_image(alloc, source)? {
@@ -123,7 +123,7 @@ pub(crate) fn renumber_answer<S: Source>(
 
 /// What `migrate` answers.
 pub(crate) fn migrate_answer<S: Source>(alloc: Global, source: &mut S) -> Result<Answer, AllocError>
-    ensures { IfOk result (Answered Migrate
+    ensures { IfOk result (IsOutputFor Migrate
         (change_of S.remaining S.faults source.old source.new)) }
 {
     let bytes = match read_input(alloc, source, MOST_IMAGE)? {

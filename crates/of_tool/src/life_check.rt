@@ -3,7 +3,7 @@
 ghost use Rattle.std.specs.Prelude.{IfOk};
 ghost use Rattle.of_tool.specs.declared.command.Command.TheVariants.{CheckLife};
 ghost use Rattle.of_tool.specs.Seen.{change_of};
-ghost use Rattle.of_tool.specs.Answer.{Answered, JudgesLife};
+ghost use Rattle.of_tool.specs.Answer.{IsOutputFor, JudgesLife};
 
 use crate::images::refused;
 use crate::lived::check_life;
@@ -34,7 +34,7 @@ fn judged(alloc: Global, verdict: Verdict) -> Result<Answer, AllocError>
 
 /// What `check-life` answers.
 pub(crate) fn life_answer<S: Source>(alloc: Global, source: &mut S) -> Result<Answer, AllocError>
-    ensures { IfOk result (Answered CheckLife
+    ensures { IfOk result (IsOutputFor CheckLife
         (change_of S.remaining S.faults source.old source.new)) }
 {
     let bytes = match read_input(alloc, source, MOST_WITH_REPORT)? {

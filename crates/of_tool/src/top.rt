@@ -1,18 +1,18 @@
 //! The top call.
 
 ghost use Rattle.std.specs.Prelude.{◌≡◌, ◌≤◌, ⊤, ℕ, IfOk, MatchResult, None, vec_len, codes, decimal, ◌++◌};
-ghost use Rattle.of_io.specs.Faults.{Rose};
+ghost use Rattle.of_io.specs.Faults.{HasRisen};
 ghost use Rattle.of_tool.specs.declared.command.Command.{Command};
 ghost use Rattle.of_tool.specs.declared.command.Command.TheVariants.{Serial, Play, Trace, Commits, Run, Load, Check, Continue};
 ghost use Rattle.of_tool.specs.declared.status.TheConstants.{DONE};
-ghost use Rattle.of_tool.specs.Commands.{texts, words_of, IsTrace, IsLoad, IsInRange, IsPlain, Are, RunTeam};
+ghost use Rattle.of_tool.specs.Commands.{word_bytes, command_words, IsTrace, IsLoad, IsInRange, IsPlain, AreWordsOf, AreWordsOfTeam};
 ghost use Rattle.of_tool.specs.Seen.{change_of, seen_by, Holds, ReadsAll};
 ghost use Rattle.of_tool.specs.Inputs.{PlanAlone, input_of, AskForInput, ReadsPlan, IsValidInput};
 ghost use Rattle.of_tool.specs.Refusals.{FindsWrong};
 ghost use Rattle.of_tool.specs.Makes.{Did};
-ghost use Rattle.of_tool.specs.Statuses.{IsAnswer, Answers, Ends};
+ghost use Rattle.of_tool.specs.Statuses.{IsAnswer, AnswersWords, Ends};
 ghost use Rattle.of_tool.specs.Headline.{RunsPlan, LoadsPlan, ContinuesImage, LeavesTable};
-ghost use Rattle.of_tool.specs.Answer.{Answered, Refuses, RefusesUpTo, Judges, CarriesRun, CarriesLoad, Carries};
+ghost use Rattle.of_tool.specs.Answer.{IsOutputFor, Refuses, RefusesUpTo, TellsVerdict, CarriesRun, CarriesLoad, Carries};
 
 use crate::command::{Command, HELP, VERSION};
 use crate::continued::continue_answer;
@@ -115,7 +115,7 @@ pub(crate) fn read_plan<S: Source>(
 
 // What `serial` answers.
 fn serial_answer<S: Source>(alloc: Global, source: &mut S) -> Result<Answer, AllocError>
-    ensures { IfOk result (Answered Serial
+    ensures { IfOk result (IsOutputFor Serial
         (change_of S.remaining S.faults source.old source.new)) }
 {
     match read_plan(alloc, source)? {
@@ -129,7 +129,7 @@ fn serial_answer<S: Source>(alloc: Global, source: &mut S) -> Result<Answer, All
 
 // What `play` answers.
 fn play_answer<S: Source>(alloc: Global, source: &mut S) -> Result<Answer, AllocError>
-    ensures { IfOk result (Answered Play
+    ensures { IfOk result (IsOutputFor Play
         (change_of S.remaining S.faults source.old source.new)) }
 {
     match read_plan(alloc, source)? {
@@ -149,7 +149,7 @@ fn run_answer<R: Threads + Sync, S: Source>(
     brakes: Vec<Box<dyn Brake + Send>>,
 ) -> Result<(Answer, Ran), AllocError>
     requires { vec_len brakes ≡ 16 }
-    ensures answered { IfOk result (λ found. Answered Run
+    ensures answered { IfOk result (λ found. IsOutputFor Run
         (change_of S.remaining S.faults source.old source.new) found.0) }
     ensures carries { IfOk result (CarriesRun (λ b. left b) brakes.items
         (change_of S.remaining S.faults source.old source.new)) }
@@ -195,7 +195,7 @@ fn trace_answer<S: Source>(
     count: u32,
 ) -> Result<Answer, AllocError>
     requires { IsTrace first count }
-    ensures { IfOk result (Answered (Trace first count)
+    ensures { IfOk result (IsOutputFor (Trace first count)
         (change_of S.remaining S.faults source.old source.new)) }
 {
     match read_plan(alloc, source)? {
@@ -209,7 +209,7 @@ fn trace_answer<S: Source>(
 
 // What `commits` answers.
 fn commits_answer<S: Source>(alloc: Global, source: &mut S) -> Result<Answer, AllocError>
-    ensures { IfOk result (Answered Commits
+    ensures { IfOk result (IsOutputFor Commits
         (change_of S.remaining S.faults source.old source.new)) }
 {
     match read_plan(alloc, source)? {
@@ -223,7 +223,7 @@ fn commits_answer<S: Source>(alloc: Global, source: &mut S) -> Result<Answer, Al
 
 // What `check` says of a report.
 fn judged(alloc: Global, verdict: Verdict) -> Result<Answer, AllocError>
-    ensures { IfOk result (Judges verdict) }
+    ensures { IfOk result (TellsVerdict verdict) }
 {
     match verdict {
         Verdict::Legal => Ok(Answer {
@@ -239,7 +239,7 @@ fn judged(alloc: Global, verdict: Verdict) -> Result<Answer, AllocError>
 
 // What `check` answers.
 fn check_answer<S: Source>(alloc: Global, source: &mut S) -> Result<Answer, AllocError>
-    ensures { IfOk result (Answered Check
+    ensures { IfOk result (IsOutputFor Check
         (change_of S.remaining S.faults source.old source.new)) }
 {
     let bytes = match read_input(alloc, source, MOST_WITH_REPORT)? {
@@ -266,7 +266,7 @@ fn plain_answer<S: Source>(
     requires plain { IsPlain command }
     requires range { IsInRange command }
     ensures plain { IsPlain command }
-    ensures answered { IfOk result (Answered command
+    ensures answered { IfOk result (IsOutputFor command
         (change_of S.remaining S.faults source.old source.new)) }
     ensures unread { input_of command ≡ None → source.new ≡ source.old }
 {
@@ -303,12 +303,12 @@ fn decide<R: Threads + Sync, S: Source>(
     brakes: Vec<Box<dyn Brake + Send>>,
 ) -> Result<(Answer, Ran), AllocError>
     requires { vec_len brakes ≡ 16 }
-    ensures answered { IfOk result (λ found. IsAnswer (texts words.now)
+    ensures answered { IfOk result (λ found. IsAnswer (word_bytes words.now)
         (change_of S.remaining S.faults source.old source.new)
         found.0.status found.0.text.items) }
-    ensures carries { IfOk result (Carries (λ b. left b) brakes.items (texts words.now)
+    ensures carries { IfOk result (Carries (λ b. left b) brakes.items (word_bytes words.now)
         (change_of S.remaining S.faults source.old source.new)) }
-    ensures unread { ¬ (AskForInput (texts words.now)) → source.new ≡ source.old }
+    ensures unread { ¬ (AskForInput (word_bytes words.now)) → source.new ≡ source.old }
 {
     match Command::from_words(words) {
         Some(Command::Run) => run_answer(rt, alloc, source, brakes),
@@ -345,7 +345,7 @@ pub fn tool<R: Threads + Sync, S: Source, K: Sink>(
     // THE HEADLINE. With status 0 of `run` the report of what the plan's callers left, running at
     // once, was written: one legal history, in real time, in which callers keep to their brakes. It
     // comes of a real run, event by event, and the record of that run is in `ran`.
-    ensures run { texts words.now ≡ words_of Run → result ≡ DONE
+    ensures run { word_bytes words.now ≡ command_words Run → result ≡ DONE
         → Holds ran.new (λ left_by view. RunsPlan (λ b. left b) brakes.items
         (seen_by S.remaining S.faults source.old source.new
         K.written K.finished K.faults sink.old sink.new)
@@ -353,7 +353,7 @@ pub fn tool<R: Threads + Sync, S: Source, K: Sink>(
 
     // With status 0 of `load` the same holds of the plan that is made for it, and the summary of
     // the report was written.
-    ensures load { (callers scripts : ℕ) → Are (texts words.now) (Load callers scripts)
+    ensures load { (callers scripts : ℕ) → AreWordsOf (word_bytes words.now) (Load callers scripts)
         → result ≡ DONE
         → Holds ran.new (λ left_by view. LoadsPlan (λ b. left b) brakes.items callers scripts
         (seen_by S.remaining S.faults source.old source.new
@@ -363,25 +363,25 @@ pub fn tool<R: Threads + Sync, S: Source, K: Sink>(
     // With status 0 of `continue` the same holds of callers that went on from the image at once.
     // After the report the image of their durable words was written: the next life can go on from
     // it.
-    ensures continued { texts words.now ≡ words_of Continue → result ≡ DONE
+    ensures continued { word_bytes words.now ≡ command_words Continue → result ≡ DONE
         → Holds ran.new (λ left_by view. ContinuesImage (λ b. left b) brakes.items
         (seen_by S.remaining S.faults source.old source.new
         K.written K.finished K.faults sink.old sink.new)
         left_by) }
 
     // And the table of that run meets the rule of a row. The pass in `ran` has seen all of the run.
-    ensures table { (command : Command) → Are (texts words.now) command → result ≡ DONE
+    ensures table { (command : Command) → AreWordsOf (word_bytes words.now) command → result ≡ DONE
         → LeavesTable (λ b. left b) brakes.items command
         (seen_by S.remaining S.faults source.old source.new
         K.written K.finished K.faults sink.old sink.new)
         ran.new }
 
     // After any other command or status there is no record.
-    ensures no_record { ¬ (RunTeam (texts words.now) × (result ≡ DONE)) → ran.new ≡ None }
+    ensures no_record { ¬ (AreWordsOfTeam (word_bytes words.now) × (result ≡ DONE)) → ran.new ≡ None }
 
     // Each status comes for its cause, and what is written is its text. No other status has its
     // cause then: `laws::one_status`.
-    ensures answered { Answers (texts words.now)
+    ensures answered { AnswersWords (word_bytes words.now)
         (seen_by S.remaining S.faults source.old source.new
         K.written K.finished K.faults sink.old sink.new)
         result }
@@ -389,25 +389,25 @@ pub fn tool<R: Threads + Sync, S: Source, K: Sink>(
     // With status 0 each command has read its whole input and written what it makes of it: `serial`
     // the report of serial replay, `play` that of what the schedule leaves, and so on. Each has a
     // row in the table `Makes`.
-    ensures done { (command : Command) → Are (texts words.now) command → result ≡ DONE → Did command
+    ensures done { (command : Command) → AreWordsOf (word_bytes words.now) command → result ≡ DONE → Did command
         (seen_by S.remaining S.faults source.old source.new
         K.written K.finished K.faults sink.old sink.new) }
 
     // With status 8 the report that `check` reads, or the life that `check-life` reads, is not
     // legal. With status 9 the plan that `continue` or `check-life` reads does not fit the image.
-    ensures judged { (command : Command) → Are (texts words.now) command
+    ensures judged { (command : Command) → AreWordsOf (word_bytes words.now) command
         → FindsWrong (input_of command)
         (change_of S.remaining S.faults source.old source.new) result }
 
     // Only a command that reads a plan, a report or an image reads.
-    ensures unread { ¬ (AskForInput (texts words.now)) → source.new ≡ source.old }
+    ensures unread { ¬ (AskForInput (word_bytes words.now)) → source.new ≡ source.old }
 
     // A command with a valid input is done, or memory runs out, unless a read or a write fails.
     // What `check`, `continue` and `check-life` judge may be found wrong.
-    ensures complete { (command : Command) → Are (texts words.now) command
+    ensures complete { (command : Command) → AreWordsOf (word_bytes words.now) command
         → IsValidInput command (S.remaining source.old)
-        → ¬ (Rose (S.faults source.old) (S.faults source.new))
-        → ¬ (Rose (K.faults sink.old) (K.faults sink.new))
+        → ¬ (HasRisen (S.faults source.old) (S.faults source.new))
+        → ¬ (HasRisen (K.faults sink.old) (K.faults sink.new))
         → Ends command result }
 {
     one_cut();

@@ -7,8 +7,8 @@ use Rattle.std.proofs.lemmas.List.Folds.{Any-from_list_any}
 use Rattle.std.proofs.lemmas.Bool.Decides.{Decides-eqb, nat_tests}
 use Rattle.std.proofs.lemmas.List.{get_or-map, length-map, get_or_default}
 use Rattle.of_wset.specs.declared.table.Entry.{Entry}
-use Rattle.of_wset.specs.Pairs.{Pairs, value_at, put, address, IsMap}
-use Rattle.of_wset.specs.Table.{pair, pairs, entry, nowhere, IsAbsent, IsWriteSet}
+use Rattle.of_wset.specs.Pairs.{WriteSet, value_at, put, address, IsMap}
+use Rattle.of_wset.specs.Table.{entry_pair, entry_pairs, entry_at, no_entry, IsUnwritten, IsWriteSet}
 
 equals : (a b : ℕ) → a ≡ b → (a == b) ≡ true
 equals a b e = grind (arith, nat_tests)
@@ -32,27 +32,27 @@ few_numbers xs n below differ = length-le_from_distinct_below xs n (IsDistinct-f
         omega (arith, f.3)
 
 -- where the address is absent
-pub value_at-absent : (es : List Entry) (a : ℕ) → IsAbsent es a → value_at (pairs es) a ≡ None
+pub value_at-absent : (es : List Entry) (a : ℕ) → IsUnwritten es a → value_at (entry_pairs es) a ≡ None
 value_at-absent [] a h = refl
 value_at-absent (e ∷ es) a h = rw (differs e.addr a (h 0 (omega arith))) (value_at-absent es a (λ k l. h (suc k) (omega arith)))
 
-pub put-absent : (es : List Entry) (a v : ℕ) → IsAbsent es a → put (pairs es) a v ≡ pairs es ++ (a, v) ∷ []
+pub put-absent : (es : List Entry) (a v : ℕ) → IsUnwritten es a → put (entry_pairs es) a v ≡ entry_pairs es ++ (a, v) ∷ []
 put-absent [] a v h = refl
-put-absent (e ∷ es) a v h = rw (differs e.addr a (h 0 (omega arith))) (ap (λ (xs : List (ℕ × ℕ)). pair e ∷ xs) (put-absent es a v (λ k l. h (suc k) (omega arith))))
+put-absent (e ∷ es) a v h = rw (differs e.addr a (h 0 (omega arith))) (ap (λ (xs : List (ℕ × ℕ)). entry_pair e ∷ xs) (put-absent es a v (λ k l. h (suc k) (omega arith))))
 
 -- where it stands in entry k, and in no earlier one
-value_at-here : (es : List Entry) (a k : ℕ) → k < length es → (entry es k).addr ≡ a → ((j : ℕ) → j < k → (entry es j).addr ≡ a → ⊥) → value_at (pairs es) a ≡ Some (entry es k).value
+value_at-here : (es : List Entry) (a k : ℕ) → k < length es → (entry_at es k).addr ≡ a → ((j : ℕ) → j < k → (entry_at es j).addr ≡ a → ⊥) → value_at (entry_pairs es) a ≡ Some (entry_at es k).value
 value_at-here [] a k l q h = absurd (omega arith)
 value_at-here (e ∷ es) a zero l q h = rw (equals e.addr a q) refl
 value_at-here (e ∷ es) a (suc k) l q h = rw (differs e.addr a (h 0 (omega arith))) (value_at-here es a k (omega arith) q (λ j m. h (suc j) (omega arith)))
 
-put-here : (es : List Entry) (a v k : ℕ) (f : Entry) → k < length es → (entry es k).addr ≡ a → ((j : ℕ) → j < k → (entry es j).addr ≡ a → ⊥) → pair f ≡ (a, v) → put (pairs es) a v ≡ pairs (set es k f)
+put-here : (es : List Entry) (a v k : ℕ) (f : Entry) → k < length es → (entry_at es k).addr ≡ a → ((j : ℕ) → j < k → (entry_at es j).addr ≡ a → ⊥) → entry_pair f ≡ (a, v) → put (entry_pairs es) a v ≡ entry_pairs (set es k f)
 put-here [] a v k f l q h p = absurd (omega arith)
-put-here (e ∷ es) a v zero f l q h p = rw (equals e.addr a q) (ap (λ (x : ℕ × ℕ). x ∷ pairs es) (sym p))
-put-here (e ∷ es) a v (suc k) f l q h p = rw (differs e.addr a (h 0 (omega arith))) (ap (λ (xs : List (ℕ × ℕ)). pair e ∷ xs) (put-here es a v k f (omega arith) q (λ j m. h (suc j) (omega arith)) p))
+put-here (e ∷ es) a v zero f l q h p = rw (equals e.addr a q) (ap (λ (x : ℕ × ℕ). x ∷ entry_pairs es) (sym p))
+put-here (e ∷ es) a v (suc k) f l q h p = rw (differs e.addr a (h 0 (omega arith))) (ap (λ (xs : List (ℕ × ℕ)). entry_pair e ∷ xs) (put-here es a v k f (omega arith) q (λ j m. h (suc j) (omega arith)) p))
 
 -- each address once, below a room
-module _ (room : ℕ) (es : List Entry) (below : (k : ℕ) → k < length es → (entry es k).addr < room) (once : (j k : ℕ) → j < length es → k < length es → (entry es j).addr ≡ (entry es k).addr → j ≡ k) where
+module _ (room : ℕ) (es : List Entry) (below : (k : ℕ) → k < length es → (entry_at es k).addr < room) (once : (j k : ℕ) → j < length es → k < length es → (entry_at es j).addr ≡ (entry_at es k).addr → j ≡ k) where
   pub few : length es ≤ room
   few = omega (arith, size, few_numbers xs room (λ k l. let m : k < length es = omega (arith, size) in omega (arith, at_x k m, below k m)) differ)
     where
@@ -62,23 +62,23 @@ module _ (room : ℕ) (es : List Entry) (below : (k : ℕ) → k < length es →
       size : length xs ≡ length es
       size = length-map es (λ (e : Entry). e.addr)
 
-      at_x : (k : ℕ) → k < length es → get_or xs k 0 ≡ (entry es k).addr
-      at_x k l = get_or-map (λ (e : Entry). e.addr) es k nowhere 0 l
+      at_x : (k : ℕ) → k < length es → get_or xs k 0 ≡ (entry_at es k).addr
+      at_x k l = get_or-map (λ (e : Entry). e.addr) es k no_entry 0 l
 
       differ : (j k : ℕ) → j < length xs → k < length xs → get_or xs j 0 ≡ get_or xs k 0 → j ≡ k
       differ j k l m q = let x : j < length es = omega (arith, size) in let y : k < length es = omega (arith, size) in once j k x y (sym (at_x j x) ∙ q ∙ at_x k y)
 
-  module _ (a k : ℕ) (l : k < length es) (q : (entry es k).addr ≡ a) where
-    first : (j : ℕ) → j < k → (entry es j).addr ≡ a → ⊥
+  module _ (a k : ℕ) (l : k < length es) (q : (entry_at es k).addr ≡ a) where
+    first : (j : ℕ) → j < k → (entry_at es j).addr ≡ a → ⊥
     first j m e = let s : j ≡ k = once j k (omega arith) l (e ∙ sym q) in omega arith
 
-    pub value_at-found : value_at (pairs es) a ≡ Some (entry es k).value
+    pub value_at-found : value_at (entry_pairs es) a ≡ Some (entry_at es k).value
     value_at-found = value_at-here es a k l q first
 
-    pub put-found : (v : ℕ) (f : Entry) → pair f ≡ (a, v) → put (pairs es) a v ≡ pairs (set es k f)
+    pub put-found : (v : ℕ) (f : Entry) → entry_pair f ≡ (a, v) → put (entry_pairs es) a v ≡ entry_pairs (set es k f)
     put-found v f p = put-here es a v k f l q first p
 
-pub is_map : (room : ℕ) (es : List Entry) (t : List (Option ℕ)) (capacity : ℕ) → IsWriteSet room es t capacity → IsMap (record { room = room; entries = pairs es })
+pub is_map : (room : ℕ) (es : List Entry) (t : List (Option ℕ)) (capacity : ℕ) → IsWriteSet room es t capacity → IsMap (record { room = room; entries = entry_pairs es })
 is_map room es t capacity h = record {
   once = λ j k l m q. h.once j k (omega (arith, size)) (omega (arith, size)) (sym (at_k j l) ∙ q ∙ at_k k m);
   below = λ k l. rw (at_k k l) (h.below k (omega (arith, size)));
@@ -86,12 +86,12 @@ is_map room es t capacity h = record {
   room = h.fits;
 }
   where
-    size : length (pairs es) ≡ length es
-    size = length-map es pair
+    size : length (entry_pairs es) ≡ length es
+    size = length-map es entry_pair
 
-    at_k : (k : ℕ) → k < length (pairs es) → address (pairs es) k ≡ (entry es k).addr
-    at_k k l = ap (λ (e : ℕ × ℕ). e.0) (get_or-map pair es k nowhere (0, 0) (omega (arith, size)))
+    at_k : (k : ℕ) → k < length (entry_pairs es) → address (entry_pairs es) k ≡ (entry_at es k).addr
+    at_k k l = ap (λ (e : ℕ × ℕ). e.0) (get_or-map entry_pair es k no_entry (0, 0) (omega (arith, size)))
 
 -- what callers see of a room and entries
-abbrev pub seen : ℕ → List (ℕ × ℕ) → Pairs
+abbrev pub seen : ℕ → List (ℕ × ℕ) → WriteSet
 seen r xs = record { room = r; entries = xs }

@@ -2,7 +2,7 @@
 use Rattle.std.specs.Prelude.{◌≡◌, ℕ, ◌<◌, ◌≤◌, ◌==◌, List, [], ◌∷◌, length, Option, Some, None, if◌then◌else◌, slice_index_or}
 
 -- what a write-set is to its callers
-pub record Pairs : Type 0 where
+pub record WriteSet : Type 0 where
   -- addresses are below it
   pub room : ℕ
   pub entries : List (ℕ × ℕ)
@@ -22,7 +22,7 @@ abbrev pub address : List (ℕ × ℕ) → ℕ → ℕ
 address es k = (slice_index_or es k (0, 0)).0
 
 -- no address is there twice, and each is below the room
-pub record IsMap (p : Pairs) : Type 0 where
+pub record IsMap (p : WriteSet) : Type 0 where
   pub once : (j k : ℕ) → j < length p.entries → k < length p.entries → address p.entries j ≡ address p.entries k → j ≡ k
   pub below : (k : ℕ) → k < length p.entries → address p.entries k < p.room
   pub few : length p.entries ≤ p.room

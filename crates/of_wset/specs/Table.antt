@@ -4,62 +4,62 @@ use Rattle.std.specs.Int.{IsNextPowerOfTwo}
 use Rattle.of_wset.specs.declared.table.Entry.{Entry}
 use Rattle.of_wset.specs.declared.table.Found.{Found}
 use Rattle.of_wset.specs.declared.table.Found.TheVariants.{Entry as AtEntry, Free}
-use Rattle.of_wset.specs.Walk.{hash_place, steps}
+use Rattle.of_wset.specs.Walk.{hash_place, walk_steps}
 
 -- the pair of an entry
-abbrev pub pair : Entry → ℕ × ℕ
-pair e = (e.addr, e.value)
+abbrev pub entry_pair : Entry → ℕ × ℕ
+entry_pair e = (e.addr, e.value)
 
 -- the pairs of address and value
-abbrev pub pairs : List Entry → List (ℕ × ℕ)
-pairs es = map pair es
+abbrev pub entry_pairs : List Entry → List (ℕ × ℕ)
+entry_pairs es = map entry_pair es
 
 -- an entry that none is
-abbrev pub nowhere : Entry
-nowhere = record { addr = 0; value = 0; place = 0 }
+abbrev pub no_entry : Entry
+no_entry = record { addr = 0; value = 0; place = 0 }
 
 -- entry k
-abbrev pub entry : List Entry → ℕ → Entry
-entry es k = slice_index_or es k nowhere
+abbrev pub entry_at : List Entry → ℕ → Entry
+entry_at es k = slice_index_or es k no_entry
 
 -- what a place holds
-abbrev pub held : List (Option ℕ) → ℕ → Option ℕ
-held t p = slice_index_or t p None
+abbrev pub slot_at : List (Option ℕ) → ℕ → Option ℕ
+slot_at t p = slice_index_or t p None
 
 -- some entry has the place
 abbrev pub IsTaken : List (Option ℕ) → ℕ → Type 0
-IsTaken t p = (k : ℕ) × (held t p ≡ Some k)
+IsTaken t p = (k : ℕ) × (slot_at t p ≡ Some k)
 
 -- every place on the walk for an address, up to the place p, is taken
-abbrev pub Reaches : List (Option ℕ) → (addr p : ℕ) → Type 0
-Reaches t a p = (q : ℕ) → q < length t → steps (length t) (hash_place (length t) a) q < steps (length t) (hash_place (length t) a) p → IsTaken t q
+abbrev pub ReachesPlace : List (Option ℕ) → (addr p : ℕ) → Type 0
+ReachesPlace t a p = (q : ℕ) → q < length t → walk_steps (length t) (hash_place (length t) a) q < walk_steps (length t) (hash_place (length t) a) p → IsTaken t q
 
 -- a taken place is that of an entry, and each entry stands at its place, which the walk for its address reaches
 pub record IsTable (es : List Entry) (t : List (Option ℕ)) : Type 0 where
   pub some_free : length es < length t
-  pub named : (p k : ℕ) → held t p ≡ Some k → (k < length es) × ((entry es k).place ≡ p)
-  pub kept : (k : ℕ) → k < length es → held t (entry es k).place ≡ Some k
-  pub reached : (k : ℕ) → k < length es → Reaches t (entry es k).addr (entry es k).place
+  pub named : (p k : ℕ) → slot_at t p ≡ Some k → (k < length es) × ((entry_at es k).place ≡ p)
+  pub kept : (k : ℕ) → k < length es → slot_at t (entry_at es k).place ≡ Some k
+  pub reached : (k : ℕ) → k < length es → ReachesPlace t (entry_at es k).addr (entry_at es k).place
 
 -- the address is in no entry
-abbrev pub IsAbsent : List Entry → ℕ → Type 0
-IsAbsent es a = (k : ℕ) → k < length es → (entry es k).addr ≡ a → ⊥
+abbrev pub IsUnwritten : List Entry → ℕ → Type 0
+IsUnwritten es a = (k : ℕ) → k < length es → (entry_at es k).addr ≡ a → ⊥
 
 -- the walk for an address has left only other addresses behind when it comes to the place p
-abbrev pub Passes : List Entry → List (Option ℕ) → (addr p : ℕ) → Type 0
-Passes es t a p = (q : ℕ) → q < length t → steps (length t) (hash_place (length t) a) q < steps (length t) (hash_place (length t) a) p → (k : ℕ) × (held t q ≡ Some k) × ((entry es k).addr ≢ a)
+abbrev pub PassesOnlyOthers : List Entry → List (Option ℕ) → (addr p : ℕ) → Type 0
+PassesOnlyOthers es t a p = (q : ℕ) → q < length t → walk_steps (length t) (hash_place (length t) a) q < walk_steps (length t) (hash_place (length t) a) p → (k : ℕ) × (slot_at t q ≡ Some k) × ((entry_at es k).addr ≢ a)
 
 -- a free place at which the walk for an absent address ends
 pub record IsFree (es : List Entry) (t : List (Option ℕ)) (a p : ℕ) : Type 0 where
-  pub absent : IsAbsent es a
+  pub absent : IsUnwritten es a
   pub below : p < length t
-  pub free : held t p ≡ None
-  pub reached : Reaches t a p
+  pub free : slot_at t p ≡ None
+  pub reached : ReachesPlace t a p
 
 -- what a look-up ends with
-abbrev pub EndsAt : List Entry → List (Option ℕ) → ℕ → Found → Type 0
-EndsAt es t a (AtEntry k) = (k < length es) × ((entry es k).addr ≡ a)
-EndsAt es t a (Free p) = IsFree es t a p
+abbrev pub LookupEndsAt : List Entry → List (Option ℕ) → ℕ → Found → Type 0
+LookupEndsAt es t a (AtEntry k) = (k < length es) × ((entry_at es k).addr ≡ a)
+LookupEndsAt es t a (Free p) = IsFree es t a p
 
 -- the invariant of a write-set: a map whose entries the table finds, with room for more of them
 pub record IsWriteSet (room : ℕ) (es : List Entry) (t : List (Option ℕ)) (capacity : ℕ) : Type 0 where
@@ -67,6 +67,6 @@ pub record IsWriteSet (room : ℕ) (es : List Entry) (t : List (Option ℕ)) (ca
   pub spare : room ≤ capacity
   -- the places are the least power of two that is at least twice the room
   pub size : IsNextPowerOfTwo (2 * room) (length t)
-  pub below : (k : ℕ) → k < length es → (entry es k).addr < room
-  pub once : (j k : ℕ) → j < length es → k < length es → (entry es j).addr ≡ (entry es k).addr → j ≡ k
+  pub below : (k : ℕ) → k < length es → (entry_at es k).addr < room
+  pub once : (j k : ℕ) → j < length es → k < length es → (entry_at es j).addr ≡ (entry_at es k).addr → j ≡ k
   pub table : IsTable es t

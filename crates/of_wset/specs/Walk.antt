@@ -10,5 +10,5 @@ unfoldable pub next_place : (places place : ℕ) → ℕ
 next_place n p = if p + 1 == n then 0 else p + 1
 
 -- how many steps the walk from one place takes to another
-unfoldable pub steps : (places from to : ℕ) → ℕ
-steps n h p = if nat_le h p then p - h else p + n - h
+unfoldable pub walk_steps : (places from to : ℕ) → ℕ
+walk_steps n h p = if nat_le h p then p - h else p + n - h

@@ -2,7 +2,7 @@
 
 ghost use Rattle.std.specs.Prelude.{◌≡◌, ◌<◌, length, EachIndex};
 ghost use Rattle.of_wset.specs.Walk.{hash_place, next_place};
-ghost use Rattle.of_wset.specs.Table.{held, IsTable, EndsAt};
+ghost use Rattle.of_wset.specs.Table.{slot_at, IsTable, LookupEndsAt};
 
 /// A pair that was written, and its place in the table.
 #[derive(Clone, Copy)]
@@ -47,7 +47,7 @@ fn next_place(places: usize, place: usize) -> usize
 /// Walks from the address's hash place over taken places, to its entry or to a free place.
 pub fn find(entries: &[Entry], table: &[Option<u32>], addr: u32) -> Found
     requires { IsTable entries.now table.now }
-    ensures { EndsAt entries.now table.now addr result }
+    ensures { LookupEndsAt entries.now table.now addr result }
 {
     let places = table.len();
     let mut place = hash_place(places, addr);
@@ -63,7 +63,7 @@ pub fn find(entries: &[Entry], table: &[Option<u32>], addr: u32) -> Found
 /// Frees the place of each entry, which leaves every place free.
 pub fn free(entries: &[Entry], table: &mut [Option<u32>])
     requires { IsTable entries.now table.old }
-    ensures { EachIndex table.new (λ p. held table.new p ≡ None) }
+    ensures { EachIndex table.new (λ p. slot_at table.new p ≡ None) }
 {
     for entry in entries {
         table[entry.place] = None;

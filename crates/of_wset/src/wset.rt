@@ -15,14 +15,14 @@ pub struct WriteSet {
 }
 
 impl Model for WriteSet {
-    ghost use Rattle.of_wset.specs.Pairs.{Pairs};
+    ghost use Rattle.of_wset.specs.Pairs.{WriteSet};
 
-    ghost Value = { Pairs };
+    ghost Value = { WriteSet };
 
     ghost use Rattle.std.specs.Vec.{vec_capacity};
-    ghost use Rattle.of_wset.specs.Table.{pairs, IsWriteSet};
+    ghost use Rattle.of_wset.specs.Table.{entry_pairs, IsWriteSet};
 
-    ghost view = { λ w. record { room = w.room; entries = pairs w.entries.items } };
+    ghost view = { λ w. record { room = w.room; entries = entry_pairs w.entries.items } };
 
     ghost invariant = { λ w. IsWriteSet w.room w.entries.items w.table.items (vec_capacity w.entries) };
 }

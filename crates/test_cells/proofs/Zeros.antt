@@ -4,16 +4,16 @@ use Rattle.std.proofs.lemmas.Bool.{cases_eq, cases_lt}
 use Rattle.std.proofs.lemmas.Option.{none-some}
 use Rattle.std.proofs.lemmas.List.{length-replicate, get_or-replicate, get_or_past, get_or-set_same, get_or-set_other}
 use Rattle.of_mem.specs.declared.plot.TheConstants.{MOST_BLOCKS}
-use Rattle.of_mem.specs.Pad.{Pad, over}
+use Rattle.of_mem.specs.Pad.{Part, overlaid}
 use Rattle.of_mem.specs.Places.{cells_at}
 use Rattle.of_mem.specs.Meaning.{Agrees}
-use Rattle.of_mem.specs.ProgramWork.{memory}
+use Rattle.of_mem.specs.ProgramWork.{memory_of}
 use Rattle.of_store.specs.State.{empty_store}
 use Rattle.of_eval.specs.Scripts.{StandsForSome}
 use Rattle.of_eval.specs.SoundScripts.{empty_is_stored}
 
 -- so many cells, of which those that are known are 0, and no writes
-pub record KnowsZeros (n : ℕ) (p : Pad) : Type 0 where
+pub record KnowsZeros (n : ℕ) (p : Part) : Type 0 where
   pub width : length p.known ≡ n
   pub zeros : (a v : ℕ) → get_or p.known a None ≡ Some v → v ≡ 0
   pub batch : p.batch ≡ []
@@ -25,7 +25,7 @@ same_at n x a = elim (cases_lt a n) [
   | inr l ↦ get_or_past (replicate n x) a x (omega (arith, length-replicate n x, l))
 ]
 
-pub zeros_none : (n : ℕ) (p : Pad) → p ≡ record { known = replicate n None; batch = []; script = [] } → KnowsZeros n p
+pub zeros_none : (n : ℕ) (p : Part) → p ≡ record { known = replicate n None; batch = []; script = [] } → KnowsZeros n p
 zeros_none n p e = subst (KnowsZeros n) (sym e) (record {
   width = length-replicate n None;
   zeros = λ a v k. absurd (none-some v (sym (same_at n None a) ∙ k));
@@ -33,7 +33,7 @@ zeros_none n p e = subst (KnowsZeros n) (sym e) (record {
   script = refl;
 })
 
-pub zeros_learn : (n a : ℕ) (p q : Pad) → KnowsZeros n p → a < n → q ≡ record p { known = set p.known a (Some 0) } → KnowsZeros n q
+pub zeros_learn : (n a : ℕ) (p q : Part) → KnowsZeros n p → a < n → q ≡ record p { known = set p.known a (Some 0) } → KnowsZeros n q
 zeros_learn n a p q h l e = subst (KnowsZeros n) (sym e) (record {
   width = length-set p.known a (Some 0) ∙ h.width;
   zeros = λ b v k. elim (cases_eq b a) [
@@ -44,10 +44,10 @@ zeros_learn n a p q h l e = subst (KnowsZeros n) (sym e) (record {
   script = h.script;
 })
 
-pub zeros_agree : (o blocks n : ℕ) (p : Pad) → KnowsZeros n p → blocks ≤ MOST_BLOCKS → (xs : List ℕ) × (length xs ≡ cells_at o blocks) × StandsForSome o blocks (memory xs) × Agrees (over p.known p.batch) xs
+pub zeros_agree : (o blocks n : ℕ) (p : Part) → KnowsZeros n p → blocks ≤ MOST_BLOCKS → (xs : List ℕ) × (length xs ≡ cells_at o blocks) × StandsForSome o blocks (memory_of xs) × Agrees (overlaid p.known p.batch) xs
 zeros_agree o blocks n p h few = (
   replicate (cells_at o blocks) 0,
   length-replicate (cells_at o blocks) 0,
-  (empty_store blocks, empty_is_stored o blocks few (memory (replicate (cells_at o blocks) 0)) (λ a. same_at (cells_at o blocks) 0 a)),
-  λ a v k. same_at (cells_at o blocks) 0 a ∙ sym (h.zeros a v (ap (λ bs. get_or (over p.known bs) a None) (sym h.batch) ∙ k)),
+  (empty_store blocks, empty_is_stored o blocks few (memory_of (replicate (cells_at o blocks) 0)) (λ a. same_at (cells_at o blocks) 0 a)),
+  λ a v k. same_at (cells_at o blocks) 0 a ∙ sym (h.zeros a v (ap (λ bs. get_or (overlaid p.known bs) a None) (sym h.batch) ∙ k)),
 )

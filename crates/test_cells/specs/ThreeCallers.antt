@@ -3,18 +3,18 @@ use Rattle.std.specs.Prelude.{ℕ, List, [], ◌∷◌, ◌++◌, length, ◌≡
 use Rattle.std.proofs.Common.{take, replicate}
 use Rattle.of_core.specs.declared.place.Outcome.{Outcome}
 use Rattle.of_core.specs.declared.place.Outcome.TheVariants.{Answered}
-use Rattle.of_core.specs.Table.{Setup, table_size}
-use Rattle.of_core.specs.World.{World}
-use Rattle.of_core.specs.Events.{Event, Begins, Turns, IsSchedule, opening, zeros}
-use Rattle.of_core.specs.Calls.{operations, outcomes}
+use Rattle.of_core.specs.Table.{Setup, words_before_members}
+use Rattle.of_core.specs.World.{Moment}
+use Rattle.of_core.specs.Events.{Event, Begins, Turns, IsSchedule, opening_moment, zero_start}
+use Rattle.of_core.specs.Calls.{operations_begun, outcomes}
 use Rattle.of_core.specs.Linear.{CallEndsBefore}
-use Rattle.of_core.specs.Worked.{registers, table_with, reply_with}
+use Rattle.of_core.specs.Worked.{register_meaning, table_with, reply_with}
 
 abbrev pub three : Setup
-three = table_with 3 registers
+three = table_with 3 register_meaning
 
-abbrev pub at_zeros : World
-at_zeros = opening three (zeros three) (table_size three)
+abbrev pub at_zeros : Moment
+at_zeros = opening_moment three (zero_start three) (words_before_members three)
 
 -- caller i stores v in the second register, from its begin to its answer
 abbrev pub whole_store : (i v : ℕ) → List Event
@@ -48,7 +48,7 @@ pub record IsOrderedByTime : Type 0 where
 -- batch
 pub record IsOrderedOtherwise : Type 0 where
   pub schedule : IsSchedule three at_zeros overlapping
-  pub begins_first : (length (operations (take 1 overlapping) 0) ≡ 1)
-      × (length (operations (take 1 overlapping) 1) ≡ 0)
+  pub begins_first : (length (operations_begun (take 1 overlapping) 0) ≡ 1)
+      × (length (operations_begun (take 1 overlapping) 1) ≡ 0)
   pub first_store : outcomes three at_zeros overlapping 0 ≡ stored_in 2
   pub second_store : outcomes three at_zeros overlapping 1 ≡ stored_in 1

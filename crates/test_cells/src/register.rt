@@ -2,7 +2,7 @@
 
 ghost use Rattle.std.specs.Prelude.{◌≡◌, ◌<◌, ◌≤◌, ◌+◌, ◌*◌, ◌==◌, ℕ, List};
 ghost use Rattle.std.proofs.Common.{get_or};
-ghost use Rattle.of_cell.specs.Words.{seq};
+ghost use Rattle.of_cell.specs.Words.{seq_of};
 ghost use Rattle.of_mem.specs.declared.work.TheConstants.{MOST_INSTRS};
 ghost use Rattle.test_cells.specs.Register.{meaning_of, reply_of, reads_only};
 ghost use Rattle.test_cells.specs.Sound.{register_sound, register_fits};

@@ -1,7 +1,7 @@
 //! The bank on scripts: words, outcomes and step counts of worked schedules.
 
 ghost use Rattle.std.specs.Prelude.{◌≡◌, ◌<◌};
-ghost use Rattle.of_mem.specs.Plots.{size};
+ghost use Rattle.of_mem.specs.Plots.{data_cell_count};
 
 use crate::turns::{Left, turns};
 use of_cell::{Shape, pack};
@@ -30,7 +30,7 @@ const ADD_3_1: u64 = (51 << 31) + 1;
 fn shape_for(plot: &Plot) -> Shape
     ensures callers { result.callers ≡ plot.now.callers }
     ensures instrs { result.instrs ≡ plot.now.instrs }
-    ensures cells { result.cells ≡ size plot.now }
+    ensures cells { result.cells ≡ data_cell_count plot.now }
 {
     Shape {
         callers: plot.callers,

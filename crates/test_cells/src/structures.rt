@@ -1,12 +1,12 @@
 //! Blocks, the map and the queues over cells, beside the plain store.
 
 ghost use Rattle.std.specs.Prelude.{◌≡◌, ℕ, List, [], length, IfOk};
-ghost use Rattle.of_mem.specs.Plots.{base, size};
-ghost use Rattle.of_mem.specs.Meaning.{Once};
+ghost use Rattle.of_mem.specs.Plots.{base, data_cell_count};
+ghost use Rattle.of_mem.specs.Meaning.{HasDistinctCells};
 ghost use Rattle.of_mem.specs.Programs.{IsPartOf};
 ghost use Rattle.of_mem.specs.Calls.{HasStore};
 ghost use Rattle.of_alloc.specs.Blocks.{HasFreeList};
-ghost use Rattle.of_script.specs.Language.{InRange};
+ghost use Rattle.of_script.specs.Language.{IsInstrInRange};
 
 use of_map::Put;
 use of_mem::{Need, Part, Plot};
@@ -68,9 +68,9 @@ fn takes_the_only_block_again(rt: HostRuntime) -> Result<(), Fail> {
 fn answer(plot: &Plot, part: &mut Part, instr: Instr) -> Result<Result<Option<u32>, Cause>, Need>
     requires stands { HasStore plot.now part.old }
     requires empty { part.old.script ≡ [] }
-    requires instr { InRange instr }
+    requires instr { IsInstrInRange instr }
     ensures stands { IfOk result (λ _. HasStore plot.now part.new) }
-    ensures once { IfOk result (λ _. Once part.new.script) }
+    ensures once { IfOk result (λ _. HasDistinctCells part.new.script) }
     ensures known { part.new.known ≡ part.old.known }
 {
     match instr {
@@ -122,7 +122,7 @@ fn reply(answer: Result<Option<u32>, Cause>) -> Reply {
 fn run(plot: &Plot, part: &mut Part, instr: Instr) -> Result<Reply, Need>
     requires stands { HasStore plot.now part.old }
     requires empty { part.old.script ≡ [] }
-    requires instr { InRange instr }
+    requires instr { IsInstrInRange instr }
     ensures stands { IfOk result (λ _. HasStore plot.now part.new) }
     ensures empty { IfOk result (λ _. part.new.script ≡ []) }
     ensures known { part.new.known ≡ part.old.known }

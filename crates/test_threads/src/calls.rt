@@ -2,7 +2,7 @@
 
 ghost use Rattle.std.specs.Prelude.{◌≡◌, ◌<◌, ◌≤◌, [], true, IfOk};
 ghost use Rattle.of_eval.specs.Scripts.{scripts_meaning};
-ghost use Rattle.of_row.specs.Rows.{key_of, IsOf};
+ghost use Rattle.of_row.specs.Rows.{key_of, IsSeatOf};
 ghost use Rattle.of_caller.specs.Callers.{IsCaller};
 
 use crate::rows::row_of;
@@ -57,12 +57,12 @@ pub fn caller_of(
     pass: Pass,
     number: u32,
 ) -> Result<(Caller<Scripts>, Pass), AllocError>
-    requires pass { IsOf row.now pass.seat }
+    requires pass { IsSeatOf row.now pass.seat }
     requires first { pass.seat.me.0.first ≡ true }
     requires nobody { pass.seat.me.0.kept ≡ [] }
     requires number { number < (key_of row.now).callers }
     ensures caller { IfOk result (λ r. IsCaller scripts_meaning row.now r.0) }
-    ensures pass { IfOk result (λ r. IsOf row.now r.1.seat) }
+    ensures pass { IfOk result (λ r. IsSeatOf row.now r.1.seat) }
     ensures first { IfOk result (λ r. r.1.seat.me.0.first ≡ true) }
     ensures nobody { IfOk result (λ r. r.1.seat.me.0.kept ≡ []) }
 {
@@ -80,7 +80,7 @@ pub fn caller_of(
 pub fn alone(alloc: Global, limit: u32) -> Result<(Row<Scripts>, Caller<Scripts>, Pass), AllocError>
     requires { limit ≤ 4294967294 }
     ensures caller { IfOk result (λ r. IsCaller scripts_meaning r.0 r.1) }
-    ensures pass { IfOk result (λ r. IsOf r.0 r.2.seat) }
+    ensures pass { IfOk result (λ r. IsSeatOf r.0 r.2.seat) }
     ensures first { IfOk result (λ r. r.2.seat.me.0.first ≡ true) }
     ensures nobody { IfOk result (λ r. r.2.seat.me.0.kept ≡ []) }
     ensures one { IfOk result (λ r. (key_of r.0).callers ≡ 1) }

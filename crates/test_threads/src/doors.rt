@@ -2,9 +2,9 @@
 
 ghost use Rattle.std.specs.Prelude.{◌≡◌, [], IfSome};
 ghost use Rattle.of_eval.specs.Scripts.{scripts_meaning};
-ghost use Rattle.of_row.specs.Rows.{IsOf};
+ghost use Rattle.of_row.specs.Rows.{IsSeatOf};
 ghost use Rattle.of_caller.specs.Callers.{IsCaller};
-ghost use Rattle.of_door.specs.Doors.{row_at, number_at, IsHandOf};
+ghost use Rattle.of_door.specs.Doors.{row_of_door, number_of_door, IsHandOf};
 
 use crate::calls::{End, alone, call, caller_of};
 use crate::rows::row_of;
@@ -39,12 +39,12 @@ fn leave(
     hand: &mut Hand,
     caller: Caller<Scripts>,
 ) -> Option<Pass>
-    requires row { row_at door.now ≡ row.now }
-    requires number { number_at door.now ≡ 0 }
+    requires row { row_of_door door.now ≡ row.now }
+    requires number { number_of_door door.now ≡ 0 }
     requires hand { IsHandOf door.now hand.old }
     requires caller { IsCaller scripts_meaning row.now caller }
     ensures hand { IsHandOf door.now hand.new }
-    ensures pass { IfSome result (λ p. IsOf row.now p.seat × (p.seat.me.0.kept ≡ [])) }
+    ensures pass { IfSome result (λ p. IsSeatOf row.now p.seat × (p.seat.me.0.kept ≡ [])) }
 {
     if !caller.is_idle() {
         return None;
@@ -67,9 +67,9 @@ fn come(
     hand: &mut Hand,
     pass: Pass,
 ) -> Option<(Caller<Scripts>, u32)>
-    requires row { row_at door.now ≡ row.now }
+    requires row { row_of_door door.now ≡ row.now }
     requires hand { IsHandOf door.now hand.old }
-    requires pass { IsOf row.now pass.seat }
+    requires pass { IsSeatOf row.now pass.seat }
     requires nobody { pass.seat.me.0.kept ≡ [] }
     ensures caller { IfSome result (λ c. IsCaller scripts_meaning row.now c.0) }
 {
@@ -112,9 +112,9 @@ fn newcomer(
     pass: Pass,
     word: u64,
 ) -> End
-    requires row { row_at door.now ≡ row.now }
+    requires row { row_of_door door.now ≡ row.now }
     requires hand { IsHandOf door.now hand }
-    requires pass { IsOf row.now pass.seat }
+    requires pass { IsSeatOf row.now pass.seat }
     requires nobody { pass.seat.me.0.kept ≡ [] }
 {
     match come(alloc, row, door, &mut hand, pass) {
@@ -140,9 +140,9 @@ fn beside<R: Threads + Sync>(
     stays: Caller<Scripts>,
     word: u64,
 ) -> [End; 2]
-    requires row { row_at door.now ≡ row.now }
+    requires row { row_of_door door.now ≡ row.now }
     requires hand { IsHandOf door.now comes.0 }
-    requires pass { IsOf row.now comes.1.seat }
+    requires pass { IsSeatOf row.now comes.1.seat }
     requires nobody { comes.1.seat.me.0.kept ≡ [] }
     requires stays { IsCaller scripts_meaning row.now stays }
 {
@@ -150,9 +150,9 @@ fn beside<R: Threads + Sync>(
     let (one, other) = join(
         rt,
         || -> End
-            requires row { row_at door.now ≡ row.now }
+            requires row { row_of_door door.now ≡ row.now }
             requires hand { IsHandOf door.now hand }
-            requires pass { IsOf row.now pass.seat }
+            requires pass { IsSeatOf row.now pass.seat }
             requires nobody { pass.seat.me.0.kept ≡ [] }
         { newcomer(alloc, row, door, hand, pass, word) },
         || -> End
@@ -173,8 +173,8 @@ fn left_beside<R: Threads + Sync>(
     leaves: (Caller<Scripts>, u64),
     stays: (Caller<Scripts>, u64),
 ) -> Result<[End; 2], AllocError>
-    requires row { row_at door.now ≡ row.now }
-    requires number { number_at door.now ≡ 0 }
+    requires row { row_of_door door.now ≡ row.now }
+    requires number { number_of_door door.now ≡ 0 }
     requires hand { IsHandOf door.now hand }
     requires leaves { IsCaller scripts_meaning row.now leaves.0 }
     requires stays { IsCaller scripts_meaning row.now stays.0 }

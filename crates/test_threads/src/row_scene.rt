@@ -2,7 +2,7 @@
 //! bank under the same events.
 
 ghost use Rattle.std.specs.Prelude.{◌≡◌, ◌≤◌, ◌<◌, IfSome, IfOk};
-ghost use Rattle.of_mem.specs.Plots.{size};
+ghost use Rattle.of_mem.specs.Plots.{data_cell_count};
 ghost use Rattle.test_threads.specs.Rows.{IsRowOf, IsStepperOf, MayEvict};
 ghost use Rattle.test_threads.specs.Starts.{alone, MayStartFrom};
 

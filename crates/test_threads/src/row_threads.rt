@@ -2,8 +2,8 @@
 
 ghost use Rattle.std.specs.Prelude.{◌≡◌, ◌≤◌, IfOk};
 ghost use Rattle.std.specs.Thread.{IsSync};
-ghost use Rattle.of_row.specs.Views.{Sight};
-ghost use Rattle.of_row.specs.Turned.{memo};
+ghost use Rattle.of_row.specs.Views.{View};
+ghost use Rattle.of_row.specs.Turned.{copied_view};
 ghost use Rattle.test_threads.specs.Rows.{IsStepperOf, MayEvict, MeetsRule};
 
 use crate::rows::row_of;
@@ -98,7 +98,7 @@ pub fn run_two<R: Threads + Sync>(
 ) -> Result<(Vec<u64>, Pass), AllocError>
     requires callers { 2 ≤ scripts.callers }
     requires limit { limit ≤ 4294967294 }
-    ensures { IfOk result (λ r. (v : Sight) × (r.1.seat.me.0 ≡ memo v) × MeetsRule scripts limit r.0.items v) }
+    ensures { IfOk result (λ r. (v : View) × (r.1.seat.me.0 ≡ copied_view v) × MeetsRule scripts limit r.0.items v) }
 {
     let (row, pass) = row_of(alloc, scripts, limit)?;
     let (first, pass) = enrolled(alloc, &row, pass, 0, scripts, limit)?;

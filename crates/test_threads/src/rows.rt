@@ -1,7 +1,7 @@
 //! Rows of scripts: of zeros, and from durable words.
 
 ghost use Rattle.std.specs.Prelude.{◌≡◌, ◌≤◌, IfOk};
-ghost use Rattle.of_mem.specs.Plots.{size};
+ghost use Rattle.of_mem.specs.Plots.{data_cell_count};
 ghost use Rattle.of_row.specs.Passes.{IsFirst};
 ghost use Rattle.test_threads.specs.Rows.{IsRowOf, IsAtZeros};
 ghost use Rattle.test_threads.specs.Starts.{MayStartFrom};
@@ -16,7 +16,7 @@ use std::alloc::{AllocError, Global};
 pub fn shape_for(plot: &Plot) -> Shape
     ensures callers { result.callers ≡ plot.now.callers }
     ensures instrs { result.instrs ≡ plot.now.instrs }
-    ensures cells { result.cells ≡ size plot.now }
+    ensures cells { result.cells ≡ data_cell_count plot.now }
 {
     Shape {
         callers: plot.callers,

@@ -4,12 +4,12 @@
 ghost use Rattle.std.specs.Prelude.{◌≡◌, ◌≢◌, ◌<◌, map};
 ghost use Rattle.std.proofs.Common.{get_or};
 ghost use Rattle.of_core.specs.declared.place.Place.TheVariants.{Idle};
-ghost use Rattle.of_core.specs.Table.{table_size};
-ghost use Rattle.of_core.specs.Seen.{ended};
-ghost use Rattle.of_core.specs.Helping.{helped};
-ghost use Rattle.of_core.specs.Inside.{call_of};
+ghost use Rattle.of_core.specs.Table.{words_before_members};
+ghost use Rattle.of_core.specs.Seen.{ended_outcome};
+ghost use Rattle.of_core.specs.Helping.{steps_left_after_help};
+ghost use Rattle.of_core.specs.Inside.{call_value};
 ghost use Rattle.of_core.specs.Steps.{want, word_of};
-ghost use Rattle.of_core.specs.Moment.{machine_of, table, table_words};
+ghost use Rattle.of_core.specs.Moment.{machine_of, bank_setup, table_word_count};
 
 use crate::bank::Bank;
 use crate::place::{Op, Outcome, Place};
@@ -29,8 +29,8 @@ impl<W: Work> Bank<W> {
     pub fn want(&self, caller: u32) -> Op
         requires caller { caller < self.now.callers }
         requires open { (machine_of self.now caller).place ≢ Idle }
-        ensures value { result ≡ want (table W.meaning self.now) (machine_of self.now caller) }
-        ensures range { word_of result < table_size (table W.meaning self.now) }
+        ensures value { result ≡ want (bank_setup W.meaning self.now) (machine_of self.now caller) }
+        ensures range { word_of result < words_before_members (bank_setup W.meaning self.now) }
     {
         self.machines[caller as usize].want()
     }
@@ -38,7 +38,7 @@ impl<W: Work> Bank<W> {
     /// How a caller's last call ended. None where a call is open, and where none has ended.
     pub fn answer(&self, caller: u32) -> Option<Outcome>
         requires { caller < self.now.callers }
-        ensures { result ≡ ended (machine_of self.now caller) }
+        ensures { result ≡ ended_outcome (machine_of self.now caller) }
     {
         self.machines[caller as usize].answer()
     }
@@ -46,7 +46,7 @@ impl<W: Work> Bank<W> {
     /// Whose log a caller's call copies or applies, where it helps another caller.
     pub fn helped(&self, caller: u32) -> Option<u32>
         requires { caller < self.now.callers }
-        ensures { result ≡ helped (machine_of self.now caller) }
+        ensures { result ≡ steps_left_after_help (machine_of self.now caller) }
     {
         self.machines[caller as usize].helped()
     }
@@ -54,14 +54,14 @@ impl<W: Work> Bank<W> {
     /// The calls that a caller's scan has run so far: those of its batch, where it commits them.
     pub fn calls(&self, caller: u32) -> &[RanCall]
         requires { caller < self.now.callers }
-        ensures { map call_of result.now ≡ (machine_of self.now caller).calls }
+        ensures { map call_value result.now ≡ (machine_of self.now caller).calls }
     {
         self.machines[caller as usize].calls()
     }
 
     /// A word of the table, by its place.
     pub fn word(&self, place: u32) -> u64
-        requires { place < table_words (table W.meaning self.now) }
+        requires { place < table_word_count (bank_setup W.meaning self.now) }
         ensures { result ≡ get_or self.now.words place 0 }
     {
         self.words[place as usize]

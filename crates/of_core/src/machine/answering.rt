@@ -2,8 +2,8 @@
 
 ghost use Rattle.std.specs.Prelude.{◌≡◌, ◌<◌, ◌≤◌, ◌+◌, IfSome, Option, ℕ};
 ghost use Rattle.of_mem.specs.declared.work.TheConstants.{MOST_INSTRS};
-ghost use Rattle.of_core.specs.Steps.{asks_more};
-ghost use Rattle.of_core.specs.Seen.{setup, step_from};
+ghost use Rattle.of_core.specs.Steps.{next_reply_place};
+ghost use Rattle.of_core.specs.Seen.{machine_setup, step_from};
 ghost use Rattle.of_core.specs.declared.place.Place.TheVariants.{LoadReply};
 
 use crate::machine::fill::first_mark;
@@ -65,7 +65,7 @@ impl<W: Work> Machine<W> {
     /// Asks for a number of the reply, or tells the reply where there is none to ask for.
     fn ask_or_tell(&mut self, next: Option<u32>)
         requires below { IfSome next (λ j. j < MOST_INSTRS) }
-        ensures { self.new ≡ record self.old { call = asks_more self.old.call next } }
+        ensures { self.new ≡ record self.old { call = next_reply_place self.old.call next } }
     {
         match next {
             Some(at) => {

@@ -6,8 +6,8 @@ ghost use Rattle.std.proofs.Common.{take, drop};
 ghost use Rattle.of_cell.specs.declared.shape.TheConstants.{MOST_DATA_CELLS};
 ghost use Rattle.of_mem.specs.declared.work.TheConstants.{MOST_INSTRS};
 ghost use Rattle.of_mem.specs.Pairs.{put_all};
-ghost use Rattle.of_core.specs.Machine.{log_of, log_words, own_cells, reply_cells, turned};
-ghost use Rattle.of_core.specs.Steps.{first_mark};
+ghost use Rattle.of_core.specs.Machine.{log_of, log_words, own_cells, reply_cells, rotated};
+ghost use Rattle.of_core.specs.Steps.{first_marked_place};
 
 use of_mem::{Keeps, LEAST_ABORT, MOST_INSTRS, RawReply, Workspace};
 use of_wset::WriteSet;
@@ -72,7 +72,7 @@ fn put_some(log: &mut WriteSet, copy: &[u32], from: u32, to: u32)
 /// entries.
 pub fn put_copy(log: &mut WriteSet, copy: &[u32], helper: u32)
     requires { (es : List (ℕ × ℕ)) × (copy.now ≡ log_words es) × All (λ (e : ℕ × ℕ). e.0 < log.old.room) es }
-    ensures { log.new ≡ record log.old { entries = put_all log.old.entries (turned (helper % length (log_of copy.now)) (log_of copy.now)) } }
+    ensures { log.new ≡ record log.old { entries = put_all log.old.entries (rotated (helper % length (log_of copy.now)) (log_of copy.now)) } }
 {
     let count = copy[0];
     if count > 0 {
@@ -86,7 +86,7 @@ pub fn put_copy(log: &mut WriteSet, copy: &[u32], helper: u32)
 #[tactic(auto, unfolding(of_mem::specs::Meaning::marked))]
 pub fn first_mark(shape: u32, from: u32, many: u32) -> Option<u32>
     requires { from + many ≤ MOST_INSTRS }
-    ensures mark { result ≡ first_mark shape from many }
+    ensures mark { result ≡ first_marked_place shape from many }
     ensures below { IfSome result (λ j. j < MOST_INSTRS) }
 {
     for j in from..from + many {

@@ -2,11 +2,11 @@
 
 ghost use Rattle.std.specs.Prelude.{◌≡◌, ◌<◌, ◌≤◌, ◌+◌, ◌*◌, ◌==◌, ℕ, List, length, true};
 ghost use Rattle.std.proofs.Common.{get_or};
-ghost use Rattle.of_cell.specs.Words.{word, seq, pay};
+ghost use Rattle.of_cell.specs.Words.{pack, seq_of, payload_of};
 ghost use Rattle.of_core.specs.Machine.{log_words};
 ghost use Rattle.of_core.specs.Shared.{IsLog};
-ghost use Rattle.of_core.specs.Steps.{after_load_request, copy_more, entered, resumed};
-ghost use Rattle.of_core.specs.Seen.{setup, step_from};
+ghost use Rattle.of_core.specs.Steps.{after_load_request, with_log_word_copied, enter, resume};
+ghost use Rattle.of_core.specs.Seen.{machine_setup, step_from};
 ghost use Rattle.of_core.specs.declared.place.Place.TheVariants.{CopyLog};
 
 use crate::machine::Machine;
@@ -18,8 +18,8 @@ use of_mem::Work;
 impl<W: Work> Machine<W> {
     /// From the load of the current-transaction word, which begins a round.
     pub(super) fn after_load_current(&mut self, found: u64)
-        requires owner { pay found < self.old.callers }
-        requires upto { seq found ≤ self.old.limit }
+        requires owner { payload_of found < self.old.callers }
+        requires upto { seq_of found ≤ self.old.limit }
         requires rounds { self.old.call.rounds ≤ 2 }
         ensures { self.new ≡ step_from W.meaning Place.LoadCurrent found self.old }
     {
@@ -47,7 +47,7 @@ impl<W: Work> Machine<W> {
 
     /// Begins to copy the log of the open transaction.
     pub(super) fn help(&mut self)
-        ensures { self.new ≡ record self.old { call = after_load_request (setup W.meaning self.old) self.old.call true } }
+        ensures { self.new ≡ record self.old { call = after_load_request (machine_setup W.meaning self.old) self.old.call true } }
     {
         self.copy.clear();
         self.helps = true;
@@ -57,7 +57,7 @@ impl<W: Work> Machine<W> {
     /// From the load of a log word.
     pub(super) fn after_copy_log(&mut self, at: u32, found: u64)
         requires at { self.old.call.place ≡ CopyLog at }
-        requires count { get_or (copy_more self.old.call found) 0 0 ≤ self.old.cells }
+        requires count { get_or (with_log_word_copied self.old.call found) 0 0 ≤ self.old.cells }
         ensures { self.new ≡ step_from W.meaning (CopyLog at) found self.old }
     {
         match self.copy.push(payload_of(found)) {
@@ -75,7 +75,7 @@ impl<W: Work> Machine<W> {
     /// From the second look at the request: a copy that was made while the transaction was open is its log.
     pub(super) fn after_look_again(&mut self, found: u64)
         requires some { 1 ≤ length self.old.call.op }
-        requires copied { found ≡ word self.old.call.seq 0 → (es : List (ℕ × ℕ)) × (self.old.call.copy ≡ log_words es) × IsLog (setup W.meaning self.old) es }
+        requires copied { found ≡ pack self.old.call.seq 0 → (es : List (ℕ × ℕ)) × (self.old.call.copy ≡ log_words es) × IsLog (machine_setup W.meaning self.old) es }
         ensures { self.new ≡ step_from W.meaning Place.LookAgain found self.old }
     {
         if found == pack(self.seq, 0) {
@@ -90,7 +90,7 @@ impl<W: Work> Machine<W> {
     /// Goes on with the try or the round behind its help.
     pub(super) fn resume(&mut self)
         requires some { 1 ≤ length self.old.call.op }
-        ensures { self.new ≡ record self.old { call = resumed (setup W.meaning self.old) self.old.call (self.old.call.rounds == 0) } }
+        ensures { self.new ≡ record self.old { call = resume (machine_setup W.meaning self.old) self.old.call (self.old.call.rounds == 0) } }
     {
         if self.rounds == 0 {
             self.begin_reading();
@@ -101,7 +101,7 @@ impl<W: Work> Machine<W> {
 
     /// Begins to read the state of a round, behind the look at the request or the help.
     pub(super) fn enter(&mut self)
-        ensures { self.new ≡ record self.old { call = entered (setup W.meaning self.old) self.old.call } }
+        ensures { self.new ≡ record self.old { call = enter (machine_setup W.meaning self.old) self.old.call } }
     {
         self.part.clear();
         self.log.clear();

@@ -1,16 +1,16 @@
 //! How a machine goes on at the steps of a scan: of each caller in turn the announced call is run, where its ticket is new.
 
 ghost use Rattle.std.specs.Prelude.{◌≡◌, ◌<◌, ◌≤◌, ◌+◌, ℕ, List, None, length, true, IsTrue};
-ghost use Rattle.of_cell.specs.Words.{seq, pay};
+ghost use Rattle.of_cell.specs.Words.{seq_of, payload_of};
 ghost use Rattle.of_mem.specs.declared.work.TheConstants.{MOST_INSTRS};
 ghost use Rattle.of_mem.specs.Meaning.{Agrees};
-ghost use Rattle.of_mem.specs.Pairs.{value_at};
-ghost use Rattle.of_mem.specs.Pad.{over};
+ghost use Rattle.of_mem.specs.Pairs.{value_for};
+ghost use Rattle.of_mem.specs.Pad.{overlaid};
 ghost use Rattle.of_core.specs.Table.{ticket_cell};
-ghost use Rattle.of_core.specs.Machine.{learned};
-ghost use Rattle.of_core.specs.Steps.{newer_raw, place_behind, runs, weighed};
-ghost use Rattle.of_core.specs.Fit.{Scanning, is_scanning};
-ghost use Rattle.of_core.specs.Seen.{setup, step_from};
+ghost use Rattle.of_core.specs.Machine.{with_cell_known};
+ghost use Rattle.of_core.specs.Steps.{own_reply_or, place_behind, run_script, weigh};
+ghost use Rattle.of_core.specs.Fit.{IsScanning, is_scanning};
+ghost use Rattle.of_core.specs.Seen.{machine_setup, step_from};
 ghost use Rattle.of_core.specs.declared.place.Place.TheVariants.{LoadScript, LoadCell};
 
 use crate::machine::fill::{collect, put_own, words_of};
@@ -33,7 +33,7 @@ fn place_behind(more: bool) -> Place
 
 /// The reply of one's own call: the new one where the call that was run is one's own.
 fn newer_raw(own: bool, new: &RawReply, old: &RawReply) -> RawReply
-    ensures { result ≡ newer_raw new.now old.now own }
+    ensures { result ≡ own_reply_or new.now old.now own }
 {
     if own { *new } else { *old }
 }
@@ -42,9 +42,9 @@ impl<W: Work> Machine<W> {
     /// From the load of an announcement: its ticket is weighed against the caller's ticket cell, which is loaded where it isn't known.
     pub(super) fn after_load_announcement(&mut self, found: u64)
         requires at { self.old.call.place ≡ Place.LoadAnnouncement }
-        requires small { pay found ≤ MOST_INSTRS }
-        requires some { 0 < seq found → 1 ≤ pay found }
-        requires unnamed { value_at self.old.call.log (ticket_cell (setup W.meaning self.old) self.old.call.scan) ≡ None }
+        requires small { payload_of found ≤ MOST_INSTRS }
+        requires some { 0 < seq_of found → 1 ≤ payload_of found }
+        requires unnamed { value_for self.old.call.log (ticket_cell (machine_setup W.meaning self.old) self.old.call.scan) ≡ None }
         ensures { self.new ≡ step_from W.meaning Place.LoadAnnouncement found self.old }
     {
         self.heard = found;
@@ -59,8 +59,8 @@ impl<W: Work> Machine<W> {
     /// From the load of the ticket cell.
     pub(super) fn after_load_ticket(&mut self, found: u64)
         requires at { self.old.call.place ≡ Place.LoadTicket }
-        requires small { pay self.old.call.heard ≤ MOST_INSTRS }
-        requires some { 0 < seq self.old.call.heard → 1 ≤ pay self.old.call.heard }
+        requires small { payload_of self.old.call.heard ≤ MOST_INSTRS }
+        requires some { 0 < seq_of self.old.call.heard → 1 ≤ payload_of self.old.call.heard }
         ensures { self.new ≡ step_from W.meaning Place.LoadTicket found self.old }
     {
         if self.seq < seq_of(found) {
@@ -74,10 +74,10 @@ impl<W: Work> Machine<W> {
     /// Takes in a call with a new ticket, and passes one with an old ticket by.
     fn weigh(&mut self, new: bool)
         requires scanning { is_scanning self.old.call.place ≡ true }
-        requires scan { Scanning (setup W.meaning self.old) self.old.call }
-        requires small { pay self.old.call.heard ≤ MOST_INSTRS }
-        requires some { IsTrue new → 0 < pay self.old.call.heard }
-        ensures { self.new ≡ record self.old { call = weighed (setup W.meaning self.old) self.old.call new } }
+        requires scan { IsScanning (machine_setup W.meaning self.old) self.old.call }
+        requires small { payload_of self.old.call.heard ≤ MOST_INSTRS }
+        requires some { IsTrue new → 0 < payload_of self.old.call.heard }
+        ensures { self.new ≡ record self.old { call = weigh (machine_setup W.meaning self.old) self.old.call new } }
     {
         if new {
             self.script.clear();
@@ -92,7 +92,7 @@ impl<W: Work> Machine<W> {
     pub(super) fn after_load_script(&mut self, at: u32, found: u64)
         requires at { self.old.call.place ≡ LoadScript at }
         requires many { length self.old.call.script ≡ at }
-        requires agrees { (xs : List ℕ) × (length xs ≡ self.old.cells) × W.lawful self.old.work xs × Agrees (over self.old.call.known self.old.call.log) xs }
+        requires agrees { (xs : List ℕ) × (length xs ≡ self.old.cells) × W.lawful self.old.work xs × Agrees (overlaid self.old.call.known self.old.call.log) xs }
         ensures { self.new ≡ step_from W.meaning (LoadScript at) found self.old }
     {
         match self.script.push(found) {
@@ -111,7 +111,7 @@ impl<W: Work> Machine<W> {
     pub(super) fn after_load_cell(&mut self, addr: u32, found: u64)
         requires at { self.old.call.place ≡ LoadCell addr }
         requires some { 1 ≤ length self.old.call.script }
-        requires agrees { seq found ≤ self.old.call.seq → (xs : List ℕ) × (length xs ≡ self.old.cells) × W.lawful self.old.work xs × Agrees (over (learned (setup W.meaning self.old) self.old.call addr found) self.old.call.log) xs }
+        requires agrees { seq_of found ≤ self.old.call.seq → (xs : List ℕ) × (length xs ≡ self.old.cells) × W.lawful self.old.work xs × Agrees (overlaid (with_cell_known (machine_setup W.meaning self.old) self.old.call addr found) self.old.call.log) xs }
         ensures { self.new ≡ step_from W.meaning (LoadCell addr) found self.old }
     {
         if self.seq < seq_of(found) {
@@ -125,10 +125,10 @@ impl<W: Work> Machine<W> {
     /// Runs the script over the calls before it: it needs a cell, or the call is taken in.
     fn run(&mut self)
         requires scanning { is_scanning self.old.call.place ≡ true }
-        requires scan { Scanning (setup W.meaning self.old) self.old.call }
+        requires scan { IsScanning (machine_setup W.meaning self.old) self.old.call }
         requires some { 1 ≤ length self.old.call.script }
-        requires agrees { (xs : List ℕ) × (length xs ≡ self.old.cells) × W.lawful self.old.work xs × Agrees (over self.old.call.known self.old.call.log) xs }
-        ensures { self.new ≡ record self.old { call = runs (setup W.meaning self.old) self.old.call } }
+        requires agrees { (xs : List ℕ) × (length xs ≡ self.old.cells) × W.lawful self.old.work xs × Agrees (overlaid self.old.call.known self.old.call.log) xs }
+        ensures { self.new ≡ record self.old { call = run_script (machine_setup W.meaning self.old) self.old.call } }
     {
         let work = self.work;
         let mut raw = RawReply {

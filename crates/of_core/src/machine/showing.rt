@@ -1,8 +1,8 @@
 //! What a machine shows of the step that it makes next, and of the batch that it would commit.
 
 ghost use Rattle.std.specs.Prelude.{◌≡◌, map};
-ghost use Rattle.of_core.specs.Helping.{helped};
-ghost use Rattle.of_core.specs.Inside.{call_of};
+ghost use Rattle.of_core.specs.Helping.{steps_left_after_help};
+ghost use Rattle.of_core.specs.Inside.{call_value};
 
 use crate::machine::Machine;
 use crate::place::Place;
@@ -20,14 +20,14 @@ impl<W: Work> Machine<W> {
 
     /// Whose log the call copies or applies, where it helps another caller.
     pub fn helped(&self) -> Option<u32>
-        ensures { result ≡ helped self.now.call }
+        ensures { result ≡ steps_left_after_help self.now.call }
     {
         if self.helps { Some(self.owner) } else { None }
     }
 
     /// The calls that the scan has run so far: those of the batch, where it is committed.
     pub fn calls(&self) -> &[RanCall]
-        ensures { map call_of result.now ≡ self.now.call.calls }
+        ensures { map call_value result.now ≡ self.now.call.calls }
     {
         &self.calls
     }

@@ -3,10 +3,10 @@
 ghost use Rattle.std.specs.Prelude.{◌≡◌, ◌≤◌, ◌<◌, None, [], ◌∷◌, ◌++◌, length, IfOk, OnOk};
 ghost use Rattle.std.specs.FinMap as fm;
 ghost use Rattle.of_mem.specs.declared.plot.TheConstants.{QUEUES};
-ghost use Rattle.of_mem.specs.Plots.{base, size};
-ghost use Rattle.of_mem.specs.ProgramWork.{memory};
-ghost use Rattle.of_script.specs.Language.{InRange, greatest};
-ghost use Rattle.of_store.specs.State.{run, kept, queue, with_key, with_queue};
+ghost use Rattle.of_mem.specs.Plots.{base, data_cell_count};
+ghost use Rattle.of_mem.specs.ProgramWork.{memory_of};
+ghost use Rattle.of_script.specs.Language.{IsInstrInRange, greatest};
+ghost use Rattle.of_store.specs.State.{run, stored_count, queue, with_key, with_queue};
 ghost use Rattle.of_eval.specs.Faults.{AreNumbers};
 ghost use Rattle.of_eval.specs.Walking.{HasRegisters};
 
@@ -17,7 +17,7 @@ use std::alloc::{AllocError, Global};
 
 /// Does an instruction to a store.
 fn apply(store: &mut Store, instr: Instr) -> Result<(), AllocError>
-    requires { InRange instr }
+    requires { IsInstrInRange instr }
     ensures { OnOk result (store.new ≡ (run store.old (instr ∷ [])).0) }
 {
     store.run(&Script::new(&[instr]))?;
@@ -29,7 +29,7 @@ pub(crate) fn put(store: &mut Store, key: u32, value: u32) -> Result<(), AllocEr
     requires key { key ≤ greatest }
     requires value { value ≤ greatest }
     requires new { fm.get store.old.keys key ≡ None }
-    requires room { kept store.old < store.old.room }
+    requires room { stored_count store.old < store.old.room }
     ensures { OnOk result (store.new ≡ with_key store.old key value) }
 {
     apply(store, Instr::Put { key, value })
@@ -39,7 +39,7 @@ pub(crate) fn put(store: &mut Store, key: u32, value: u32) -> Result<(), AllocEr
 pub(crate) fn push(store: &mut Store, q: u32, item: u32) -> Result<(), AllocError>
     requires q { q < QUEUES }
     requires item { item ≤ greatest }
-    requires room { kept store.old < store.old.room }
+    requires room { stored_count store.old < store.old.room }
     ensures { OnOk result (store.new ≡ with_queue store.old q (queue store.old q ++ item ∷ [])) }
 {
     apply(
@@ -53,8 +53,8 @@ pub(crate) fn push(store: &mut Store, q: u32, item: u32) -> Result<(), AllocErro
 
 /// The store with these registers and nothing else.
 pub(crate) fn begun_store(alloc: Global, plot: &Plot, cells: &[u32]) -> Result<Store, AllocError>
-    requires sized { length cells.now ≡ size plot.now }
-    requires numbers { AreNumbers (base plot.now) (memory cells.now) REGISTERS }
+    requires sized { length cells.now ≡ data_cell_count plot.now }
+    requires numbers { AreNumbers (base plot.now) (memory_of cells.now) REGISTERS }
     ensures { IfOk result (HasRegisters plot.now cells.now REGISTERS) }
 {
     let mut store = Store::new(alloc, plot.blocks)?;

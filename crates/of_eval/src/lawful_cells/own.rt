@@ -1,11 +1,11 @@
 //! The cells of callers.
 
 ghost use Rattle.std.specs.Prelude.{◌≡◌, ◌≢◌, ◌<◌, length, IfErr, OnOk};
-ghost use Rattle.of_mem.specs.Plots.{size};
-ghost use Rattle.of_mem.specs.Places.{ticket_at, shape_at};
-ghost use Rattle.of_mem.specs.ProgramWork.{memory};
-ghost use Rattle.of_eval.specs.Lawful.{OwnStand};
-ghost use Rattle.of_eval.specs.Faults.{OwnsStand, IsShapeOf, OwnFault, AtCell};
+ghost use Rattle.of_mem.specs.Plots.{data_cell_count};
+ghost use Rattle.of_mem.specs.Places.{ticket_cell_at, shape_at};
+ghost use Rattle.of_mem.specs.ProgramWork.{memory_of};
+ghost use Rattle.of_eval.specs.Lawful.{OwnCellsAreSound};
+ghost use Rattle.of_eval.specs.Faults.{AllOwnCellsAreSound, IsShapeOf, OwnFault, NamesCellWith};
 ghost use Rattle.of_eval.specs.Walking.{NamesFault};
 
 use crate::lawful_cells::LawErr;
@@ -15,8 +15,8 @@ use of_script::{GREATEST, MOST_INSTRS, Reply};
 
 /// Looks at the own cells of all callers, in order.
 pub(crate) fn callers(plot: &Plot, cells: &[u32]) -> Result<(), LawErr>
-    requires { length cells.now ≡ size plot.now }
-    ensures ok { OnOk result (OwnsStand plot.now.instrs (memory cells.now) plot.now.callers) }
+    requires { length cells.now ≡ data_cell_count plot.now }
+    ensures ok { OnOk result (AllOwnCellsAreSound plot.now.instrs (memory_of cells.now) plot.now.callers) }
     ensures err { IfErr result (NamesFault plot.now cells.now) }
 {
     for caller in 0..plot.callers {
@@ -27,10 +27,10 @@ pub(crate) fn callers(plot: &Plot, cells: &[u32]) -> Result<(), LawErr>
 
 /// Looks at a caller's own cells: with no ticket there is no shape, and else they hold a reply.
 fn own(plot: &Plot, cells: &[u32], caller: u32) -> Result<(), LawErr>
-    requires sized { length cells.now ≡ size plot.now }
+    requires sized { length cells.now ≡ data_cell_count plot.now }
     requires caller { caller < plot.now.callers }
-    ensures ok { OnOk result (OwnStand plot.now.instrs (memory cells.now) caller) }
-    ensures err { IfErr result (AtCell (OwnFault plot.now.instrs (memory cells.now) caller)) }
+    ensures ok { OnOk result (OwnCellsAreSound plot.now.instrs (memory_of cells.now) caller) }
+    ensures err { IfErr result (NamesCellWith (OwnFault plot.now.instrs (memory_of cells.now) caller)) }
 {
     let ticket = cells[plot.ticket(caller) as usize];
     let cell = plot.shape(caller);
@@ -56,13 +56,13 @@ fn own(plot: &Plot, cells: &[u32], caller: u32) -> Result<(), LawErr>
 
 /// Looks at the numbers of a caller's reply, in order.
 fn numbers(plot: &Plot, cells: &[u32], caller: u32, reply: &Reply) -> Result<(), LawErr>
-    requires sized { length cells.now ≡ size plot.now }
+    requires sized { length cells.now ≡ data_cell_count plot.now }
     requires caller { caller < plot.now.callers }
-    requires called { memory cells.now (ticket_at plot.now.instrs caller) ≢ 0 }
+    requires called { memory_of cells.now (ticket_cell_at plot.now.instrs caller) ≢ 0 }
     requires shape { IsShapeOf plot.now.instrs
-        (memory cells.now (shape_at plot.now.instrs caller)) reply.now }
-    ensures ok { OnOk result (OwnStand plot.now.instrs (memory cells.now) caller) }
-    ensures err { IfErr result (AtCell (OwnFault plot.now.instrs (memory cells.now) caller)) }
+        (memory_of cells.now (shape_at plot.now.instrs caller)) reply.now }
+    ensures ok { OnOk result (OwnCellsAreSound plot.now.instrs (memory_of cells.now) caller) }
+    ensures err { IfErr result (NamesCellWith (OwnFault plot.now.instrs (memory_of cells.now) caller)) }
 {
     for j in 0..u32::from(reply.len) {
         let cell = plot.reply(caller, j);

@@ -2,11 +2,11 @@
 
 ghost use Rattle.std.specs.Prelude.{◌≡◌, ◌≢◌, ◌<◌, ◌+◌, ◌↔◌, IsTrue, EachIndex, slice_index, ℕ, List, length, IfOk, IfErr, OnOk, All};
 ghost use Rattle.of_mem.specs.declared.plot.TheConstants.{BUCKETS, QUEUES};
-ghost use Rattle.of_mem.specs.Plots.{base, size};
+ghost use Rattle.of_mem.specs.Plots.{base, data_cell_count};
 ghost use Rattle.of_mem.specs.Places.{fresh_at};
-ghost use Rattle.of_mem.specs.ProgramWork.{memory};
-ghost use Rattle.of_eval.specs.Faults.{OwnsStand, AreNumbers};
-ghost use Rattle.of_eval.specs.Walking.{NamesFault, HasBegun, Freed, Before, Stepped, StoppedAt, KeysAreCounted, KeysAreMiscounted, AllAreMet, SomeAreUnmet};
+ghost use Rattle.of_mem.specs.ProgramWork.{memory_of};
+ghost use Rattle.of_eval.specs.Faults.{AllOwnCellsAreSound, AreNumbers};
+ghost use Rattle.of_eval.specs.Walking.{NamesFault, HasBegun, HasWalkedFreeList, IsBeforeChain, LinkLeadsOn, LinkIsAtFault, KeysAreCounted, KeysAreMiscounted, AllAreMet, SomeAreUnmet};
 
 use crate::lawful_cells::LawErr;
 use crate::lawful_cells::fill::{push, put};
@@ -23,9 +23,9 @@ const FIRST_QUEUE_CHAIN: u8 = FIRST_BUCKET_CHAIN + BUCKETS as u8;
 
 /// Looks at the registers.
 pub(crate) fn registers(plot: &Plot, cells: &[u32]) -> Result<(), LawErr>
-    requires sized { length cells.now ≡ size plot.now }
-    requires own { OwnsStand plot.now.instrs (memory cells.now) plot.now.callers }
-    ensures ok { OnOk result (AreNumbers (base plot.now) (memory cells.now) REGISTERS) }
+    requires sized { length cells.now ≡ data_cell_count plot.now }
+    requires own { AllOwnCellsAreSound plot.now.instrs (memory_of cells.now) plot.now.callers }
+    ensures ok { OnOk result (AreNumbers (base plot.now) (memory_of cells.now) REGISTERS) }
     ensures err { IfErr result (NamesFault plot.now cells.now) }
 {
     for r in 0..REGISTERS {
@@ -39,11 +39,11 @@ pub(crate) fn registers(plot: &Plot, cells: &[u32]) -> Result<(), LawErr>
 
 /// How many blocks were taken.
 pub(crate) fn fresh(plot: &Plot, cells: &[u32]) -> Result<u32, LawErr>
-    requires sized { length cells.now ≡ size plot.now }
-    requires own { OwnsStand plot.now.instrs (memory cells.now) plot.now.callers }
-    requires registers { AreNumbers (base plot.now) (memory cells.now) REGISTERS }
+    requires sized { length cells.now ≡ data_cell_count plot.now }
+    requires own { AllOwnCellsAreSound plot.now.instrs (memory_of cells.now) plot.now.callers }
+    requires registers { AreNumbers (base plot.now) (memory_of cells.now) REGISTERS }
     ensures begun { OnOk result (HasBegun plot.now cells.now) }
-    ensures value { IfOk result (λ n. n ≡ memory cells.now (fresh_at (base plot.now))) }
+    ensures value { IfOk result (λ n. n ≡ memory_of cells.now (fresh_at (base plot.now))) }
     ensures err { IfErr result (NamesFault plot.now cells.now) }
 {
     let cell = plot.fresh();
@@ -59,8 +59,8 @@ pub(crate) fn fresh(plot: &Plot, cells: &[u32]) -> Result<u32, LawErr>
 fn next(cells: &[u32], cell: u32, chain: u8, owners: &mut [u8]) -> Result<Option<u32>, LawErr>
     requires cell { cell < length cells.now }
     requires chain { chain < 255 }
-    ensures ok { IfOk result (Stepped cells.now cell chain owners.old owners.new) }
-    ensures err { IfErr result (StoppedAt cells.now cell owners.old) }
+    ensures ok { IfOk result (LinkLeadsOn cells.now cell chain owners.old owners.new) }
+    ensures err { IfErr result (LinkIsAtFault cells.now cell owners.old) }
 {
     let pointer = cells[cell as usize];
     if pointer == 0 {
@@ -79,11 +79,11 @@ fn next(cells: &[u32], cell: u32, chain: u8, owners: &mut [u8]) -> Result<Option
 
 /// Walks the free list, the first chain.
 pub(crate) fn free_list(plot: &Plot, cells: &[u32], owners: &mut [u8]) -> Result<(), LawErr>
-    requires sized { length cells.now ≡ size plot.now }
+    requires sized { length cells.now ≡ data_cell_count plot.now }
     requires begun { HasBegun plot.now cells.now }
-    requires fresh { length owners.old ≡ memory cells.now (fresh_at (base plot.now)) }
+    requires fresh { length owners.old ≡ memory_of cells.now (fresh_at (base plot.now)) }
     requires unmet { All (λ (x : ℕ). x ≡ 0) owners.old }
-    ensures ok { OnOk result (Freed plot.now cells.now owners.new) }
+    ensures ok { OnOk result (HasWalkedFreeList plot.now cells.now owners.new) }
     ensures err { IfErr result (NamesFault plot.now cells.now) }
 {
     let mut cell = plot.free();
@@ -101,10 +101,10 @@ pub(crate) fn bucket(
     owners: &mut [u8],
     store: &mut Store,
 ) -> Result<(), LawErr>
-    requires sized { length cells.now ≡ size plot.now }
+    requires sized { length cells.now ≡ data_cell_count plot.now }
     requires b { b < BUCKETS }
-    requires before { Before plot.now cells.now (1 + b) 0 owners.old store.old }
-    ensures ok { OnOk result (Before plot.now cells.now (2 + b) 0 owners.new store.new) }
+    requires before { IsBeforeChain plot.now cells.now (1 + b) 0 owners.old store.old }
+    ensures ok { OnOk result (IsBeforeChain plot.now cells.now (2 + b) 0 owners.new store.new) }
     ensures err { IfErr result (NamesFault plot.now cells.now) }
 {
     let mut cell = plot.bucket(b);
@@ -127,7 +127,7 @@ pub(crate) fn bucket(
 
 /// Compares the count of keys with the keys that were met.
 pub(crate) fn keys(plot: &Plot, cells: &[u32], store: &Store) -> Result<(), LawErr>
-    requires sized { length cells.now ≡ size plot.now }
+    requires sized { length cells.now ≡ data_cell_count plot.now }
     ensures ok { OnOk result (KeysAreCounted plot.now cells.now store.now) }
     ensures err { IfErr result (KeysAreMiscounted plot.now cells.now store.now) }
 {
@@ -147,10 +147,10 @@ pub(crate) fn queue(
     owners: &mut [u8],
     store: &mut Store,
 ) -> Result<(), LawErr>
-    requires sized { length cells.now ≡ size plot.now }
+    requires sized { length cells.now ≡ data_cell_count plot.now }
     requires q { q < QUEUES }
-    requires before { Before plot.now cells.now (33 + q) (33 + q) owners.old store.old }
-    ensures ok { OnOk result (Before plot.now cells.now (34 + q) (34 + q) owners.new store.new) }
+    requires before { IsBeforeChain plot.now cells.now (33 + q) (33 + q) owners.old store.old }
+    ensures ok { OnOk result (IsBeforeChain plot.now cells.now (34 + q) (34 + q) owners.new store.new) }
     ensures err { IfErr result (NamesFault plot.now cells.now) }
 {
     let mut cell = plot.head(q);

@@ -1,5 +1,5 @@
 use Rattle.std.proofs.Common.{◌≡◌, ℕ, suc, ◌+◌, refl, subst, arith}
-use Rattle.of_mem.specs.Pad.{Pad}
+use Rattle.of_mem.specs.Pad.{Part}
 use Rattle.of_mem.specs.Plots.{base}
 use Rattle.of_mem.specs.Programs.{NeedsAt}
 use Rattle.of_mem.proofs.Walks.{passes_on}
@@ -20,7 +20,7 @@ loop-passed-init c = record {
 pub returns-in-Err-clause-runs : goal.returns-in-Err-clause-runs
 returns-in-Err-clause-runs c =
     let h = c.loop-passed.invariant in
-    let lacks : (n : ℕ) → NeedsAt (seek_from (base c.args.plot.now) c.args.key (suc n) c.loop-passed.cell) c.args.part.now c.in-Err.need.addr = subst (λ (p : Pad). (n : ℕ) → NeedsAt (seek_from (base c.args.plot.now) c.args.key (suc n) c.loop-passed.cell) p c.in-Err.need.addr) h.same c.in-Err.ensures in
+    let lacks : (n : ℕ) → NeedsAt (seek_from (base c.args.plot.now) c.args.key (suc n) c.loop-passed.cell) c.args.part.now c.in-Err.need.addr = subst (λ (p : Part). (n : ℕ) → NeedsAt (seek_from (base c.args.plot.now) c.args.key (suc n) c.loop-passed.cell) p c.in-Err.need.addr) h.same c.in-Err.ensures in
     rw (c.keep_walk.ensures, h.same) (record {
       walk = walk_lacks c.args.plot.now c.args.key c.args.part.now _ c.loop-passed.passed c.loop-passed.cell c.loop-passed-test.true h.passes c.in-Err.need.addr lacks;
       known = refl;
@@ -30,7 +30,7 @@ returns-in-Err-clause-runs c =
 pub returns-in-Ok-End-clause-runs : goal.returns-in-Ok-End-clause-runs
 returns-in-Ok-End-clause-runs c =
     let h = c.loop-passed.invariant in
-    let sees : Sees c.args.plot.now c.args.part.now c.args.key c.loop-passed.cell End = subst (λ (p : Pad). Sees c.args.plot.now p c.args.key c.loop-passed.cell End) h.same (rw c.in-Ok-End.field-0-is at c.in-Ok-End.ensures) in
+    let sees : Sees c.args.plot.now c.args.part.now c.args.key c.loop-passed.cell End = subst (λ (p : Part). Sees c.args.plot.now p c.args.key c.loop-passed.cell End) h.same (rw c.in-Ok-End.field-0-is at c.in-Ok-End.ensures) in
     rw (c.keep_walk-in-Ok-End.ensures, h.same) (record {
       walk = walk_ends c.args.plot.now c.args.key c.args.part.now _ c.loop-passed.passed c.loop-passed.cell c.loop-passed-test.true h.passes sees;
       known = refl;
@@ -40,7 +40,7 @@ returns-in-Ok-End-clause-runs c =
 pub returns-in-Ok-Here-clause-runs : goal.returns-in-Ok-Here-clause-runs
 returns-in-Ok-Here-clause-runs c =
     let h = c.loop-passed.invariant in
-    let sees : Sees c.args.plot.now c.args.part.now c.args.key c.loop-passed.cell (Here c.in-Ok-Here.block) = subst (λ (p : Pad). Sees c.args.plot.now p c.args.key c.loop-passed.cell (Here c.in-Ok-Here.block)) h.same (rw c.in-Ok-Here.field-0-is at c.in-Ok-Here.ensures) in
+    let sees : Sees c.args.plot.now c.args.part.now c.args.key c.loop-passed.cell (Here c.in-Ok-Here.block) = subst (λ (p : Part). Sees c.args.plot.now p c.args.key c.loop-passed.cell (Here c.in-Ok-Here.block)) h.same (rw c.in-Ok-Here.field-0-is at c.in-Ok-Here.ensures) in
     rw (c.keep_walk-in-Ok-Here.ensures, h.same) (record {
       walk = walk_finds c.args.plot.now c.args.key c.args.part.now _ c.loop-passed.passed c.loop-passed.cell c.loop-passed-test.true h.passes c.in-Ok-Here.block sees.0 sees.1;
       known = refl;
@@ -50,7 +50,7 @@ returns-in-Ok-Here-clause-runs c =
 pub loop-passed-preserved : goal.loop-passed-preserved
 loop-passed-preserved c =
     let h = c.loop-passed.invariant in
-    let sees : Sees c.args.plot.now c.args.part.now c.args.key c.loop-passed.cell (Past c.in-Ok-Past.link) = subst (λ (p : Pad). Sees c.args.plot.now p c.args.key c.loop-passed.cell (Past c.in-Ok-Past.link)) h.same (rw c.in-Ok-Past.field-0-is at c.in-Ok-Past.ensures) in
+    let sees : Sees c.args.plot.now c.args.part.now c.args.key c.loop-passed.cell (Past c.in-Ok-Past.link) = subst (λ (p : Part). Sees c.args.plot.now p c.args.key c.loop-passed.cell (Past c.in-Ok-Past.link)) h.same (rw c.in-Ok-Past.field-0-is at c.in-Ok-Past.ensures) in
     record {
       same = h.same;
       few = omega (arith, c.loop-passed-test.true);

@@ -3,7 +3,7 @@ use Rattle.of_mem.specs.declared.plot.TheConstants.{BUCKETS}
 use Rattle.of_mem.specs.Places.{bucket_at}
 use Rattle.of_mem.specs.Plots.{base}
 use Rattle.of_mem.specs.Walks.{Passes}
-use Rattle.of_map.specs.Found.{LeadsFrom}
+use Rattle.of_map.specs.Found.{HasChainFrom}
 use Rattle.of_map.proofs.seek.Given as goal
 
 abbrev pub invariant-loop-passed : goal.invariant-loop-passed
@@ -11,5 +11,5 @@ invariant-loop-passed l = record {
   same : l.part ≡ l.fn.part;
   few : l.passed ≤ l.plot.blocks + 1;
   passes : Passes (base l.plot) l.key l.fn.part l.passed (bucket_at (base l.plot) (l.key % BUCKETS)) l.cell;
-  leads : LeadsFrom l.plot l.fn.part l.cell;
+  leads : HasChainFrom l.plot l.fn.part l.cell;
 }

@@ -2,7 +2,7 @@ use Rattle.std.proofs.Common.{ℕ, ◌+◌, ◌-◌, ◌∙◌, ap, refl, arith}
 use Rattle.std.proofs.lemmas.Result.{err_from_is_err_and}
 use Rattle.of_mem.specs.declared.plot.TheConstants.{BUCKETS}
 use Rattle.of_mem.specs.Plots.{base}
-use Rattle.of_mem.specs.Programs.{Program, run}
+use Rattle.of_mem.specs.Programs.{Program, run_program}
 use Rattle.of_mem.proofs.Runs.{run_then_gives, run_then_needs}
 use Rattle.of_order.specs.OrderPrograms.{drop_below, drop_in, drop_buckets, count_down}
 use Rattle.of_order.proofs.Walking.{comes_to}
@@ -19,7 +19,7 @@ returns-in_err-gone-clause-runs c =
     rw (p.1, p.2) (record {
       walk =
           c.loop-bucket.invariant.ran
-          ∙ ap (λ (f : Program ℕ). run f c.loop-bucket.part) (drop_bucket (base c.args.plot.now) c.args.plot.now.blocks c.args.key BUCKETS c.loop-bucket.bucket c.loop-bucket.gone c.loop-bucket-test.true)
+          ∙ ap (λ (f : Program ℕ). run_program f c.loop-bucket.part) (drop_bucket (base c.args.plot.now) c.args.plot.now.blocks c.args.key BUCKETS c.loop-bucket.bucket c.loop-bucket.gone c.loop-bucket-test.true)
           ∙ run_then_needs (drop_in c.args.plot.now c.loop-bucket.bucket c.args.key c.loop-bucket.gone) (drop_buckets (base c.args.plot.now) c.args.plot.now.blocks c.args.key (BUCKETS - (c.loop-bucket.bucket + 1)) (c.loop-bucket.bucket + 1)) c.loop-bucket.part _ c.in_err-gone.ensures.walk;
       known = c.in_err-gone.ensures.known ∙ c.loop-bucket.invariant.known;
       batch = c.in_err-gone.ensures.batch ∙ c.loop-bucket.invariant.batch;
@@ -32,7 +32,7 @@ pub loop-bucket-preserved : goal.loop-bucket-preserved
 loop-bucket-preserved c = record {
   ran =
       c.loop-bucket.invariant.ran
-      ∙ ap (λ (f : Program ℕ). run f c.loop-bucket.part) (drop_bucket (base c.args.plot.now) c.args.plot.now.blocks c.args.key BUCKETS c.loop-bucket.bucket c.loop-bucket.gone c.loop-bucket-test.true)
+      ∙ ap (λ (f : Program ℕ). run_program f c.loop-bucket.part) (drop_bucket (base c.args.plot.now) c.args.plot.now.blocks c.args.key BUCKETS c.loop-bucket.bucket c.loop-bucket.gone c.loop-bucket-test.true)
       ∙ run_then_gives (drop_in c.args.plot.now c.loop-bucket.bucket c.args.key c.loop-bucket.gone) (drop_buckets (base c.args.plot.now) c.args.plot.now.blocks c.args.key (BUCKETS - (c.loop-bucket.bucket + 1)) (c.loop-bucket.bucket + 1)) c.loop-bucket.part c.drop_in.new.part c.in_ok-gone.gone c.in_ok-gone.ensures.walk;
   stands = next_bucket c.args.plot.now c.loop-bucket.part c.drop_in.new.part c.args.key c.loop-bucket.bucket c.loop-bucket.gone c.in_ok-gone.gone c.loop-bucket-test.true c.loop-bucket.invariant.stands c.in_ok-gone.ensures;
   known = c.in_ok-gone.ensures.known ∙ c.loop-bucket.invariant.known;
@@ -45,7 +45,7 @@ count_down-requires c = all_dropped c.args.plot.now c.loop-bucket.part c.args.ke
 pub returns-clause-runs : goal.returns-clause-runs
 returns-clause-runs c =
     comes_to (drop_below c.args.plot.now c.args.key) (count_down c.args.plot.now c.loop-bucket.gone) c.args.part.now c.loop-bucket.part c.count_down.new.part c.count_down.result
-    (c.loop-bucket.invariant.ran ∙ ap (λ (f : Program ℕ). run f c.loop-bucket.part) (no_bucket (base c.args.plot.now) c.args.plot.now.blocks c.args.key BUCKETS c.loop-bucket.bucket c.loop-bucket.gone (omega (arith, c.loop-bucket-test.false))))
+    (c.loop-bucket.invariant.ran ∙ ap (λ (f : Program ℕ). run_program f c.loop-bucket.part) (no_bucket (base c.args.plot.now) c.args.plot.now.blocks c.args.key BUCKETS c.loop-bucket.bucket c.loop-bucket.gone (omega (arith, c.loop-bucket-test.false))))
     c.loop-bucket.invariant.known c.loop-bucket.invariant.batch c.count_down.ensures
 
 pub returns-clause-acts : goal.returns-clause-acts

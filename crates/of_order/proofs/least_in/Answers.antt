@@ -2,7 +2,7 @@ use Rattle.std.proofs.Common.{◌≡◌, ℕ, suc, ◌+◌, ◌-◌, ◌<◌, �
 use Rattle.std.proofs.lemmas.Result.{err_from_is_err_and}
 use Rattle.of_mem.specs.Plots.{base}
 use Rattle.of_mem.specs.Places.{bucket_at}
-use Rattle.of_mem.specs.Programs.{run}
+use Rattle.of_mem.specs.Programs.{run_program}
 use Rattle.of_mem.proofs.Runs.{run_read}
 use Rattle.of_order.specs.OrderPrograms.{least_walk, from_front}
 use Rattle.of_order.proofs.Walking.{points_first, points_below, points_on, least_end, least_needs_key, least_needs_link, least_on}
@@ -18,7 +18,7 @@ whole n = omega arith
 pub loop-step-init : goal.loop-step-init
 loop-step-init c = record {
   ran = run_read (bucket_at (base c.args.plot.now) c.args.bucket) (from_front (base c.args.plot.now) c.args.plot.now.blocks c.args.low c.args.best) c.args.part.now c.in_ok-pointer.pointer (rw c.bucket.ensures at c.in_ok-pointer.ensures)
-      ∙ ap (λ (n : ℕ). run (least_walk (base c.args.plot.now) c.args.low n c.in_ok-pointer.pointer c.args.best) c.args.part.now) (whole c.args.plot.now.blocks);
+      ∙ ap (λ (n : ℕ). run_program (least_walk (base c.args.plot.now) c.args.low n c.in_ok-pointer.pointer c.args.best) c.args.part.now) (whole c.args.plot.now.blocks);
   points = points_first c.args.plot.now c.args.part.now c.args.bucket c.bucket.result c.in_ok-pointer.pointer c.requires.stands c.requires.bucket c.bucket.ensures c.in_ok-pointer.ensures;
 }
 
@@ -27,7 +27,7 @@ returns-then-pointer-eq0 c = record {
   known = refl;
   batch = refl;
   walk =
-      c.loop-step.invariant.ran ∙ ap (λ (n : ℕ). run (least_walk (base c.args.plot.now) c.args.low n c.loop-step.pointer c.loop-step.best) c.args.part.now) (turn c.args.plot.now.blocks c.loop-step.step c.loop-step-test.true)
+      c.loop-step.invariant.ran ∙ ap (λ (n : ℕ). run_program (least_walk (base c.args.plot.now) c.args.low n c.loop-step.pointer c.loop-step.best) c.args.part.now) (turn c.args.plot.now.blocks c.loop-step.step c.loop-step-test.true)
       ∙ least_end (base c.args.plot.now) c.args.low (c.args.plot.now.blocks - (c.loop-step.step + 1)) c.args.part.now c.loop-step.best c.loop-step.pointer c.if-pointer-eq0.true;
 }
 
@@ -44,7 +44,7 @@ returns-in_err-key c =
     let p = err_from_is_err_and c.from_residual-in_err-key.result c.from_residual-in_err-key.ensures.1 in
     rw (p.1, p.2) (record {
       walk =
-          c.loop-step.invariant.ran ∙ ap (λ (n : ℕ). run (least_walk (base c.args.plot.now) c.args.low n c.loop-step.pointer c.loop-step.best) c.args.part.now) (turn c.args.plot.now.blocks c.loop-step.step c.loop-step-test.true)
+          c.loop-step.invariant.ran ∙ ap (λ (n : ℕ). run_program (least_walk (base c.args.plot.now) c.args.low n c.loop-step.pointer c.loop-step.best) c.args.part.now) (turn c.args.plot.now.blocks c.loop-step.step c.loop-step-test.true)
           ∙ least_needs_key (base c.args.plot.now) c.args.low (c.args.plot.now.blocks - (c.loop-step.step + 1)) c.args.part.now c.loop-step.best c.loop-step.pointer c.block.result _ c.if-pointer-eq0.false c.block.ensures c.in_err-key.ensures;
       known = refl;
       batch = refl;
@@ -63,7 +63,7 @@ returns-in_err-pointer-2 c =
     let p = err_from_is_err_and c.from_residual-in_err-pointer-2.result c.from_residual-in_err-pointer-2.ensures.1 in
     rw (p.1, p.2) (record {
       walk =
-          c.loop-step.invariant.ran ∙ ap (λ (n : ℕ). run (least_walk (base c.args.plot.now) c.args.low n c.loop-step.pointer c.loop-step.best) c.args.part.now) (turn c.args.plot.now.blocks c.loop-step.step c.loop-step-test.true)
+          c.loop-step.invariant.ran ∙ ap (λ (n : ℕ). run_program (least_walk (base c.args.plot.now) c.args.low n c.loop-step.pointer c.loop-step.best) c.args.part.now) (turn c.args.plot.now.blocks c.loop-step.step c.loop-step-test.true)
           ∙ least_needs_link (base c.args.plot.now) c.args.low (c.args.plot.now.blocks - (c.loop-step.step + 1)) c.args.part.now c.loop-step.best c.loop-step.pointer c.block.result c.in_ok-key.key c.block-in-loop-step.result _ c.if-pointer-eq0.false c.block.ensures c.in_ok-key.ensures c.block-in-loop-step.ensures c.in_err-pointer-2.ensures;
       known = refl;
       batch = refl;
@@ -71,7 +71,7 @@ returns-in_err-pointer-2 c =
 
 pub loop-step-preserved : goal.loop-step-preserved
 loop-step-preserved c = record {
-  ran = c.loop-step.invariant.ran ∙ ap (λ (n : ℕ). run (least_walk (base c.args.plot.now) c.args.low n c.loop-step.pointer c.loop-step.best) c.args.part.now) (turn c.args.plot.now.blocks c.loop-step.step c.loop-step-test.true)
+  ran = c.loop-step.invariant.ran ∙ ap (λ (n : ℕ). run_program (least_walk (base c.args.plot.now) c.args.low n c.loop-step.pointer c.loop-step.best) c.args.part.now) (turn c.args.plot.now.blocks c.loop-step.step c.loop-step-test.true)
       ∙ least_on (base c.args.plot.now) c.args.low (c.args.plot.now.blocks - (c.loop-step.step + 1)) c.args.part.now c.loop-step.best c.loop-step.pointer c.block.result c.in_ok-key.key c.block-in-loop-step.result c.in_ok-pointer-2.pointer c.better-best.result c.if-pointer-eq0.false
       c.block.ensures c.in_ok-key.ensures c.block-in-loop-step.ensures c.in_ok-pointer-2.ensures c.better-best.ensures;
   points = points_on c.args.plot.now c.args.part.now c.loop-step.pointer c.block-in-loop-step.result c.in_ok-pointer-2.pointer c.loop-step.invariant.points c.if-pointer-eq0.false c.block-in-loop-step.ensures c.in_ok-pointer-2.ensures;

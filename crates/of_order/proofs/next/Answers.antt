@@ -1,10 +1,10 @@
 use Rattle.std.proofs.Common.{ℕ, ◌+◌, subst}
-use Rattle.of_mem.specs.Calls.{Answers}
+use Rattle.of_mem.specs.Calls.{AnswersOfStore}
 use Rattle.of_order.specs.Means.{least_from}
 use Rattle.of_order.proofs.Buckets.{least_answers}
 use Rattle.of_order.proofs.next.Goals as goal
 
 pub returns-clause-answers : goal.returns-clause-answers
 returns-clause-answers c =
-    subst (λ (k : ℕ). Answers c.args.plot.now c.args.part.now c.least.result (λ s. least_from s.map (k + 1))) c.from.ensures
+    subst (λ (k : ℕ). AnswersOfStore c.args.plot.now c.args.part.now c.least.result (λ s. least_from s.map (k + 1))) c.from.ensures
     (least_answers c.args.plot.now (c.from.result + 1) c.args.part.now c.least.result c.least.ensures)

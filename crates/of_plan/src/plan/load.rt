@@ -3,7 +3,7 @@
 ghost use Rattle.std.specs.Prelude.{◌≡◌, ◌≤◌, ◌<◌, ◌*◌, IfOk};
 ghost use Rattle.of_cell.specs.declared.shape.TheConstants.{MOST_CALLERS};
 ghost use Rattle.of_plan.specs.declared.plan.TheConstants.{MOST_SCRIPTS};
-ghost use Rattle.of_plan.specs.Generated.{load_script, load_scripts, generated};
+ghost use Rattle.of_plan.specs.Generated.{load_script, load_scripts, generated_plan};
 
 use crate::plan::{GREATEST_LIMIT, Plan};
 use of_script::{Instr, REGISTERS, Script};
@@ -50,7 +50,7 @@ pub fn generate(alloc: Global, callers: u32, scripts: u32) -> Result<Plan, Alloc
     requires some { 1 ≤ callers }
     requires few { callers ≤ MOST_CALLERS }
     requires scripts { callers * scripts ≤ MOST_SCRIPTS }
-    ensures { IfOk result (λ plan. plan ≡ generated callers scripts) }
+    ensures { IfOk result (λ plan. plan ≡ generated_plan callers scripts) }
 {
     let mut all = Vec::new(alloc);
     let mut stops = Vec::new(alloc);

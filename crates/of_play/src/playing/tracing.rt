@@ -46,10 +46,10 @@ fn word_of(op: Op) -> u32
 impl Playing {
     ghost use Rattle.std.specs.Prelude.{◌≡◌, ◌<◌, ◌++◌, [], ◌∷◌, OnOk, string_bytes};
     ghost use Rattle.of_core.specs.Events.{Turns, Raises, Event as TheEvent};
-    ghost use Rattle.of_core.specs.Table.{size};
-    ghost use Rattle.of_caller.specs.Tables.{setup_for};
+    ghost use Rattle.of_core.specs.Table.{cell_count};
+    ghost use Rattle.of_caller.specs.Tables.{plan_setup};
     ghost use Rattle.of_caller.specs.Left.{moment_after};
-    ghost use Rattle.of_play.specs.Playing.{StandsAfter, IsPlaying, GoesOn};
+    ghost use Rattle.of_play.specs.Playing.{StandsAfter, IsPlaying, MakesMoves};
     ghost use Rattle.of_play.specs.Tracing.{event_of, IsEvent, WritesLine};
     ghost use Rattle.of_play.specs.declared.playing.tracing.Form.TheVariants.{Events, Commits};
 
@@ -63,7 +63,7 @@ impl Playing {
     ) -> Result<(), AllocError>
         requires caller { caller < plan.now.callers }
         requires playing { IsPlaying plan.now self.old }
-        ensures goes { OnOk result (GoesOn plan.now (Turns caller ∷ []) self.old self.new) }
+        ensures goes { OnOk result (MakesMoves plan.now (Turns caller ∷ []) self.old self.new) }
         ensures line { OnOk result (WritesLine Events plan.now number (Turns caller) self.old (string_bytes text.old) (string_bytes text.new)) }
     {
         plan_keeps_laws(plan);
@@ -101,9 +101,9 @@ impl Playing {
         number: u32,
         text: &mut String,
     ) -> Result<(), AllocError>
-        requires cell { cell < size (setup_for plan.now) }
+        requires cell { cell < cell_count (plan_setup plan.now) }
         requires playing { IsPlaying plan.now self.old }
-        ensures goes { OnOk result (GoesOn plan.now (Raises cell ∷ []) self.old self.new) }
+        ensures goes { OnOk result (MakesMoves plan.now (Raises cell ∷ []) self.old self.new) }
         ensures line { OnOk result (WritesLine Events plan.now number (Raises cell) self.old (string_bytes text.old) (string_bytes text.new)) }
     {
         plan_keeps_laws(plan);
@@ -118,7 +118,7 @@ impl Playing {
     fn event(&mut self, plan: &Plan, event: Event) -> Result<(), AllocError>
         requires event { IsEvent plan.now event }
         requires playing { IsPlaying plan.now self.old }
-        ensures { OnOk result (GoesOn plan.now (event_of event ∷ []) self.old self.new) }
+        ensures { OnOk result (MakesMoves plan.now (event_of event ∷ []) self.old self.new) }
     {
         match event {
             Event::Turn(caller) => self.turn(plan, caller),
@@ -136,7 +136,7 @@ impl Playing {
     ) -> Result<(), AllocError>
         requires caller { caller < plan.now.callers }
         requires playing { IsPlaying plan.now self.old }
-        ensures goes { OnOk result (GoesOn plan.now (Turns caller ∷ []) self.old self.new) }
+        ensures goes { OnOk result (MakesMoves plan.now (Turns caller ∷ []) self.old self.new) }
         ensures line { OnOk result (WritesLine Commits plan.now number (Turns caller) self.old (string_bytes text.old) (string_bytes text.new)) }
     {
         plan_keeps_laws(plan);
@@ -160,9 +160,9 @@ impl Playing {
         number: u32,
         text: &mut String,
     ) -> Result<(), AllocError>
-        requires cell { cell < size (setup_for plan.now) }
+        requires cell { cell < cell_count (plan_setup plan.now) }
         requires playing { IsPlaying plan.now self.old }
-        ensures goes { OnOk result (GoesOn plan.now (Raises cell ∷ []) self.old self.new) }
+        ensures goes { OnOk result (MakesMoves plan.now (Raises cell ∷ []) self.old self.new) }
         ensures line { OnOk result (WritesLine Commits plan.now number (Raises cell) self.old (string_bytes text.old) (string_bytes text.new)) }
     {
         self.event(plan, Event::Evict(cell))
@@ -178,7 +178,7 @@ impl Playing {
     ) -> Result<(), AllocError>
         requires event { IsEvent plan.now event }
         requires playing { IsPlaying plan.now self.old }
-        ensures goes { OnOk result (GoesOn plan.now (event_of event ∷ []) self.old self.new) }
+        ensures goes { OnOk result (MakesMoves plan.now (event_of event ∷ []) self.old self.new) }
         ensures line { OnOk result (WritesLine Events plan.now number (event_of event) self.old (string_bytes text.old) (string_bytes text.new)) }
     {
         match event {
@@ -197,7 +197,7 @@ impl Playing {
     ) -> Result<(), AllocError>
         requires event { IsEvent plan.now event }
         requires playing { IsPlaying plan.now self.old }
-        ensures goes { OnOk result (GoesOn plan.now (event_of event ∷ []) self.old self.new) }
+        ensures goes { OnOk result (MakesMoves plan.now (event_of event ∷ []) self.old self.new) }
         ensures line { OnOk result (WritesLine Commits plan.now number (event_of event) self.old (string_bytes text.old) (string_bytes text.new)) }
     {
         match event {
@@ -217,7 +217,7 @@ impl Playing {
     ) -> Result<(), AllocError>
         requires event { IsEvent plan.now event }
         requires playing { IsPlaying plan.now self.old }
-        ensures goes { OnOk result (GoesOn plan.now (event_of event ∷ []) self.old self.new) }
+        ensures goes { OnOk result (MakesMoves plan.now (event_of event ∷ []) self.old self.new) }
         ensures line { OnOk result (WritesLine form plan.now number (event_of event) self.old (string_bytes text.old) (string_bytes text.new)) }
     {
         match form {
@@ -244,7 +244,7 @@ impl Tracing {
     ghost use Rattle.std.specs.Prelude.{◌≡◌, ◌<◌, ◌≤◌, [], ◌∷◌, IfOk, OnOk, replicate};
     ghost use Rattle.of_plan.specs.Plan.{IsItem};
     ghost use Rattle.of_core.specs.Events.{Turns};
-    ghost use Rattle.of_play.specs.Play.{moves_in};
+    ghost use Rattle.of_play.specs.Play.{item_events};
     ghost use Rattle.of_play.specs.Tracing.{event_of, IsEvent, IsTracing, TracesOn};
 
     /// Makes an event before the first that is shown.
@@ -305,7 +305,7 @@ impl Tracing {
     fn item(&mut self, plan: &Plan, item: Item) -> Result<(), AllocError>
         requires item { IsItem plan.now item }
         requires tracing { IsTracing plan.now self.old }
-        ensures { OnOk result (TracesOn plan.now (moves_in item) self.old self.new) }
+        ensures { OnOk result (TracesOn plan.now (item_events item) self.old self.new) }
     {
         match item {
             Item::Turns { caller, count } => self.turns(plan, caller, count),

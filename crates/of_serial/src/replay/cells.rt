@@ -1,10 +1,10 @@
 //! A store on cells that are all known.
 
 ghost use Rattle.std.specs.Prelude.{◌≡◌, ◌≤◌, IfOk};
-ghost use Rattle.of_store.specs.State.{State, empty_store, run};
-ghost use Rattle.of_store.specs.Replies.{response_of};
+ghost use Rattle.of_store.specs.State.{Store, empty_store, run};
+ghost use Rattle.of_store.specs.Replies.{reply_value_of};
 ghost use Rattle.of_eval.specs.Shapes.{IsWhole};
-ghost use Rattle.of_serial.specs.Replay.{Holds};
+ghost use Rattle.of_serial.specs.Replay.{CellsHoldStore};
 
 use of_cell::MOST_CALLERS;
 use of_eval::{LawErr, Scripts, lawful, reply_of};
@@ -26,7 +26,7 @@ impl Cells {
         requires some { 1 ≤ callers }
         requires few { callers ≤ MOST_CALLERS }
         requires blocks { blocks ≤ MOST_BLOCKS }
-        ensures { IfOk result (λ cells. Holds cells (empty_store blocks)) }
+        ensures { IfOk result (λ cells. CellsHoldStore cells (empty_store blocks)) }
     {
         let scripts = Scripts { callers, blocks };
         let mut part = Workspace::new(alloc, scripts.cells())?;
@@ -38,9 +38,9 @@ impl Cells {
 
     /// Runs a script, keeps what it writes, and answers its reply.
     pub(super) fn run(&mut self, script: &Script) -> Reply
-        requires { (s : State) × Holds self.old s }
+        requires { (s : Store) × CellsHoldStore self.old s }
         ensures whole { IsWhole result }
-        ensures runs { (s : State) → Holds self.old s → Holds self.new (run s script.now).0 × (response_of result ≡ (run s script.now).1) }
+        ensures runs { (s : Store) → CellsHoldStore self.old s → CellsHoldStore self.new (run s script.now).0 × (reply_value_of result ≡ (run s script.now).1) }
     {
         let mut words = [0; MOST_INSTRS];
         to_words(script, &mut words);
@@ -57,8 +57,8 @@ impl Cells {
 
     /// The store for which the cells stand. The error is that there is no memory.
     pub(super) fn store(&self, alloc: Global) -> Result<Store, AllocError>
-        requires { (s : State) × Holds self.now s }
-        ensures { IfOk result (λ store. (s : State) → Holds self.now s → store ≡ s) }
+        requires { (s : Store) × CellsHoldStore self.now s }
+        ensures { IfOk result (λ store. (s : Store) → CellsHoldStore self.now s → store ≡ s) }
     {
         let mut cells = Vec::new(alloc);
         for cell in 0..self.scripts.cells() {

@@ -1,5 +1,5 @@
 use Rattle.std.proofs.Common.{sym, subst}
-use Rattle.of_core.specs.World.{Start}
+use Rattle.of_core.specs.World.{TableStart}
 use Rattle.of_core.specs.Shared.{MayStart}
 use Rattle.of_eval.specs.Scripts.{LawfulCells}
 use Rattle.example_bank.specs.declared.books.TheConstants.{LIMIT}
@@ -17,7 +17,7 @@ returns-clause-ledger g c =
     let b = c.args.books.now in
     let jobs = c.args.jobs in
     let start = c.in_ok-row.ensures.start in
-    subst (λ (z : Start). HasLedger b.scripts LIMIT z (start_in c.in_ok-closed.closed) (λ i. to_do_of (job_of jobs i)) (tally_of c.in_ok-pass.tallies)) start
+    subst (λ (z : TableStart). HasLedger b.scripts LIMIT z (start_in c.in_ok-closed.closed) (λ i. to_do_of (job_of jobs i)) (tally_of c.in_ok-pass.tallies)) start
     (c.in_ok-closed.ensures.ledger (λ i. to_do_of (job_of jobs i)) (tally_of c.in_ok-pass.tallies)
     (subst (MayStart (setup_with b.scripts LIMIT) (LawfulCells b.scripts)) (sym start) c.requires.books.may_start)
     (λ i l. all_change (job_of jobs i).to_do.items)

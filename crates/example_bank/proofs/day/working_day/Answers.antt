@@ -1,10 +1,10 @@
 use Rattle.std.proofs.Common.{ℕ, refl, List, [], ◌∷◌, map, arith, ◌∙◌, ap}
-use Rattle.of_cell.specs.Words.{pay}
-use Rattle.of_eval.specs.Scripts.{cells_in}
+use Rattle.of_cell.specs.Words.{payload_of}
+use Rattle.of_eval.specs.Scripts.{data_cells_of}
 use Rattle.example_bank.specs.declared.books.TheConstants.{LIMIT}
 use Rattle.example_bank.specs.declared.day.Day.{Day}
 use Rattle.example_bank.specs.Books.{start_in}
-use Rattle.example_bank.specs.Money.{money}
+use Rattle.example_bank.specs.Money.{money_of_numbers}
 use Rattle.example_bank.specs.Ledger.{Entry, HasOwn, SpentSo}
 use Rattle.example_bank.specs.Clerks.{to_do_of}
 use Rattle.example_bank.specs.Days.{job_of, tally_of, IsTold}
@@ -40,8 +40,8 @@ returns-clause-money g c =
     let closed = c.in_ok-closed.closed in
     let scripts = c.in_ok-closed.ensures.scripts in
     let h = c.in_ok-closed.ensures.ledger in
-    ap (λ w. money w (map pay (start_in closed).cells)) scripts
-    ∙ money_kept b.scripts (start_in b) (start_in closed) c.requires.may_start.start.size (c.in_ok-closed.ensures.books.may_start.start.size ∙ ap cells_in scripts) transfers_keep
+    ap (λ w. money_of_numbers w (map payload_of (start_in closed).cells)) scripts
+    ∙ money_kept b.scripts (start_in b) (start_in closed) c.requires.may_start.start.size (c.in_ok-closed.ensures.books.may_start.start.size ∙ ap data_cells_of scripts) transfers_keep
     c.requires.may_start.lawful h.entries h.ledger (λ i. to_do_of (job_of c.args.jobs i)) h.origin (λ i l. are_balanced (job_of c.args.jobs i).to_do.items)
 
 pub told-requires-clause-counts : goal.told-requires-clause-counts

@@ -1,4 +1,4 @@
-use Rattle.of_caller.specs.PlanLaws.{TableLaws, KeepsLaws}
+use Rattle.of_caller.specs.PlanLaws.{HasTableLaws, KeepsLaws}
 use Rattle.of_caller.proofs.PlansKeepLaws.{at_plan}
 use Rattle.of_caller.proofs.Schedules.{schedules_are_moments, starts_are_runs}
 use Rattle.of_caller.proofs.StoresZeros.{zeros_are_empty}
@@ -6,7 +6,7 @@ use Rattle.of_caller.proofs.laws.plan_keeps_laws.Goals as goal
 
 kept : (c : goal.After-machines) → KeepsLaws c.args.plan.now
 kept c =
-    at_plan c.args.plan.now c.callers.result c.blocks-2.result c.limit-limit.result c.callers.ensures.value c.blocks-2.ensures.value c.limit-limit.ensures.value TableLaws
+    at_plan c.args.plan.now c.callers.result c.blocks-2.result c.limit-limit.result c.callers.ensures.value c.blocks-2.ensures.value c.limit-limit.ensures.value HasTableLaws
     (record {
       starts = c.step_kept.ensures.start;
       events = c.every_moment.ensures.kept;

@@ -1,12 +1,12 @@
 use Rattle.of_row.specs.Runs.{RunsAreSchedules}
-use Rattle.of_caller.specs.Tables.{setup_for, lawful_for}
+use Rattle.of_caller.specs.Tables.{plan_setup, IsLawfulFor}
 use Rattle.of_caller.proofs.PlansKeepLaws.{at_plan}
 use Rattle.of_caller.proofs.Teams.{teams_are_lawful, teams_keep_allowances}
 use Rattle.of_caller.proofs.Restarting.{teams_restart}
 use Rattle.of_caller.proofs.Scheduled.{teams_are_scheduled}
 use Rattle.of_caller.proofs.laws.teams_are_lawful.Goals as goal
 
-runs : (c : goal.After-runs_are_schedules) → RunsAreSchedules (lawful_for c.args.plan.now) (setup_for c.args.plan.now)
+runs : (c : goal.After-runs_are_schedules) → RunsAreSchedules (IsLawfulFor c.args.plan.now) (plan_setup c.args.plan.now)
 runs c = at_plan c.args.plan.now c.callers.result c.blocks-2.result c.limit-limit.result c.callers.ensures.value c.blocks-2.ensures.value c.limit-limit.ensures.value (λ S L. RunsAreSchedules L S) c.runs_are_schedules.ensures
 
 pub returns-clause-lawful : goal.returns-clause-lawful

@@ -1,5 +1,5 @@
 use Rattle.std.proofs.Common.{◌≡◌, ◌+◌, ◌≤◌, ◌++◌, map, vec_len, vec_capacity}
-use Rattle.of_row.specs.Rows.{IsOf}
+use Rattle.of_row.specs.Rows.{IsSeatOf}
 use Rattle.of_row.specs.Views.{Each}
 use Rattle.of_caller.specs.Seating.{IsAt, gathered, answers_in, endings_in}
 use Rattle.of_caller.proofs.running.gather.Given as goal
@@ -9,7 +9,7 @@ decreases-loop-lanes g l = vec_len l.lanes
 
 abbrev pub invariant-loop-lanes : goal.invariant-loop-lanes
 invariant-loop-lanes g l = record {
-  pass : IsOf l.row l.pass.seat;
+  pass : IsSeatOf l.row l.pass.seat;
   lanes : Each (IsAt l.row) l.lanes.items;
   answers_room : vec_len l.all + vec_len l.lanes ≤ vec_capacity l.all;
   endings_room : vec_len l.endings + vec_len l.lanes ≤ vec_capacity l.endings;

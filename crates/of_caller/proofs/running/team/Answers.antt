@@ -2,11 +2,11 @@ use Rattle.std.proofs.Common.{◌≡◌, ◌∙◌, ◌++◌, [], List, length, 
 use Rattle.of_plan.specs.declared.answer.Answer.{Answer}
 use Rattle.of_plan.specs.declared.answer.Ending.{Ending}
 use Rattle.of_plan.specs.declared.answer.Ending.TheVariants.{Done}
-use Rattle.of_plan.specs.Ended.{run_of}
+use Rattle.of_plan.specs.Ended.{ended_value}
 use Rattle.of_row.specs.Views.{Each}
 use Rattle.of_caller.specs.declared.lane.Lane.{Lane}
 use Rattle.of_caller.specs.PlanRows.{start_of_row}
-use Rattle.of_caller.specs.Trees.{Both}
+use Rattle.of_caller.specs.Trees.{AllPaired}
 use Rattle.of_caller.specs.Lanes.{IsReady, HasRun, KeepsLeft}
 use Rattle.of_caller.specs.Seating.{IsAt, gathered, answers_in, endings_in}
 use Rattle.of_caller.proofs.Pairs.{both_map, written}
@@ -24,7 +24,7 @@ gather-pass-requires-clause-lanes g c =
     let p = c.args.plan.now in
     let xs = c.seat_all.new.lanes.items in
     let ys = c.at_once.new.lanes in
-    let ran = subst (λ z. Both (HasRun p row) z ys) c.as_mut_slice.ensures.value (both_map _ (HasRun p row) c.as_mut_slice.result.now ys (λ x y q. q.0) c.at_once.ensures.lanes) in
+    let ran = subst (λ z. AllPaired (HasRun p row) z ys) c.as_mut_slice.ensures.value (both_map _ (HasRun p row) c.as_mut_slice.result.now ys (λ x y q. q.0) c.at_once.ensures.lanes) in
     let long : c.seat_all.new.lanes.len ≡ length xs = search rules in
     subst (Each (IsAt row)) (sym (written (HasRun p row) xs ys c.seat_all.new.lanes.len ran long)) (ran_at p row xs ys ran)
 
@@ -34,11 +34,11 @@ returns-clause-handed g c = λ s starts.
     let p = c.args.plan.now in
     let xs = c.seat_all.new.lanes.items in
     let ys = c.at_once.new.lanes in
-    let ran = subst (λ z. Both (HasRun p row) z ys) c.as_mut_slice.ensures.value (both_map _ (HasRun p row) c.as_mut_slice.result.now ys (λ x y q. q.0) c.at_once.ensures.lanes) in
+    let ran = subst (λ z. AllPaired (HasRun p row) z ys) c.as_mut_slice.ensures.value (both_map _ (HasRun p row) c.as_mut_slice.result.now ys (λ x y q. q.0) c.at_once.ensures.lanes) in
     let long : c.seat_all.new.lanes.len ≡ length xs = search rules in
     let same = written (HasRun p row) xs ys c.seat_all.new.lanes.len ran long in
     let zs = take c.seat_all.new.lanes.len (ys ++ drop (length ys) xs) in
-    let e = run_of (record { answers = c.gather-pass.new.all; endings = c.gather-pass.new.endings; words = c.close-words.result.0 }) in
+    let e = ended_value (record { answers = c.gather-pass.new.all; endings = c.gather-pass.new.endings; words = c.close-words.result.0 }) in
     let v1 = c.at_once.new.pass.seat.me.0 in
     let v = c.gather-pass.result.seat.me.0 in
     let answers : e.answers ≡ answers_in ys = c.gather-pass.ensures.answers ∙ ap (λ l. map (λ v. v.items) l ++ answers_in zs) c.in_ok-answers.ensures.items ∙ ap answers_in same in
@@ -55,12 +55,12 @@ returns-clause-stops g c =
     let xs = c.seat_all.new.lanes.items in
     let ys = c.at_once.new.lanes in
     let M = λ (a : Lane _ _). (goal.Brake-dyn g (a.brake.vtable, a.brake.value)).left a.brake.value in
-    let ran = subst (λ z. Both (HasRun p row) z ys) c.as_mut_slice.ensures.value (both_map _ (HasRun p row) c.as_mut_slice.result.now ys (λ x y q. q.0) c.at_once.ensures.lanes) in
-    let told = subst (λ z. Both (λ a b. KeepsLeft (M a) b.answers.items b.ending) z ys) c.as_mut_slice.ensures.value (both_map _ (λ a b. KeepsLeft (M a) b.answers.items b.ending) c.as_mut_slice.result.now ys (λ x y q. q.1) c.at_once.ensures.lanes) in
+    let ran = subst (λ z. AllPaired (HasRun p row) z ys) c.as_mut_slice.ensures.value (both_map _ (HasRun p row) c.as_mut_slice.result.now ys (λ x y q. q.0) c.at_once.ensures.lanes) in
+    let told = subst (λ z. AllPaired (λ a b. KeepsLeft (M a) b.answers.items b.ending) z ys) c.as_mut_slice.ensures.value (both_map _ (λ a b. KeepsLeft (M a) b.answers.items b.ending) c.as_mut_slice.result.now ys (λ x y q. q.1) c.at_once.ensures.lanes) in
     let long : c.seat_all.new.lanes.len ≡ length xs = search rules in
     let same = written (HasRun p row) xs ys c.seat_all.new.lanes.len ran long in
     let zs = take c.seat_all.new.lanes.len (ys ++ drop (length ys) xs) in
-    let e = run_of (record { answers = c.gather-pass.new.all; endings = c.gather-pass.new.endings; words = c.close-words.result.0 }) in
+    let e = ended_value (record { answers = c.gather-pass.new.all; endings = c.gather-pass.new.endings; words = c.close-words.result.0 }) in
     let answers : e.answers ≡ answers_in ys = c.gather-pass.ensures.answers ∙ ap (λ l. map (λ v. v.items) l ++ answers_in zs) c.in_ok-answers.ensures.items ∙ ap answers_in same in
     let endings : e.endings ≡ endings_in ys = c.gather-pass.ensures.endings ∙ ap (λ l. l ++ endings_in zs) c.in_ok-endings.ensures.items ∙ ap endings_in same in
     keep_stops (λ b. (goal.Brake-dyn g (b.vtable, b.value)).left b.value) M p row e 0 c.args.brakes.items xs ys c.in_ok-pass.ensures.lanes c.in_ok-pass.ensures.armed told (omega (arith, c.in_ok-pass.ensures.all))

@@ -1,7 +1,7 @@
 use Rattle.std.proofs.Common.{◌≡◌, ◌∙◌, ◌<◌, ◌+◌, ◌++◌, ◌∷◌, [], length, ap, subst, sym, arith}
-use Rattle.of_brake.specs.Stops.{Armed}
+use Rattle.of_brake.specs.Stops.{IsArmedWith}
 use Rattle.of_plan.specs.Plan.{stop_of}
-use Rattle.of_caller.specs.Trees.{Paired}
+use Rattle.of_caller.specs.Trees.{PrefixPaired}
 use Rattle.of_caller.specs.Seating.{HasSeated}
 use Rattle.of_caller.proofs.Pairs.{paired_adds, paired_longer, front_longer, longer_by}
 use Rattle.of_caller.proofs.Seated.{seated_adds}
@@ -31,8 +31,8 @@ loop-number-preserved g c =
         front ++ b ∷ [],
         front_longer front old c.remove-brake.new.self.items c.args.brakes.items b some cut.value cut.items inv.armed.1,
         omega (arith, longer_by front b, inv.armed.2),
-        paired_adds (λ b a. Armed ((goal.Brake-dyn g (b.vtable, b.value)).left b.value) (stop_of p a.number) ((goal.Brake-dyn g (a.brake.vtable, a.brake.value)).left a.brake.value)) front xs ys b one.item inv.armed.3 (omega (arith, inv.armed.2, inv.count)) one.is
-            (subst (λ n. Armed ((goal.Brake-dyn g (b.vtable, b.value)).left b.value) (stop_of p n) ((goal.Brake-dyn g (one.item.brake.vtable, one.item.brake.value)).left one.item.brake.value)) (sym one.holds.0.number) one.holds.1),
+        paired_adds (λ b a. IsArmedWith ((goal.Brake-dyn g (b.vtable, b.value)).left b.value) (stop_of p a.number) ((goal.Brake-dyn g (a.brake.vtable, a.brake.value)).left a.brake.value)) front xs ys b one.item inv.armed.3 (omega (arith, inv.armed.2, inv.count)) one.is
+            (subst (λ n. IsArmedWith ((goal.Brake-dyn g (b.vtable, b.value)).left b.value) (stop_of p n) ((goal.Brake-dyn g (one.item.brake.vtable, one.item.brake.value)).left one.item.brake.value)) (sym one.holds.0.number) one.holds.1),
       );
     }
 
@@ -42,5 +42,5 @@ returns-clause-seated g c = subst (λ n. HasSeated n c.loop-number.pass.seat.me.
 pub returns-clause-armed : goal.returns-clause-armed
 returns-clause-armed g c =
     let armed = c.loop-number.invariant.armed in
-    subst (λ z. Paired (λ b a. Armed ((goal.Brake-dyn g (b.vtable, b.value)).left b.value) (stop_of c.args.plan.now a.number) ((goal.Brake-dyn g (a.brake.vtable, a.brake.value)).left a.brake.value)) z c.loop-number.lanes.items) armed.1
+    subst (λ z. PrefixPaired (λ b a. IsArmedWith ((goal.Brake-dyn g (b.vtable, b.value)).left b.value) (stop_of c.args.plan.now a.number) ((goal.Brake-dyn g (a.brake.vtable, a.brake.value)).left a.brake.value)) z c.loop-number.lanes.items) armed.1
     (paired_longer _ armed.0 c.loop-number.brakes.items c.loop-number.lanes.items armed.3)

@@ -1,6 +1,6 @@
 use Rattle.std.proofs.Common.{length, ap, sym, subst, refl, arith}
-use Rattle.of_brake.specs.Stops.{Armed}
-use Rattle.of_caller.specs.Lanes.{CallerAt}
+use Rattle.of_brake.specs.Stops.{IsArmedWith}
+use Rattle.of_caller.specs.Lanes.{CallerHasAnswered}
 use Rattle.of_caller.specs.Seating.{done_at}
 use Rattle.of_caller.proofs.RowStarts.{done_is}
 use Rattle.of_caller.proofs.Seated.{seated_more, new_caller}
@@ -37,7 +37,7 @@ returns-in-Ok-new-clause-lane g c =
           ready = record {
             at_first = record {
               lane = record { number = c.requires.number; first = omega (arith, c.done-first.ensures, done, few); room = omega (arith, c.in_ok-answers.ensures.capacity, many) };
-              caller = subst (λ k. CallerAt p k n r c.in-Ok-new.caller c.in_ok-answers.answers.items 0) (sym c.done-first.ensures) (subst (λ l. CallerAt p (done_at r n) n r c.in-Ok-new.caller l 0) (sym c.in_ok-answers.ensures.items) at);
+              caller = subst (λ k. CallerHasAnswered p k n r c.in-Ok-new.caller c.in_ok-answers.answers.items 0) (sym c.done-first.ensures) (subst (λ l. CallerHasAnswered p (done_at r n) n r c.in-Ok-new.caller l 0) (sym c.in_ok-answers.ensures.items) at);
             };
             none = c.in_ok-answers.ensures.items;
           };
@@ -45,6 +45,6 @@ returns-in-Ok-new-clause-lane g c =
           first = c.done-first.ensures;
         },
         (let b = c.args.brake in let a = c.arm.new.brake in
-            subst (λ s. Armed ((goal.Brake-dyn g (b.vtable, b.value)).left b.value) s ((goal.Brake-dyn g (a.vtable, a.value)).left a.value)) c.stop.ensures.value c.arm.ensures),
+            subst (λ s. IsArmedWith ((goal.Brake-dyn g (b.vtable, b.value)).left b.value) s ((goal.Brake-dyn g (a.vtable, a.value)).left a.value)) c.stop.ensures.value c.arm.ensures),
       );
     }

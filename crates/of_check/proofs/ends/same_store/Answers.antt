@@ -3,7 +3,7 @@ use Rattle.std.specs.FinMap.{FinMap, from_entries}
 use Rattle.std.specs.Ordering.{nat_cmp}
 use Rattle.std.proofs.lemmas.Map.Lookups.{btree_map_eq-Decides}
 use Rattle.std.proofs.lemmas.Bool.Decides.{Decides-eqb}
-use Rattle.of_store.specs.State.{State}
+use Rattle.of_store.specs.State.{Store}
 use Rattle.of_check.proofs.Verdicts.{same_bytes}
 use Rattle.of_check.proofs.Stores.{apart, together, same_entries, same_state}
 use Rattle.of_check.proofs.ends.same_store.Goals as goal
@@ -14,7 +14,7 @@ returns-then-ne-2 c =
     let n = c.map-others.result.now in (
       λ is. absurd (cc (is)),
       λ same. absurd (apart _ c.ne-2.result (m.entries ≡ n.entries) c.ne-2.ensures (btree_map_eq-Decides Decides-eqb Decides-eqb m n _ refl) c.if-ne-2.true
-          (same_entries m.entries n.entries c.args.one.now.keys c.args.other.now.keys c.in_order.ensures c.in_order-2.ensures c.map-keys.ensures c.map-others.ensures (ap (λ (s : State). s.keys) same))),
+          (same_entries m.entries n.entries c.args.one.now.keys c.args.other.now.keys c.in_order.ensures c.in_order-2.ensures c.map-keys.ensures c.map-others.ensures (ap (λ (s : Store). s.keys) same))),
     )
 
 pub returns : goal.returns

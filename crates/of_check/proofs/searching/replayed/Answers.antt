@@ -2,7 +2,7 @@ use Rattle.std.proofs.Common.{[], false, List, take, sym, subst}
 use Rattle.std.proofs.lemmas.List.{take_more}
 use Rattle.of_check.specs.declared.claims.CallClaim.{CallClaim}
 use Rattle.of_check.specs.Starts.{start_of}
-use Rattle.of_check.specs.Course.{TookAll}
+use Rattle.of_check.specs.Course.{HasRunCalls}
 use Rattle.of_check.specs.Causes.{call_at}
 use Rattle.of_check.proofs.Causes.{took_more}
 use Rattle.of_check.proofs.Verdicts.{counts_wide}
@@ -21,5 +21,5 @@ loop-index-preserved c =
     let calls = c.args.calls.now in
     let i = c.loop-index.index in
     let more = take_more calls i (record { seq = 0; caller = 0; announced = false }) c.loop-index-test.true in
-    subst (λ (qs : List CallClaim). TookAll p s qs c.take.new.self) (sym more)
+    subst (λ (qs : List CallClaim). HasRunCalls p s qs c.take.new.self) (sym more)
     (took_more p s (take i calls) (call_at calls i) c.loop-index.replay c.take.new.self c.loop-index.invariant (rw c.if-not-branch.false at c.in_ok-take.ensures))

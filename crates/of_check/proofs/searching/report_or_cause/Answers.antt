@@ -1,8 +1,8 @@
 use Rattle.std.proofs.Common.{◌≡◌, List, ℕ, map, sym, ap, subst, ◌∙◌, length, arith}
-use Rattle.of_report.specs.Report.{line_of}
+use Rattle.of_report.specs.Report.{line_value}
 use Rattle.of_check.specs.declared.claims.CallClaim.{CallClaim}
 use Rattle.of_check.specs.Starts.{start_of}
-use Rattle.of_check.specs.Course.{TookAll}
+use Rattle.of_check.specs.Course.{HasRunCalls}
 use Rattle.of_check.proofs.Causes.{differs_when}
 use Rattle.of_check.proofs.Verdicts.{counts_wide, is_claimed, lines_moved}
 use Rattle.of_check.proofs.searching.report_or_cause.Goals as goal
@@ -28,9 +28,9 @@ returns-in-None c =
     let calls = c.in_ok-claims.claims.calls.items in
     let ends = c.in_ok-claims.claims.ends.items in
     let replay = c.in-Ok.replay in
-    let lines = map line_of c.in-Some-2.callers.items in
+    let lines = map line_value c.in-Some-2.callers.items in
     let done : c.deref-6.result.now ≡ s.finished = c.deref-6.ensures.value ∙ c.in_ok-done.ensures.items ∙ c.deref.ensures.value in
-    let took = subst (λ (qs : List CallClaim). TookAll p s qs replay) c.deref-2.ensures.value (rw c.in-Ok.is at c.in_ok-replay.ensures) in
+    let took = subst (λ (qs : List CallClaim). HasRunCalls p s qs replay) c.deref-2.ensures.value (rw c.in-Ok.is at c.in_ok-replay.ensures) in
     let are = rw c.in-Some-2.is at c.in_ok-callers.ensures in
     let is = is_claimed p s c.requires calls ends replay took lines
     (lines_moved p replay.last.seq c.deref-6.result.now s.finished c.deref-7.result.now replay.counts.items c.deref-8.result.now ends lines done c.deref-7.ensures.value c.deref-8.ensures.value are) in
@@ -43,9 +43,9 @@ returns c =
     let calls = c.in_ok-claims.claims.calls.items in
     let ends = c.in_ok-claims.claims.ends.items in
     let replay = c.in-Ok.replay in
-    let lines = map line_of c.in-Some-2.callers.items in
+    let lines = map line_value c.in-Some-2.callers.items in
     let done : c.deref-6.result.now ≡ s.finished = c.deref-6.ensures.value ∙ c.in_ok-done.ensures.items ∙ c.deref.ensures.value in
-    let took = subst (λ (qs : List CallClaim). TookAll p s qs replay) c.deref-2.ensures.value (rw c.in-Ok.is at c.in_ok-replay.ensures) in
+    let took = subst (λ (qs : List CallClaim). HasRunCalls p s qs replay) c.deref-2.ensures.value (rw c.in-Ok.is at c.in_ok-replay.ensures) in
     let are = rw c.in-Some-2.is at c.in_ok-callers.ensures in
     let is = is_claimed p s c.requires calls ends replay took lines
     (lines_moved p replay.last.seq c.deref-6.result.now s.finished c.deref-7.result.now replay.counts.items c.deref-8.result.now ends lines done c.deref-7.ensures.value c.deref-8.ensures.value are) in

@@ -1,8 +1,8 @@
 use Rattle.std.proofs.Common.{◌≡◌, List, ℕ, map, ap, sym, ◌∙◌, subst, length}
-use Rattle.of_report.specs.Report.{line_of}
+use Rattle.of_report.specs.Report.{line_value}
 use Rattle.of_check.specs.declared.claims.CallClaim.{CallClaim}
 use Rattle.of_check.specs.Starts.{start_of}
-use Rattle.of_check.specs.Course.{begun, AllFollow, TookAll}
+use Rattle.of_check.specs.Course.{replay_at_start, AllFollow, HasRunCalls}
 use Rattle.of_check.proofs.Verdicts.{none_follows, counts_wide, none_ends, is_claimed, endings_moved, lines_moved}
 use Rattle.of_check.proofs.verdict.claimed.Goals as goal
 
@@ -11,7 +11,7 @@ returns-in_default c =
     let p = c.args.plan.now in
     let s = start_of c.args.start in
     let none = rw c.in_default.is at c.in_ok-replay.ensures in
-    none_follows p s c.requires.each c.args.claims.now.calls.items c.args.claims.now.ends.items (λ all. none (subst (AllFollow p (begun s)) (sym c.deref-2.ensures.value) all))
+    none_follows p s c.requires.each c.args.claims.now.calls.items c.args.claims.now.ends.items (λ all. none (subst (AllFollow p (replay_at_start s)) (sym c.deref-2.ensures.value) all))
 
 pub lines-requires-clause-done : goal.lines-requires-clause-done
 lines-requires-clause-done c = ap length (c.deref-3.ensures.value ∙ c.in_ok-done.ensures.items ∙ c.deref.ensures.value) ∙ c.requires.each
@@ -29,7 +29,7 @@ returns-in_default-2 c =
     let ends = c.args.claims.now.ends.items in
     let replay = c.in-Some.replay in
     let done : c.deref-3.result.now ≡ s.finished = c.deref-3.ensures.value ∙ c.in_ok-done.ensures.items ∙ c.deref.ensures.value in
-    let took = subst (λ (qs : List CallClaim). TookAll p s qs replay) c.deref-2.ensures.value (rw c.in-Some.is at c.in_ok-replay.ensures) in
+    let took = subst (λ (qs : List CallClaim). HasRunCalls p s qs replay) c.deref-2.ensures.value (rw c.in-Some.is at c.in_ok-replay.ensures) in
     let none = rw c.in_default-2.is at c.in_ok-callers.ensures in
     none_ends p s c.requires.each calls ends replay took (λ are. none (endings_moved p replay.last.seq s.finished c.deref-3.result.now replay.counts.items c.deref-4.result.now ends c.deref-5.result.now (sym done) (sym c.deref-4.ensures.value) (sym c.deref-5.ensures.value) are))
 
@@ -40,9 +40,9 @@ returns c =
     let calls = c.args.claims.now.calls.items in
     let ends = c.args.claims.now.ends.items in
     let replay = c.in-Some.replay in
-    let lines = map line_of c.in-Some-2.callers.items in
+    let lines = map line_value c.in-Some-2.callers.items in
     let done : c.deref-3.result.now ≡ s.finished = c.deref-3.ensures.value ∙ c.in_ok-done.ensures.items ∙ c.deref.ensures.value in
-    let took = subst (λ (qs : List CallClaim). TookAll p s qs replay) c.deref-2.ensures.value (rw c.in-Some.is at c.in_ok-replay.ensures) in
+    let took = subst (λ (qs : List CallClaim). HasRunCalls p s qs replay) c.deref-2.ensures.value (rw c.in-Some.is at c.in_ok-replay.ensures) in
     let are = rw c.in-Some-2.is at c.in_ok-callers.ensures in
     is_claimed p s c.requires.each calls ends replay took lines
     (lines_moved p replay.last.seq c.deref-3.result.now s.finished c.deref-4.result.now replay.counts.items c.deref-5.result.now ends lines done c.deref-4.ensures.value c.deref-5.ensures.value are)

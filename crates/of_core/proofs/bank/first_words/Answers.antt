@@ -1,6 +1,6 @@
 use Rattle.std.proofs.Common.{◌≡◌, ℕ, List, ◌++◌, ◌∙◌, ap, arith}
-use Rattle.of_core.specs.World.{Start}
-use Rattle.of_core.specs.Starts.{first_words, start_of}
+use Rattle.of_core.specs.World.{TableStart}
+use Rattle.of_core.specs.Starts.{first_words, start_from_durable}
 use Rattle.of_core.proofs.Starts.{cells_count, words_filled}
 use Rattle.of_core.proofs.bank.first_words.Goals as goal
 
@@ -9,7 +9,7 @@ returns c =
     let N : ℕ = c.args.shape.now.callers in
     let M : ℕ = c.args.shape.now.cells in
     let row : List ℕ = c.args.durable.now in
-    let B : Start = start_of N M row in
+    let B : TableStart = start_from_durable N M row in
     let xs : List ℕ = c.in_ok-cells.cells.items in
     let items : c.extend_from_slice.new.self.items ≡ xs ++ xs = c.in_ok-extend_from_slice.ensures.items ∙ (λ i. (c.in_ok-words.ensures.items ∙ c.deref.ensures.value) i ++ c.deref-2.ensures.value i) in
     let long = cells_count N M row c.requires.row xs c.in_ok-cells.ensures in

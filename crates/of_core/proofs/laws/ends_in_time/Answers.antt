@@ -1,6 +1,6 @@
 use Rattle.std.proofs.Common.{arith}
 use Rattle.of_core.proofs.laws.ends_in_time.Goals as goal
-use Rattle.of_core.specs.Events.{opening}
+use Rattle.of_core.specs.Events.{opening_moment}
 use Rattle.of_core.specs.Laws.{setup_for}
 use Rattle.of_core.proofs.InTime.{ends_in_time}
 use Rattle.of_core.proofs.Footprints.{by_footprint}
@@ -23,7 +23,7 @@ returns g c =
       in_time = ends_in_time S L sound;
       footprint = λ B w h i op may es s o x y u. by_footprint S L sound B w h i op may es s o x y u;
       two_commits = λ B may n room es s k i member new more.
-          done_in_schedule S L sound B (opening S B n) (start_good S L sound B may fits.some (omega (arith, fits.few)) fits.own n room (omega arith) (omega (arith, fits.small))) es s k i member new more;
+          done_in_schedule S L sound B (opening_moment S B n) (start_good S L sound B may fits.some (omega (arith, fits.few)) fits.own n room (omega arith) (omega (arith, fits.small))) es s k i member new more;
       given_up = λ B w h i m l e n f. given_up S L B w h.core i m l e n f;
       needed = λ B may n room es s. loads_needed S L sound B may fits.some (omega (arith, fits.few)) fits.own n room (omega arith) (omega (arith, fits.small)) es s;
       helped = λ B w h i m l e n f o q. copies_open S w m n f o q;

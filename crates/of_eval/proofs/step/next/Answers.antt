@@ -1,8 +1,8 @@
 use Rattle.std.proofs.Common.{rules, refl, Ok}
 use Rattle.of_mem.proofs.Calls.{goes_on}
 use Rattle.of_order.specs.OrderPrograms.{next}
-use Rattle.of_eval.specs.ScriptPrograms.{answers}
+use Rattle.of_eval.specs.ScriptPrograms.{answer_program}
 use Rattle.of_eval.proofs.step.next.Goals as goal
 
 pub returns : goal.returns
-returns c = goes_on (next c.args.plot.now c.args.key) answers _ _ _ _ c.in_ok-next.next (Ok (Ok c.in_ok-next.next)) c.in_ok-next.ensures.runs refl (search rules)
+returns c = goes_on (next c.args.plot.now c.args.key) answer_program _ _ _ _ c.in_ok-next.next (Ok (Ok c.in_ok-next.next)) c.in_ok-next.ensures.runs refl (search rules)

@@ -1,15 +1,15 @@
 use Rattle.std.proofs.Common.{◌≡◌, ℕ, ◌<◌, ◌≤◌, arith, ap, sym, refl, ◌∙◌, ◌+◌, length, get_or, set, length-set, Ok}
 use Rattle.std.proofs.lemmas.Result.{err_from_is_err_and}
-use Rattle.of_mem.specs.Pad.{Pad}
+use Rattle.of_mem.specs.Pad.{Part}
 use Rattle.of_mem.specs.Plots.{base}
-use Rattle.of_mem.specs.Programs.{Ends, run}
-use Rattle.of_mem.specs.Calls.{RunsOn}
-use Rattle.of_mem.specs.Remains.{IsOf, begun}
+use Rattle.of_mem.specs.Programs.{Ends, run_program}
+use Rattle.of_mem.specs.Calls.{RunsProgram}
+use Rattle.of_mem.specs.Remains.{IsRunOf, begin}
 use Rattle.of_script.specs.declared.instr.TheConstants.{MOST_INSTRS}
 use Rattle.of_store.proofs.Values.{small_values, none_left}
-use Rattle.of_eval.specs.ScriptPrograms.{Answer}
+use Rattle.of_eval.specs.ScriptPrograms.{InstrResult}
 use Rattle.of_eval.specs.Calls.{run_word}
-use Rattle.of_eval.specs.Stopped.{pad, GoesOn}
+use Rattle.of_eval.specs.Stopped.{part_with, MayResume}
 use Rattle.of_eval.proofs.Walks.{ran_aborts, ran_lacks, ran_more, ran_ends}
 use Rattle.of_eval.proofs.Resumed.{begun_goes, after_word, goes_more, ran_so, of_store, has_store, goes_there, holds_so}
 use Rattle.of_eval.proofs.walk.run_words.Goals as goal
@@ -18,9 +18,9 @@ use Rattle.of_eval.proofs.walk.run_words.Goals.{then-not-is_of, else-not-is_of}
 pub loop-i-init : goal.loop-i-init
 loop-i-init c = elim c.if-not-is_of.branch [
   | then-not-is_of w ↦ (
-      let new : c.if-not-is_of.kept ≡ begun c.args.kept.now.room c.args.plot.now.callers c.args.plot.now.blocks c.args.op.now = w.kept-is ∙ w.begin.ensures in
-      let of : IsOf c.if-not-is_of.kept c.args.plot.now.callers c.args.plot.now.blocks c.args.op.now = rw new (record { callers = refl; blocks = refl; words = refl }) in
-      let goes : GoesOn (base c.args.plot.now) c.args.plot.now.blocks c.if-not-is_of.kept c.args.part.now = rw new (begun_goes (base c.args.plot.now) c.args.plot.now.blocks c.args.kept.now.room c.args.plot.now.callers c.args.plot.now.blocks c.args.op.now c.args.part.now c.requires.words.some) in
+      let new : c.if-not-is_of.kept ≡ begin c.args.kept.now.room c.args.plot.now.callers c.args.plot.now.blocks c.args.op.now = w.kept-is ∙ w.begin.ensures in
+      let of : IsRunOf c.if-not-is_of.kept c.args.plot.now.callers c.args.plot.now.blocks c.args.op.now = rw new (record { callers = refl; blocks = refl; words = refl }) in
+      let goes : MayResume (base c.args.plot.now) c.args.plot.now.blocks c.if-not-is_of.kept c.args.part.now = rw new (begun_goes (base c.args.plot.now) c.args.plot.now.blocks c.args.kept.now.room c.args.plot.now.callers c.args.plot.now.blocks c.args.op.now c.args.part.now c.requires.words.some) in
       record {
         of = of;
         done = sym c.done-i.ensures.value;
@@ -31,8 +31,8 @@ loop-i-init c = elim c.if-not-is_of.branch [
       })
   | else-not-is_of w ↦ (
       let was = c.is_of.ensures.0 w.if-not-is_of.false in
-      let of : IsOf c.if-not-is_of.kept c.args.plot.now.callers c.args.plot.now.blocks c.args.op.now = rw w.kept-is was in
-      let goes : GoesOn (base c.args.plot.now) c.args.plot.now.blocks c.if-not-is_of.kept c.args.part.now = rw w.kept-is (goes_there c.args.plot.now c.args.kept.now c.args.part.now c.args.op.now was c.requires.instrs c.requires.words.some c.requires.holds) in
+      let of : IsRunOf c.if-not-is_of.kept c.args.plot.now.callers c.args.plot.now.blocks c.args.op.now = rw w.kept-is was in
+      let goes : MayResume (base c.args.plot.now) c.args.plot.now.blocks c.if-not-is_of.kept c.args.part.now = rw w.kept-is (goes_there c.args.plot.now c.args.kept.now c.args.part.now c.args.op.now was c.requires.instrs c.requires.words.some c.requires.holds) in
       record {
         of = of;
         done = sym c.done-i.ensures.value;
@@ -52,8 +52,8 @@ returns-in_err-cause-clause-runs c =
     rw (p.1, p.2) (record {
       walk = ran_so (base c.args.plot.now) c.args.plot.now.blocks c.args.plot.now.few_blocks c.loop-i.kept c.args.part.now c.loop-i.invariant.goes c.requires.empty c.args.op.now c.loop-i.invariant.of.words c.requires.words.few c.loop-i.i c.loop-i.invariant.done c.loop-i.part c.loop-i.invariant.part
           ∙ ran_lacks (base c.args.plot.now) c.args.plot.now.blocks (length c.args.op.now) c.args.op.now c.loop-i.i c.loop-i-test.true c.loop-i.kept.values c.loop-i.part c.run_word.new.part _ c.in_err-cause.ensures.walk;
-      known = c.in_err-cause.ensures.known ∙ ap (λ (x : Pad). x.known) c.loop-i.invariant.part;
-      batch = c.in_err-cause.ensures.batch ∙ ap (λ (x : Pad). x.batch) c.loop-i.invariant.part;
+      known = c.in_err-cause.ensures.known ∙ ap (λ (x : Part). x.known) c.loop-i.invariant.part;
+      batch = c.in_err-cause.ensures.batch ∙ ap (λ (x : Part). x.batch) c.loop-i.invariant.part;
     })
 
 pub returns-in_err-cause-clause-holds : goal.returns-in_err-cause-clause-holds
@@ -63,9 +63,9 @@ pub returns-in-Err-clause-runs : goal.returns-in-Err-clause-runs
 returns-in-Err-clause-runs c = rw c.aborted.ensures (record {
   walk = ran_so (base c.args.plot.now) c.args.plot.now.blocks c.args.plot.now.few_blocks c.loop-i.kept c.args.part.now c.loop-i.invariant.goes c.requires.empty c.args.op.now c.loop-i.invariant.of.words c.requires.words.few c.loop-i.i c.loop-i.invariant.done c.loop-i.part c.loop-i.invariant.part
       ∙ ran_aborts (base c.args.plot.now) c.args.plot.now.blocks (length c.args.op.now) c.args.op.now c.loop-i.i c.loop-i-test.true c.loop-i.kept.values c.loop-i.part c.run_word.new.part c.in-Err.cause
-      (omega (arith, c.loop-i.invariant.goes.width, c.requires.words.few, c.loop-i-test.true)) (c.in_ok-cause.ensures.walk ∙ ap (λ (x : Answer). Ends x c.run_word.new.part) c.in-Err.is);
-  known = c.in_ok-cause.ensures.known ∙ ap (λ (x : Pad). x.known) c.loop-i.invariant.part;
-  batch = c.in_ok-cause.ensures.batch ∙ ap (λ (x : Pad). x.batch) c.loop-i.invariant.part;
+      (omega (arith, c.loop-i.invariant.goes.width, c.requires.words.few, c.loop-i-test.true)) (c.in_ok-cause.ensures.walk ∙ ap (λ (x : InstrResult). Ends x c.run_word.new.part) c.in-Err.is);
+  known = c.in_ok-cause.ensures.known ∙ ap (λ (x : Part). x.known) c.loop-i.invariant.part;
+  batch = c.in_ok-cause.ensures.batch ∙ ap (λ (x : Part). x.batch) c.loop-i.invariant.part;
 })
 
 pub returns-in-Err-clause-holds : goal.returns-in-Err-clause-holds
@@ -76,11 +76,11 @@ loop-i-preserved c =
     let h = c.loop-i.invariant in
     let words : c.loop-i.kept.words ≡ c.args.op.now = h.of.words in
     let done : c.loop-i.kept.done ≡ c.loop-i.i = h.done in
-    let here : c.loop-i.part ≡ pad c.args.part.now.known c.args.part.now.batch c.loop-i.kept.writes = h.part in
-    let runs : RunsOn (run_word c.args.plot.now (get_or c.args.op.now c.loop-i.i 0)) c.loop-i.part c.run_word.new.part (Ok (Ok c.in-Ok.value)) = rw (← c.in-Ok.is) c.in_ok-cause.ensures in
-    let known : c.run_word.new.part.known ≡ c.args.part.now.known = runs.known ∙ ap (λ (x : Pad). x.known) here in
-    let batch : c.run_word.new.part.batch ≡ c.args.part.now.batch = runs.batch ∙ ap (λ (x : Pad). x.batch) here in
-    let walk : run (run_word c.args.plot.now (get_or c.loop-i.kept.words c.loop-i.kept.done 0)) (pad c.args.part.now.known c.args.part.now.batch c.loop-i.kept.writes) ≡ Ends (Ok c.in-Ok.value) c.run_word.new.part = rw (words, done, ← here) runs.walk in
+    let here : c.loop-i.part ≡ part_with c.args.part.now.known c.args.part.now.batch c.loop-i.kept.writes = h.part in
+    let runs : RunsProgram (run_word c.args.plot.now (get_or c.args.op.now c.loop-i.i 0)) c.loop-i.part c.run_word.new.part (Ok (Ok c.in-Ok.value)) = rw (← c.in-Ok.is) c.in_ok-cause.ensures in
+    let known : c.run_word.new.part.known ≡ c.args.part.now.known = runs.known ∙ ap (λ (x : Part). x.known) here in
+    let batch : c.run_word.new.part.batch ≡ c.args.part.now.batch = runs.batch ∙ ap (λ (x : Part). x.batch) here in
+    let walk : run_program (run_word c.args.plot.now (get_or c.loop-i.kept.words c.loop-i.kept.done 0)) (part_with c.args.part.now.known c.args.part.now.batch c.loop-i.kept.writes) ≡ Ends (Ok c.in-Ok.value) c.run_word.new.part = rw (words, done, ← here) runs.walk in
     let more : c.loop-i.i + 1 < length c.args.op.now = omega (arith, h.below, c.if-i-last.false, c.requires.words.some) in
     let less : c.loop-i.kept.done + 1 < length c.loop-i.kept.words = omega (arith, ap length words, done, more) in
     let few : length c.loop-i.kept.words ≤ MOST_INSTRS = omega (arith, ap length words, c.requires.words.few) in
@@ -89,7 +89,7 @@ loop-i-preserved c =
       done = rw c.advance.ensures (ap (λ (n : ℕ). n + 1) done);
       below = more;
       goes = rw c.advance.ensures (goes_more (base c.args.plot.now) c.args.plot.now.blocks c.args.plot.now.few_blocks c.loop-i.kept c.args.part.now h.goes c.run_word.new.part c.in-Ok.value walk batch (of_store c.args.plot.now c.args.part.now c.requires.stands c.requires.empty) less few);
-      part = rw c.advance.ensures (λ i. pad (known i) (batch i) c.run_word.new.part.script);
+      part = rw c.advance.ensures (λ i. part_with (known i) (batch i) c.run_word.new.part.script);
       room = rw c.advance.ensures h.room;
     }
 
@@ -98,15 +98,15 @@ returns-in-Ok-clause-runs c =
     let h = c.loop-i.invariant in
     let end : length c.args.op.now ≡ c.loop-i.i + 1 = omega (arith, h.below, c.if-i-last.true) in
     let room : c.loop-i.i < length c.loop-i.kept.values = omega (arith, h.goes.width, h.below, c.requires.words.few) in
-    let runs : RunsOn (run_word c.args.plot.now (get_or c.args.op.now c.loop-i.i 0)) c.loop-i.part c.run_word.new.part (Ok (Ok c.in-Ok.value)) = rw (← c.in-Ok.is) c.in_ok-cause.ensures in
+    let runs : RunsProgram (run_word c.args.plot.now (get_or c.args.op.now c.loop-i.i 0)) c.loop-i.part c.run_word.new.part (Ok (Ok c.in-Ok.value)) = rw (← c.in-Ok.is) c.in_ok-cause.ensures in
     rw (c.answered.ensures, c.values.ensures, ← c.if-i-last.true) (record {
       walk = ran_so (base c.args.plot.now) c.args.plot.now.blocks c.args.plot.now.few_blocks c.loop-i.kept c.args.part.now h.goes c.requires.empty c.args.op.now h.of.words c.requires.words.few c.loop-i.i h.done c.loop-i.part h.part
           ∙ ran_more (base c.args.plot.now) c.args.plot.now.blocks (length c.args.op.now) c.args.op.now c.loop-i.i h.below c.loop-i.kept.values c.loop-i.part c.run_word.new.part c.in-Ok.value room runs.walk
           ∙ ran_ends (base c.args.plot.now) c.args.plot.now.blocks (length c.args.op.now) c.args.op.now (c.loop-i.i + 1) (set c.loop-i.kept.values c.loop-i.i c.in-Ok.value) c.run_word.new.part
           end (omega (arith, end)) (length-set c.loop-i.kept.values c.loop-i.i c.in-Ok.value ∙ h.goes.width) c.requires.words.few
           (none_left c.loop-i.kept.values c.loop-i.i c.in-Ok.value (λ k l. h.goes.past k (omega (arith, l, h.done))));
-      known = runs.known ∙ ap (λ (x : Pad). x.known) h.part;
-      batch = runs.batch ∙ ap (λ (x : Pad). x.batch) h.part;
+      known = runs.known ∙ ap (λ (x : Part). x.known) h.part;
+      batch = runs.batch ∙ ap (λ (x : Part). x.batch) h.part;
     })
 
 pub returns-in-Ok-clause-whole : goal.returns-in-Ok-clause-whole
@@ -115,10 +115,10 @@ returns-in-Ok-clause-whole c =
     let end : length c.args.op.now ≡ c.loop-i.i + 1 = omega (arith, h.below, c.if-i-last.true) in
     let words : c.loop-i.kept.words ≡ c.args.op.now = h.of.words in
     let done : c.loop-i.kept.done ≡ c.loop-i.i = h.done in
-    let here : c.loop-i.part ≡ pad c.args.part.now.known c.args.part.now.batch c.loop-i.kept.writes = h.part in
-    let runs : RunsOn (run_word c.args.plot.now (get_or c.args.op.now c.loop-i.i 0)) c.loop-i.part c.run_word.new.part (Ok (Ok c.in-Ok.value)) = rw (← c.in-Ok.is) c.in_ok-cause.ensures in
-    let batch : c.run_word.new.part.batch ≡ c.args.part.now.batch = runs.batch ∙ ap (λ (x : Pad). x.batch) here in
-    let walk : run (run_word c.args.plot.now (get_or c.loop-i.kept.words c.loop-i.kept.done 0)) (pad c.args.part.now.known c.args.part.now.batch c.loop-i.kept.writes) ≡ Ends (Ok c.in-Ok.value) c.run_word.new.part = rw (words, done, ← here) runs.walk in
+    let here : c.loop-i.part ≡ part_with c.args.part.now.known c.args.part.now.batch c.loop-i.kept.writes = h.part in
+    let runs : RunsProgram (run_word c.args.plot.now (get_or c.args.op.now c.loop-i.i 0)) c.loop-i.part c.run_word.new.part (Ok (Ok c.in-Ok.value)) = rw (← c.in-Ok.is) c.in_ok-cause.ensures in
+    let batch : c.run_word.new.part.batch ≡ c.args.part.now.batch = runs.batch ∙ ap (λ (x : Part). x.batch) here in
+    let walk : run_program (run_word c.args.plot.now (get_or c.loop-i.kept.words c.loop-i.kept.done 0)) (part_with c.args.part.now.known c.args.part.now.batch c.loop-i.kept.writes) ≡ Ends (Ok c.in-Ok.value) c.run_word.new.part = rw (words, done, ← here) runs.walk in
     let small = after_word (base c.args.plot.now) c.args.plot.now.blocks c.args.plot.now.few_blocks c.loop-i.kept c.args.part.now h.goes c.run_word.new.part c.in-Ok.value walk batch c.args.part.now.known (λ a w x. x) (of_store c.args.plot.now c.args.part.now c.requires.stands c.requires.empty) in
     rw (c.answered.ensures, c.values.ensures, ← c.if-i-last.true) (record {
       some = c.requires.words.some;

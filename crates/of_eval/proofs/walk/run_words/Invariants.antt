@@ -1,15 +1,15 @@
 use Rattle.std.proofs.Common.{◌≡◌, ◌<◌, length}
 use Rattle.of_mem.specs.Plots.{base}
-use Rattle.of_mem.specs.Remains.{IsOf}
-use Rattle.of_eval.specs.Stopped.{pad, GoesOn}
+use Rattle.of_mem.specs.Remains.{IsRunOf}
+use Rattle.of_eval.specs.Stopped.{part_with, MayResume}
 use Rattle.of_eval.proofs.walk.run_words.Given as goal
 
 abbrev pub invariant-loop-i : goal.invariant-loop-i
 invariant-loop-i l = record {
-  of : IsOf l.kept l.fn.plot.callers l.fn.plot.blocks l.fn.op;
+  of : IsRunOf l.kept l.fn.plot.callers l.fn.plot.blocks l.fn.op;
   done : l.kept.done ≡ l.i;
   below : l.i < length l.fn.op;
-  goes : GoesOn (base l.fn.plot) l.fn.plot.blocks l.kept l.fn.part;
-  part : l.part ≡ pad l.fn.part.known l.fn.part.batch l.kept.writes;
+  goes : MayResume (base l.fn.plot) l.fn.plot.blocks l.kept l.fn.part;
+  part : l.part ≡ part_with l.fn.part.known l.fn.part.batch l.kept.writes;
   room : l.kept.room ≡ l.fn.kept.room;
 }

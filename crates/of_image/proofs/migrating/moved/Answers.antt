@@ -1,6 +1,6 @@
 use Rattle.std.proofs.Common.{◌≡◌, ℕ, [], ◌∷◌, ◌++◌, ◌+◌, ◌*◌, sym, ap, ◌∙◌, arith}
 use Rattle.of_cell.specs.Cells.{durable_cells}
-use Rattle.of_report.specs.ImageRow.{cells_of}
+use Rattle.of_report.specs.ImageRow.{data_cell_count_for}
 use Rattle.of_image.proofs.MovedRows.{moved_pushed, moved_whole}
 use Rattle.of_image.proofs.migrating.moved.Goals as goal
 
@@ -21,5 +21,5 @@ returns c =
     let n = c.args.new.now in
     let end : c.loop-cell.cell ≡ sized n.callers c.cells-cells.result = omega arith in
     moved_whole o.instrs n.instrs o.callers _ c.loop-cell.cell c.args.words.now c.loop-cell.moved.items
-    (end ∙ ap (sized n.callers) c.cells-cells.ensures ∙ (λ i. durable_cells (sym c.requires.callers i) (cells_of n.instrs (sym c.requires.callers i) (sym c.requires.blocks i))))
+    (end ∙ ap (sized n.callers) c.cells-cells.ensures ∙ (λ i. durable_cells (sym c.requires.callers i) (data_cell_count_for n.instrs (sym c.requires.callers i) (sym c.requires.blocks i))))
     c.loop-cell.invariant

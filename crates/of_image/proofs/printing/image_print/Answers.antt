@@ -2,7 +2,7 @@ use Rattle.std.proofs.Common.{◌≡◌, List, ℕ, ◌+◌, sym, subst}
 use Rattle.std.specs.Prelude.{slice_range}
 use Rattle.std.proofs.lemmas.Result.{IfOk-weaker}
 use Rattle.of_cell.specs.Cells.{durable_cells}
-use Rattle.of_mem.specs.Plots.{size}
+use Rattle.of_mem.specs.Plots.{data_cell_count}
 use Rattle.of_image.specs.declared.version.Version.TheVariants.{Two}
 use Rattle.of_report.specs.ImageRow.{row_in}
 use Rattle.of_image.specs.ImageText.{image_text, SpellsImage}
@@ -13,7 +13,7 @@ use Rattle.of_image.proofs.printing.image_print.Goals as goal
 pub returns-clause-again : goal.returns-clause-again
 returns-clause-again c =
     let p = c.args.plot.now in
-    let D = durable_cells p.callers (size p) in
+    let D = durable_cells p.callers (data_cell_count p) in
     let r = row_in p (slice_range c.args.words.now D (D + D)) in
     let row = table_is_row p c.args.words.now c.requires.instrs c.requires.size (λ k. (c.type_inv.words k).fits) in
     IfOk-weaker c.print_row.result (λ text. text.items ≡ image_text Two r) _ (λ text is. subst (λ (t : List ℕ). SpellsImage Two t r) (sym is) (printed_again Two r row)) (rw (c.durable_cells-cells.ensures, c.cells.ensures) at c.print_row.ensures)

@@ -1,7 +1,7 @@
 use Rattle.std.proofs.Common.{◌≡◌, ℕ, ◌<◌, get_or, ap, subst, ◌∙◌, arith}
-use Rattle.of_cell.specs.Words.{pay}
+use Rattle.of_cell.specs.Words.{payload_of}
 use Rattle.of_cell.specs.Cells.{data_cell}
-use Rattle.of_mem.specs.Plots.{size}
+use Rattle.of_mem.specs.Plots.{data_cell_count}
 use Rattle.of_recover.specs.Row.{current_owner}
 use Rattle.of_image.specs.RowFault.{IsFirstNewer}
 use Rattle.of_image.proofs.FaultCells.{fault_below}
@@ -12,8 +12,8 @@ pub returns-in-Some-clause-err : goal.returns-in-Some-clause-err
 returns-in-Some-clause-err c =
     let p = c.args.plot.now in
     let ws = c.args.words.now in
-    let owner : c.payload_of.result ≡ current_owner (λ n. get_or ws n 0) = c.payload_of.ensures ∙ ap (λ (n : ℕ). pay (get_or ws n 0)) c.cur.ensures.value in
-    let within : c.in-Some.a < size p = omega (arith, c.in-Some.ensures.0, c.shape_of-shape.ensures.cells) in
+    let owner : c.payload_of.result ≡ current_owner (λ n. get_or ws n 0) = c.payload_of.ensures ∙ ap (λ (n : ℕ). payload_of (get_or ws n 0)) c.cur.ensures.value in
+    let within : c.in-Some.a < data_cell_count p = omega (arith, c.in-Some.ensures.0, c.shape_of-shape.ensures.cells) in
     record {
       owned = omega (arith, owner, c.if-payload_of-plot.false);
       at = c.in-Some.a;
@@ -26,7 +26,7 @@ pub returns-in-Ok-clause-ok : goal.returns-in-Ok-clause-ok
 returns-in-Ok-clause-ok c =
     let p = c.args.plot.now in
     let ws = c.args.words.now in
-    let owner : c.payload_of.result ≡ current_owner (λ n. get_or ws n 0) = c.payload_of.ensures ∙ ap (λ (n : ℕ). pay (get_or ws n 0)) c.cur.ensures.value in
+    let owner : c.payload_of.result ≡ current_owner (λ n. get_or ws n 0) = c.payload_of.ensures ∙ ap (λ (n : ℕ). payload_of (get_or ws n 0)) c.cur.ensures.value in
     let numbers = law_numbers c.shape_of-shape.result.callers c.shape_of-shape.result.cells p ws c.deref.result.now c.shape_of-shape.ensures.callers c.shape_of-shape.ensures.cells c.requires (c.deref.ensures.value ∙ c.in_ok-numbers.ensures) in
     record {
       owned = omega (arith, owner, c.if-payload_of-plot.false);
@@ -44,7 +44,7 @@ returns-clause-err c =
     let p = c.args.plot.now in
     let ws = c.args.words.now in
     let bad = rw c.in-Err-Unlawful.field-0-is at c.in-Err-Unlawful.ensures in
-    let owner : c.payload_of.result ≡ current_owner (λ n. get_or ws n 0) = c.payload_of.ensures ∙ ap (λ (n : ℕ). pay (get_or ws n 0)) c.cur.ensures.value in
+    let owner : c.payload_of.result ≡ current_owner (λ n. get_or ws n 0) = c.payload_of.ensures ∙ ap (λ (n : ℕ). payload_of (get_or ws n 0)) c.cur.ensures.value in
     let numbers = law_numbers c.shape_of-shape.result.callers c.shape_of-shape.result.cells p ws c.deref.result.now c.shape_of-shape.ensures.callers c.shape_of-shape.ensures.cells c.requires (c.deref.ensures.value ∙ c.in_ok-numbers.ensures) in
     record {
       owned = omega (arith, owner, c.if-payload_of-plot.false);

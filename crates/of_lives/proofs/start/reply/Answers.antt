@@ -4,8 +4,8 @@ use Rattle.std.proofs.lemmas.List.FromFn.{fill_by_all}
 use Rattle.of_mem.specs.Places.{shape_at}
 use Rattle.of_script.specs.declared.instr.TheConstants.{MOST_INSTRS}
 use Rattle.of_eval.specs.Lawful.{reply_number}
-use Rattle.of_report.specs.Image.{image_of}
-use Rattle.of_lives.specs.Images.{number_of}
+use Rattle.of_report.specs.Image.{image_value}
+use Rattle.of_lives.specs.Images.{image_number}
 use Rattle.of_lives.proofs.start.reply.Goals as goal
 
 -- a cell of the reply
@@ -14,8 +14,8 @@ within k n v l = let e : nat_lt k n ≡ true = grind (arith, nat_tests) in rw e 
 
 pub returns : goal.returns
 returns c =
-    let i = image_of c.args.image.now in
-    let shape : c.number-2.result ≡ number_of i (shape_at MOST_INSTRS c.args.caller) = c.number-2.ensures ∙ ap (number_of i) (c.shape.ensures ∙ ap (λ (n : ℕ). shape_at n c.args.caller) c.plot-plot.ensures.instrs) in
-    let values = fill_by_all (reply_number MOST_INSTRS (number_of i) c.args.caller) c.loop-place.values MOST_INSTRS 0 c.loop-place.invariant.long
+    let i = image_value c.args.image.now in
+    let shape : c.number-2.result ≡ image_number i (shape_at MOST_INSTRS c.args.caller) = c.number-2.ensures ∙ ap (image_number i) (c.shape.ensures ∙ ap (λ (n : ℕ). shape_at n c.args.caller) c.plot-plot.ensures.instrs) in
+    let values = fill_by_all (reply_number MOST_INSTRS (image_number i) c.args.caller) c.loop-place.values MOST_INSTRS 0 c.loop-place.invariant.long
     (λ k l. c.loop-place.invariant.each k (omega arith) ∙ within k MOST_INSTRS _ l) in
     λ j. record { shape = shape j; values = values j }

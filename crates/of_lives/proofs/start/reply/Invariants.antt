@@ -1,13 +1,13 @@
 use Rattle.std.proofs.Common.{◌≡◌, ℕ, ◌<◌, length, get_or}
 use Rattle.of_mem.specs.Places.{reply_at}
 use Rattle.of_script.specs.declared.instr.TheConstants.{MOST_INSTRS}
-use Rattle.of_report.specs.Image.{image_of}
-use Rattle.of_lives.specs.Images.{number_of}
+use Rattle.of_report.specs.Image.{image_value}
+use Rattle.of_lives.specs.Images.{image_number}
 use Rattle.of_lives.proofs.start.reply.Given as goal
 
 -- the numbers so far
 abbrev pub invariant-loop-place : goal.invariant-loop-place
 invariant-loop-place l = record {
   long : length l.values ≡ MOST_INSTRS;
-  each : (k : ℕ) → k < l.place → get_or l.values k 0 ≡ number_of (image_of l.image) (reply_at MOST_INSTRS l.caller k);
+  each : (k : ℕ) → k < l.place → get_or l.values k 0 ≡ image_number (image_value l.image) (reply_at MOST_INSTRS l.caller k);
 }

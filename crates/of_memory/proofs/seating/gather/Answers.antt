@@ -2,7 +2,7 @@ use Rattle.std.proofs.Common.{◌≢◌, ◌≤◌, ◌+◌, sym, ap, subst, ◌
 use Rattle.std.proofs.lemmas.List.{get_or-set_other, length-set}
 use Rattle.of_eval.specs.declared.scripts.Scripts.{Scripts}
 use Rattle.of_row.specs.declared.member.Pass.{Pass}
-use Rattle.of_row.specs.Rows.{IsOf}
+use Rattle.of_row.specs.Rows.{IsSeatOf}
 use Rattle.of_caller.specs.declared.caller.Caller.{Caller}
 use Rattle.of_memory.specs.Laws.{KeepsSo}
 use Rattle.of_memory.specs.Serving.{IsKeptOf, KeepsThose}
@@ -26,8 +26,8 @@ loop-number-preserved c =
     let r = c.args.row.now in
     record {
       pass = elim c.match-take_at.branch [
-        | in-Some w ↦ subst (λ (p : Pass). IsOf r p.seat) (sym w.pass-is) w.gather_one-pass.ensures.pass
-        | in_default w ↦ subst (λ (p : Pass). IsOf r p.seat) (sym w.pass-is) inv.pass
+        | in-Some w ↦ subst (λ (p : Pass). IsSeatOf r p.seat) (sym w.pass-is) w.gather_one-pass.ensures.pass
+        | in_default w ↦ subst (λ (p : Pass). IsSeatOf r p.seat) (sym w.pass-is) inv.pass
       ];
       long = ap length c.take_at.ensures.items ∙ length-set now i None ∙ inv.long;
       rest = λ n le. let ne : n ≢ i = omega arith in ap (λ xs. get_or xs n None) c.take_at.ensures.items ∙ get_or-set_other now i n None None ne ∙ inv.rest n (omega (arith, le));

@@ -1,5 +1,5 @@
 use Rattle.std.proofs.Common.{subst, sym}
-use Rattle.of_row.specs.Views.{Sight}
+use Rattle.of_row.specs.Views.{View}
 use Rattle.of_row.specs.declared.member.Member.{Member}
 use Rattle.of_memory.specs.Laws.{KeepsSo}
 use Rattle.of_memory.specs.Serving.{IsKeptOf}
@@ -10,11 +10,11 @@ pub returns-clause-own : goal.returns-clause-own
 returns-clause-own c =
     let k = c.args.caller in
     let n = c.args.number in
-    subst (λ (v : Sight). KeepsSo n (IsKeptOf k) v.kept) (sym c.join.ensures.view)
+    subst (λ (v : View). KeepsSo n (IsKeptOf k) v.kept) (sym c.join.ensures.view)
     (keeps_right n (IsKeptOf k) c.args.pass.seat.me.0.kept c.leave.result.seat.me.0.kept
     (subst (λ (m : Member). KeepsSo n (IsKeptOf k) m.seat.me.0.kept) (sym c.leave.ensures.is) (keeps_own c.args.row.now n k c.requires.serves)))
 
 pub returns-clause-others : goal.returns-clause-others
 returns-clause-others c n k h =
-    subst (λ (v : Sight). KeepsSo n (IsKeptOf k) v.kept) (sym c.join.ensures.view)
+    subst (λ (v : View). KeepsSo n (IsKeptOf k) v.kept) (sym c.join.ensures.view)
     (keeps_left n (IsKeptOf k) c.args.pass.seat.me.0.kept c.leave.result.seat.me.0.kept h)

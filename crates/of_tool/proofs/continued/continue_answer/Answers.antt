@@ -1,6 +1,6 @@
 use Rattle.std.proofs.Common.{refl}
-use Rattle.of_plan.specs.Ended.{run_of}
-use Rattle.of_report.specs.Image.{image_of}
+use Rattle.of_plan.specs.Ended.{ended_value}
+use Rattle.of_report.specs.Image.{image_value}
 use Rattle.of_tool.specs.Seen.{view_of}
 use Rattle.of_tool.specs.Inputs.{ImageAndPlan}
 use Rattle.of_tool.specs.Statuses.{Done, Refused}
@@ -11,12 +11,12 @@ pub returns-clause-answered : goal.returns-clause-answered
 returns-clause-answered g c =
     let writes = c.in_ok-text.ensures in
     Done refl (record {
-      image = image_of c.in-Ok.read.0;
+      image = image_value c.in-Ok.read.0;
       plan = c.in-Ok.read.1;
       read = rw c.in-Ok.is at c.in_ok-read.ensures.read;
       life = record {
         report = writes.report;
-        left = run_of c.in_ok-text.ran.0;
+        left = ended_value c.in_ok-text.ran.0;
         seen = view_of c.in_ok-text.ran.1;
         course = writes.life.course;
         history = writes.life.promises.history;
@@ -31,7 +31,7 @@ pub returns-clause-carries : goal.returns-clause-carries
 returns-clause-carries g c = (
   refl,
   record {
-    image = image_of c.in-Ok.read.0;
+    image = image_value c.in-Ok.read.0;
     plan = c.in-Ok.read.1;
     read = rw c.in-Ok.is at c.in_ok-read.ensures.read;
     writes = c.in_ok-text.ensures;

@@ -1,7 +1,7 @@
 use Rattle.std.proofs.Common.{List, ℕ, subst, refl}
 use Rattle.std.proofs.lemmas.Result.{IfOk-weaker}
 use Rattle.of_image.specs.declared.version.Version.TheVariants.{One}
-use Rattle.of_image.specs.Parsed.{IsRefused}
+use Rattle.of_image.specs.Parsed.{ImageIsRefused}
 use Rattle.of_image.specs.MovedRow.{Migrates}
 use Rattle.of_tool.specs.Inputs.{ImageAlone}
 use Rattle.of_tool.specs.Statuses.{Done, Refused}
@@ -19,7 +19,7 @@ pub returns : goal.returns
 returns g c =
     IfOk-weaker c.refused.result _ _
     (λ answer told. Refused (ImageAlone One) refl (refusal_told One _ c.in-Ok.bytes.items (rw c.in-Ok.is at c.in_ok-bytes.ensures) c.in-Err-migrate.err answer
-    (subst (λ (b : List ℕ). IsRefused One b c.in-Err-migrate.err) c.deref.ensures.value c.in-Err-migrate.ensures.err) told))
+    (subst (λ (b : List ℕ). ImageIsRefused One b c.in-Err-migrate.err) c.deref.ensures.value c.in-Err-migrate.ensures.err) told))
     c.refused.ensures
 
 pub returns-in-Err : goal.returns-in-Err

@@ -2,15 +2,15 @@ use Rattle.std.proofs.Common.{◌≡◌, ℕ, ◌+◌, List, length, Ok, Err, sy
 use Rattle.std.specs.Prelude.{Result, IfOk, slice_range}
 use Rattle.of_cell.specs.Cells.{durable_cells, table_words}
 use Rattle.of_mem.specs.Places.{base_of, cells_at}
-use Rattle.of_mem.specs.ProgramWork.{memory, meaning_of}
+use Rattle.of_mem.specs.ProgramWork.{memory_of, meaning_of}
 use Rattle.of_script.specs.declared.instr.TheConstants.{MOST_INSTRS}
 use Rattle.of_eval.specs.ScriptPrograms.{script_program}
 use Rattle.of_eval.specs.Scripts.{StandsForSome, is_success, script_reads}
 use Rattle.of_plan.specs.Plan.{data_cells}
-use Rattle.of_plan.specs.Ended.{run_of}
+use Rattle.of_plan.specs.Ended.{ended_value}
 use Rattle.of_plan.specs.Report.{Report, empty_start}
-use Rattle.of_eval.specs.Record.{IsLawful}
-use Rattle.of_core.specs.Laws.{Restarts}
+use Rattle.of_eval.specs.Record.{IsLawfulRecord}
+use Rattle.of_core.specs.Laws.{RecoveredRowsMayStart}
 use Rattle.of_core.specs.Table.{setup_of}
 use Rattle.of_report.specs.ImageRow.{row_in}
 use Rattle.of_image.specs.declared.version.Version.TheVariants.{Two}
@@ -30,19 +30,19 @@ both_ok (Err e) P Q R f h k = tt
 -- the law of starts at a table for scripts, of so many callers and blocks
 abbrev RestartsAt : (callers blocks limit : ℕ) → Type 0
 RestartsAt c b l =
-    Restarts (setup_of c (data_cells c b) l (meaning_of is_success script_reads (script_program (base_of c MOST_INSTRS) b)))
-    (λ (xs : List ℕ). StandsForSome (base_of c MOST_INSTRS) b (memory xs))
+    RecoveredRowsMayStart (setup_of c (data_cells c b) l (meaning_of is_success script_reads (script_program (base_of c MOST_INSTRS) b)))
+    (λ (xs : List ℕ). StandsForSome (base_of c MOST_INSTRS) b (memory_of xs))
 
 module _ (c : goal.After-deref) where
   play : IsPlayable c.args.plan.now
   play = playable c.args.plan.now c.play.ensures.plan c.plan_keeps_laws.ensures.laws c.plan_keeps_laws.ensures.moments c.plan_keeps_laws.ensures.zeros
 
   -- what the schedule leaves has a report, as `play` prints it
-  report : (r : Report) × IsLawful c.args.plan.now (empty_start c.args.plan.now) (run_of c.in_ok-ended.ended) r
-  report = has_report c.args.plan.now play c.runs_are_lawful.ensures.lawful c.runs_are_lawful.ensures.reported c.runs_are_lawful.ensures.allowances c.reports_respect_time.ensures.schedules (run_of c.in_ok-ended.ended) c.in_ok-ended.ensures.played
+  report : (r : Report) × IsLawfulRecord c.args.plan.now (empty_start c.args.plan.now) (ended_value c.in_ok-ended.ended) r
+  report = has_report c.args.plan.now play c.runs_are_lawful.ensures.lawful c.runs_are_lawful.ensures.reported c.runs_are_lawful.ensures.allowances c.reports_respect_time.ensures.schedules (ended_value c.in_ok-ended.ended) c.in_ok-ended.ensures.played
 
   played : IsPlayedReport c.args.plan.now report.0
-  played = lawful_report c.args.plan.now play c.runs_are_lawful.ensures.lawful c.runs_are_lawful.ensures.reported c.runs_are_lawful.ensures.allowances c.reports_respect_time.ensures.schedules (run_of c.in_ok-ended.ended) c.in_ok-ended.ensures.played report.0 report.1
+  played = lawful_report c.args.plan.now play c.runs_are_lawful.ensures.lawful c.runs_are_lawful.ensures.reported c.runs_are_lawful.ensures.allowances c.reports_respect_time.ensures.schedules (ended_value c.in_ok-ended.ended) c.in_ok-ended.ensures.played report.0 report.1
 
   restarts : RestartsAt c.args.plan.now.callers c.args.plan.now.blocks c.args.plan.now.limit
   restarts =
@@ -60,7 +60,7 @@ image_print-requires-clause-size c =
 pub returns : goal.returns
 returns c =
     let p = c.args.plan.now in
-    let e = run_of c.in_ok-ended.ended in
+    let e = ended_value c.in_ok-ended.ended in
     let callers = c.plot.ensures.callers in
     let blocks = c.plot.ensures.blocks in
     let D = durable_cells c.plot.result.callers (cells_at (base_of c.plot.result.callers c.plot.result.instrs) c.plot.result.blocks) in

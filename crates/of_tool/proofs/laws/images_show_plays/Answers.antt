@@ -1,11 +1,11 @@
 use Rattle.std.proofs.Common.{ℕ, List, subst}
 use Rattle.of_mem.specs.Places.{base_of}
-use Rattle.of_mem.specs.ProgramWork.{memory, meaning_of}
+use Rattle.of_mem.specs.ProgramWork.{memory_of, meaning_of}
 use Rattle.of_script.specs.declared.instr.TheConstants.{MOST_INSTRS}
 use Rattle.of_eval.specs.ScriptPrograms.{script_program}
 use Rattle.of_eval.specs.Scripts.{StandsForSome, is_success, script_reads}
 use Rattle.of_plan.specs.Plan.{data_cells}
-use Rattle.of_core.specs.Laws.{Restarts}
+use Rattle.of_core.specs.Laws.{RecoveredRowsMayStart}
 use Rattle.of_core.specs.Table.{setup_of}
 use Rattle.of_play.proofs.PlaysMoments.{playable}
 use Rattle.of_tool.proofs.PlayedImages.{shows_each}
@@ -14,8 +14,8 @@ use Rattle.of_tool.proofs.laws.images_show_plays.Goals as goal
 -- the law of starts at a table for scripts, of so many callers and blocks
 abbrev RestartsAt : (callers blocks limit : ℕ) → Type 0
 RestartsAt c b l =
-    Restarts (setup_of c (data_cells c b) l (meaning_of is_success script_reads (script_program (base_of c MOST_INSTRS) b)))
-    (λ (xs : List ℕ). StandsForSome (base_of c MOST_INSTRS) b (memory xs))
+    RecoveredRowsMayStart (setup_of c (data_cells c b) l (meaning_of is_success script_reads (script_program (base_of c MOST_INSTRS) b)))
+    (λ (xs : List ℕ). StandsForSome (base_of c MOST_INSTRS) b (memory_of xs))
 
 pub returns : goal.returns
 returns c =

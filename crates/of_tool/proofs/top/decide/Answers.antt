@@ -1,7 +1,7 @@
 use Rattle.std.proofs.Common.{rules, refl}
 use Rattle.std.proofs.lemmas.Result.{IfOk-weaker}
 use Rattle.of_tool.specs.declared.command.Command.TheVariants.{Run, Continue}
-use Rattle.of_tool.specs.Commands.{texts}
+use Rattle.of_tool.specs.Commands.{word_bytes}
 use Rattle.of_tool.specs.Inputs.{PlanAlone, ImageAndPlan}
 use Rattle.of_tool.specs.Statuses.{To, NoCommand}
 use Rattle.of_tool.proofs.CommandLemmas.{unread_of}
@@ -31,14 +31,14 @@ returns-in_ok-plain_answer-in-Some g c =
     record {
       answered = To c.in-Some.command c.in-Some.ensures c.in_ok-plain_answer-in-Some.ensures.answered;
       carries = carries_none _ _ _ _ c.in_ok-plain_answer-in-Some.field-0 c.in-Some.command c.plain_answer.ensures.plain c.in-Some.ensures;
-      unread = λ none. c.in_ok-plain_answer-in-Some.ensures.unread (unread_of (texts c.args.words.now) c.in-Some.command c.in-Some.ensures none);
+      unread = λ none. c.in_ok-plain_answer-in-Some.ensures.unread (unread_of (word_bytes c.args.words.now) c.in-Some.command c.in-Some.ensures none);
     }
 
 pub returns-in_err-plain_answer-in-Some : goal.returns-in_err-plain_answer-in-Some
 returns-in_err-plain_answer-in-Some g c = record {
   answered = search rules;
   carries = search rules;
-  unread = λ none. c.plain_answer.ensures.unread (unread_of (texts c.args.words.now) c.in-Some.command c.in-Some.ensures none);
+  unread = λ none. c.plain_answer.ensures.unread (unread_of (word_bytes c.args.words.now) c.in-Some.command c.in-Some.ensures none);
 }
 
 pub returns-in-Some-Run-clause-answered : goal.returns-in-Some-Run-clause-answered

@@ -1,6 +1,6 @@
 use Rattle.std.proofs.Common.{refl}
-use Rattle.of_plan.specs.Ended.{run_of}
-use Rattle.of_report.specs.Report.{report_of}
+use Rattle.of_plan.specs.Ended.{ended_value}
+use Rattle.of_report.specs.Report.{report_value}
 use Rattle.of_tool.specs.Seen.{view_of}
 use Rattle.of_tool.specs.Inputs.{PlanAlone}
 use Rattle.of_tool.specs.Statuses.{Done, Refused}
@@ -12,8 +12,8 @@ pub returns-clause-answered : goal.returns-clause-answered
 returns-clause-answered g c = Done refl (record {
   plan = c.in-Ok.plan;
   read = rw c.in-Ok.is at c.in_ok-plan.ensures;
-  report = report_of c.in_ok-report.report;
-  run = some_run c.in-Ok.plan (report_of c.in_ok-report.report) (run_of c.in_ok-report.ran.0) (view_of c.in_ok-report.ran.1) c.in_ok-report.ensures;
+  report = report_value c.in_ok-report.report;
+  run = some_run c.in-Ok.plan (report_value c.in_ok-report.report) (ended_value c.in_ok-report.ran.0) (view_of c.in_ok-report.ran.1) c.in_ok-report.ensures;
   text_is = c.in_ok-print.ensures;
 })
 
@@ -23,7 +23,7 @@ returns-clause-carries g c = (
   record {
     plan = c.in-Ok.plan;
     read = rw c.in-Ok.is at c.in_ok-plan.ensures;
-    report = report_of c.in_ok-report.report;
+    report = report_value c.in_ok-report.report;
     run = c.in_ok-report.ensures;
     text_is = c.in_ok-print.ensures;
   },

@@ -1,6 +1,6 @@
 use Rattle.std.proofs.Common.{◌<◌, length, sym, subst}
 use Rattle.of_wset.specs.Walk.{hash_place}
-use Rattle.of_wset.specs.Table.{Passes}
+use Rattle.of_wset.specs.Table.{PassesOnlyOthers}
 use Rattle.of_wset.proofs.table.find.Goals as goal
 use Rattle.of_wset.proofs.Lookups.{passes_none, passes_more, nearer, is_free}
 
@@ -19,7 +19,7 @@ pub loop-place-preserved : goal.loop-place-preserved
 loop-place-preserved c =
     let start : hash_place (length c.args.table.now) c.args.addr < length c.args.table.now = rw c.hash_place-place.ensures.value at c.hash_place-place.ensures.below in (
       c.next_place-place.ensures.below,
-      subst (Passes c.args.entries.now c.args.table.now c.args.addr) (sym c.next_place-place.ensures.value)
+      subst (PassesOnlyOthers c.args.entries.now c.args.table.now c.args.addr) (sym c.next_place-place.ensures.value)
           (passes_more _ _ c.requires c.args.addr c.loop-place.place c.in-Some.at start c.loop-place.invariant.0 c.loop-place.invariant.1 c.in-Some.is c.if-entries-at.false),
     )
 

@@ -1,5 +1,5 @@
 use Rattle.std.proofs.Common.{◌≡◌, arith, ap, length, ◌<◌}
-use Rattle.of_mem.specs.Pad.{Pad}
+use Rattle.of_mem.specs.Pad.{Part}
 use Rattle.test_cells.proofs.Zeros.{zeros_none, zeros_agree, zeros_learn}
 use Rattle.test_cells.proofs.Asked.{asks_unknown, zeros_left, some_scripts}
 use Rattle.test_cells.proofs.scripts.over_zeros.Goals as goal
@@ -28,7 +28,7 @@ run-requires-clause-empty c _ = c.loop-asked.invariant.script
 pub learn-requires-in-Err-after_bounds : goal.learn-requires-in-Err-after_bounds
 learn-requires-in-Err-after_bounds c _ =
     let below : c.in-Err.need.addr < 87 = (asks_unknown some_scripts 87 c.loop-asked.space c.loop-asked.invariant c.args.op.now c.in-Err.need.addr c.in-Err.ensures.walk.0).0 in
-    let same : length c.run.new.part.known ≡ length c.loop-asked.space.known = ap (λ (p : Pad). length p.known) c.run.ensures.part in
+    let same : length c.run.new.part.known ≡ length c.loop-asked.space.known = ap (λ (p : Part). length p.known) c.run.ensures.part in
     omega (arith, below, same, c.loop-asked.invariant.width)
 
 pub loop-asked-preserved : goal.loop-asked-preserved

@@ -1,9 +1,9 @@
 use Rattle.std.proofs.Common.{◌≡◌, ◌+◌, ◌-◌, ℕ, List, length, map, arith, ◌∙◌, sym, ap, drop}
 use Rattle.std.specs.Prelude.{slice_range}
-use Rattle.of_cell.specs.Words.{pay}
+use Rattle.of_cell.specs.Words.{payload_of}
 use Rattle.std.proofs.lemmas.List.{length-take-le, length-drop}
 use Rattle.of_cell.specs.Cells.{data_cell}
-use Rattle.of_eval.specs.Scripts.{cells_in}
+use Rattle.of_eval.specs.Scripts.{data_cells_of}
 use Rattle.example_bank.specs.Books.{start_in}
 use Rattle.example_bank.proofs.Accounts.{held, store_stands}
 use Rattle.example_bank.proofs.books.Books.store.Goals as goal
@@ -14,7 +14,7 @@ returns-clause-store c =
     let shape = c.shape_of in
     let n = shape.result.callers in
     store_stands b.scripts c.plot.result b.row.items c.deref-3.result.now c.in_ok-store.store c.plot.ensures.callers c.plot.ensures.instrs c.plot.ensures.blocks
-    (c.deref-3.ensures.value ∙ c.in_ok-cells.ensures ∙ ap (map pay) (
+    (c.deref-3.ensures.value ∙ c.in_ok-cells.ensures ∙ ap (map payload_of) (
     c.deref-2.ensures.value ∙ c.in_ok-words.ensures
     ∙ ap (λ (l : List ℕ). slice_range l (data_cell n 0) (data_cell n 0 + shape.result.cells)) c.deref.ensures.value
     ∙ (λ i. slice_range b.row.items (data_cell (shape.ensures.callers i) 0) (data_cell (shape.ensures.callers i) 0 + shape.ensures.cells i))))
@@ -24,7 +24,7 @@ pub returns-clause-money : goal.returns-clause-money
 returns-clause-money c =
     let b = c.args.self.now in
     let first = data_cell b.scripts.callers 0 in
-    let same : first + cells_in b.scripts - first ≡ cells_in b.scripts = omega arith in
-    let long : length (start_in b).cells ≡ cells_in b.scripts =
-    length-take-le (first + cells_in b.scripts - first) (drop first b.row.items) (omega (arith, length-drop first b.row.items, c.requires.long)) ∙ same in
+    let same : first + data_cells_of b.scripts - first ≡ data_cells_of b.scripts = omega arith in
+    let long : length (start_in b).cells ≡ data_cells_of b.scripts =
+    length-take-le (first + data_cells_of b.scripts - first) (drop first b.row.items) (omega (arith, length-drop first b.row.items, c.requires.long)) ∙ same in
     sym (held b.scripts (start_in b) c.in_ok-store.store long (returns-clause-store c))

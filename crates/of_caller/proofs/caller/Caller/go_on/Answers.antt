@@ -1,6 +1,6 @@
 use Rattle.std.proofs.Common.{◌∙◌, arith, rules, le_trans}
 use Rattle.of_caller.specs.declared.caller.Caller.{Caller}
-use Rattle.of_caller.specs.Callers.{call_of}
+use Rattle.of_caller.specs.Callers.{caller_call}
 use Rattle.of_caller.proofs.CallerSteps.{within_after, falls, goes}
 use Rattle.of_caller.proofs.CallSteps.{open_where}
 use Rattle.of_caller.proofs.BrakeCharges.{gave_more, gave_same, heard_from, asked_more, asked_none, asked_same, gave_none}
@@ -12,7 +12,7 @@ loop-asked-preserved g c =
     let row = c.args.row.now in
     let before = c.loop-asked.self in
     let now : Caller _ = record { member = c.step.new.member; machine = c.step.new.machine } in
-    let opened = open_where c.machines.ensures.idle_or_open (call_of before) c.is_idle.result c.is_idle.ensures c.loop-asked-test.true in
+    let opened = open_where c.machines.ensures.idle_or_open (caller_call before) c.is_idle.result c.is_idle.ensures c.loop-asked-test.true in
     let step = c.in-Ok.ensures.step in
     record {
       caller = record {
@@ -41,7 +41,7 @@ loop-asked-smaller g c =
     let row = c.args.row.now in
     let before = c.loop-asked.self in
     let now : Caller _ = record { member = c.step.new.member; machine = c.step.new.machine } in
-    let opened = open_where c.machines.ensures.idle_or_open (call_of before) c.is_idle.result c.is_idle.ensures c.loop-asked-test.true in
+    let opened = open_where c.machines.ensures.idle_or_open (caller_call before) c.is_idle.result c.is_idle.ensures c.loop-asked-test.true in
     falls g.W.Work.meaning g.W.Work.lawful row before inv.caller opened now c.in-Ok.ensures.step c.machines.ensures.idle_or_open
 
 pub returns-in-Some-clause-left : goal.returns-in-Some-clause-left

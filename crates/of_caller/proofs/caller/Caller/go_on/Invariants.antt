@@ -1,21 +1,21 @@
 use Rattle.std.proofs.Common.{◌≡◌, ◌+◌, ◌≤◌}
-use Rattle.of_core.specs.Seen.{setup}
+use Rattle.of_core.specs.Seen.{machine_setup}
 use Rattle.of_row.specs.Rows.{key_of, setup_at, start_at}
-use Rattle.of_caller.specs.Callers.{IsCaller, call_of, sight_of}
-use Rattle.of_caller.specs.Brakes.{Gave, AskedFor}
+use Rattle.of_caller.specs.Callers.{IsCaller, caller_call, sight_of}
+use Rattle.of_caller.specs.Brakes.{TakesSteps, AskedFor}
 use Rattle.of_caller.proofs.CallSteps.{Progress, left_of}
 use Rattle.of_caller.proofs.caller.Caller.go_on.Given as goal
 
 abbrev pub decreases-loop-asked : goal.decreases-loop-asked
-decreases-loop-asked g l = left_of (setup g.W.Work.meaning l.self.machine) (call_of l.self)
+decreases-loop-asked g l = left_of (machine_setup g.W.Work.meaning l.self.machine) (caller_call l.self)
 
 abbrev pub invariant-loop-asked : goal.invariant-loop-asked
 invariant-loop-asked g l = record {
   caller : IsCaller g.W.Work.meaning l.row l.self;
-  progress : Progress (setup_at g.W.Work.meaning l.row) (g.W.Work.lawful (key_of l.row).work) (start_at g.W.Work.meaning l.row) (call_of l.initial.self) (sight_of l.initial.self) l.asked (call_of l.self) (sight_of l.self);
+  progress : Progress (setup_at g.W.Work.meaning l.row) (g.W.Work.lawful (key_of l.row).work) (start_at g.W.Work.meaning l.row) (caller_call l.initial.self) (sight_of l.initial.self) l.asked (caller_call l.self) (sight_of l.self);
   steps : l.steps ≡ l.initial.steps + l.asked;
   denials : (goal.Brake-dyn g (l.initial.brake.vtable, l.initial.brake.value)).denials l.initial.brake.value ≤ (goal.Brake-dyn g (l.brake.vtable, l.brake.value)).denials l.brake.value;
-  uses : Gave ((goal.Brake-dyn g (l.initial.brake.vtable, l.initial.brake.value)).left l.initial.brake.value) ((goal.Brake-dyn g (l.brake.vtable, l.brake.value)).left l.brake.value) l.asked;
+  uses : TakesSteps ((goal.Brake-dyn g (l.initial.brake.vtable, l.initial.brake.value)).left l.initial.brake.value) ((goal.Brake-dyn g (l.brake.vtable, l.brake.value)).left l.brake.value) l.asked;
   asks : AskedFor ((goal.Brake-dyn g (l.initial.brake.vtable, l.initial.brake.value)).asks l.initial.brake.value) ((goal.Brake-dyn g (l.brake.vtable, l.brake.value)).asks l.brake.value) l.asked;
   answers : (goal.Brake-dyn g (l.brake.vtable, l.brake.value)).answers l.brake.value ≡ (goal.Brake-dyn g (l.initial.brake.vtable, l.initial.brake.value)).answers l.initial.brake.value;
 }

@@ -1,10 +1,10 @@
 use Rattle.std.proofs.Common.{◌≡◌, ℕ, ◌+◌, ◌<◌, [], ◌∷◌, length, set, arith, ap, ◌∙◌, length-set}
 use Rattle.of_cell.specs.declared.word.TheConstants.{PAYLOADS}
 use Rattle.of_core.specs.Table.{Setup, setup_of}
-use Rattle.of_core.specs.Seen.{Seen, setup}
-use Rattle.of_core.specs.Machine.{Data, opened}
-use Rattle.of_core.specs.Bank.{bench}
-use Rattle.of_core.specs.Moment.{Bench, held}
+use Rattle.of_core.specs.Seen.{Machine, machine_setup}
+use Rattle.of_core.specs.Machine.{CallState, begin}
+use Rattle.of_core.specs.Bank.{bank_value}
+use Rattle.of_core.specs.Moment.{Bank, call_states}
 use Rattle.of_core.specs.Events.{Begins}
 use Rattle.of_core.specs.declared.place.Place.TheVariants.{Idle}
 use Rattle.of_core.proofs.Benches.{begins, seen_at, alike_set, alike_call, held_put, begun_after, carry}
@@ -21,11 +21,11 @@ invariant_of-self g c =
     let here : i < length b.machines.items = omega (arith, inv.members) in
     let s = c.index_mut-machine.result.now in
     let seen = seen_at b.work b.shape.callers b.shape.cells b.limit b.machines.items i s inv.alike here c.index_mut-machine.ensures.value in
-    let same : setup M s ≡ S = ap (setup M) seen.0 in
+    let same : machine_setup M s ≡ S = ap (machine_setup M) seen.0 in
     let t = c.begin.new.self in
-    let d : Data = opened S s.call c.args.op.now in
-    let put : t ≡ record s { call = d } = c.begin.ensures ∙ ap (λ (T : Setup). record s { call = opened T s.call c.args.op.now }) same in
-    let machines : held (set b.machines.items i t) ≡ set (held b.machines.items) i d = held_put b.work b.shape.callers b.shape.cells b.limit b.machines.items i t d (ap (λ (x : Seen _). x.call) put) in
+    let d : CallState = begin S s.call c.args.op.now in
+    let put : t ≡ record s { call = d } = c.begin.ensures ∙ ap (λ (T : Setup). record s { call = begin T s.call c.args.op.now }) same in
+    let machines : call_states (set b.machines.items i t) ≡ set (call_states b.machines.items) i d = held_put b.work b.shape.callers b.shape.cells b.limit b.machines.items i t d (ap (λ (x : Machine _). x.call) put) in
     let is_idle : s.call.place ≡ Idle = rw (← seen.1) (rw (← c.self.view_is) at c.requires.idle) in
     let made : s.call.made + 1 < PAYLOADS = rw (← seen.1) (rw (← c.self.view_is) at c.requires.made) in
     record {
@@ -50,12 +50,12 @@ returns g c =
     let here : i < length b.machines.items = omega (arith, inv.members) in
     let s = c.index_mut-machine.result.now in
     let seen = seen_at b.work b.shape.callers b.shape.cells b.limit b.machines.items i s inv.alike here c.index_mut-machine.ensures.value in
-    let same : setup M s ≡ S = ap (setup M) seen.0 in
+    let same : machine_setup M s ≡ S = ap (machine_setup M) seen.0 in
     let t = c.begin.new.self in
-    let d : Data = opened S s.call c.args.op.now in
-    let put : t ≡ record s { call = d } = c.begin.ensures ∙ ap (λ (T : Setup). record s { call = opened T s.call c.args.op.now }) same in
-    let machines : held (set b.machines.items i t) ≡ set (held b.machines.items) i d = held_put b.work b.shape.callers b.shape.cells b.limit b.machines.items i t d (ap (λ (x : Seen _). x.call) put) in
-    let old : Bench _ = bench b in
+    let d : CallState = begin S s.call c.args.op.now in
+    let put : t ≡ record s { call = d } = c.begin.ensures ∙ ap (λ (T : Setup). record s { call = begin T s.call c.args.op.now }) same in
+    let machines : call_states (set b.machines.items i t) ≡ set (call_states b.machines.items) i d = held_put b.work b.shape.callers b.shape.cells b.limit b.machines.items i t d (ap (λ (x : Machine _). x.call) put) in
+    let old : Bank _ = bank_value b in
     carry M _ old _ (Begins i c.args.op.now ∷ []) c.self.view_is (begun_after M old i s.call seen.1 c.args.op.now _ machines)
 
 pub begin-requires-clause-idle : goal.begin-requires-clause-idle

@@ -1,9 +1,9 @@
 use Rattle.std.proofs.Common.{◌≤◌, arith}
-use Rattle.of_cell.specs.Words.{seq}
+use Rattle.of_cell.specs.Words.{seq_of}
 use Rattle.of_core.proofs.machine.Machine.after_load_cell.Goals as goal
 
 pub run-requires-clause-agrees : goal.run-requires-clause-agrees
 run-requires-clause-agrees g c κs within =
-    let old : seq c.args.found ≤ c.self.inside.seq = omega arith in
+    let old : seq_of c.args.found ≤ c.self.inside.seq = omega arith in
     let a = (rw (← c.self.view_is) at c.requires.agrees) old in
     rw (c.learn.ensures, c.payload_of.ensures) a

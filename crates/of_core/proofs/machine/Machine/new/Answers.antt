@@ -1,7 +1,7 @@
 use Rattle.std.proofs.Common.{rules, sym, ap, ◌∙◌, length, arith, None}
 use Rattle.std.proofs.lemmas.List.{length-replicate}
-use Rattle.of_mem.specs.Pad.{Pad}
-use Rattle.of_wset.specs.Pairs.{Pairs}
+use Rattle.of_mem.specs.Pad.{Part}
+use Rattle.of_wset.specs.Pairs.{WriteSet}
 use Rattle.of_core.proofs.machine.Machine.new.Goals as goal
 
 pub invariant_of-result : goal.invariant_of-result
@@ -23,17 +23,17 @@ invariant_of-result g c =
         upto = omega arith;
         words = search rules;
         script = search rules;
-        known = ap (λ (p : Pad). length p.known) c.in_ok-part.ensures ∙ length-replicate c.args.shape.cells None;
+        known = ap (λ (p : Part). length p.known) c.in_ok-part.ensures ∙ length-replicate c.args.shape.cells None;
         place = tt;
       };
       room = record {
-        log = ap (λ (p : Pairs). p.room) c.in_ok-log.ensures;
+        log = ap (λ (p : WriteSet). p.room) c.in_ok-log.ensures;
         op = search rules;
         scripts_in = search rules;
         copy = search rules;
         calls = search rules;
         scanning = search rules;
         reading = search rules;
-        empty = ap (λ (p : Pad). p.script) c.in_ok-part.ensures;
+        empty = ap (λ (p : Part). p.script) c.in_ok-part.ensures;
       };
     }

@@ -1,7 +1,7 @@
 use Rattle.std.proofs.Common.{◌≡◌, ◌<◌, [], ap, ◌∙◌, sym, refl}
-use Rattle.of_mem.specs.Pad.{Pad}
-use Rattle.of_mem.specs.Meaning.{Sound, Needs}
-use Rattle.of_core.specs.Table.{Setup, setup_of, base}
+use Rattle.of_mem.specs.Pad.{Part}
+use Rattle.of_mem.specs.Meaning.{IsSoundMeaning, Needs}
+use Rattle.of_core.specs.Table.{Setup, setup_of, first_operation_cell}
 use Rattle.of_core.proofs.Puts.{sound_at, needs_cell, no_case}
 use Rattle.of_core.proofs.machine.Machine.read_on.Goals as goal
 
@@ -18,13 +18,13 @@ invariant_of-self-in-Err g c =
     let M = g.W.Work.meaning c.self.inside.work in
     let S : Setup = setup_of c.self.inside.shape.callers c.self.inside.shape.cells c.self.inside.limit M in
     let L = g.W.Work.lawful c.self.inside.work in
-    let sound : Sound M L (base S) S.cells = sound_at S M L _ _ i.fit.callers i.fit.cells refl (laws.sound c.self.inside.work) in
+    let sound : IsSoundMeaning M L (first_operation_cell S) S.cells = sound_at S M L _ _ i.fit.callers i.fit.cells refl (laws.sound c.self.inside.work) in
     let before : c.self.inside.part.batch ≡ [] = i.room.reading (rw (← c.self.view_is) at c.requires.reading) in
     let a = rw (← c.self.view_is) at c.requires.agrees in
     let walked : M.walk c.self.inside.part.known c.self.inside.op.items ≡ Needs c.in-Err.need.addr = rw (before, c.as_slice.ensures.value) at c.in-Err.ensures.walk.0 in
     let here : c.in-Err.need.addr < c.self.inside.shape.cells = needs_cell S L sound c.self.inside.part.known c.self.inside.op.items a.0 a.1 a.2 a.3 _ walked in
-    let known : c.run.new.part.known ≡ c.self.inside.part.known = ap (λ (p : Pad). p.known) c.run.ensures.part in
-    let batch : c.run.new.part.batch ≡ [] = ap (λ (p : Pad). p.batch) c.run.ensures.part ∙ before in
+    let known : c.run.new.part.known ≡ c.self.inside.part.known = ap (λ (p : Part). p.known) c.run.ensures.part in
+    let batch : c.run.new.part.batch ≡ [] = ap (λ (p : Part). p.batch) c.run.ensures.part ∙ before in
     record {
       instrs = i.instrs;
       durable = i.durable;

@@ -1,16 +1,16 @@
 use Rattle.std.proofs.Common.{◌+◌, ◌≡◌, ℕ, ◌<◌, ◌*◌, List, [], ◌∷◌, ◌++◌, length, map, take, Option, ap, ◌∙◌, sym, refl, arith}
 use Rattle.std.proofs.lemmas.List.{map-append}
 use Rattle.of_cell.specs.declared.word.TheConstants.{PAYLOADS}
-use Rattle.of_cell.specs.Words.{seq}
+use Rattle.of_cell.specs.Words.{seq_of}
 use Rattle.of_mem.specs.declared.work.TheConstants.{MOST_INSTRS}
 use Rattle.of_mem.specs.Pairs.{put_all}
-use Rattle.of_mem.specs.Pad.{Pad, over}
-use Rattle.of_mem.specs.Meaning.{Sound, Needs, Gives}
+use Rattle.of_mem.specs.Pad.{Part, overlaid}
+use Rattle.of_mem.specs.Meaning.{IsSoundMeaning, Needs, Gives}
 use Rattle.of_mem.specs.declared.work.RawReply.{RawReply}
-use Rattle.of_wset.specs.Pairs.{Pairs}
-use Rattle.of_core.specs.Table.{Setup, setup_of, base, ticket_cell}
+use Rattle.of_wset.specs.Pairs.{WriteSet}
+use Rattle.of_core.specs.Table.{Setup, setup_of, first_operation_cell, ticket_cell}
 use Rattle.of_core.specs.Machine.{Call, own_cells}
-use Rattle.of_core.specs.Inside.{call_of}
+use Rattle.of_core.specs.Inside.{call_value}
 use Rattle.of_core.proofs.Puts.{sound_at, needs_cell, no_case, own_behind}
 use Rattle.of_core.proofs.machine.Machine.run.Goals as goal
 
@@ -20,7 +20,7 @@ run-requires-clause-agrees g c =
     let known : List (Option ℕ) = c.self.inside.part.known in
     let log : List (ℕ × ℕ) = c.self.inside.log.entries in
     let before : c.self.inside.part.batch ≡ log = i.room.scanning (rw (← c.self.view_is) at c.requires.scanning) in
-    let all : over known c.self.inside.part.batch ≡ over known log = ap (over known) before in
+    let all : overlaid known c.self.inside.part.batch ≡ overlaid known log = ap (overlaid known) before in
     let a = rw (← c.self.view_is) at c.requires.agrees in
     λ _ _. (a.0, a.1 ∙ sym i.fit.cells, a.2, rw all a.3)
 
@@ -30,17 +30,17 @@ invariant_of-self-in-Err g c =
     let known : List (Option ℕ) = c.self.inside.part.known in
     let log : List (ℕ × ℕ) = c.self.inside.log.entries in
     let before : c.self.inside.part.batch ≡ log = i.room.scanning (rw (← c.self.view_is) at c.requires.scanning) in
-    let all : over known c.self.inside.part.batch ≡ over known log = ap (over known) before in
+    let all : overlaid known c.self.inside.part.batch ≡ overlaid known log = ap (overlaid known) before in
     let a = rw (← c.self.view_is) at c.requires.agrees in
     let laws = g.met.W.Work g.world.𝓛 g.world.𝓜 g.world.𝓡 ((λ s x. x), (λ x. x), (λ x. x), λ x. x) in
     let M = g.W.Work.meaning c.self.inside.work in
     let S : Setup = setup_of c.self.inside.shape.callers c.self.inside.shape.cells c.self.inside.limit M in
     let L = g.W.Work.lawful c.self.inside.work in
-    let sound : Sound M L (base S) S.cells = sound_at S M L _ _ c.self.invariant.fit.callers c.self.invariant.fit.cells refl (laws.sound c.self.inside.work) in
-    let walked : M.walk (over known log) c.self.inside.script.items ≡ Needs c.in-Err.need.addr = rw (all, c.as_slice.ensures.value) at c.in-Err.ensures.walk.0 in
-    let here : c.in-Err.need.addr < c.self.inside.shape.cells = needs_cell S L sound (over known log) c.self.inside.script.items a.0 a.1 a.2 a.3 _ walked in
-    let same : c.run.new.part.known ≡ known = ap (λ (p : Pad). p.known) c.run.ensures.part in
-    let batch : c.run.new.part.batch ≡ log = ap (λ (p : Pad). p.batch) c.run.ensures.part ∙ before in
+    let sound : IsSoundMeaning M L (first_operation_cell S) S.cells = sound_at S M L _ _ c.self.invariant.fit.callers c.self.invariant.fit.cells refl (laws.sound c.self.inside.work) in
+    let walked : M.walk (overlaid known log) c.self.inside.script.items ≡ Needs c.in-Err.need.addr = rw (all, c.as_slice.ensures.value) at c.in-Err.ensures.walk.0 in
+    let here : c.in-Err.need.addr < c.self.inside.shape.cells = needs_cell S L sound (overlaid known log) c.self.inside.script.items a.0 a.1 a.2 a.3 _ walked in
+    let same : c.run.new.part.known ≡ known = ap (λ (p : Part). p.known) c.run.ensures.part in
+    let batch : c.run.new.part.batch ≡ log = ap (λ (p : Part). p.batch) c.run.ensures.part ∙ before in
     let s = rw (← c.self.view_is) at c.requires.scan in
     record {
       instrs = i.instrs;
@@ -68,33 +68,33 @@ returns-in-Ok-push g c =
     let known : List (Option ℕ) = c.self.inside.part.known in
     let log : List (ℕ × ℕ) = c.self.inside.log.entries in
     let before : c.self.inside.part.batch ≡ log = i.room.scanning (rw (← c.self.view_is) at c.requires.scanning) in
-    let all : over known c.self.inside.part.batch ≡ over known log = ap (over known) before in
+    let all : overlaid known c.self.inside.part.batch ≡ overlaid known log = ap (overlaid known) before in
     let a = rw (← c.self.view_is) at c.requires.agrees in
     let laws = g.met.W.Work g.world.𝓛 g.world.𝓜 g.world.𝓡 ((λ s x. x), (λ x. x), (λ x. x), λ x. x) in
     let M = g.W.Work.meaning c.self.inside.work in
     let S : Setup = setup_of c.self.inside.shape.callers c.self.inside.shape.cells c.self.inside.limit M in
     let L = g.W.Work.lawful c.self.inside.work in
-    let sound : Sound M L (base S) S.cells = sound_at S M L _ _ c.self.invariant.fit.callers c.self.invariant.fit.cells refl (laws.sound c.self.inside.work) in
+    let sound : IsSoundMeaning M L (first_operation_cell S) S.cells = sound_at S M L _ _ c.self.invariant.fit.callers c.self.invariant.fit.cells refl (laws.sound c.self.inside.work) in
     let es : List (ℕ × ℕ) = c.run.new.part.script in
     let r : RawReply = c.run.new.out in
     let script : List ℕ = c.self.inside.script.items in
     let scan : ℕ = c.self.inside.scan in
-    let ticket : ℕ = seq c.self.inside.heard in
+    let ticket : ℕ = seq_of c.self.inside.heard in
     let s = rw (← c.self.view_is) at c.requires.scan in
-    let walked : M.walk (over known log) script ≡ Gives es r = rw (all, c.as_slice.ensures.value) at c.in-Ok.ensures.walk in
+    let walked : M.walk (overlaid known log) script ≡ Gives es r = rw (all, c.as_slice.ensures.value) at c.in-Ok.ensures.walk in
     let number : c.seq_of-ticket.result ≡ ticket = c.seq_of-ticket.ensures in
     let words : c.len-words.result ≡ length script = c.len-words.ensures ∙ c.self.inside.script.ok.0 in
     let small : ticket < PAYLOADS = rw (← number) (omega arith) in
     let own : c.put_own.new.part.script ≡ es ++ own_cells (ticket_cell S scan) ticket (length script) r =
     c.put_own.ensures.script ∙ ap (λ (t : ℕ). put_all es (own_cells (scan * (MOST_INSTRS + 2)) t c.len-words.result r)) number ∙ ap (λ (n : ℕ). put_all es (own_cells (scan * (MOST_INSTRS + 2)) ticket n r)) words
-    ∙ own_behind S L sound (over known log) script a.0 a.1 a.2 a.3 scan ticket es r s.scan i.fit.script small i.fit.own_in walked
+    ∙ own_behind S L sound (overlaid known log) script a.0 a.1 a.2 a.3 scan ticket es r s.scan i.fit.script small i.fit.own_in walked
     in
-    let entries : c.collect.new.log.entries ≡ put_all log (es ++ own_cells (ticket_cell S scan) ticket (length script) r) = ap (λ (p : Pairs). p.entries) c.collect.ensures.log ∙ ap (put_all log) own in
-    let same : c.collect.new.part.known ≡ known = ap (λ (p : Pad). p.known) c.collect.ensures.part ∙ c.put_own.ensures.known ∙ ap (λ (p : Pad). p.known) c.run.ensures.part in
+    let entries : c.collect.new.log.entries ≡ put_all log (es ++ own_cells (ticket_cell S scan) ticket (length script) r) = ap (λ (p : WriteSet). p.entries) c.collect.ensures.log ∙ ap (put_all log) own in
+    let same : c.collect.new.part.known ≡ known = ap (λ (p : Part). p.known) c.collect.ensures.part ∙ c.put_own.ensures.known ∙ ap (λ (p : Part). p.known) c.run.ensures.part in
     let op : take c.len-words.result c.words_of.result ≡ script = rw (words, ← c.as_slice-in-Ok.ensures.value) c.words_of.ensures in
-    let call : call_of (record { caller = scan; ticket = c.seq_of-ticket.result; words = c.len-words.result; op = c.words_of.result; raw = r }) ≡ record { caller = scan; ticket = ticket; op = script; raw = r } = rw (op, number) refl in
-    let calls : map call_of c.push.new.self.items ≡ map call_of c.self.inside.calls.items ++ record { caller = scan; ticket = ticket; op = script; raw = r } ∷ [] =
-    ap (map call_of) c.in-Ok-push.ensures.items ∙ map-append call_of c.self.inside.calls.items _ ∙ ap (λ (x : Call). map call_of c.self.inside.calls.items ++ x ∷ []) call
+    let call : call_value (record { caller = scan; ticket = c.seq_of-ticket.result; words = c.len-words.result; op = c.words_of.result; raw = r }) ≡ record { caller = scan; ticket = ticket; op = script; raw = r } = rw (op, number) refl in
+    let calls : map call_value c.push.new.self.items ≡ map call_value c.self.inside.calls.items ++ record { caller = scan; ticket = ticket; op = script; raw = r } ∷ [] =
+    ap (map call_value) c.in-Ok-push.ensures.items ∙ map-append call_value c.self.inside.calls.items _ ∙ ap (λ (x : Call). map call_value c.self.inside.calls.items ++ x ∷ []) call
     in
     rw (← c.self.view_is, walked) (rw (c.place_behind-self-inside.ensures, c.newer_raw-self-inside.ensures, same, entries, calls) refl)
 
@@ -104,9 +104,9 @@ returns-in-Err g c =
     let known : List (Option ℕ) = c.self.inside.part.known in
     let log : List (ℕ × ℕ) = c.self.inside.log.entries in
     let before : c.self.inside.part.batch ≡ log = i.room.scanning (rw (← c.self.view_is) at c.requires.scanning) in
-    let all : over known c.self.inside.part.batch ≡ over known log = ap (over known) before in
+    let all : overlaid known c.self.inside.part.batch ≡ overlaid known log = ap (overlaid known) before in
     let a = rw (← c.self.view_is) at c.requires.agrees in
     let M = g.W.Work.meaning c.self.inside.work in
-    let walked : M.walk (over known log) c.self.inside.script.items ≡ Needs c.in-Err.need.addr = rw (all, c.as_slice.ensures.value) at c.in-Err.ensures.walk.0 in
-    let same : c.run.new.part.known ≡ known = ap (λ (p : Pad). p.known) c.run.ensures.part in
+    let walked : M.walk (overlaid known log) c.self.inside.script.items ≡ Needs c.in-Err.need.addr = rw (all, c.as_slice.ensures.value) at c.in-Err.ensures.walk.0 in
+    let same : c.run.new.part.known ≡ known = ap (λ (p : Part). p.known) c.run.ensures.part in
     rw (← c.self.view_is, walked) (rw same refl)

@@ -1,6 +1,6 @@
 use Rattle.std.proofs.Common.{◌+◌, ◌<◌, ℕ, List, length, get_or, ◌∙◌, ap, sym, arith}
-use Rattle.of_mem.specs.Pad.{Pad}
-use Rattle.of_mem.specs.Pairs.{put}
+use Rattle.of_mem.specs.Pad.{Part}
+use Rattle.of_mem.specs.Pairs.{put_pair}
 use Rattle.of_core.proofs.Puts.{put_listed, wrote_script}
 use Rattle.of_core.proofs.machine.fill.put_reply.Goals as goal
 
@@ -10,9 +10,9 @@ loop-j-preserved g c =
     let vs : List ℕ = c.args.raw.now.values in
     let here : j < length vs = omega arith in
     let more = put_listed c.args.part.now.script (c.args.row + 2) vs j here in
-    let wrote = ap (λ (p : Pad). p.script) c.write.ensures.writes ∙ wrote_script c.loop-j.part (c.args.row + 2 + j) (get_or vs j 0) in
+    let wrote = ap (λ (p : Part). p.script) c.write.ensures.writes ∙ wrote_script c.loop-j.part (c.args.row + 2 + j) (get_or vs j 0) in
     record {
-      script = wrote ∙ ap (λ (es : List (ℕ × ℕ)). put es (c.args.row + 2 + j) (get_or vs j 0)) c.loop-j.invariant.script ∙ sym more;
+      script = wrote ∙ ap (λ (es : List (ℕ × ℕ)). put_pair es (c.args.row + 2 + j) (get_or vs j 0)) c.loop-j.invariant.script ∙ sym more;
       known = c.write.ensures.known ∙ c.loop-j.invariant.known;
       batch = c.write.ensures.batch ∙ c.loop-j.invariant.batch;
     }

@@ -1,6 +1,6 @@
 use Rattle.std.proofs.Common.{◌≡◌, ◌∙◌, arith, None}
-use Rattle.of_door.specs.Rule.{Rests}
-use Rattle.of_door.specs.Doors.{row_at, number_at}
+use Rattle.of_door.specs.Rule.{IsMemberAtDoor}
+use Rattle.of_door.specs.Doors.{row_of_door, number_of_door}
 use Rattle.of_door.proofs.Moves.{puts_for, nobody_there}
 use Rattle.of_door.proofs.door.Door.come.Goals as goal
 
@@ -11,5 +11,5 @@ store-requires g c =
     let t = c.take-found.ensures.taken.0 hit in (
       c.exchange-stood.ensures.0 ∙ c.take-found.ensures.hand ∙ c.requires.hand,
       omega (arith, d.counts.0),
-      puts_for (Rests (row_at d) (number_at d)) _ d.counts.1 c.exchange-stood.new.seat.id 0 c.take-found.result c.args.hand.now.seat.me c.take-found.new.seat.me c.exchange-stood.new.seat.me t.0 None c.args.hand.now.free.0 t.2 c.exchange-stood.ensures.3 (omega arith) (nobody_there (Rests (row_at d) (number_at d))),
+      puts_for (IsMemberAtDoor (row_of_door d) (number_of_door d)) _ d.counts.1 c.exchange-stood.new.seat.id 0 c.take-found.result c.args.hand.now.seat.me c.take-found.new.seat.me c.exchange-stood.new.seat.me t.0 None c.args.hand.now.free.0 t.2 c.exchange-stood.ensures.3 (omega arith) (nobody_there (IsMemberAtDoor (row_of_door d) (number_of_door d))),
     )

@@ -3,7 +3,7 @@ use Rattle.std.proofs.lemmas.Result.{err_from_is_err_and}
 use Rattle.of_mem.specs.Plots.{base}
 use Rattle.of_mem.specs.Stores.{last_pointer}
 use Rattle.of_mem.proofs.Heaps.{front_head}
-use Rattle.of_eval.specs.Walking.{Stepped}
+use Rattle.of_eval.specs.Walking.{LinkLeadsOn}
 use Rattle.of_eval.proofs.Beginnings.{here_below, stepped_smaller, stepped_end}
 use Rattle.of_eval.proofs.Passing.{pointer_fault, here_push, with_block}
 use Rattle.of_eval.proofs.Buckets.{here_start}
@@ -30,25 +30,25 @@ returns-in_err-block-clause-err c =
 pub returns-then-item-gt-GREATEST-clause-err : goal.returns-then-item-gt-GREATEST-clause-err
 returns-then-item-gt-GREATEST-clause-err c =
     let i = c.loop-block.invariant in
-    let s = subst (λ (o : Option ℕ). Stepped c.args.cells.now c.loop-block.cell (33 + c.args.q) c.loop-block.owners c.next.new.owners o) c.in-Some.is c.in_ok-block.ensures.ok in
+    let s = subst (λ (o : Option ℕ). LinkLeadsOn c.args.cells.now c.loop-block.cell (33 + c.args.q) c.loop-block.owners c.next.new.owners o) c.in-Some.is c.in_ok-block.ensures.ok in
     item_fault c.args.plot.now c.args.cells.now c.args.q i.0 c.loop-block.owners c.loop-block.store c.requires.q i.1 i.2 c.loop-block.cell c.in-Some.block c.next.new.owners i.3 s c.block-first.result c.block-first.ensures c.if-item-gt-GREATEST.true
 
 pub push-requires-clause-room : goal.push-requires-clause-room
 push-requires-clause-room c =
     let i = c.loop-block.invariant in
-    let s = subst (λ (o : Option ℕ). Stepped c.args.cells.now c.loop-block.cell (33 + c.args.q) c.loop-block.owners c.next.new.owners o) c.in-Some.is c.in_ok-block.ensures.ok in
+    let s = subst (λ (o : Option ℕ). LinkLeadsOn c.args.cells.now c.loop-block.cell (33 + c.args.q) c.loop-block.owners c.next.new.owners o) c.in-Some.is c.in_ok-block.ensures.ok in
     item_room c.args.plot.now c.args.cells.now c.args.q i.0 c.loop-block.owners c.loop-block.store c.requires.q i.1 i.2 c.loop-block.cell c.in-Some.block c.next.new.owners i.3 s
 
 pub loop-block-smaller : goal.loop-block-smaller
 loop-block-smaller c =
     let i = c.loop-block.invariant in
-    let s = subst (λ (o : Option ℕ). Stepped c.args.cells.now c.loop-block.cell (33 + c.args.q) c.loop-block.owners c.next.new.owners o) c.in-Some.is c.in_ok-block.ensures.ok in
+    let s = subst (λ (o : Option ℕ). LinkLeadsOn c.args.cells.now c.loop-block.cell (33 + c.args.q) c.loop-block.owners c.next.new.owners o) c.in-Some.is c.in_ok-block.ensures.ok in
     stepped_smaller c.args.cells.now c.loop-block.cell (33 + c.args.q) c.in-Some.block c.loop-block.owners c.next.new.owners s
 
 pub loop-block-preserved : goal.loop-block-preserved
 loop-block-preserved c =
     let i = c.loop-block.invariant in
-    let s = subst (λ (o : Option ℕ). Stepped c.args.cells.now c.loop-block.cell (33 + c.args.q) c.loop-block.owners c.next.new.owners o) c.in-Some.is c.in_ok-block.ensures.ok in
+    let s = subst (λ (o : Option ℕ). LinkLeadsOn c.args.cells.now c.loop-block.cell (33 + c.args.q) c.loop-block.owners c.next.new.owners o) c.in-Some.is c.in_ok-block.ensures.ok in
     let m = met_item c.args.plot.now c.args.cells.now c.args.q i.0 c.loop-block.owners c.loop-block.store c.requires.q i.1 i.2 c.loop-block.cell c.in-Some.block c.next.new.owners i.3 s c.block-first.result c.block-first.ensures c.push.new.store (omega (arith, c.if-item-gt-GREATEST.false)) c.in_ok-push.ensures in (
       with_block i.0 (33 + c.args.q) c.in-Some.block,
       m.0,

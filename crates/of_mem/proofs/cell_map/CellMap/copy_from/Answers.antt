@@ -1,5 +1,5 @@
 use Rattle.std.proofs.Common.{ℕ, ◌<◌, List, length, get_or, ◌∙◌, ap, refl, arith}
-use Rattle.of_mem.specs.Pairs.{put}
+use Rattle.of_mem.specs.Pairs.{put_pair}
 use Rattle.of_mem.proofs.Writes.{put_next}
 use Rattle.of_mem.proofs.cell_map.CellMap.copy_from.Goals as goal
 
@@ -10,7 +10,7 @@ loop-i-preserved c =
     let here : i < length es = omega (arith, c.len-i-end.ensures.value) in
     let entry = c.entry-addr.ensures.value in
     record {
-      copied = c.put.ensures.entries ∙ ap (λ (e : ℕ × ℕ). put c.loop-i.self.entries e.0 e.1) entry ∙ ap (λ (ds : List (ℕ × ℕ)). put ds (get_or es i (0, 0)).0 (get_or es i (0, 0)).1) c.loop-i.invariant.copied ∙ put_next es c.len-i-end.ensures.map.once i here;
+      copied = c.put.ensures.entries ∙ ap (λ (e : ℕ × ℕ). put_pair c.loop-i.self.entries e.0 e.1) entry ∙ ap (λ (ds : List (ℕ × ℕ)). put_pair ds (get_or es i (0, 0)).0 (get_or es i (0, 0)).1) c.loop-i.invariant.copied ∙ put_next es c.len-i-end.ensures.map.once i here;
       room = c.put.ensures.room ∙ c.loop-i.invariant.room;
       other = refl;
     }

@@ -1,18 +1,18 @@
 use Rattle.std.proofs.Common.{◌≡◌, ◌<◌, length, None, get_or, arith}
 use Rattle.std.specs.Option.{option_or}
-use Rattle.of_mem.specs.Pairs.{value_at, address}
-use Rattle.of_mem.specs.Pad.{Pad}
+use Rattle.of_mem.specs.Pairs.{value_for, entry_address}
+use Rattle.of_mem.specs.Pad.{Part}
 use Rattle.of_mem.proofs.Newest.{newest_undone}
 use Rattle.of_mem.proofs.layers.Layers.undo.Goals as goal
 
 pub loop-i-preserved : goal.loop-i-preserved
 loop-i-preserved c =
-    let p : Pad = record { known = c.self.inside.known; batch = c.self.inside.batch.entries; script = c.self.inside.script.entries } in
+    let p : Part = record { known = c.self.inside.known; batch = c.self.inside.batch.entries; script = c.self.inside.script.entries } in
     let here : c.loop-i.i < length p.script = omega (arith, c.len-i-end.ensures.value) in
-    let at : c.entry-addr.result.0 ≡ address p.script c.loop-i.i = cc in
+    let at : c.entry-addr.result.0 ≡ entry_address p.script c.loop-i.i = cc in
     let room : c.loop-i.self-inside.script.room ≡ length p.known = cc in
-    let below : address p.script c.loop-i.i < length p.known = omega (arith, c.entry-addr.ensures.below, room, at) in
-    let held : c.or-under.result ≡ option_or (value_at p.batch (address p.script c.loop-i.i)) (get_or p.known (address p.script c.loop-i.i) None) = cc in
+    let below : entry_address p.script c.loop-i.i < length p.known = omega (arith, c.entry-addr.ensures.below, room, at) in
+    let held : c.or-under.result ≡ option_or (value_for p.batch (entry_address p.script c.loop-i.i)) (get_or p.known (entry_address p.script c.loop-i.i) None) = cc in
     record {
       newest = rw (c.set.ensures, held, at) (newest_undone p c.self.inside.script.room c.loop-i.self-inside.newest c.loop-i.i c.len-i-end.ensures.map here below c.loop-i.invariant.newest);
       batch = cc;

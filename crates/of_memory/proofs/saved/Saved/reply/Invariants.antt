@@ -1,5 +1,5 @@
 use Rattle.std.proofs.Common.{◌≡◌, ℕ, ◌<◌, length, get_or}
-use Rattle.of_cell.specs.Words.{pay}
+use Rattle.of_cell.specs.Words.{payload_of}
 use Rattle.of_mem.specs.Places.{reply_at}
 use Rattle.of_script.specs.declared.instr.TheConstants.{MOST_INSTRS}
 use Rattle.of_memory.specs.Saving.{start_in}
@@ -9,5 +9,5 @@ use Rattle.of_memory.proofs.saved.Saved.reply.Given as goal
 abbrev pub invariant-loop-place : goal.invariant-loop-place
 invariant-loop-place l = record {
   long : length l.values ≡ MOST_INSTRS;
-  each : (k : ℕ) → k < l.place → get_or l.values k 0 ≡ pay (get_or (start_in l.self).cells (reply_at MOST_INSTRS l.number k) 0);
+  each : (k : ℕ) → k < l.place → get_or l.values k 0 ≡ payload_of (get_or (start_in l.self).cells (reply_at MOST_INSTRS l.number k) 0);
 }

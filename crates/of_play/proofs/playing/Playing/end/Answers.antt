@@ -1,5 +1,5 @@
 use Rattle.std.proofs.Common.{[], ◌∷◌, length, arith, ap, refl, length-append}
-use Rattle.of_play.specs.Playing.{EndsAs}
+use Rattle.of_play.specs.Playing.{CallerEndsAs}
 use Rattle.of_play.proofs.PlaysEnds.{leaves_as, each_pushed}
 use Rattle.of_play.proofs.playing.Playing.end.Goals as goal
 
@@ -9,7 +9,7 @@ loop-caller-preserved c =
     let pushed = c.in_ok-push.ensures.items in
     record {
       count = omega (arith, ap length pushed, length-append l.endings.items (c.ending.result ∷ []), l.invariant.count);
-      each = each_pushed (λ i ending. EndsAs c.args.plan.now i c.args.self ending) l.endings.items c.push.new.self.items c.ending.result l.caller pushed l.invariant.count l.invariant.each c.ending.ensures;
+      each = each_pushed (λ i ending. CallerEndsAs c.args.plan.now i c.args.self ending) l.endings.items c.push.new.self.items c.ending.result l.caller pushed l.invariant.count l.invariant.each c.ending.ensures;
     }
 
 pub returns : goal.returns

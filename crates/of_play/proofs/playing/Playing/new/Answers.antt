@@ -8,9 +8,9 @@ use Rattle.of_mem.specs.ProgramWork.{meaning_of}
 use Rattle.of_eval.specs.ScriptPrograms.{script_program}
 use Rattle.of_eval.specs.Scripts.{is_success, script_reads, scripts_meaning}
 use Rattle.of_plan.specs.Plan.{data_cells}
-use Rattle.of_core.specs.Moment.{table}
+use Rattle.of_core.specs.Moment.{bank_setup}
 use Rattle.of_core.specs.Table.{setup_of}
-use Rattle.of_caller.specs.Tables.{setup_for, meaning_for}
+use Rattle.of_caller.specs.Tables.{plan_setup, meaning_for}
 use Rattle.of_play.specs.Playing.{idle_standing}
 use Rattle.of_play.proofs.PlaysEnds.{start_stands}
 use Rattle.of_play.proofs.playing.Playing.new.Goals as goal
@@ -42,6 +42,6 @@ returns-clause-stands c =
     let cells : b.bank.cells ≡ data_cells p.callers p.blocks = b.ensures.cells ∙ c.shape.ensures.cells in
     let limit : b.bank.limit ≡ p.limit = b.ensures.limit ∙ c.limit.ensures.value in
     let meaning : scripts_meaning b.bank.work ≡ meaning_for p = ap scripts_meaning b.ensures.work ∙ (λ i. meaning_of is_success script_reads (script_program (base_of (many i) MOST_INSTRS) (room i))) in
-    let same : table scripts_meaning b.bank ≡ setup_for p = λ i. setup_of (callers i) (cells i) (limit i) (meaning i) in
+    let same : bank_setup scripts_meaning b.bank ≡ plan_setup p = λ i. setup_of (callers i) (cells i) (limit i) (meaning i) in
     let all : c.loop.counter ≡ p.callers = omega (arith, c.callers-end.ensures.value) in
     start_stands p _ callers same b.ensures.words b.ensures.machines (c.loop.invariant.standings ∙ ap (λ (n : ℕ). replicate n idle_standing) all) (c.loop.invariant.answers ∙ all) c.loop.invariant.none

@@ -1,8 +1,8 @@
 use Rattle.std.proofs.Common.{◌++◌, arith, ap}
 use Rattle.std.proofs.lemmas.Result.{on_ok_weaker}
-use Rattle.of_core.specs.Events.{machine}
+use Rattle.of_core.specs.Events.{machine_in}
 use Rattle.of_caller.specs.Left.{moment_after}
-use Rattle.of_play.specs.Play.{next_call}
+use Rattle.of_play.specs.Play.{next_begin}
 use Rattle.of_play.specs.Playing.{idle_standing}
 use Rattle.of_play.specs.declared.playing.Standing.{Standing}
 use Rattle.of_play.proofs.PlaysMoments.{playable}
@@ -16,7 +16,7 @@ note-requires c =
     let r = c.requires.playing in
     let play = playable p r.plan c.plan_keeps_laws.ensures.laws c.plan_keeps_laws.ensures.moments c.plan_keeps_laws.ensures.zeros in
     let s = c.begin_next.new.self in
-    let es = r.events ++ next_call p c.args.caller (machine (moment_after p r.events) c.args.caller) in
+    let es = r.events ++ next_begin p c.args.caller (machine_in (moment_after p r.events) c.args.caller) in
     let st = c.begin_next.ensures r.events r.stands in
     record {
       answers = omega (arith, st.answers, c.requires.caller);

@@ -1,10 +1,10 @@
 use Rattle.std.proofs.Common.{arith, subst, sym}
 use Rattle.of_row.specs.RowLaws.{RowLaws}
 use Rattle.of_core.specs.Table.{Setup}
-use Rattle.of_core.specs.World.{Start}
+use Rattle.of_core.specs.World.{TableStart}
 use Rattle.of_row.specs.Keys.{FitsWork}
 use Rattle.of_row.specs.Rule.{KeepsOwn, KeepsOnce, IsLegalFront}
-use Rattle.of_row.specs.Views.{Sight, KnowsMet}
+use Rattle.of_row.specs.Views.{View, KnowsBothJoined}
 use Rattle.of_row.proofs.Moves.{looks_for}
 use Rattle.of_row.proofs.RowLaws.{at_row}
 use Rattle.of_row.proofs.row.Row.look.Goals as goal
@@ -20,15 +20,15 @@ load-requires g c =
 
 pub returns-clause-own : goal.returns-clause-own
 returns-clause-own g c =
-    subst (λ (z : Setup × Start × Sight). KeepsOwn z.0 z.1 z.2) (λ i. (c.requires.setup i, c.requires.start i, (sym c.load.ensures.2.0 i).0)) c.load.ensures.2.1
+    subst (λ (z : Setup × TableStart × View). KeepsOwn z.0 z.1 z.2) (λ i. (c.requires.setup i, c.requires.start i, (sym c.load.ensures.2.0 i).0)) c.load.ensures.2.1
 
 pub returns-clause-once : goal.returns-clause-once
 returns-clause-once g c =
-    subst (λ (z : Setup × Start × Sight). KeepsOnce z.0 z.1 z.2) (λ i. (c.requires.setup i, c.requires.start i, (sym c.load.ensures.2.0 i).0)) c.load.ensures.2.2
+    subst (λ (z : Setup × TableStart × View). KeepsOnce z.0 z.1 z.2) (λ i. (c.requires.setup i, c.requires.start i, (sym c.load.ensures.2.0 i).0)) c.load.ensures.2.2
 
 pub returns-clause-met : goal.returns-clause-met
-returns-clause-met g c = subst KnowsMet (λ i. (sym c.load.ensures.2.0 i).0) c.load.ensures.2.3
+returns-clause-met g c = subst KnowsBothJoined (λ i. (sym c.load.ensures.2.0 i).0) c.load.ensures.2.3
 
 pub returns-clause-legal : goal.returns-clause-legal
 returns-clause-legal g c =
-    subst (λ (z : Setup × Start × Sight). IsLegalFront z.0 z.1 z.2.seen) (λ i. (c.requires.setup i, c.requires.start i, (sym c.load.ensures.2.0 i).0)) c.load.ensures.2.4
+    subst (λ (z : Setup × TableStart × View). IsLegalFront z.0 z.1 z.2.seen) (λ i. (c.requires.setup i, c.requires.start i, (sym c.load.ensures.2.0 i).0)) c.load.ensures.2.4

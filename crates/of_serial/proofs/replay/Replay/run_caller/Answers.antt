@@ -3,8 +3,8 @@ use Rattle.std.specs.List.{range_with_len}
 use Rattle.std.proofs.lemmas.List.{length-take}
 use Rattle.of_plan.specs.Plan.{scripts_of}
 use Rattle.of_script.specs.declared.instr.Instr.{Instr}
-use Rattle.of_plan.specs.Serial.{Call, called_script, calls_of}
-use Rattle.of_serial.specs.Replay.{Course, Has, course_after, after_call}
+use Rattle.of_plan.specs.Serial.{CallId, called_script, calls_of}
+use Rattle.of_serial.specs.Replay.{SerialRun, HasComeTo, course_after, after_call}
 use Rattle.of_serial.proofs.Courses.{one_more_call, next_call, first_calls, read_in_front, take_at_most, length-calls_of}
 use Rattle.of_serial.proofs.replay.Replay.run_caller.Goals as goal
 
@@ -14,7 +14,7 @@ run_call-requires-clause-has c = (_, c.loop-index.invariant.runs c.requires.has.
 pub loop-index-preserved : goal.loop-index-preserved
 loop-index-preserved c =
     let p = c.args.plan.now in
-    let call : Call = (c.args.caller, c.loop-index.index) in
+    let call : CallId = (c.args.caller, c.loop-index.index) in
     let script : c.index-scripts-index.result ≡ called_script p call =
     read_in_front c.scripts-scripts.result.now c.min.result c.loop-index.index c.index-scripts-index.result [] c.index-scripts-index.is
     (omega (arith, length-take c.min.result c.scripts-scripts.result.now)) (omega (arith, length-take c.min.result c.scripts-scripts.result.now))
@@ -26,7 +26,7 @@ loop-index-preserved c =
       runs = λ calls has.
           let before = calls ++ map (λ j. (c.args.caller, j)) (range_with_len 0 c.loop-index.index) in
           let now = c.loop-index.invariant.runs calls has in
-          subst (λ (h : Course). Has c.run_call.new.self h)
+          subst (λ (h : SerialRun). HasComeTo c.run_call.new.self h)
           (ap (λ (s : List Instr). after_call (course_after p before) call s) script ∙ one_more_call p before call ∙ next_call p calls c.args.caller c.loop-index.index)
           (c.in_ok-run_call.ensures (course_after p before) now);
     }
@@ -40,4 +40,4 @@ front c =
     ∙ take_at_most (calls_of c.args.plan.now c.args.caller) (c.args.plan.now.limit - c.args.self.now.seq) c.loop-index.index (omega (arith, length-calls_of c.args.plan.now c.args.caller))
 
 pub returns-clause-runs : goal.returns-clause-runs
-returns-clause-runs c = λ calls has. subst (λ (t : List Call). Has c.loop-index.self (course_after c.args.plan.now (calls ++ t))) (front c) (c.loop-index.invariant.runs calls has)
+returns-clause-runs c = λ calls has. subst (λ (t : List CallId). HasComeTo c.loop-index.self (course_after c.args.plan.now (calls ++ t))) (front c) (c.loop-index.invariant.runs calls has)

@@ -1,7 +1,7 @@
 use Rattle.std.proofs.Common.{◌-◌, sym, ap, ◌∙◌, arith}
 use Rattle.of_script.specs.declared.instr.Instr.TheVariants.{DropBelow}
-use Rattle.of_store.specs.State.{State, effect}
-use Rattle.of_store.specs.Inside.{state_of}
+use Rattle.of_store.specs.State.{Store, instr_effect}
+use Rattle.of_store.specs.Inside.{store_value}
 use Rattle.of_store.proofs.Maps.{len_is}
 use Rattle.of_store.proofs.Ordered.{entries_left}
 use Rattle.of_store.proofs.Effects.{drop_effect}
@@ -21,7 +21,7 @@ invariant_of-self-2 c =
     let old = len_is c.self.inside.keys.entries c.len-before.ensures.ordered in
     let new = len_is c.in_ok-self-inside.field-0.entries c.len.ensures.ordered in
     let left = entries_left c.args.key c.self.inside.keys.entries c.in_ok-self-inside.field-0.entries c.in_ok-self-inside.ensures.from in
-    let r = left_stored (state_of c.self.inside) _ c.args.key c.self.inside.used (c.self.inside.used - (c.len-before.result - c.len.result)) c.self.invariant.state c.self.invariant.used left
+    let r = left_stored (store_value c.self.inside) _ c.args.key c.self.inside.used (c.self.inside.used - (c.len-before.result - c.len.result)) c.self.invariant.state c.self.invariant.used left
     (omega (arith, old, new, c.len-before.ensures.len, c.len.ensures.len, c.in_ok-self-inside.ensures.len, c.self.invariant.used)) in
     record { state = r.state; used = r.used }
 
@@ -30,5 +30,5 @@ returns-clause-effect c =
     let old = len_is c.self.inside.keys.entries c.len-before.ensures.ordered in
     let new = len_is c.in_ok-self-inside.field-0.entries c.len.ensures.ordered in
     let left = entries_left c.args.key c.self.inside.keys.entries c.in_ok-self-inside.field-0.entries c.in_ok-self-inside.ensures.from in
-    ap (λ (s : State). effect s (DropBelow c.args.key)) (sym c.self.view_is)
-    ∙ drop_effect (state_of c.self.inside) _ c.args.key (c.len-before.result - c.len.result) left (omega (arith, old, new, c.len-before.ensures.len, c.len.ensures.len))
+    ap (λ (s : Store). instr_effect s (DropBelow c.args.key)) (sym c.self.view_is)
+    ∙ drop_effect (store_value c.self.inside) _ c.args.key (c.len-before.result - c.len.result) left (omega (arith, old, new, c.len-before.ensures.len, c.len.ensures.len))

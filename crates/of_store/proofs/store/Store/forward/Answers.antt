@@ -1,6 +1,6 @@
 use Rattle.std.proofs.Common.{◌≡◌, ◌+◌, ◌<◌, ℕ, List, Option, take, length, refl, sym, ap, subst, ◌∙◌, arith}
 use Rattle.std.proofs.lemmas.List.{take_more_set, length-set}
-use Rattle.of_store.specs.State.{Outcome, Answered, settled}
+use Rattle.of_store.specs.State.{ScriptOutcome, Answered, run_result}
 use Rattle.of_store.specs.Replies.{IsSmall}
 use Rattle.of_store.specs.Changes.{Leads}
 use Rattle.of_store.proofs.Keeps.{effect_keeps}
@@ -13,7 +13,7 @@ use Rattle.of_store.proofs.store.Store.forward.Goals as goal
 pub returns-in-Err-clause-reply : goal.returns-in-Err-clause-reply
 returns-in-Err-clause-reply c =
     let aborted = (rw c.in-Err.is at c.in_ok-value.ensures).effect in
-    sym (ap (λ (o : Outcome). (settled c.args.self.now o).1) (aborts _ _ _ _ _ c.at-instr.result c.in-Err.cause c.loop-i.invariant.whole c.at-instr.ensures.value aborted))
+    sym (ap (λ (o : ScriptOutcome). (run_result c.args.self.now o).1) (aborts _ _ _ _ _ c.at-instr.result c.in-Err.cause c.loop-i.invariant.whole c.at-instr.ensures.value aborted))
 
 pub returns-in-Err-clause-back : goal.returns-in-Err-clause-back
 returns-in-Err-clause-back c = λ fails failed.
@@ -53,10 +53,10 @@ loop-i-preserved c =
     }
 
 pub returns-clause-store : goal.returns-clause-store
-returns-clause-store c = λ none. sym (ap (λ (o : Outcome). (settled c.args.self.now o).0) (ends _ _ _ _ _ c.loop-i.invariant.whole (omega (arith, c.len-len.ensures.len))))
+returns-clause-store c = λ none. sym (ap (λ (o : ScriptOutcome). (run_result c.args.self.now o).0) (ends _ _ _ _ _ c.loop-i.invariant.whole (omega (arith, c.len-len.ensures.len))))
 
 pub returns-clause-reply : goal.returns-clause-reply
 returns-clause-reply c =
     let at : c.loop-i.i ≡ c.len-len.result = omega arith in
     ap (λ (n : ℕ). Answered (take n c.loop-i.values)) (sym at)
-    ∙ sym (ap (λ (o : Outcome). (settled c.args.self.now o).1) (ends _ _ _ _ _ c.loop-i.invariant.whole (omega (arith, c.len-len.ensures.len))))
+    ∙ sym (ap (λ (o : ScriptOutcome). (run_result c.args.self.now o).1) (ends _ _ _ _ _ c.loop-i.invariant.whole (omega (arith, c.len-len.ensures.len))))

@@ -3,12 +3,12 @@ use Rattle.std.proofs.lemmas.List.{length-map}
 use Rattle.std.proofs.lemmas.Option.{same_Some}
 use Rattle.std.proofs.lemmas.Result.{MatchResult-at_ok}
 use Rattle.of_mem.specs.Pairs.{put_all}
-use Rattle.of_mem.specs.Pad.{Pad}
+use Rattle.of_mem.specs.Pad.{Part}
 use Rattle.of_script.specs.Language.{instr_word}
 use Rattle.of_store.specs.State.{run}
-use Rattle.of_store.specs.Replies.{response_of}
+use Rattle.of_store.specs.Replies.{reply_value_of}
 use Rattle.of_eval.specs.Shapes.{IsWhole}
-use Rattle.of_serial.specs.Replay.{Holds}
+use Rattle.of_serial.specs.Replay.{CellsHoldStore}
 use Rattle.of_serial.proofs.Cases.{ok_unless, some_if}
 use Rattle.of_serial.proofs.KnownCells.{asked, width, nothing_needed, script_words, kept_holds, reply_held, reply_says}
 use Rattle.of_serial.proofs.replay.cells.Cells.run.Goals as goal
@@ -46,12 +46,12 @@ returns-clause-whole c =
 pub returns-clause-runs : goal.returns-clause-runs
 returns-clause-runs c = λ s h.
     let part : c.keep.new.self ≡ record { known = c.args.self.now.part.known; batch = put_all c.args.self.now.part.batch c.run.new.part.script; script = [] } =
-    c.keep.ensures ∙ ap (λ (q : Pad). record q { batch = put_all q.batch q.script; script = [] }) c.run.ensures.part in
+    c.keep.ensures ∙ ap (λ (q : Part). record q { batch = put_all q.batch q.script; script = [] }) c.run.ensures.part in
     let words : take c.len.result c.to_words.new.out ≡ map instr_word c.args.script.now = script_words c.args.script.now c.to_words.new.out _ c.len.result c.len.ensures.len c.to_words.ensures.words in
     let gives = MatchResult-at_ok _ _ c.unwrap.result c.unwrap.ensures c.run.ensures.walk in
     let held = reply_held c.args.self.now s h (take c.len.result c.to_words.new.out) c.args.script.now c.len.ensures.fits words c.run.new.part.script c.run.new.out gives in (
-      subst (λ (q : Pad). Holds (record c.args.self.now { part = q }) (run s c.args.script.now).0) (sym part)
+      subst (λ (q : Part). CellsHoldStore (record c.args.self.now { part = q }) (run s c.args.script.now).0) (sym part)
           (kept_holds c.args.self.now s h (take c.len.result c.to_words.new.out) c.args.script.now c.len.ensures.fits words c.run.new.part.script c.run.new.out gives),
-      ap response_of (same_Some _ _ (sym c.unwrap-2.ensures ∙ c.reply_of.ensures.only _ held))
+      ap reply_value_of (same_Some _ _ (sym c.unwrap-2.ensures ∙ c.reply_of.ensures.only _ held))
           ∙ reply_says c.args.self.now s h (take c.len.result c.to_words.new.out) c.args.script.now c.len.ensures.fits words c.run.new.part.script c.run.new.out gives,
     )
