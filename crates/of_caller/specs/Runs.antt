@@ -56,7 +56,7 @@ pub record TellsCalls (p : Plan) (s : Start) (w : Moment) (e : Ended) (c : ℕ) 
 pub record IsRunOf (p : Plan) (s : Start) (B : TableStart) (w : Moment) (e : Ended) : Type 0 where
   pub operations : ℕ → List (List ℕ)
   pub outcomes : ℕ → List Outcome
-  pub moment : IsMomentOf p s B w operations_begun outcomes
+  pub moment : IsMomentOf p s B w operations outcomes
   pub callers : (c : ℕ) → c < p.callers → TellsCalls p s w e c (outcomes c)
   pub answers : length e.answers ≡ p.callers
   pub endings : length e.endings ≡ p.callers
