@@ -16,7 +16,7 @@ use Rattle.of_script.specs.Language.{IsScript}
 use Rattle.of_store.specs.State.{Store, run, last_store}
 use Rattle.of_eval.specs.declared.scripts.Scripts.{Scripts}
 use Rattle.of_eval.specs.Stored.{IsStored}
-use Rattle.of_eval.specs.Scripts.{store_at, data_cells_of, LawfulCells}
+use Rattle.of_eval.specs.Scripts.{store_at, scripts_data_cells, LawfulCells}
 use Rattle.of_core.specs.World.{TableStart}
 use Rattle.example_bank.specs.Money.{money_of_numbers, changes, IsBalanced, TransfersKeep}
 use Rattle.example_bank.specs.Ledger.{Entry, Holds, IsLedger, IsEntryOf, scripts_in}
@@ -25,7 +25,7 @@ use Rattle.example_bank.proofs.Balanced.{registers_stay}
 use Rattle.example_bank.specs.declared.transfer.Transfer.{Transfer}
 
 module _ (w : Scripts) where
-  registers_are : (xs : List ℕ) (s : Store) → length xs ≡ data_cells_of w → IsStored (store_at w) w.blocks (memory_of xs) s → take REGISTERS (drop (store_at w) xs) ≡ s.registers
+  registers_are : (xs : List ℕ) (s : Store) → length xs ≡ scripts_data_cells w → IsStored (store_at w) w.blocks (memory_of xs) s → take REGISTERS (drop (store_at w) xs) ≡ s.registers
   registers_are xs s l h =
       let long : length (take REGISTERS (drop (store_at w) xs)) ≡ REGISTERS = length-take-le REGISTERS (drop (store_at w) xs) (omega (arith, length-drop (store_at w) xs, l)) in
       ext_get_or 0 (take REGISTERS (drop (store_at w) xs)) s.registers (long ∙ sym h.state.registers) (λ r k.
@@ -34,7 +34,7 @@ module _ (w : Scripts) where
       ∙ (h.stands.holds.registers r (subst (λ n. r < n) long k)).0)
 
   -- what the registers of the store hold that a start's cells stand for
-  pub held : (B : TableStart) (s : Store) → length B.cells ≡ data_cells_of w → Holds w B s → money_of_numbers w (map payload_of B.cells) ≡ sum s.registers
+  pub held : (B : TableStart) (s : Store) → length B.cells ≡ scripts_data_cells w → Holds w B s → money_of_numbers w (map payload_of B.cells) ≡ sum s.registers
   held B s long h = ap sum (registers_are (map payload_of B.cells) s (length-map B.cells payload_of ∙ long) h)
 
   -- ---- scripts that leave as much as there was
@@ -51,8 +51,8 @@ module _ (w : Scripts) where
 
 -- the numbers of a durable row's data cells stand for the store that a plot's cells with these numbers stand for
 pub store_stands : (w : Scripts) (p : Plot) (row xs : List ℕ) (s : Store) → p.callers ≡ w.callers → p.instrs ≡ MOST_INSTRS → p.blocks ≡ w.blocks
-    → xs ≡ map payload_of (slice_range row (data_cell w.callers 0) (data_cell w.callers 0 + data_cells_of w)) → CellsStandFor p xs s
-    → IsStored (store_at w) w.blocks (memory_of (map payload_of (slice_range row (data_cell w.callers 0) (data_cell w.callers 0 + data_cells_of w)))) s
+    → xs ≡ map payload_of (slice_range row (data_cell w.callers 0) (data_cell w.callers 0 + scripts_data_cells w)) → CellsStandFor p xs s
+    → IsStored (store_at w) w.blocks (memory_of (map payload_of (slice_range row (data_cell w.callers 0) (data_cell w.callers 0 + scripts_data_cells w)))) s
 store_stands w p row xs s callers instrs blocks is h =
     subst (λ (k : ℕ × ℕ × ℕ × List ℕ). IsStored (base_of k.0 k.1) k.2 (memory_of k.3) s) (λ i. (callers i, instrs i, blocks i, is i)) h.stored
 
@@ -65,7 +65,7 @@ all_change ts = All-map (λ script. changes script ≡ true) (λ (t : Transfer).
 
 -- ---- a day's money
 
-module _ (w : Scripts) (B C : TableStart) (long_from : length B.cells ≡ data_cells_of w) (long_to : length C.cells ≡ data_cells_of w) (keep : TransfersKeep)
+module _ (w : Scripts) (B C : TableStart) (long_from : length B.cells ≡ scripts_data_cells w) (long_to : length C.cells ≡ scripts_data_cells w) (keep : TransfersKeep)
     (lawful : LawfulCells w (map payload_of B.cells)) (es : List Entry) (ledger : IsLedger w B C es) (to_do : ℕ → List (List Instr)) (origin : All (IsEntryOf w to_do) es)
     (balanced : (i : ℕ) → i < w.callers → All IsBalanced (to_do i)) where
   leaves : All (Leaves w) (scripts_in es)

@@ -14,7 +14,7 @@ use Rattle.of_mem.specs.ProgramWork.{memory_of}
 use Rattle.of_script.specs.declared.instr.Instr.{Instr}
 use Rattle.of_store.specs.State.{Store, replies_in_order, last_store}
 use Rattle.of_eval.specs.declared.scripts.Scripts.{Scripts}
-use Rattle.of_eval.specs.Scripts.{store_at, data_cells_of, LawfulCells, scripts_meaning}
+use Rattle.of_eval.specs.Scripts.{store_at, scripts_data_cells, LawfulCells, scripts_meaning}
 use Rattle.of_eval.specs.SoundScripts.{scripts_fit}
 use Rattle.of_eval.specs.Means.{MeansWords, WordsMeanScript}
 use Rattle.of_eval.specs.Stored.{cell_store}
@@ -72,7 +72,7 @@ module _ (w : Scripts) (limit : ℕ) (means : MeansWords w) (words : WordsMeanSc
   W = moment S B es
 
   abbrev C : TableStart
-  C = start_from_durable w.callers (data_cells_of w) new
+  C = start_from_durable w.callers (scripts_data_cells w) new
 
   abbrev before : ℕ → ℕ
   before i = ticket_in B i
@@ -86,27 +86,27 @@ module _ (w : Scripts) (limit : ℕ) (means : MeansWords w) (words : WordsMeanSc
   recovered_so = subst (λ (z : List ℕ). IsRecovered S B (words_alone z) order) m.words h.recovered_so
 
   -- the number of a data cell
-  number_at : (a : ℕ) → a < data_cells_of w → payload_of (get_or C.cells a 0) ≡ recovered_number S (words_alone ws) a
+  number_at : (a : ℕ) → a < scripts_data_cells w → payload_of (get_or C.cells a 0) ≡ recovered_number S (words_alone ws) a
   number_at a l =
       let first : ℕ = data_cell w.callers 0 in
       ap payload_of (
-      get_or-take (first + data_cells_of w - first) (drop first new) a 0 (omega (arith, l))
+      get_or-take (first + scripts_data_cells w - first) (drop first new) a 0 (omega (arith, l))
       ∙ get_or-drop first new a 0
       ∙ ap (λ (k : ℕ). get_or new k 0) (omega arith)
       ∙ recovery.on_data a l
-      ∙ recovered_data-same w.callers (data_cells_of w) (slice_index row) (durable_word S ws) durable.each a l (let fit = scripts_fit w in omega (arith, l, fit.small)))
+      ∙ recovered_data-same w.callers (scripts_data_cells w) (slice_index row) (durable_word S ws) durable.each a l (let fit = scripts_fit w in omega (arith, l, fit.small)))
 
-  own_below : (i : ℕ) → i < w.callers → ticket_cell_at MOST_INSTRS i + 1 < data_cells_of w
+  own_below : (i : ℕ) → i < w.callers → ticket_cell_at MOST_INSTRS i + 1 < scripts_data_cells w
   own_below i l = omega (arith, l)
 
   abbrev memory_in : ℕ → ℕ
   memory_in a = memory_of (map payload_of C.cells) a
 
-  size_in : length C.cells ≡ data_cells_of w
+  size_in : length C.cells ≡ scripts_data_cells w
   size_in =
       let first : ℕ = data_cell w.callers 0 in
-      let same : first + data_cells_of w - first ≡ data_cells_of w = omega arith in
-      length-take-le (first + data_cells_of w - first) (drop first new) (omega (arith, length-drop first new, recovery.long)) ∙ same
+      let same : first + scripts_data_cells w - first ≡ scripts_data_cells w = omega arith in
+      length-take-le (first + scripts_data_cells w - first) (drop first new) (omega (arith, length-drop first new, recovery.long)) ∙ same
 
   -- ---- the ledger
 
@@ -119,7 +119,7 @@ module _ (w : Scripts) (limit : ℕ) (means : MeansWords w) (words : WordsMeanSc
   scripts_are : scripts_in entries ≡ map script_of order
   scripts_are = made_twice (entry_of to_do before) (λ e. e.script) order
 
-  size_from : length (map payload_of B.cells) ≡ data_cells_of w
+  size_from : length (map payload_of B.cells) ≡ scripts_data_cells w
   size_from = length-map B.cells payload_of ∙ starts.start.size
 
   leads_on : (s : Store) → Holds w B s → Holds w C (last_store s (scripts_in entries))

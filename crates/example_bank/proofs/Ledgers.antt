@@ -12,7 +12,7 @@ use Rattle.of_script.specs.declared.instr.Instr.{Instr}
 use Rattle.of_script.specs.Language.{IsScript, IsInstrInRange, instr_word, reads_only}
 use Rattle.of_script.specs.Reading.{instr_at}
 use Rattle.of_eval.specs.declared.scripts.Scripts.{Scripts}
-use Rattle.of_eval.specs.Scripts.{data_cells_of, scripts_meaning, script_reads, words_read, instr_reads}
+use Rattle.of_eval.specs.Scripts.{scripts_data_cells, scripts_meaning, script_reads, words_read, instr_reads}
 use Rattle.of_eval.specs.Means.{MeansWords, WordsMeanScript}
 use Rattle.of_core.specs.declared.place.Outcome.{Outcome}
 use Rattle.of_core.specs.declared.place.Outcome.TheVariants.{Answered, Spent as RanOut}
@@ -21,11 +21,11 @@ use Rattle.of_core.specs.Machine.{Call, no_call}
 use Rattle.of_core.specs.World.{TableStart}
 use Rattle.of_core.specs.Events.{Event, start_ticket}
 use Rattle.of_core.specs.Calls.{operations_begun, NoneSpent, IsAnswered, WasBegun}
-use Rattle.of_core.specs.Linear.{Explains, Linearizes, FindsCall, Detects, recovered_number}
+use Rattle.of_core.specs.Linear.{ExplainsOutcome, Linearizes, FindsCall, Detects, recovered_number}
 use Rattle.of_row.specs.Views.{EndedCall, KnownCaller, no_ended, Each}
 use Rattle.of_row.specs.Trail.{first_of, IsRunBy}
-use Rattle.of_row.specs.Rule.{ticket_at as ticket_of_call, operation_at, outcome_at}
-use Rattle.of_row.specs.Moments.{ExplainsAll, words_alone}
+use Rattle.of_row.specs.Rule.{ticket_at as ticket_of_call, ended_operation_at, outcome_at}
+use Rattle.of_row.specs.Moments.{ExplainsEndedCalls, words_alone}
 use Rattle.example_bank.specs.declared.tally.Tally.{Tally}
 use Rattle.example_bank.specs.Money.{changes}
 use Rattle.example_bank.specs.Ledger.{Entry}
@@ -65,7 +65,7 @@ aborts_shape : (o : Outcome) → IsAnswered o → nat_le LEAST_ABORT (shape_of o
 aborts_shape (Answered s announced raw steps) h = refl
 aborts_shape (RanOut s) h = absurd h
 
-pub explained_has : (S : Setup) (order : List Call) (i t : ℕ) (op : List ℕ) (o : Outcome) → IsAnswered o → Explains S order i t op o → Has who tick shape i t (shape_of o) order
+pub explained_has : (S : Setup) (order : List Call) (i t : ℕ) (op : List ℕ) (o : Outcome) → IsAnswered o → ExplainsOutcome S order i t op o → Has who tick shape i t (shape_of o) order
 explained_has S order i t op (Answered s announced raw steps) a h = has_at who tick shape i order h.place no_call t raw.shape h.among h.caller h.ticket (sym h.reply.0)
 explained_has S order i t op (RanOut s) a h = absurd a
 
@@ -101,9 +101,9 @@ pub record Found (S : Setup) (B : TableStart) (es : List Event) (order : List Ca
   pub number : kept.machine.caller ≡ i
   pub holds : P kept
   pub run : IsRunBy S B es kept
-  pub explained : ExplainsAll S B order kept
+  pub explained : ExplainsEndedCalls S B order kept
 
-pub find : (S : Setup) (B : TableStart) (es : List Event) (order : List Call) (i : ℕ) (P : KnownCaller → Type 0) (xs : List KnownCaller) → KeepsOne i P xs → Each (IsRunBy S B es) xs → Each (ExplainsAll S B order) xs → Found S B es order i P
+pub find : (S : Setup) (B : TableStart) (es : List Event) (order : List Call) (i : ℕ) (P : KnownCaller → Type 0) (xs : List KnownCaller) → KeepsOne i P xs → Each (IsRunBy S B es) xs → Each (ExplainsEndedCalls S B order) xs → Found S B es order i P
 find S B es order i P [] k r e = absurd k
 find S B es order i P (x ∷ xs) (inl h) r e = record { kept = x; number = h.0; holds = h.1; run = r.0; explained = e.0 }
 find S B es order i P (x ∷ xs) (inr h) r e = find S B es order i P xs h r.1 e.1
@@ -125,7 +125,7 @@ op_at_front td n j few l =
 
 module _ (w : Scripts) (limit : ℕ) (B : TableStart) (es : List Event) (order : List Call) (to_do : ℕ → List (List Instr)) (t : ℕ → Tally) where
   abbrev S : Setup
-  S = setup_of w.callers (data_cells_of w) limit (scripts_meaning w)
+  S = setup_of w.callers (scripts_data_cells w) limit (scripts_meaning w)
 
   abbrev before : ℕ → ℕ
   before i = start_ticket S B i
@@ -190,7 +190,7 @@ module _ (w : Scripts) (limit : ℕ) (B : TableStart) (es : List Event) (order :
       has_first y l =
           let inside : y < length f.kept.ended = omega (arith, l, f.holds.count, ap length f.holds.ended, length-append f.holds.calls f.holds.beyond) in
           let answered : IsAnswered (outcome_at f.kept.ended y) = subst IsAnswered (sym (ended_at y l)) (none_spent_at f.holds.calls y f.holds.none_spent (omega (arith, l, f.holds.count))) in
-          let e = explained_has S order f.kept.machine.caller (ticket_of_call S B f.kept y) (operation_at f.kept.ended y) (outcome_at f.kept.ended y) answered (f.explained y inside) in
+          let e = explained_has S order f.kept.machine.caller (ticket_of_call S B f.kept y) (ended_operation_at f.kept.ended y) (outcome_at f.kept.ended y) answered (f.explained y inside) in
           let same : ticket_of_call S B f.kept y ≡ before i + y + 1 = ap (λ k. before k + y + 1) f.number in
           subst (λ (k : ℕ). Has who tick shape i (before i + y + 1) k order) (ap shape_of (ended_at y l))
           (subst (λ (k : ℕ). Has who tick shape i k (shape_of (outcome_at f.kept.ended y)) order) same

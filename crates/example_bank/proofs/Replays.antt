@@ -18,10 +18,10 @@ use Rattle.of_eval.specs.ShapeLaws.{mask_width, code_some}
 use Rattle.of_eval.specs.Shapes.{shape_of, mask_of}
 use Rattle.of_eval.specs.Stored.{IsStored}
 use Rattle.of_eval.specs.SoundScripts.{scripts_sound}
-use Rattle.of_eval.specs.Scripts.{store_at, data_cells_of, scripts_meaning}
+use Rattle.of_eval.specs.Scripts.{store_at, scripts_data_cells, scripts_meaning}
 use Rattle.of_eval.specs.Words.{run_words, reply_to}
 use Rattle.of_core.specs.Machine.{Call}
-use Rattle.of_core.specs.History.{numbers_after_calls, HaveReplies}
+use Rattle.of_core.specs.History.{numbers_after_calls, CallsHaveReplies}
 use Rattle.example_bank.specs.Ledger.{is_abort}
 
 -- ---- a shape tells whether the script aborted
@@ -65,7 +65,7 @@ module _ (w : Scripts) (means : MeansWords w) (words : WordsMeanScript) (script_
   abbrev pub aborts_by : Call → Bool
   aborts_by c = nat_le LEAST_ABORT c.raw.shape
 
-  one : (xs : List ℕ) (s : Store) (c : Call) → length xs ≡ data_cells_of w → Stored xs s → IsOf c
+  one : (xs : List ℕ) (s : Store) (c : Call) → length xs ≡ scripts_data_cells w → Stored xs s → IsOf c
       → Stored ((scripts_meaning w).cells xs c.op) (run s (script_of c)).0
       × ((scripts_meaning w).reply xs c.op ≡ c.raw → aborts_by c ≡ is_abort (run s (script_of c)).1)
   one xs s c size h o =
@@ -80,14 +80,14 @@ module _ (w : Scripts) (means : MeansWords w) (words : WordsMeanScript) (script_
             ∙ settled_shape (length (script_of c)) s (outcome_of_script s (script_of c)) o.0.few (outcome_long s (script_of c)),
       )
 
-  pub leads : (xs : List ℕ) (s : Store) (cs : List Call) → length xs ≡ data_cells_of w → Stored xs s → All IsOf cs
+  pub leads : (xs : List ℕ) (s : Store) (cs : List Call) → length xs ≡ scripts_data_cells w → Stored xs s → All IsOf cs
       → Stored (numbers_after_calls (scripts_meaning w) xs cs) (last_store s (map script_of cs))
   leads xs s [] size h o = h
   leads xs s (c ∷ cs) size h o =
       leads ((scripts_meaning w).cells xs c.op) (run s (script_of c)).0 cs ((scripts_sound w).keeps_length xs c.op size)
       (one xs s c size h (All-head IsOf c cs o)).0 (All-tail IsOf c cs o)
 
-  pub aborts : (xs : List ℕ) (s : Store) (cs : List Call) → length xs ≡ data_cells_of w → Stored xs s → All IsOf cs → HaveReplies (scripts_meaning w) xs cs
+  pub aborts : (xs : List ℕ) (s : Store) (cs : List Call) → length xs ≡ scripts_data_cells w → Stored xs s → All IsOf cs → CallsHaveReplies (scripts_meaning w) xs cs
       → map aborts_by cs ≡ map is_abort (replies_in_order s (map script_of cs))
   aborts xs s [] size h o r = refl
   aborts xs s (c ∷ cs) size h o r =

@@ -1,6 +1,6 @@
 -- The books of the bank.
 use Rattle.std.specs.Prelude.{ℕ}
-use Rattle.of_eval.specs.Scripts.{LawfulCells, data_cells_of}
+use Rattle.of_eval.specs.Scripts.{LawfulCells, scripts_data_cells}
 use Rattle.of_store.specs.State.{Store}
 use Rattle.of_core.specs.World.{TableStart}
 use Rattle.of_core.specs.Starts.{IsStartRow, start_from_durable}
@@ -16,7 +16,7 @@ AreBooks b = IsStartRow (setup_with b.scripts LIMIT) (LawfulCells b.scripts) b.r
 
 -- where a table starts that starts from them
 abbrev pub start_in : Books → TableStart
-start_in b = start_from_durable b.scripts.callers (data_cells_of b.scripts) b.row.items
+start_in b = start_from_durable b.scripts.callers (scripts_data_cells b.scripts) b.row.items
 
 -- their cells stand for this store
 abbrev pub StandForStore : Books → Store → Type 0

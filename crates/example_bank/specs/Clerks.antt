@@ -2,7 +2,7 @@
 use Rattle.std.specs.Prelude.{◌≡◌, ℕ, ◌+◌, ◌<◌, ◌≤◌, ◌^◌, List, [], ◌∷◌, length, map, not, true, Option, Some, None, slice_index_or, vec_len}
 use Rattle.of_script.specs.declared.instr.Instr.{Instr}
 use Rattle.of_eval.specs.declared.scripts.Scripts.{Scripts}
-use Rattle.of_eval.specs.Scripts.{scripts_meaning, data_cells_of}
+use Rattle.of_eval.specs.Scripts.{scripts_meaning, scripts_data_cells}
 use Rattle.of_core.specs.declared.place.Outcome.{Outcome}
 use Rattle.of_core.specs.Turn.{IsIdle}
 use Rattle.of_row.specs.declared.member.Pass.{Pass}
@@ -108,7 +108,7 @@ module _ {X : Type 0} {Y : X → Type 0} where
 pub record IsRowOf (r : Row Scripts) (w : Scripts) (limit : ℕ) : Type 0 where
   pub work : (key_of r).work ≡ w
   pub callers : (key_of r).callers ≡ w.callers
-  pub cells : (key_of r).cells ≡ data_cells_of w
+  pub cells : (key_of r).cells ≡ scripts_data_cells w
   pub limit_is : (key_of r).limit ≡ limit
 
 -- the row's first pass, which has asked for numbers below the next one alone and keeps nobody yet

@@ -5,7 +5,7 @@ use Rattle.of_cell.specs.Cells.{durable_cells}
 use Rattle.of_recover.specs.Recovered.{recovered_words, RecoversData, KeepsOthers}
 use Rattle.of_script.specs.declared.instr.Instr.{Instr}
 use Rattle.of_eval.specs.declared.scripts.Scripts.{Scripts}
-use Rattle.of_eval.specs.Scripts.{data_cells_of, LawfulCells, scripts_meaning}
+use Rattle.of_eval.specs.Scripts.{scripts_data_cells, LawfulCells, scripts_meaning}
 use Rattle.of_core.specs.Table.{Setup, setup_of}
 use Rattle.of_core.specs.World.{TableStart}
 use Rattle.of_core.specs.Shared.{MayStart}
@@ -19,7 +19,7 @@ use Rattle.example_bank.specs.Ledger.{HasLedger}
 
 -- what the machines on a table for these scripts have in common
 abbrev pub setup_with : Scripts → (limit : ℕ) → Setup
-setup_with w limit = setup_of w.callers (data_cells_of w) limit (scripts_meaning w)
+setup_with w limit = setup_of w.callers (scripts_data_cells w) limit (scripts_meaning w)
 
 -- the view keeps each clerk, as it has worked at its list of scripts
 abbrev pub KeepsClerks : Scripts → (to_do : ℕ → List (List Instr)) → (ℕ → Tally) → View → Type 0
@@ -31,9 +31,9 @@ AllChange w to_do = (i : ℕ) → i < w.callers → All (λ script. changes scri
 
 -- the second row is what recovery makes of the first, cell by cell
 pub record IsRecovery (w : Scripts) (row new : List ℕ) : Type 0 where
-  pub long : length new ≡ durable_cells w.callers (data_cells_of w)
-  pub on_data : RecoversData w.callers (data_cells_of w) row new
-  pub others : KeepsOthers w.callers (data_cells_of w) row new
+  pub long : length new ≡ durable_cells w.callers (scripts_data_cells w)
+  pub on_data : RecoversData w.callers (scripts_data_cells w) row new
+  pub others : KeepsOthers w.callers (scripts_data_cells w) row new
 
 -- Where words and a view meet the rule of a row of these scripts, and the view keeps each clerk, the row
 -- that recovery makes of the durable words ends a ledger of what the clerks did.
@@ -43,11 +43,11 @@ RowsKeepLedgers w limit =
     (B : TableStart) (ws : List ℕ) (v : View) → MayStart S (LawfulCells w) B → ViewMeetsRule S (LawfulCells w) B ws v → v.spent ≡ false
     → (row new : List ℕ) → IsDurable S ws row → IsRecovery w row new
     → (to_do : ℕ → List (List Instr)) (t : ℕ → Tally) → AllChange w to_do → KeepsClerks w to_do t v
-    → HasLedger w limit B (start_from_durable w.callers (data_cells_of w) new) to_do t
+    → HasLedger w limit B (start_from_durable w.callers (scripts_data_cells w) new) to_do t
 
 -- and a table may start from that row
 abbrev pub RowsRestart : Scripts → (limit : ℕ) → Type 0
 RowsRestart w limit =
     let S : Setup = setup_with w limit in
     (B : TableStart) (ws : List ℕ) (v : View) → ViewMeetsRule S (LawfulCells w) B ws v → v.spent ≡ false
-    → (row : List ℕ) → IsDurable S ws row → IsStartRow S (LawfulCells w) (recovered_words w.callers (data_cells_of w) row)
+    → (row : List ℕ) → IsDurable S ws row → IsStartRow S (LawfulCells w) (recovered_words w.callers (scripts_data_cells w) row)

@@ -7,7 +7,7 @@ use Rattle.of_script.specs.declared.instr.TheConstants.{REGISTERS}
 use Rattle.of_script.specs.Language.{IsScript, reads_only}
 use Rattle.of_store.specs.State.{Store, run}
 use Rattle.of_eval.specs.declared.scripts.Scripts.{Scripts}
-use Rattle.of_eval.specs.Scripts.{store_at, data_cells_of}
+use Rattle.of_eval.specs.Scripts.{store_at, scripts_data_cells}
 use Rattle.of_core.specs.Starts.{start_from_durable}
 
 -- The accounts are the registers. What they hold together, where these are the numbers of the data cells.
@@ -16,7 +16,7 @@ money_of_numbers w xs = sum (take REGISTERS (drop (store_at w) xs))
 
 -- what they hold in a durable row
 abbrev pub money_in : Scripts → List ℕ → ℕ
-money_in w row = money_of_numbers w (map payload_of (start_from_durable w.callers (data_cells_of w) row).cells)
+money_in w row = money_of_numbers w (map payload_of (start_from_durable w.callers (scripts_data_cells w) row).cells)
 
 -- what an instruction adds to an account
 abbrev pub paid_in : Instr → ℕ

@@ -6,11 +6,11 @@ ghost use Rattle.of_cell.specs.Cells.{data_cell, durable_cells};
 ghost use Rattle.of_recover.specs.Row.{IsDurableRow};
 ghost use Rattle.of_mem.specs.declared.work.TheConstants.{MOST_INSTRS};
 ghost use Rattle.of_script.specs.declared.instr.Instr.{Instr};
-ghost use Rattle.of_eval.specs.Scripts.{LawfulCells, data_cells_of, scripts_meaning};
+ghost use Rattle.of_eval.specs.Scripts.{LawfulCells, scripts_data_cells, scripts_meaning};
 ghost use Rattle.of_core.specs.Table.{durable_word as the_durable_word};
 ghost use Rattle.of_core.specs.Shared.{MayStart};
 ghost use Rattle.of_core.specs.Starts.{IsDurable};
-ghost use Rattle.of_row.specs.Rows.{IsSeatOf, start_at};
+ghost use Rattle.of_row.specs.Rows.{IsSeatOf, row_start};
 ghost use Rattle.example_bank.specs.Ledger.{HasLedger, ticket_in, aborted_last};
 ghost use Rattle.example_bank.specs.Closed.{AllChange, KeepsClerks, setup_with};
 ghost use Rattle.example_bank.specs.Clerks.{IsRowOf, MayHire};
@@ -37,7 +37,7 @@ pub const LIMIT: u32 = 1_000_000;
 pub fn shape_of(scripts: Scripts) -> Shape
     ensures callers { result.callers ≡ scripts.callers }
     ensures instrs { result.instrs ≡ MOST_INSTRS }
-    ensures cells { result.cells ≡ data_cells_of scripts }
+    ensures cells { result.cells ≡ scripts_data_cells scripts }
 {
     let plot = scripts.plot();
     Shape {
@@ -57,7 +57,7 @@ pub struct Books {
 
 /// The durable word of a cell.
 fn durable_word(scripts: Scripts, words: &[u64], cell: u32) -> u64
-    requires { cell < durable_cells scripts.callers (data_cells_of scripts) }
+    requires { cell < durable_cells scripts.callers (scripts_data_cells scripts) }
     ensures { result ≡ the_durable_word (setup_with scripts LIMIT) words.now cell }
 {
     match words.get(shape_of(scripts).durable_word(cell) as usize) {
@@ -115,9 +115,9 @@ impl Books {
         ensures books { IfOk result AreBooks }
         ensures ledger { IfOk result (λ b. (to_do : ℕ → List (List Instr)) (tally : ℕ → Tally) →
             MayStart (setup_with scripts LIMIT) (LawfulCells scripts)
-            (start_at scripts_meaning row) → AllChange scripts to_do →
+            (row_start scripts_meaning row) → AllChange scripts to_do →
             KeepsClerks scripts to_do tally pass.seat.me.0 → HasLedger scripts LIMIT
-            (start_at scripts_meaning row) (start_in b) to_do tally) }
+            (row_start scripts_meaning row) (start_in b) to_do tally) }
     {
         rows_keep_ledgers(scripts, LIMIT);
         let shape = shape_of(scripts);
@@ -135,7 +135,7 @@ impl Books {
     pub fn open(&self, alloc: Global) -> Result<(Row<Scripts>, Pass), AllocError>
         requires { AreBooks self.now }
         ensures row { IfOk result (λ r. IsRowOf r.0 self.now.scripts LIMIT) }
-        ensures start { IfOk result (λ r. start_at scripts_meaning r.0 ≡ start_in self.now) }
+        ensures start { IfOk result (λ r. row_start scripts_meaning r.0 ≡ start_in self.now) }
         ensures pass { IfOk result (λ r. MayHire r.0 0 r.1) }
     {
         let shape = shape_of(self.scripts);

@@ -17,7 +17,7 @@ use Rattle.of_mem.proofs.Changes.{changed_same, changed_other}
 use Rattle.of_mem.proofs.Heaps.{chain_copy, chain_once}
 use Rattle.of_mem.proofs.Runs.{run_ended, after_ended, unchanged}
 use Rattle.of_mem.proofs.Calls.{so_ok}
-use Rattle.of_alloc.specs.Blocks.{IsFreeList, IsTaken, TakesBlock, HasFreeList, TakesFromList, TakesFromMemory}
+use Rattle.of_alloc.specs.Blocks.{IsFreeList, IsBlockTaken, TakesBlock, HasFreeList, TakesFromList, TakesFromMemory}
 use Rattle.of_alloc.specs.BlockPrograms.{take, take_program, with_free, take_fresh}
 
 -- the front of the free list is a block
@@ -38,7 +38,7 @@ module _ (o blocks : ℕ) (m : ℕ → ℕ) where
   abbrev from_front : ℕ → ℕ → ℕ
   from_front b = with_value m (free_at o) (m (link_at o b))
 
-  front_taken : (b : ℕ) (l : List ℕ) → IsFreeList o blocks m (b ∷ l) → IsTaken o blocks m (b ∷ l) b (from_front b)
+  front_taken : (b : ℕ) (l : List ℕ) → IsFreeList o blocks m (b ∷ l) → IsBlockTaken o blocks m (b ∷ l) b (from_front b)
   front_taken b l h = record {
     left = l;
     list = record {
@@ -62,7 +62,7 @@ module _ (o blocks : ℕ) (m : ℕ → ℕ) where
   abbrev from_fresh : ℕ → ℕ
   from_fresh = with_value m (fresh_at o) (m (fresh_at o) + 1)
 
-  fresh_taken : IsFreeList o blocks m [] → m (fresh_at o) < blocks → IsTaken o blocks m [] (m (fresh_at o)) from_fresh
+  fresh_taken : IsFreeList o blocks m [] → m (fresh_at o) < blocks → IsBlockTaken o blocks m [] (m (fresh_at o)) from_fresh
   fresh_taken h less = record {
     left = [];
     list = record {

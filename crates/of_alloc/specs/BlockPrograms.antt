@@ -14,13 +14,13 @@ take_fresh o n false = Done None
 abbrev pub with_fresh : ℕ → ℕ → ℕ → Program (Option ℕ)
 with_fresh o blocks n = take_fresh o n (ltb n blocks)
 
-abbrev pub with_link : ℕ → ℕ → ℕ → Program (Option ℕ)
-with_link o b link = Write (free_at o) link (Done (Some b))
+abbrev pub with_free_link : ℕ → ℕ → ℕ → Program (Option ℕ)
+with_free_link o b link = Write (free_at o) link (Done (Some b))
 
 -- by the pointer that free holds
 abbrev pub with_free : ℕ → ℕ → ℕ → Program (Option ℕ)
 with_free o blocks zero = Read (fresh_at o) (with_fresh o blocks)
-with_free o blocks (suc b) = Read (link_at o b) (with_link o b)
+with_free o blocks (suc b) = Read (link_at o b) (with_free_link o b)
 
 abbrev pub take_program : ℕ → ℕ → Program (Option ℕ)
 take_program o blocks = Read (free_at o) (with_free o blocks)

@@ -20,7 +20,7 @@ abbrev pub IsOut : ℕ → (ℕ → ℕ) → List ℕ → ℕ → Type 0
 IsOut o m free b = (b < m (fresh_at o)) × Each (λ x. x ≢ b) free
 
 -- block b was not out, and now it is; no other block came or went
-pub record IsTaken (o blocks : ℕ) (m : ℕ → ℕ) (free : List ℕ) (b : ℕ) (n : ℕ → ℕ) : Type 0 where
+pub record IsBlockTaken (o blocks : ℕ) (m : ℕ → ℕ) (free : List ℕ) (b : ℕ) (n : ℕ → ℕ) : Type 0 where
   pub left : List ℕ
   pub list : IsFreeList o blocks n left
   pub was_in : IsOut o m free b → ⊥
@@ -32,7 +32,7 @@ pub record IsTaken (o blocks : ℕ) (m : ℕ → ℕ) (free : List ℕ) (b : ℕ
 -- no block is taken exactly where all of them are out, and then no cell changed
 abbrev pub TakesBlock : ℕ → ℕ → (ℕ → ℕ) → List ℕ → Option ℕ → (ℕ → ℕ) → Type 0
 TakesBlock o blocks m free None n = (free ≡ []) × (m (fresh_at o) ≡ blocks) × (n ≡ m)
-TakesBlock o blocks m free (Some b) n = IsTaken o blocks m free b n
+TakesBlock o blocks m free (Some b) n = IsBlockTaken o blocks m free b n
 
 -- block b, which was out, stands in front of the free list
 pub record IsGiven (o blocks : ℕ) (m : ℕ → ℕ) (free : List ℕ) (b : ℕ) (n : ℕ → ℕ) : Type 0 where

@@ -14,7 +14,7 @@ use Rattle.of_core.specs.Calls.{NoneSpent}
 use Rattle.of_row.specs.Views.{EndedCall, KnownCaller}
 use Rattle.of_caller.specs.Tables.{operation_of}
 use Rattle.of_caller.specs.Ends.{AreAnswers, TellsAnswer}
-use Rattle.of_caller.specs.Teams.{operation_at, KeepsCaller}
+use Rattle.of_caller.specs.Teams.{script_operation_at, KeepsCaller}
 use Rattle.of_caller.specs.Lanes.{HasAnsweredScripts}
 
 -- ---- outcomes
@@ -40,7 +40,7 @@ module _ (p : Plan) (behind c : ℕ) where
   abbrev left : List (List Instr)
   left = drop behind (scripts_of p c)
 
-  pub take_next : (i : ℕ) → i < rest → map operation_of (take (i + 1) left) ≡ map operation_of (take i left) ++ operation_at p c (behind + i) ∷ []
+  pub take_next : (i : ℕ) → i < rest → map operation_of (take (i + 1) left) ≡ map operation_of (take i left) ++ script_operation_at p c (behind + i) ∷ []
   take_next i lt =
       let long : length left ≡ rest = length-drop behind (scripts_of p c) in
       ap (map operation_of) (take_more left i [] (omega (arith, lt, long))) ∙ map-append operation_of (take i left) (get_or left i [] ∷ [])
@@ -48,8 +48,8 @@ module _ (p : Plan) (behind c : ℕ) where
 
   module _ (x : KnownCaller) (answers : List Answer) (i : ℕ) (g : HasAnsweredScripts p behind c x answers i) where
     -- the next script is the one behind those that are answered
-    next_is : operation_at p c (behind + i) ≡ operation_at p c (behind + length answers)
-    next_is = ap (λ (n : ℕ). operation_at p c (behind + n)) (sym g.count)
+    next_is : script_operation_at p c (behind + i) ≡ script_operation_at p c (behind + length answers)
+    next_is = ap (λ (n : ℕ). script_operation_at p c (behind + n)) (sym g.count)
 
     -- all scripts are answered
     pub is_done : behind ≤ length (scripts_of p c) → i ≡ rest → KeepsCaller p behind c answers Done x
@@ -77,10 +77,10 @@ module _ (p : Plan) (behind c : ℕ) where
 
     module _ (less : i < rest) (y : KnownCaller) where
       -- one script more is answered
-      pub is_answered : (k : ℕ) (announced : Bool) (raw : RawReply) (steps : ℕ) (a : Answer) → IsIdle y.machine → y.ended ≡ x.ended ++ record { op = operation_at p c (behind + i); outcome = Answered k announced raw steps } ∷ [] → TellsAnswer (Answered k announced raw steps) a
+      pub is_answered : (k : ℕ) (announced : Bool) (raw : RawReply) (steps : ℕ) (a : Answer) → IsIdle y.machine → y.ended ≡ x.ended ++ record { op = script_operation_at p c (behind + i); outcome = Answered k announced raw steps } ∷ [] → TellsAnswer (Answered k announced raw steps) a
           → HasAnsweredScripts p behind c y (answers ++ a ∷ []) (i + 1)
       is_answered k announced raw steps a idle kept tells =
-          let e : EndedCall = record { op = operation_at p c (behind + i); outcome = Answered k announced raw steps } in
+          let e : EndedCall = record { op = script_operation_at p c (behind + i); outcome = Answered k announced raw steps } in
           let outs : map (λ (f : EndedCall). f.outcome) y.ended ≡ map (λ (f : EndedCall). f.outcome) x.ended ++ Answered k announced raw steps ∷ [] = ap (map (λ (f : EndedCall). f.outcome)) kept ∙ map-append (λ (f : EndedCall). f.outcome) x.ended (e ∷ []) in
           let count : length (answers ++ a ∷ []) ≡ i + 1 = length-append answers (a ∷ []) ∙ ap (λ (m : ℕ). m + 1) g.count in
           record {
@@ -88,7 +88,7 @@ module _ (p : Plan) (behind c : ℕ) where
             answered = record {
               few = omega (arith, count, less);
               scripts = ap (map (λ (f : EndedCall). f.op)) kept ∙ map-append (λ (f : EndedCall). f.op) x.ended (e ∷ [])
-                  ∙ ap (λ (l : List (List ℕ)). l ++ operation_at p c (behind + i) ∷ []) (g.answered.scripts ∙ ap (λ (n : ℕ). map operation_of (take n left)) g.count)
+                  ∙ ap (λ (l : List (List ℕ)). l ++ script_operation_at p c (behind + i) ∷ []) (g.answered.scripts ∙ ap (λ (n : ℕ). map operation_of (take n left)) g.count)
                   ∙ sym (take_next i less) ∙ ap (λ (n : ℕ). map operation_of (take n left)) (sym count);
               none_spent = subst NoneSpent (sym outs) (none_more (map (λ (f : EndedCall). f.outcome) x.ended) k announced raw steps g.answered.none_spent);
               told = subst (λ (os : List Outcome). AreAnswers os (answers ++ a ∷ [])) (sym outs) (told_more (map (λ (f : EndedCall). f.outcome) x.ended) answers k announced raw steps a g.answered.none_spent g.answered.told tells);
@@ -97,7 +97,7 @@ module _ (p : Plan) (behind c : ℕ) where
           }
 
       -- the next call is open, and the brake denied its next step
-      pub is_stopped : (n : ℕ) → 0 < n → IsOpen y.machine.place → y.machine.op ≡ operation_at p c (behind + i) → y.machine.steps ≡ n → n < bound_of p → y.ended ≡ x.ended → KeepsCaller p behind c answers (Stopped (n + 1)) y
+      pub is_stopped : (n : ℕ) → 0 < n → IsOpen y.machine.place → y.machine.op ≡ script_operation_at p c (behind + i) → y.machine.steps ≡ n → n < bound_of p → y.ended ≡ x.ended → KeepsCaller p behind c answers (Stopped (n + 1)) y
       is_stopped n some opened op steps within kept = record {
         calls = x.ended;
         beyond = [];
@@ -116,10 +116,10 @@ module _ (p : Plan) (behind c : ℕ) where
       }
 
       -- no sequence was left for the next call
-      pub is_spent_now : (k : ℕ) → IsIdle y.machine → y.ended ≡ x.ended ++ record { op = operation_at p c (behind + i); outcome = Spent k } ∷ [] → KeepsCaller p behind c answers (RanOut k) y
+      pub is_spent_now : (k : ℕ) → IsIdle y.machine → y.ended ≡ x.ended ++ record { op = script_operation_at p c (behind + i); outcome = Spent k } ∷ [] → KeepsCaller p behind c answers (RanOut k) y
       is_spent_now k idle kept = record {
         calls = x.ended;
-        beyond = record { op = operation_at p c (behind + i); outcome = Spent k } ∷ [];
+        beyond = record { op = script_operation_at p c (behind + i); outcome = Spent k } ∷ [];
         ended = kept;
         answered = g.answered;
         last = (omega (arith, less, g.count), idle, ap (λ (op : List ℕ). record { op = op; outcome = Spent k } ∷ []) next_is);

@@ -17,7 +17,7 @@ use Rattle.of_row.specs.Views.{EndedCall, KnownCaller, View, last_caller, seen_s
 use Rattle.of_row.specs.Trail.{first_of, IsToldBy}
 use Rattle.of_row.specs.Rule.{CallHasEnded}
 use Rattle.of_row.specs.Turned.{since_after, since_by}
-use Rattle.of_row.specs.Rows.{key_of, setup_at, start_at, HasNoCall}
+use Rattle.of_row.specs.Rows.{key_of, setup_at, row_start, HasNoCall}
 use Rattle.of_row.specs.declared.row.Row.{Row}
 use Rattle.of_caller.specs.declared.caller.Caller.{Caller}
 use Rattle.of_caller.specs.declared.caller.CallErr.{CallErr}
@@ -55,7 +55,7 @@ begins_now B v idle = ap (λ (b : Bool). since_by b (seen_seq B v.seen) (last_ca
 
 module _ {W : Type 0} (meaning : W → Meaning) (lawful : W → List ℕ → Type 0) (row : Row W) where
   abbrev B : TableStart
-  B = start_at meaning row
+  B = row_start meaning row
 
   -- a stop leaves the call with what was seen when it began
   stop_keeps : (m : CallState) (b c : Caller W) (s t asked : ℕ) → TellsCallOf meaning lawful row m b c s t (Err (Stopped asked)) → began_at B (sight_of b) ≡ began_at B (sight_of c)
@@ -79,7 +79,7 @@ module _ {W : Type 0} (meaning : W → Meaning) (lawful : W → List ℕ → Typ
 pub comes_behind : {W : Type 0} (meaning : W → Meaning) (lawful : W → List ℕ → Type 0) → ComesBehind meaning lawful
 comes_behind meaning lawful row m n a a' b b' s t stops o p told heard rest again =
     let S : Setup = setup_at meaning row in
-    let B : TableStart = start_at meaning row in
+    let B : TableStart = row_start meaning row in
     let low : outcome_seq o ≤ seen_seq B (sight_of a').seen = ended_low S B (seen_history (sight_of a').seen) (seen_seq B (sight_of a').seen) m.caller m.made m.op o told.result.1.stands in
     let beyond : IsNotBefore (seen_seq B (sight_of b).seen) p = subst (λ (x : ℕ). IsNotBefore x p) (begins_now B (sight_of b) (ap is_idle rest)) (answer_beyond meaning lawful row stops n b b' p again) in
     higher (outcome_seq o) (seen_seq B (sight_of b).seen) p (omega (arith, low, prefix_short (sight_of a').seen (sight_of b).seen heard)) beyond
@@ -97,7 +97,7 @@ module _ {W : Type 0} (meaning : W → Meaning) (lawful : W → List ℕ → Typ
   S = setup_at meaning row
 
   abbrev at_start : TableStart
-  at_start = start_at meaning row
+  at_start = row_start meaning row
 
   abbrev first : Moment
   first = first_of S at_start
@@ -146,7 +146,7 @@ module _ {W : Type 0} (meaning : W → Meaning) (lawful : W → List ℕ → Typ
 pub ends_first : {W : Type 0} (meaning : W → Meaning) (lawful : W → List ℕ → Type 0) → EndsFirst meaning lawful
 ends_first meaning lawful row m n a a' b b' s t p q r result told idle followed rest next some es past =
     let S : Setup = setup_at meaning row in
-    let first : Moment = first_of S (start_at meaning row) in
+    let first : Moment = first_of S (row_start meaning row) in
     let known : List Event = (sight_of b).past in
     let on : IsPrefix known es = prefix_trans known (sight_of b').past es next.past past in
     let cut : take (length known) es ≡ known = ap (take (length known)) (sym on.1) ∙ take-append_seam known on.0 in (

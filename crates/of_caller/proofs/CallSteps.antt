@@ -3,7 +3,7 @@ use Rattle.std.proofs.Common.{◌≡◌, ◌↔◌, IsTrue, ℕ, zero, suc, ◌+
 use mathlib.Core.List.{append-nil, IsPrefix}
 use Rattle.of_core.specs.declared.place.Outcome.{Outcome}
 use Rattle.of_core.specs.Table.{Setup}
-use Rattle.of_core.specs.Machine.{CallState, IsOpen, is_idle, begin}
+use Rattle.of_core.specs.Machine.{CallState, IsOpen, is_idle, begin_call}
 use Rattle.of_core.specs.Steps.{take_word}
 use Rattle.of_core.specs.World.{TableStart}
 use Rattle.of_core.specs.Bound.{bound}
@@ -116,11 +116,11 @@ module _ (S : Setup) (L : List ℕ → Type 0) (B : TableStart) (d0 : CallState)
   next = known_after_step B v p.kept e
 
   stays : IsOpen e.place → IsStillOpen S d0 p.before (n + 1) e next
-  stays begin = record {
-    open_call = begin;
-    steps = omega (arith, (t.goes_on begin).0, (p.still o).steps);
-    within = (t.goes_on begin).1;
-    kept = ap (λ (l : List EndedCall). p.kept.ended ++ l) (none_ended e begin) ∙ append-nil p.kept.ended ∙ (p.still o).kept;
+  stays begin_call = record {
+    open_call = begin_call;
+    steps = omega (arith, (t.goes_on begin_call).0, (p.still o).steps);
+    within = (t.goes_on begin_call).1;
+    kept = ap (λ (l : List EndedCall). p.kept.ended ++ l) (none_ended e begin_call) ∙ append-nil p.kept.ended ∙ (p.still o).kept;
   }
 
   closes : IsIdle e → (q : Outcome) × HasEndedWith S L B d0 v0 p.before (n + 1) e w next q
@@ -185,7 +185,7 @@ left_idle S d idle = ap (left_by S d) (ap is_idle idle)
 pub falls_by : (S : Setup) (L : List ℕ → Type 0) (B : TableStart) (d : CallState) (v : View) (found : ℕ) (w : View) → IsIdleOrOpen → IsOpen d.place → d.steps < bound S → MakesStep S L B d v found w → left_of S (take_word S d found) < left_of S d
 falls_by S L B d v found w either o few t = elim (either (take_word S d found).place) [
   | inl idle ↦ omega (arith, left_idle S (take_word S d found) idle, left_open S d o, few)
-  | inr begin ↦ omega (arith, left_open S (take_word S d found) begin, left_open S d o, few, (t.goes_on begin).0, (t.goes_on begin).1)
+  | inr begin_call ↦ omega (arith, left_open S (take_word S d found) begin_call, left_open S d o, few, (t.goes_on begin_call).0, (t.goes_on begin_call).1)
 ]
 
 -- a machine that a test found not idle has an open call

@@ -10,7 +10,7 @@ use Rattle.of_core.specs.Seen.{Machine, machine_setup}
 use Rattle.of_core.specs.Laws.{IsIdleOrOpen}
 use Rattle.of_row.specs.Views.{View}
 use Rattle.of_row.specs.declared.row.Row.{Row}
-use Rattle.of_row.specs.Rows.{StepsMember, key_of, setup_at, start_at}
+use Rattle.of_row.specs.Rows.{StepsMember, key_of, setup_at, row_start}
 use Rattle.of_caller.specs.declared.caller.Caller.{Caller}
 use Rattle.of_caller.specs.Callers.{IsCaller, caller_call, sight_of}
 use Rattle.of_caller.proofs.CallSteps.{Progress, goes_by, left_of, falls_by}
@@ -31,12 +31,12 @@ module _ {W : Type 0} (meaning : W → Meaning) (lawful : W → List ℕ → Typ
     pub falls : IsIdleOrOpen → left_of (machine_setup meaning b.machine) (caller_call b) < left_of (machine_setup meaning c.machine) (caller_call c)
     falls either = subst (λ (S : Setup). left_of S (caller_call b) < left_of (machine_setup meaning c.machine) (caller_call c)) (sym same_setup)
         (subst (λ (e : CallState). left_of (machine_setup meaning c.machine) e < left_of (machine_setup meaning c.machine) (caller_call c)) (sym call_is)
-        (falls_by (machine_setup meaning c.machine) (lawful c.machine.work) (start_at meaning r) (caller_call c) (sight_of c) s.0 (sight_of b) either o (q.within o) s.1))
+        (falls_by (machine_setup meaning c.machine) (lawful c.machine.work) (row_start meaning r) (caller_call c) (sight_of c) s.0 (sight_of b) either o (q.within o) s.1))
 
-    pub goes : (d0 : CallState) (v0 : View) (n : ℕ) → Progress (setup_at meaning r) (lawful (key_of r).work) (start_at meaning r) d0 v0 n (caller_call c) (sight_of c)
-        → Progress (setup_at meaning r) (lawful (key_of r).work) (start_at meaning r) d0 v0 (n + 1) (caller_call b) (sight_of b)
+    pub goes : (d0 : CallState) (v0 : View) (n : ℕ) → Progress (setup_at meaning r) (lawful (key_of r).work) (row_start meaning r) d0 v0 n (caller_call c) (sight_of c)
+        → Progress (setup_at meaning r) (lawful (key_of r).work) (row_start meaning r) d0 v0 (n + 1) (caller_call b) (sight_of b)
     goes d0 v0 n p =
-        let B : TableStart = start_at meaning r in
+        let B : TableStart = row_start meaning r in
         let m : Machine W = c.machine in
         let on : Progress (machine_setup meaning m) (lawful m.work) B d0 v0 n m.call (sight_of c) = subst (λ (x : Machine W). Progress (machine_setup meaning x) (lawful x.work) B d0 v0 n m.call (sight_of c)) (sym q.machine) p in
         subst (λ (x : Machine W). Progress (machine_setup meaning x) (lawful x.work) B d0 v0 (n + 1) (caller_call b) (sight_of b)) q.machine

@@ -11,7 +11,7 @@ use Rattle.of_cell.proofs.Order.{seq_word}
 use Rattle.of_mem.specs.Places.{ticket_cell_at}
 use Rattle.of_script.specs.declared.instr.Reply.{Reply}
 use Rattle.of_script.specs.declared.instr.TheConstants.{MOST_INSTRS}
-use Rattle.of_eval.specs.Record.{recovered_data_word, recovered_number, answer_entry, answer_entries, open_entry, OpenCall, BeyondAnswers, end_state_of, IsLawfulRecord}
+use Rattle.of_eval.specs.Record.{recovered_data_word, record_number, answer_entry, answer_entries, open_entry, OpenCall, BeyondAnswers, end_state_of, IsLawfulRecord}
 use Rattle.of_plan.specs.declared.answer.Answer.{Answer}
 use Rattle.of_plan.specs.declared.answer.Ending.{Ending}
 use Rattle.of_plan.specs.declared.answer.Ending.TheVariants.{Done, Stopped, Spent as RanOut}
@@ -38,7 +38,7 @@ use Rattle.of_core.specs.Laws.{RealTime, LateCalls}
 use Rattle.of_caller.specs.Tables.{plan_setup, IsLawfulFor, opening_at, operation_of}
 use Rattle.of_caller.specs.Ends.{TellsAnswer, AreAnswers}
 use Rattle.of_caller.specs.Moments.{batch_calls}
-use Rattle.of_caller.specs.Runs.{IsRunOf}
+use Rattle.of_caller.specs.Runs.{IsRunOfPlan}
 use Rattle.of_caller.specs.InTime.{Mark, BeginsCall, EndsCall, begun_in, over_in, EndsBefore, StandsBehind, RespectsTime, marks_of, marks_in, SchedulesRespectTime}
 use Rattle.of_caller.proofs.RecordsLists.{told_at}
 use Rattle.of_caller.proofs.RecordsCalls.{call_at}
@@ -175,7 +175,7 @@ pub record KeepsTime (S : Setup) (Lawful : List ℕ → Type 0) : Type 0 where
 
 -- The events lead from the start to what a run has left: the run's outcomes are those of the
 -- events, and so are the calls of its batches.
-module _ (p : Plan) (time : KeepsTime (plan_setup p) (IsLawfulFor p)) (s : Start) (B : TableStart) (may : MayStart (plan_setup p) (IsLawfulFor p) B) (w : Moment) (e : Ended) (left : IsRunOf p s B w e)
+module _ (p : Plan) (time : KeepsTime (plan_setup p) (IsLawfulFor p)) (s : Start) (B : TableStart) (may : MayStart (plan_setup p) (IsLawfulFor p) B) (w : Moment) (e : Ended) (left : IsRunOfPlan p s B w e)
     (es : List Event) (schedule : IsSchedule (plan_setup p) (opening_at p B) es)
     (outs_are : (c : ℕ) → c < p.callers → left.outcomes c ≡ outcomes (plan_setup p) (opening_at p B) es c)
     (calls_are : (k : ℕ) → batch_calls B w k ≡ (batch_at B (after_events (plan_setup p) (opening_at p B) es).batches k).calls)
@@ -244,7 +244,7 @@ module _ (p : Plan) (time : KeepsTime (plan_setup p) (IsLawfulFor p)) (s : Start
         inl (record { number = y; among = at.0; index = refl; at_seq = by.0; beyond = by.1 })
 
     -- where recovery finds the ticket of the next call, a batch has that call
-    module _ (same : recovered_number p e (ticket_cell_at MOST_INSTRS c) ≡ n + length (answers_of e c) + 1) (last : IsLast p s B w e c) where
+    module _ (same : record_number p e (ticket_cell_at MOST_INSTRS c) ≡ n + length (answers_of e c) + 1) (last : IsLast p s B w e c) where
       upto : last.number ≤ B.seq + length w.batches
       upto = omega (arith, last.there.upto, f.sound.reaches)
 
@@ -293,11 +293,11 @@ module _ (p : Plan) (time : KeepsTime (plan_setup p) (IsLawfulFor p)) (s : Start
     ]
 
     -- its open call, where recovery finds it
-    opened : (asked : ℕ) → ending_of e c ≡ Stopped asked → (b : Bool) → (recovered_number p e (ticket_cell_at MOST_INSTRS c) == n + length (answers_of e c) + 1) ≡ b
+    opened : (asked : ℕ) → ending_of e c ≡ Stopped asked → (b : Bool) → (record_number p e (ticket_cell_at MOST_INSTRS c) == n + length (answers_of e c) + 1) ≡ b
         → (extra : List Entry) → OpenCall p e c (n + length (answers_of e c)) b extra → Each IsOfCall extra
     opened asked ending false is extra h = subst (Each IsOfCall) (sym h) tt
     opened asked ending true is extra h =
-        let same : recovered_number p e (ticket_cell_at MOST_INSTRS c) ≡ n + length (answers_of e c) + 1 = tells_true _ _ is in
+        let same : record_number p e (ticket_cell_at MOST_INSTRS c) ≡ n + length (answers_of e c) + 1 = tells_true _ _ is in
         subst (Each IsOfCall) (sym h.2) (elim own.recovered [
           | inl none ↦ absurd (omega (arith, same, none.ticket_is))
           | inr last ↦ (inr (found same last (all_answered asked ending) h.0), tt)
@@ -306,7 +306,7 @@ module _ (p : Plan) (time : KeepsTime (plan_setup p) (IsLawfulFor p)) (s : Start
     beyond : (o : Ending) → ending_of e c ≡ o → (extra : List Entry) → BeyondAnswers p e c (n + length (answers_of e c)) o extra → Each IsOfCall extra
     beyond Done is extra h = subst (Each IsOfCall) (sym h) tt
     beyond (RanOut t) is extra h = subst (Each IsOfCall) (sym h) tt
-    beyond (Stopped asked) is extra h = opened asked is (recovered_number p e (ticket_cell_at MOST_INSTRS c) == n + length (answers_of e c) + 1) refl extra h
+    beyond (Stopped asked) is extra h = opened asked is (record_number p e (ticket_cell_at MOST_INSTRS c) == n + length (answers_of e c) + 1) refl extra h
 
   module _ (r : Report) (lawful : IsLawfulRecord p s e r) where
     -- each entry is of a call

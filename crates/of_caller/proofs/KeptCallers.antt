@@ -17,7 +17,7 @@ use Rattle.of_caller.specs.Tables.{operation_of}
 use Rattle.of_caller.specs.Ends.{AreAnswers, AnswersStandBeforeSpent, is_spent, ending_if_left}
 use Rattle.of_caller.specs.Runs.{AreNextScripts, ending_of_calls}
 use Rattle.of_caller.specs.Stops.{answer_steps, open_call_steps}
-use Rattle.of_caller.specs.Teams.{operation_at, AreAnswered, IsStopped, KeepsLastCall, KeepsCaller}
+use Rattle.of_caller.specs.Teams.{script_operation_at, AreAnswered, IsStopped, KeepsLastCall, KeepsCaller}
 use Rattle.of_caller.proofs.RecordsOwn.{done_at, halted_at, stopped_at}
 use Rattle.of_caller.proofs.Answering.{take_next}
 
@@ -123,13 +123,13 @@ module _ (p : Plan) (behind c : ℕ) (answers : List Answer) (x : KnownCaller) (
         within = omega (arith, steps, within);
       }
 
-  is_stopped : (asked : ℕ) → x.ended ≡ calls → behind + length answers < length (scripts_of p c) → IsStopped p (operation_at p c (behind + length answers)) asked x.machine → TellsRecord p behind c answers (Stopped asked) x
+  is_stopped : (asked : ℕ) → x.ended ≡ calls → behind + length answers < length (scripts_of p c) → IsStopped p (script_operation_at p c (behind + length answers)) asked x.machine → TellsRecord p behind c answers (Stopped asked) x
   is_stopped asked same less s = elim (cases_lt 1 asked) [
     | inl more ↦
         let at = s.open_call more in
         let next : operations_known x ≡ map operation_of (take (length answers + 1) (drop behind (scripts_of p c))) =
         begun_open x at.0 ∙ ap (λ (op : List ℕ). map (λ (e : EndedCall). e.op) x.ended ++ op ∷ []) at.1
-        ∙ ap (λ (l : List (List ℕ)). l ++ operation_at p c (behind + length answers) ∷ []) (ap (map (λ (e : EndedCall). e.op)) same ∙ a.scripts)
+        ∙ ap (λ (l : List (List ℕ)). l ++ script_operation_at p c (behind + length answers) ∷ []) (ap (map (λ (e : EndedCall). e.op)) same ∙ a.scripts)
         ∙ sym (take_next p behind c (length answers) (omega (arith, less))) in
         stopped_then asked same less (record { count = length answers + 1; few = omega (arith, less); are = next }) at.2 s.within
     | inr few ↦
@@ -138,9 +138,9 @@ module _ (p : Plan) (behind c : ℕ) (answers : List Answer) (x : KnownCaller) (
         stopped_then asked same less (next_idle same idle) (omega (arith, one, rests idle)) s.within
   ]
 
-  is_spent_at : (s : ℕ) → x.ended ≡ calls ++ record { op = operation_at p c (behind + length answers); outcome = Spent s } ∷ [] → behind + length answers < length (scripts_of p c) → IsIdle x.machine → TellsRecord p behind c answers (RanOut s) x
+  is_spent_at : (s : ℕ) → x.ended ≡ calls ++ record { op = script_operation_at p c (behind + length answers); outcome = Spent s } ∷ [] → behind + length answers < length (scripts_of p c) → IsIdle x.machine → TellsRecord p behind c answers (RanOut s) x
   is_spent_at s same less idle =
-      let e : EndedCall = record { op = operation_at p c (behind + length answers); outcome = Spent s } in
+      let e : EndedCall = record { op = script_operation_at p c (behind + length answers); outcome = Spent s } in
       let are : outcomes_of x ≡ outs ++ Spent s ∷ [] = ap (map (λ (f : EndedCall). f.outcome)) same ∙ map-append (λ (f : EndedCall). f.outcome) calls (e ∷ []) in
       let none = rests idle in
       record {
@@ -148,7 +148,7 @@ module _ (p : Plan) (behind c : ℕ) (answers : List Answer) (x : KnownCaller) (
           count = length answers + 1;
           few = omega (arith, less);
           are = begun_idle x idle ∙ ap (map (λ (f : EndedCall). f.op)) same ∙ map-append (λ (f : EndedCall). f.op) calls (e ∷ [])
-              ∙ ap (λ (l : List (List ℕ)). l ++ operation_at p c (behind + length answers) ∷ []) a.scripts ∙ sym (take_next p behind c (length answers) (omega (arith, less)));
+              ∙ ap (λ (l : List (List ℕ)). l ++ script_operation_at p c (behind + length answers) ∷ []) a.scripts ∙ sym (take_next p behind c (length answers) (omega (arith, less)));
         };
         answers_first = subst AnswersStandBeforeSpent (sym are) (first_then_spent outs s a.none_spent);
         told = subst (λ (os : List Outcome). AreAnswers os answers) (sym are) (told_then_spent outs answers s a.none_spent a.told);

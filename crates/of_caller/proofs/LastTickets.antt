@@ -7,7 +7,7 @@ use Rattle.std.proofs.lemmas.Bool.Decides.{eqb_tells}
 use Rattle.std.proofs.lemmas.List.Elements.{All-from_recursion}
 use Rattle.of_mem.specs.Places.{ticket_cell_at}
 use Rattle.of_script.specs.declared.instr.TheConstants.{MOST_INSTRS}
-use Rattle.of_eval.specs.Record.{recovered_number, answer_entry, answer_entries, open_entry, OpenCall, BeyondAnswers, IsLawfulRecord}
+use Rattle.of_eval.specs.Record.{record_number, answer_entry, answer_entries, open_entry, OpenCall, BeyondAnswers, IsLawfulRecord}
 use Rattle.of_plan.specs.declared.answer.Answer.{Answer}
 use Rattle.of_plan.specs.declared.answer.Ending.{Ending}
 use Rattle.of_plan.specs.declared.answer.Ending.TheVariants.{Done, Stopped, Spent}
@@ -18,7 +18,7 @@ use Rattle.of_plan.specs.Histories.{IsIn}
 use Rattle.of_plan.proofs.HistoriesLists.{each_append, any_in, in_left}
 use Rattle.of_core.specs.Machine.{no_call}
 use Rattle.of_core.specs.World.{Moment, TableStart}
-use Rattle.of_caller.specs.Runs.{IsRunOf}
+use Rattle.of_caller.specs.Runs.{IsRunOfPlan}
 use Rattle.of_caller.specs.Restarts.{IsHeldIn, HoldsLastAnnounced}
 use Rattle.of_caller.proofs.RecordsLists.{in_at, length-answer_entries, answer_at}
 use Rattle.of_caller.proofs.RecordsCalls.{call_at, entry_at, IsPlace, Stands, is_entry, earlier}
@@ -34,16 +34,16 @@ Below t f = IsTrue f.announced → f.index < t
 -- ---- what stands beyond the answers
 
 -- an open call that recovery finds has the recovered ticket
-open_below : (p : Plan) (e : Ended) (c x : ℕ) (b : Bool) (extra : List Entry) → (b ≡ true → recovered_number p e (ticket_cell_at MOST_INSTRS c) ≡ x + 1) → OpenCall p e c x b extra → Each (Below (recovered_number p e (ticket_cell_at MOST_INSTRS c))) extra
-open_below p e c x true extra is told = subst (Each (Below (recovered_number p e (ticket_cell_at MOST_INSTRS c)))) (sym told.2) ((λ announced. omega (arith, is refl)), tt)
-open_below p e c x false extra is told = subst (Each (Below (recovered_number p e (ticket_cell_at MOST_INSTRS c)))) (sym told) tt
+open_below : (p : Plan) (e : Ended) (c x : ℕ) (b : Bool) (extra : List Entry) → (b ≡ true → record_number p e (ticket_cell_at MOST_INSTRS c) ≡ x + 1) → OpenCall p e c x b extra → Each (Below (record_number p e (ticket_cell_at MOST_INSTRS c))) extra
+open_below p e c x true extra is told = subst (Each (Below (record_number p e (ticket_cell_at MOST_INSTRS c)))) (sym told.2) ((λ announced. omega (arith, is refl)), tt)
+open_below p e c x false extra is told = subst (Each (Below (record_number p e (ticket_cell_at MOST_INSTRS c)))) (sym told) tt
 
 -- two lists that stand beyond the same answers are both empty or both have it
-open_has : (p : Plan) (e : Ended) (c x : ℕ) (b : Bool) (one other : List Entry) → (b ≡ true → recovered_number p e (ticket_cell_at MOST_INSTRS c) ≡ x + 1) → OpenCall p e c x b one → OpenCall p e c x b other → 0 < length one
-    → Any (IsHeldIn (recovered_number p e) c) other
+open_has : (p : Plan) (e : Ended) (c x : ℕ) (b : Bool) (one other : List Entry) → (b ≡ true → record_number p e (ticket_cell_at MOST_INSTRS c) ≡ x + 1) → OpenCall p e c x b one → OpenCall p e c x b other → 0 < length one
+    → Any (IsHeldIn (record_number p e) c) other
 open_has p e c x true one other is first second some =
-    subst (Any (IsHeldIn (recovered_number p e) c)) (sym second.2)
-    (any_in (IsHeldIn (recovered_number p e) c) (open_entry p e c x second.0) (open_entry p e c x second.0 ∷ []) (inl refl)
+    subst (Any (IsHeldIn (record_number p e) c)) (sym second.2)
+    (any_in (IsHeldIn (record_number p e) c) (open_entry p e c x second.0) (open_entry p e c x second.0 ∷ []) (inl refl)
     (record { announced = refl; ticket = is refl; reply = second.0; held = second.1; response = refl }))
 open_has p e c x false one other is first second some = absurd (omega (arith, ap length first, some))
 
@@ -53,15 +53,15 @@ tells a b is = elim (eqb_tells a b) [
   | inr other ↦ absurd (cc (other.0, is))
 ]
 
-beyond_below : (p : Plan) (e : Ended) (c x : ℕ) (q : Ending) (extra : List Entry) → BeyondAnswers p e c x q extra → Each (Below (recovered_number p e (ticket_cell_at MOST_INSTRS c))) extra
-beyond_below p e c x Done extra told = subst (Each (Below (recovered_number p e (ticket_cell_at MOST_INSTRS c)))) (sym told) tt
-beyond_below p e c x (Stopped asked) extra told = open_below p e c x (recovered_number p e (ticket_cell_at MOST_INSTRS c) == x + 1) extra (tells (recovered_number p e (ticket_cell_at MOST_INSTRS c)) (x + 1)) told
-beyond_below p e c x (Spent s) extra told = subst (Each (Below (recovered_number p e (ticket_cell_at MOST_INSTRS c)))) (sym told) tt
+beyond_below : (p : Plan) (e : Ended) (c x : ℕ) (q : Ending) (extra : List Entry) → BeyondAnswers p e c x q extra → Each (Below (record_number p e (ticket_cell_at MOST_INSTRS c))) extra
+beyond_below p e c x Done extra told = subst (Each (Below (record_number p e (ticket_cell_at MOST_INSTRS c)))) (sym told) tt
+beyond_below p e c x (Stopped asked) extra told = open_below p e c x (record_number p e (ticket_cell_at MOST_INSTRS c) == x + 1) extra (tells (record_number p e (ticket_cell_at MOST_INSTRS c)) (x + 1)) told
+beyond_below p e c x (Spent s) extra told = subst (Each (Below (record_number p e (ticket_cell_at MOST_INSTRS c)))) (sym told) tt
 
 beyond_has : (p : Plan) (e : Ended) (c x : ℕ) (q : Ending) (one other : List Entry) → BeyondAnswers p e c x q one → BeyondAnswers p e c x q other → 0 < length one
-    → Any (IsHeldIn (recovered_number p e) c) other
+    → Any (IsHeldIn (record_number p e) c) other
 beyond_has p e c x Done one other first second some = absurd (omega (arith, ap length first, some))
-beyond_has p e c x (Stopped asked) one other first second some = open_has p e c x (recovered_number p e (ticket_cell_at MOST_INSTRS c) == x + 1) one other (tells (recovered_number p e (ticket_cell_at MOST_INSTRS c)) (x + 1)) first second some
+beyond_has p e c x (Stopped asked) one other first second some = open_has p e c x (record_number p e (ticket_cell_at MOST_INSTRS c) == x + 1) one other (tells (record_number p e (ticket_cell_at MOST_INSTRS c)) (x + 1)) first second some
 beyond_has p e c x (Spent s) one other first second some = absurd (omega (arith, ap length first, some))
 
 -- what is found in a part is found in the whole
@@ -77,7 +77,7 @@ any_append {X = X} P xs ys found = any_in P found.1 (xs ++ ys) (in_left found.1 
     place_in (z ∷ zs) zero x lt is = inl is
     place_in (z ∷ zs) (suc k) x lt is = inr (place_in zs k x (omega (arith, lt)) is)
 
-module _ (p : Plan) (s : Start) (B : TableStart) (w : Moment) (e : Ended) (run : IsRunOf p s B w e) (r : Report) (lawful : IsLawfulRecord p s e r) (c : ℕ) (lt : c < p.callers) where
+module _ (p : Plan) (s : Start) (B : TableStart) (w : Moment) (e : Ended) (run : IsRunOfPlan p s B w e) (r : Report) (lawful : IsLawfulRecord p s e r) (c : ℕ) (lt : c < p.callers) where
   abbrev m : MomentFacts p s B w e run.operations run.outcomes
   m = facts p s B w e run
 
@@ -92,10 +92,10 @@ module _ (p : Plan) (s : Start) (B : TableStart) (w : Moment) (e : Ended) (run :
 
   -- the recovered ticket
   abbrev ticket : ℕ
-  ticket = recovered_number p e (ticket_cell_at MOST_INSTRS c)
+  ticket = record_number p e (ticket_cell_at MOST_INSTRS c)
 
   abbrev Holds : Entry → Type 0
-  Holds g = IsHeldIn (recovered_number p e) c g
+  Holds g = IsHeldIn (record_number p e) c g
 
   abbrev own : (extra : List Entry) × IsOwnOf p s B w e c extra
   own = own_at p s B w m.sound e c (run.operations c) (run.outcomes c) lt (narrow p s B w e run.operations run.outcomes m c lt) f
@@ -161,5 +161,5 @@ module _ (p : Plan) (s : Start) (B : TableStart) (w : Moment) (e : Ended) (run :
     | inr last ↦ omega (arith, (own.1.covers last.number last.place last.there last.caller).0, last.ticket_is)
   ]
 
-  pub hold_last : HoldsLastAnnounced (recovered_number p e) c (finished_of s c) (entries_of r c)
+  pub hold_last : HoldsLastAnnounced (record_number p e) c (finished_of s c) (entries_of r c)
   hold_last = record { from = from; last = All-from_recursion (Below ticket) (entries_of r c) below; has = has }

@@ -17,7 +17,7 @@ use Rattle.of_plan.specs.Plan.{Plan, scripts_of, bound_of}
 use Rattle.of_core.specs.declared.place.Outcome.{Outcome}
 use Rattle.of_core.specs.declared.place.Outcome.TheVariants.{Answered, Spent}
 use Rattle.of_core.specs.Table.{Setup}
-use Rattle.of_core.specs.Machine.{CallState, is_idle, begin}
+use Rattle.of_core.specs.Machine.{CallState, is_idle, begin_call}
 use Rattle.of_core.specs.World.{TableStart}
 use Rattle.of_core.specs.History.{IsLegalHistory}
 use Rattle.of_core.specs.Bound.{bound}
@@ -36,7 +36,7 @@ use Rattle.of_caller.specs.Ends.{TellsAnswer}
 use Rattle.of_caller.specs.Callers.{IsCaller, caller_call, sight_of}
 use Rattle.of_caller.specs.CallsTold.{HasEndedWith, IsStillOpen, TellsResult, TellsCall}
 use Rattle.of_caller.specs.PlanRows.{start_of_row}
-use Rattle.of_caller.specs.Teams.{operation_at, KeepsCaller}
+use Rattle.of_caller.specs.Teams.{script_operation_at, KeepsCaller}
 use Rattle.of_caller.specs.Lanes.{IsPlanRow, IsHeldAnswer, Appends, HasAnsweredScripts, CallerHasAnswered, CallerHasEnded}
 use Rattle.of_caller.proofs.RowStarts.{same_setup}
 use Rattle.of_caller.proofs.CallSteps.{same_kept}
@@ -45,7 +45,7 @@ use Rattle.of_caller.proofs.RawReplies.{IsFine, answer_holds}
 
 -- the words of a script, with zeros behind them
 pub op_is : (p : Plan) (n c i index : ℕ) → n + i ≡ index → (scripts : List (List Instr)) → scripts ≡ scripts_of p c → index < length scripts → (script : List Instr) → script ≡ get_or scripts index script
-    → (count : ℕ) → count ≡ length script → (out rest : List ℕ) → out ≡ map instr_word script ++ rest → take count out ≡ operation_at p c (n + i)
+    → (count : ℕ) → count ≡ length script → (out rest : List ℕ) → out ≡ map instr_word script ++ rest → take count out ≡ script_operation_at p c (n + i)
 op_is p n c i index at scripts all among script read count size out rest words =
     let ws = operation_of script in
     let first : script ≡ get_or (scripts_of p c) (n + i) [] = read ∙ get_or_default scripts index script [] among ∙ ap (λ (l : List (List Instr)). get_or l index []) all ∙ ap (λ (k : ℕ). get_or (scripts_of p c) k []) (sym at) in
@@ -62,11 +62,11 @@ module _ (p : Plan) (r : Row Scripts) (row : IsPlanRow p r) where
   abbrev B : TableStart
   B = start_of_row r
 
-  module _ (n c : ℕ) (caller : Caller Scripts) (answers : List Answer) (i : ℕ) (q : CallerHasAnswered p n c r caller answers i) (less : i < length (scripts_of p c) - n) (op : List ℕ) (is : op ≡ operation_at p c (n + i))
+  module _ (n c : ℕ) (caller : Caller Scripts) (answers : List Answer) (i : ℕ) (q : CallerHasAnswered p n c r caller answers i) (less : i < length (scripts_of p c) - n) (op : List ℕ) (is : op ≡ script_operation_at p c (n + i))
       (L : List ℕ → Type 0) (b : Caller Scripts) (after : IsCaller scripts_meaning r b) (x z : ℕ) (result : Result Outcome CallErr)
-      (told : TellsCall S L B (begin S (caller_call caller) op) (sight_of caller) x (caller_call b) (sight_of b) z result) where
+      (told : TellsCall S L B (begin_call S (caller_call caller) op) (sight_of caller) x (caller_call b) (sight_of b) z result) where
     abbrev d0 : CallState
-    d0 = begin S (caller_call caller) op
+    d0 = begin_call S (caller_call caller) op
 
     -- its words are as many as a script may have
     next_words : c < p.callers → (1 ≤ length op) × (length op ≤ MOST_INSTRS)
@@ -84,7 +84,7 @@ module _ (p : Plan) (r : Row Scripts) (row : IsPlanRow p r) where
     same_view none = same_kept told.kept q.kept (sym told.kept_now ∙ ap (λ (v : View). v.kept) (told.none none) ∙ q.kept_is)
 
     module _ (o : Outcome) (closes : HasEndedWith S L B d0 (sight_of caller) told.before told.steps (caller_call b) (sight_of b) told.kept o) where
-      ended_is : told.kept.ended ≡ q.kept.ended ++ record { op = operation_at p c (n + i); outcome = o } ∷ []
+      ended_is : told.kept.ended ≡ q.kept.ended ++ record { op = script_operation_at p c (n + i); outcome = o } ∷ []
       ended_is = closes.kept ∙ ap (λ (k : KnownCaller). k.ended ++ record { op = op; outcome = o } ∷ []) before_is ∙ ap (λ (ws : List ℕ). q.kept.ended ++ record { op = ws; outcome = o } ∷ []) is
 
       -- a call that has ended has made a step
@@ -92,7 +92,7 @@ module _ (p : Plan) (r : Row Scripts) (row : IsPlanRow p r) where
       made_some = go told.steps refl
         where
           go : (m : ℕ) → told.steps ≡ m → 0 < told.steps
-          go zero none = absurd (omega (arith, ap length ended_is, length-append q.kept.ended (record { op = operation_at p c (n + i); outcome = o } ∷ []), ap (λ (k : KnownCaller). length k.ended) (same_view none)))
+          go zero none = absurd (omega (arith, ap length ended_is, length-append q.kept.ended (record { op = script_operation_at p c (n + i); outcome = o } ∷ []), ap (λ (k : KnownCaller). length k.ended) (same_view none)))
           go (suc m) more = omega (arith, more)
 
       shown_now : told.kept.machine ≡ caller_call b
@@ -127,7 +127,7 @@ module _ (p : Plan) (r : Row Scripts) (row : IsPlanRow p r) where
         shown = shown_now;
         going = subst (λ (l : List Answer). HasAnsweredScripts p n c told.kept l (i + 1)) (sym more.is)
             (is_answered p n c q.kept answers i q.going less told.kept k announced raw steps more.item idle_now
-            (ended_is ∙ ap (λ (u : Outcome). q.kept.ended ++ record { op = operation_at p c (n + i); outcome = u } ∷ []) answer) (subst (λ (u : Outcome). TellsAnswer u more.item) answer more.holds));
+            (ended_is ∙ ap (λ (u : Outcome). q.kept.ended ++ record { op = script_operation_at p c (n + i); outcome = u } ∷ []) answer) (subst (λ (u : Outcome). TellsAnswer u more.item) answer more.holds));
       }
 
       -- no sequence was left
@@ -137,7 +137,7 @@ module _ (p : Plan) (r : Row Scripts) (row : IsPlanRow p r) where
         kept = told.kept;
         kept_is = told.kept_now;
         number = ap (λ (m : CallState). m.caller) shown_now ∙ number_now;
-        keeps = is_spent_now p n c q.kept answers i q.going less told.kept k idle_now (ended_is ∙ ap (λ (u : Outcome). q.kept.ended ++ record { op = operation_at p c (n + i); outcome = u } ∷ []) spent);
+        keeps = is_spent_now p n c q.kept answers i q.going less told.kept k idle_now (ended_is ∙ ap (λ (u : Outcome). q.kept.ended ++ record { op = script_operation_at p c (n + i); outcome = u } ∷ []) spent);
       }
 
     -- the brake denied a step

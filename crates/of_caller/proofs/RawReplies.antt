@@ -17,7 +17,7 @@ use Rattle.of_plan.specs.Plan.{Plan, IsPlan, data_cells}
 use Rattle.of_core.specs.declared.place.Outcome.TheVariants.{Answered}
 use Rattle.of_core.specs.Machine.{Call, no_call}
 use Rattle.of_core.specs.World.{Batch, TableStart}
-use Rattle.of_core.specs.History.{batch_at, no_batch, numbers_after_calls, HaveReplies, numbers_after_batches, IsLegalHistory, SameReply, HasCall}
+use Rattle.of_core.specs.History.{batch_at, no_batch, numbers_after_calls, CallsHaveReplies, numbers_after_batches, IsLegalHistory, SameReply, HasCall}
 use Rattle.of_row.specs.Rule.{CallHasEnded}
 use Rattle.of_row.specs.Turned.{IsMeantReply}
 use Rattle.of_caller.specs.Tables.{meaning_for, plan_setup, IsLawfulFor}
@@ -56,7 +56,7 @@ module _ (p : Plan) (plan : IsPlan p) where
       (has.0, has.1)
 
   -- a call met its reply on such cells
-  met_at : (cs : List Call) (y : ℕ) (xs : List ℕ) → IsFine xs → HaveReplies M xs cs → y < length cs → (ys : List ℕ) × IsFine ys × (M.reply ys (get_or cs y no_call).op ≡ (get_or cs y no_call).raw)
+  met_at : (cs : List Call) (y : ℕ) (xs : List ℕ) → IsFine xs → CallsHaveReplies M xs cs → y < length cs → (ys : List ℕ) × IsFine ys × (M.reply ys (get_or cs y no_call).op ≡ (get_or cs y no_call).raw)
   met_at [] y xs h r lt = absurd (omega (arith, lt))
   met_at (c ∷ cs) zero xs h r lt = (xs, h, r.0)
   met_at (c ∷ cs) (suc y) xs h r lt = met_at cs y (M.cells xs c.op) (fine_op xs c.op h) r.1 (omega (arith, lt))

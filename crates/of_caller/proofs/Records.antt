@@ -8,7 +8,7 @@ use Rattle.of_core.specs.Least.{least_read}
 use Rattle.of_core.specs.World.{Moment, Read, TableStart}
 use Rattle.of_caller.specs.Tables.{plan_setup}
 use Rattle.of_caller.specs.Moments.{script_of_ticket}
-use Rattle.of_caller.specs.Runs.{IsMomentOf, IsRunOf, RunsAreLawful}
+use Rattle.of_caller.specs.Runs.{IsMomentOf, IsRunOfPlan, RunsAreLawful}
 use Rattle.of_caller.proofs.StoresHeld.{held_is}
 use Rattle.of_caller.proofs.StoresMoments.{operation_is}
 use Rattle.of_caller.proofs.Stores.{announced_held, read_held}
@@ -17,7 +17,7 @@ use Rattle.of_caller.proofs.StoresLeast.{least_reads}
 use Rattle.of_caller.proofs.RecordsFacts.{CallerFacts, HasNone, IsLast}
 use Rattle.of_caller.proofs.RecordsLawful.{MomentFacts, report_left, lawful_left}
 
-module _ (p : Plan) (s : Start) (B : TableStart) (w : Moment) (e : Ended) (run : IsRunOf p s B w e) where
+module _ (p : Plan) (s : Start) (B : TableStart) (w : Moment) (e : Ended) (run : IsRunOfPlan p s B w e) where
   abbrev ops : ℕ → List (List ℕ)
   ops = run.operations
 

@@ -12,7 +12,7 @@ use Rattle.of_store.specs.State.{Reply, run as play_script}
 use Rattle.of_store.specs.Replies.{reply_value_of}
 use Rattle.of_eval.specs.Shapes.{IsHeldBy}
 use Rattle.of_eval.specs.Lawful.{reply_in}
-use Rattle.of_eval.specs.Record.{recovered_data_word, recovered_number}
+use Rattle.of_eval.specs.Record.{recovered_data_word, record_number}
 use Rattle.of_plan.specs.Plan.{Plan}
 use Rattle.of_plan.specs.Report.{Start, finished_of}
 use Rattle.of_plan.specs.Ended.{Ended}
@@ -62,15 +62,15 @@ pub record IsLast (p : Plan) (s : Start) (B : TableStart) (w : Moment) (e : Ende
   pub caller : (call_at B w number place).caller ≡ c
   pub absent : HasNoCallBetween B w.batches c number (durable_seq (plan_setup p) w.words)
   pub word_is : recovered_data_word p e (ticket_cell_at MOST_INSTRS c) ≡ pack number (call_at B w number place).ticket
-  pub ticket_is : recovered_number p e (ticket_cell_at MOST_INSTRS c) ≡ (call_at B w number place).ticket
+  pub ticket_is : record_number p e (ticket_cell_at MOST_INSTRS c) ≡ (call_at B w number place).ticket
   pub reply : RustReply
-  pub held : IsHeldBy (reply_in MOST_INSTRS (recovered_number p e) c) reply
+  pub held : IsHeldBy (reply_in MOST_INSTRS (record_number p e) c) reply
   pub response : reply_value_of reply ≡ response_at p s B w number place
 
 -- caller c has no call up to the durable sequence, and recovery finds none
 pub record HasNone (p : Plan) (s : Start) (B : TableStart) (w : Moment) (e : Ended) (c : ℕ) : Type 0 where
   pub absent : HasNoCallBetween B w.batches c B.seq (durable_seq (plan_setup p) w.words)
-  pub ticket_is : recovered_number p e (ticket_cell_at MOST_INSTRS c) ≡ finished_of s c
+  pub ticket_is : record_number p e (ticket_cell_at MOST_INSTRS c) ≡ finished_of s c
 
 -- of caller c, which has begun these operations, and whose calls have ended so
 pub record CallerFacts (p : Plan) (s : Start) (B : TableStart) (w : Moment) (e : Ended) (c : ℕ) (ops : List (List ℕ)) (outs : List Outcome) : Type 0 where

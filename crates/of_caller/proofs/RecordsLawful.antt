@@ -8,7 +8,7 @@ use Rattle.of_cell.specs.Cells.{table_words}
 use Rattle.of_script.specs.declared.instr.Instr.{Instr}
 use Rattle.of_script.specs.declared.instr.TheConstants.{MOST_INSTRS}
 use Rattle.of_eval.specs.Lawful.{DataCellsStandFor}
-use Rattle.of_eval.specs.Record.{data_cells_of, recovered_seq, recovered_number, line_for, IsRecordOf, IsLawfulRecord}
+use Rattle.of_eval.specs.Record.{plan_data_cells, recovered_seq, record_number, line_for, IsRecordOf, IsLawfulRecord}
 use Rattle.of_plan.specs.Plan.{Plan, IsPlan, scripts_of}
 use Rattle.of_plan.specs.Report.{Entry, done, Report, Start, entries_of}
 use Rattle.of_plan.specs.declared.answer.Answer.{Answer}
@@ -38,9 +38,9 @@ pub record MomentFacts (p : Plan) (s : Start) (B : TableStart) (w : Moment) (e :
   pub callers : (c : ℕ) → c < p.callers → CallerFacts p s B w e c (ops c) (outs c)
   pub answers : length e.answers ≡ p.callers
   pub endings : length e.endings ≡ p.callers
-  pub words : length e.words ≡ table_words p.callers MOST_INSTRS (data_cells_of p)
+  pub words : length e.words ≡ table_words p.callers MOST_INSTRS (plan_data_cells p)
   pub seq : recovered_seq p e ≡ durable_seq (plan_setup p) w.words
-  pub stands_for : DataCellsStandFor p.callers MOST_INSTRS p.blocks (recovered_number p e) (store_at_seq p B s.store w (durable_seq (plan_setup p) w.words))
+  pub stands_for : DataCellsStandFor p.callers MOST_INSTRS p.blocks (record_number p e) (store_at_seq p B s.store w (durable_seq (plan_setup p) w.words))
 
 -- answers that outcomes tell are whole
 told_whole : (outs : List Outcome) (answers : List Answer) → AreAnswers outs answers → All (λ (a : Answer). IsWhole a.reply) answers

@@ -16,7 +16,7 @@ use Rattle.of_script.specs.Language.{instr_word, reads_only}
 use Rattle.of_store.specs.State.{Reply, run as play_script}
 use Rattle.of_eval.specs.Shapes.{IsHeldBy}
 use Rattle.of_eval.specs.Lawful.{reply_in}
-use Rattle.of_eval.specs.Record.{recovered_data_word, recovered_number, answer_entry, answer_entries, open_entry, OpenCall, BeyondAnswers, end_state_of}
+use Rattle.of_eval.specs.Record.{recovered_data_word, record_number, answer_entry, answer_entries, open_entry, OpenCall, BeyondAnswers, end_state_of}
 use Rattle.of_plan.specs.declared.answer.Answer.{Answer}
 use Rattle.of_plan.specs.declared.answer.Ending.{Ending}
 use Rattle.of_plan.specs.declared.answer.Ending.TheVariants.{Done, Stopped, Spent as Ran_out}
@@ -110,7 +110,7 @@ open_none : (p : Plan) (e : Ended) (c x : ℕ) (b : Bool) → b ≡ false → Op
 open_none p e c x false is = refl
 open_none p e c x true is = absurd (cc)
 
-open_one : (p : Plan) (e : Ended) (c x : ℕ) (b : Bool) (r : RustReply) → b ≡ true → IsHeldBy (reply_in MOST_INSTRS (recovered_number p e) c) r → OpenCall p e c x b (open_entry p e c x r ∷ [])
+open_one : (p : Plan) (e : Ended) (c x : ℕ) (b : Bool) (r : RustReply) → b ≡ true → IsHeldBy (reply_in MOST_INSTRS (record_number p e) c) r → OpenCall p e c x b (open_entry p e c x r ∷ [])
 open_one p e c x true r is held = (r, held, refl)
 open_one p e c x false r is held = absurd (cc)
 
@@ -268,7 +268,7 @@ module _ (p : Plan) (s : Start) (B : TableStart) (w : Moment) (sound : IsSound (
     no_call_case : HasNone p s B w e c → IsOwnOf p s B w e c []
     no_call_case none =
         own_of [] (Stopped ((machine_in w c).steps + 1)) ending tt refl (omega (arith, less)) (λ k y there mine. absurd (none.absent k there.from there.upto y no_call there.among mine))
-        (open_none p e c (n + a) (eqb (recovered_number p e (ticket_cell_at MOST_INSTRS c)) (n + a + 1)) (eqb_not _ _ (λ same. absurd (omega (arith, same, none.ticket_is)))))
+        (open_none p e c (n + a) (eqb (record_number p e (ticket_cell_at MOST_INSTRS c)) (n + a + 1)) (eqb_not _ _ (λ same. absurd (omega (arith, same, none.ticket_is)))))
         (omega arith, omega arith) less
 
     module _ (last : IsLast p s B w e c) where
@@ -285,7 +285,7 @@ module _ (p : Plan) (s : Start) (B : TableStart) (w : Moment) (sound : IsSound (
       answered_case : (call_at B w last.number last.place).ticket ≤ n + a → IsOwnOf p s B w e c []
       answered_case low =
           own_of [] (Stopped ((machine_in w c).steps + 1)) ending tt refl (omega (arith, less)) (λ k y there mine. omega (arith, upto_last k y there mine, low))
-          (open_none p e c (n + a) (eqb (recovered_number p e (ticket_cell_at MOST_INSTRS c)) (n + a + 1)) (eqb_not _ _ (λ same. absurd (omega (arith, same, last.ticket_is, low)))))
+          (open_none p e c (n + a) (eqb (record_number p e (ticket_cell_at MOST_INSTRS c)) (n + a + 1)) (eqb_not _ _ (λ same. absurd (omega (arith, same, last.ticket_is, low)))))
           (omega arith, omega arith) less
 
       open_case : (call_at B w last.number last.place).ticket ≡ n + a + 1 → IsOwnOf p s B w e c (open_entry p e c (n + a) last.reply ∷ [])
@@ -301,7 +301,7 @@ module _ (p : Plan) (s : Start) (B : TableStart) (w : Moment) (sound : IsSound (
             ticket = next;
           } in
           own_of (extra ∷ []) (Stopped ((machine_in w c).steps + 1)) ending ((refl, run), tt) refl (omega (arith, less)) (λ k y there mine. omega (arith, (was_begun k y there mine).1, few_more, all))
-          (open_one p e c (n + a) (eqb (recovered_number p e (ticket_cell_at MOST_INSTRS c)) (n + a + 1)) last.reply (eqb_is _ _ (last.ticket_is ∙ next)) last.held)
+          (open_one p e c (n + a) (eqb (record_number p e (ticket_cell_at MOST_INSTRS c)) (n + a + 1)) last.reply (eqb_is _ _ (last.ticket_is ∙ next)) last.held)
           (omega arith, omega arith) less
 
     stopped_case : (extra : List Entry) × IsOwnOf p s B w e c extra

@@ -5,7 +5,7 @@ use Rattle.std.proofs.Math.Seq.{drop-append_seam}
 use Rattle.std.proofs.lemmas.List.Elements.{All-nil, All-cons, All-same}
 use Rattle.of_mem.specs.Places.{ticket_cell_at}
 use Rattle.of_script.specs.declared.instr.TheConstants.{MOST_INSTRS}
-use Rattle.of_eval.specs.Record.{recovered_number, answer_entry, answer_entries, open_entry, OpenCall, BeyondAnswers, IsLawfulRecord}
+use Rattle.of_eval.specs.Record.{record_number, answer_entry, answer_entries, open_entry, OpenCall, BeyondAnswers, IsLawfulRecord}
 use Rattle.of_eval.specs.Reported.{MakeLeastSteps, ReportsRun}
 use Rattle.of_plan.specs.declared.answer.Answer.{Answer}
 use Rattle.of_plan.specs.declared.answer.Ending.{Ending}
@@ -15,7 +15,7 @@ use Rattle.of_plan.specs.Report.{Entry, Start, Report, entries_of, finished_of}
 use Rattle.of_plan.specs.Ended.{Ended, answers_of, ending_of}
 use Rattle.of_plan.specs.Allowance.{least_steps}
 use Rattle.of_core.specs.World.{Moment, TableStart}
-use Rattle.of_caller.specs.Runs.{IsRunOf, RunsAreReported}
+use Rattle.of_caller.specs.Runs.{IsRunOfPlan, RunsAreReported}
 use Rattle.of_caller.proofs.RecordsLists.{length-answer_entries}
 use Rattle.of_caller.proofs.RecordsOwn.{answer_is}
 use Rattle.of_caller.proofs.RecordsLawful.{narrow}
@@ -31,7 +31,7 @@ open_announced p e c x false extra told = All-same IsAnnounced extra [] told (Al
 
 beyond_announced : (p : Plan) (e : Ended) (c x : ℕ) (ending : Ending) (extra : List Entry) → BeyondAnswers p e c x ending extra → All IsAnnounced extra
 beyond_announced p e c x Done extra told = All-same IsAnnounced extra [] told (All-nil IsAnnounced)
-beyond_announced p e c x (Stopped asked) extra told = open_announced p e c x (recovered_number p e (ticket_cell_at MOST_INSTRS c) == x + 1) extra told
+beyond_announced p e c x (Stopped asked) extra told = open_announced p e c x (record_number p e (ticket_cell_at MOST_INSTRS c) == x + 1) extra told
 beyond_announced p e c x (Spent s) extra told = All-same IsAnnounced extra [] told (All-nil IsAnnounced)
 
 -- what holds of each answer holds of all
@@ -42,7 +42,7 @@ make_least p c x (a ∷ others) h = (
   make_least p c (x + 1) others (λ y none lt. subst (λ (n : ℕ). least_steps p (answer_entry c n (get_or others y none)) ≤ (get_or others y none).steps) (omega arith) (h (suc y) none (omega (arith, lt)))),
 )
 
-module _ (p : Plan) (s : Start) (B : TableStart) (w : Moment) (e : Ended) (run : IsRunOf p s B w e) (r : Report) (lawful : IsLawfulRecord p s e r) where
+module _ (p : Plan) (s : Start) (B : TableStart) (w : Moment) (e : Ended) (run : IsRunOfPlan p s B w e) (r : Report) (lawful : IsLawfulRecord p s e r) where
   beyond_are : (c : ℕ) → c < p.callers → All IsAnnounced (drop (length (answers_of e c)) (entries_of r c))
   beyond_are c lt =
       let own = lawful.report.entries c lt in

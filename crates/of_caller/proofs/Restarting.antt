@@ -17,7 +17,7 @@ use Rattle.of_mem.specs.declared.work.RawReply.{RawReply}
 use Rattle.of_eval.specs.Shapes.{IsHeldBy}
 use Rattle.of_eval.specs.Lawful.{DataCellsStandFor}
 use Rattle.of_eval.specs.Stored.{cell_store}
-use Rattle.of_eval.specs.Record.{data_cells_of, recovered_number, IsLawfulRecord}
+use Rattle.of_eval.specs.Record.{plan_data_cells, record_number, IsLawfulRecord}
 use Rattle.of_eval.proofs.Overlay.{stands_below}
 use Rattle.of_plan.specs.Plan.{Plan}
 use Rattle.of_plan.specs.Report.{Entry, Start, Report, entries_of, finished_of}
@@ -28,7 +28,7 @@ use Rattle.of_core.specs.Starts.{start_from_durable, IsDurable, IsStartRow}
 use Rattle.of_core.specs.Shared.{MayStart}
 use Rattle.of_caller.specs.Tables.{plan_setup, IsLawfulFor}
 use Rattle.of_caller.specs.Starts.{start_number}
-use Rattle.of_caller.specs.Runs.{IsRunOf}
+use Rattle.of_caller.specs.Runs.{IsRunOfPlan}
 use Rattle.of_caller.specs.Restarts.{IsHeldIn, HoldsLastAnnounced, StartsAfterReport, RunsRestart, TeamsRestart}
 use Rattle.of_caller.proofs.Teams.{team_run}
 use Rattle.of_row.specs.Runs.{RunsAreSchedules}
@@ -70,7 +70,7 @@ module _ (f g : ℕ → ℕ) (c n : ℕ) (es : List Entry) (same : (a : ℕ) →
     ];
   }
 
-module _ (p : Plan) (s : Start) (B : TableStart) (w : Moment) (e : Ended) (run : IsRunOf p s B w e) (r : Report) (lawful : IsLawfulRecord p s e r) (row : List ℕ) (durable : IsDurable (plan_setup p) e.words row) where
+module _ (p : Plan) (s : Start) (B : TableStart) (w : Moment) (e : Ended) (run : IsRunOfPlan p s B w e) (r : Report) (lawful : IsLawfulRecord p s e r) (row : List ℕ) (durable : IsDurable (plan_setup p) e.words row) where
   abbrev S : Setup
   S = plan_setup p
 
@@ -78,38 +78,38 @@ module _ (p : Plan) (s : Start) (B : TableStart) (w : Moment) (e : Ended) (run :
   m = facts p s B w e run
 
   abbrev found : List ℕ
-  found = recovered_words p.callers (data_cells_of p) row
+  found = recovered_words p.callers (plan_data_cells p) row
 
   abbrev C : TableStart
-  C = start_from_durable p.callers (data_cells_of p) found
+  C = start_from_durable p.callers (plan_data_cells p) found
 
   same : (c : ℕ) → c < cell_count S → get_or row c 0 ≡ durable_word S w.words c
   same c l = durable.each c l ∙ ap (λ (ws : List ℕ). durable_word S ws c) run.words
 
   found_long : length found ≡ cell_count S
-  found_long = length-recovered p.callers (data_cells_of p) row ∙ durable.long
+  found_long = length-recovered p.callers (plan_data_cells p) row ∙ durable.long
 
   first_is : get_or found 0 0 ≡ durable_word S w.words 0
-  first_is = others_kept p.callers (data_cells_of p) row durable.long 0 (omega (arith, durable.long)) (inl (omega arith)) (λ q. omega (arith, q)) ∙ same 0 (omega arith)
+  first_is = others_kept p.callers (plan_data_cells p) row durable.long 0 (omega (arith, durable.long)) (inl (omega arith)) (λ q. omega (arith, q)) ∙ same 0 (omega arith)
 
-  cells_long : length C.cells ≡ data_cells_of p
-  cells_long = part_long found (data_cell p.callers 0) (data_cells_of p) (omega (arith, found_long))
+  cells_long : length C.cells ≡ plan_data_cells p
+  cells_long = part_long found (data_cell p.callers 0) (plan_data_cells p) (omega (arith, found_long))
 
   -- a data word is the recovered one
-  few_cells : data_cells_of p < 4294967296
+  few_cells : plan_data_cells p < 4294967296
   few_cells = omega (arith, run.moment.plan.few_callers, run.moment.plan.few_blocks)
 
-  word_at : (a : ℕ) → a < data_cells_of p → get_or C.cells a 0 ≡ recovered_data p.callers (data_cells_of p) (durable_word S w.words) a
+  word_at : (a : ℕ) → a < plan_data_cells p → get_or C.cells a 0 ≡ recovered_data p.callers (plan_data_cells p) (durable_word S w.words) a
   word_at a l =
-      part_at found (data_cell p.callers 0) (data_cells_of p) a l
+      part_at found (data_cell p.callers 0) (plan_data_cells p) a l
       ∙ ap (λ (k : ℕ). get_or found k 0) (let k : data_cell p.callers 0 + a ≡ data_cell p.callers a = omega arith in k)
-      ∙ data_at p.callers (data_cells_of p) row durable.long a l
-      ∙ recovered_data-same p.callers (data_cells_of p) (λ c. get_or row c 0) (durable_word S w.words) same a l (omega (arith, l, few_cells))
+      ∙ data_at p.callers (plan_data_cells p) row durable.long a l
+      ∙ recovered_data-same p.callers (plan_data_cells p) (λ c. get_or row c 0) (durable_word S w.words) same a l (omega (arith, l, few_cells))
 
-  number_is : (a : ℕ) → a < data_cells_of p → start_number C a ≡ recovered_number p e a
-  number_is a l = number_at C.cells a ∙ ap payload_of (word_at a l) ∙ ap (λ (ws : List ℕ). payload_of (recovered_data p.callers (data_cells_of p) (durable_word S ws) a)) (sym run.words)
+  number_is : (a : ℕ) → a < plan_data_cells p → start_number C a ≡ record_number p e a
+  number_is a l = number_at C.cells a ∙ ap payload_of (word_at a l) ∙ ap (λ (ws : List ℕ). payload_of (recovered_data p.callers (plan_data_cells p) (durable_word S ws) a)) (sym run.words)
 
-  own_is : (c : ℕ) → c < p.callers → (a : ℕ) → IsOwnCell c a → start_number C a ≡ recovered_number p e a
+  own_is : (c : ℕ) → c < p.callers → (a : ℕ) → IsOwnCell c a → start_number C a ≡ record_number p e a
   own_is c l a own = number_is a (omega (arith, own.0, own.1, l))
 
   seq_is : C.seq ≡ durable_seq S w.words
@@ -119,15 +119,15 @@ module _ (p : Plan) (s : Start) (B : TableStart) (w : Moment) (e : Ended) (run :
   stands =
       let held = lawful.report.store in
       record {
-        own = λ c l. stand_same (start_number C) (recovered_number p e) c (own_is c l) (held.own c l);
+        own = λ c l. stand_same (start_number C) (record_number p e) c (own_is c l) (held.own c l);
         stored = record {
           state = held.stored.state;
-          stands = stands_below (base_of p.callers MOST_INSTRS) p.blocks (recovered_number p e) (start_number C) (λ a low high. sym (number_is a high)) (cell_store r.store) held.stored.stands;
+          stands = stands_below (base_of p.callers MOST_INSTRS) p.blocks (record_number p e) (start_number C) (λ a low high. sym (number_is a high)) (cell_store r.store) held.stored.stands;
         };
       }
 
   old : (a : ℕ) → seq_of (get_or C.cells a 0) ≤ C.seq
-  old a = elim (cases_lt a (data_cells_of p)) [
+  old a = elim (cases_lt a (plan_data_cells p)) [
     | inl l ↦ omega (arith, ap seq_of (word_at a l), m.sound.old a l, seq_is)
     | inr past ↦ omega (arith, ap seq_of (get_or_past C.cells a 0 (omega (arith, past, cells_long))), seq_zero)
   ]
@@ -141,12 +141,12 @@ module _ (p : Plan) (s : Start) (B : TableStart) (w : Moment) (e : Ended) (run :
 
   restarts : IsStartRow S (IsLawfulFor p) found × StartsAfterReport p s r C
   restarts = (
-    record { long = found_long; recovered = recovered_twice p.callers (data_cells_of p) row durable.long; may_start = may_start },
+    record { long = found_long; recovered = recovered_twice p.callers (plan_data_cells p) row durable.long; may_start = may_start },
     record {
       seq = seq_is ∙ sym m.seq ∙ sym lawful.report.seq;
       size = cells_long;
       stands = stands;
-      callers = λ c lt. hold_same (start_number C) (recovered_number p e) c (finished_of s c) (entries_of r c) (own_is c lt) (hold_last p s B w e run r lawful c lt);
+      callers = λ c lt. hold_same (start_number C) (record_number p e) c (finished_of s c) (entries_of r c) (own_is c lt) (hold_last p s B w e run r lawful c lt);
     },
   )
 

@@ -5,7 +5,7 @@ use Rattle.of_mem.specs.Places.{base_of}
 use Rattle.of_mem.specs.ProgramWork.{memory_of}
 use Rattle.of_script.specs.declared.instr.TheConstants.{MOST_INSTRS}
 use Rattle.of_eval.specs.declared.scripts.Scripts.{Scripts}
-use Rattle.of_eval.specs.Record.{data_cells_of}
+use Rattle.of_eval.specs.Record.{plan_data_cells}
 use Rattle.of_eval.specs.Scripts.{LawfulCells, StandsForSome, scripts_meaning}
 use Rattle.of_plan.specs.Plan.{Plan}
 use Rattle.of_plan.specs.Report.{Start, empty_start, finished_of}
@@ -36,7 +36,7 @@ module _ (p : Plan) (r : Row Scripts) (row : IsRowOf p r) where
       ap (λ (M : Meaning). setup_of (key_of r).callers (key_of r).cells (key_of r).limit M) meaning
       ∙ ap (λ (n : ℕ). setup_of n (key_of r).cells (key_of r).limit (plan_setup p).meaning) row.callers
       ∙ ap (λ (n : ℕ). setup_of p.callers n (key_of r).limit (plan_setup p).meaning) row.cells
-      ∙ ap (λ (n : ℕ). setup_of p.callers (data_cells_of p) n (plan_setup p).meaning) row.limit
+      ∙ ap (λ (n : ℕ). setup_of p.callers (plan_data_cells p) n (plan_setup p).meaning) row.limit
 
   -- so what meets the row's rule meets that of the plan's table
   pub meets_for : (B : TableStart) (ws : List ℕ) (v : View) → ViewMeetsRule (setup_at scripts_meaning r) (LawfulCells (key_of r).work) B ws v → ViewMeetsRule (plan_setup p) (IsLawfulFor p) B ws v

@@ -9,7 +9,7 @@ use Rattle.of_plan.specs.declared.answer.Ending.{Ending}
 use Rattle.of_plan.specs.declared.answer.Ending.TheVariants.{Done, Stopped, Spent as RanOut}
 use Rattle.of_plan.specs.declared.plan.Item.{Item}
 use Rattle.of_plan.specs.declared.plan.Item.TheVariants.{Turns as Turns_of, Evict}
-use Rattle.of_plan.specs.Plan.{Plan, IsItem, scripts_of}
+use Rattle.of_plan.specs.Plan.{Plan, IsScheduleItem, scripts_of}
 use Rattle.of_plan.specs.Report.{Start, finished_of}
 use Rattle.of_plan.specs.Legal.{scripts_left}
 use Rattle.of_plan.specs.Ended.{Ended, answers_of, ending_of}
@@ -37,7 +37,7 @@ use Rattle.of_caller.specs.Teams.{KeepsCaller, KeepsLastCall, IsTeamOf, TeamsAre
 use Rattle.of_caller.proofs.Schedules.{ticket_is}
 use Rattle.of_caller.proofs.KeptCallers.{begun_idle}
 use Rattle.of_caller.proofs.Teams.{ran, keeps, tells, told_by, calls_of, machine_is}
-use Rattle.of_caller.specs.Scheduled.{item_events, begins_call, next_begin, with_begin, events_from, scheduled, evicted_by, IsScheduled}
+use Rattle.of_caller.specs.Scheduled.{item_events, begins_call, next_begin, with_begin, events_from, events_of_items, evicted_by, IsScheduled}
 
 -- ---- the moves and the items of events
 
@@ -77,7 +77,7 @@ module _ (p : Plan) where
   abbrev S : Setup
   S = plan_setup p
 
-  items_range : (w : Moment) (es : List Event) → IsSchedule S w es → Each (IsItem p) (items_of es)
+  items_range : (w : Moment) (es : List Event) → IsSchedule S w es → Each (IsScheduleItem p) (items_of es)
   items_range w [] s = tt
   items_range w (Begins i op ∷ es) s = items_range (after_event S w (Begins i op)) es s.1
   items_range w (Turns i ∷ es) s = ((s.0, omega arith), items_range (after_event S w (Turns i)) es s.1)
@@ -309,11 +309,11 @@ module _ (p : Plan) (laws : KeepsLaws p) (runs : RunsAreSchedules (IsLawfulFor p
   items = items_of es
 
   -- the events are those of the plan's callers with these items
-  same : es ≡ scheduled p B items
+  same : es ≡ events_of_items p B items
   same = same_events p O es h.schedule h.prompt (λ i l. (told i l).busy) (next_so [] es refl) ∙ ap (events_from p O) (sym (items_move es))
 
   -- what the team has left, and the events that have led there
-  pub team_scheduled : (xs : List Item) × IsScheduled p s B xs e × ((ran p laws runs s B e v t).0 ≡ scheduled p B xs)
+  pub team_scheduled : (xs : List Item) × IsScheduled p s B xs e × ((ran p laws runs s B e v t).0 ≡ events_of_items p B xs)
   team_scheduled = (
     items,
     record {

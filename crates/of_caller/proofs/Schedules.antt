@@ -23,7 +23,7 @@ use Rattle.of_caller.specs.Tables.{plan_setup, IsLawfulFor, opening_at, operatio
 use Rattle.of_caller.specs.Ends.{AreAnswers}
 use Rattle.of_caller.specs.PlanLaws.{KeepsLaws}
 use Rattle.of_caller.specs.Starts.{StartsAtPlan}
-use Rattle.of_caller.specs.Runs.{AreNextScripts, ending_of_calls, IsMomentOf, TellsCalls, IsRunOf, SchedulesAreMoments, record_at_start, StartsAreRuns}
+use Rattle.of_caller.specs.Runs.{AreNextScripts, ending_of_calls, IsMomentOf, TellsCalls, IsRunOfPlan, SchedulesAreMoments, record_at_start, StartsAreRuns}
 use Rattle.of_caller.proofs.StoresReplay.{number_at}
 use Rattle.of_caller.proofs.RecordsOwn.{idle_or_open}
 
@@ -84,7 +84,7 @@ module _ (p : Plan) (plan : IsPlan p) (laws : KeepsLaws p) (s : Start) (B : Tabl
         ∙ ap (λ (answers : List Answer). ending_of_calls [] (machine_in (opening_at p B) c).steps (scripts_left p s c) (length answers)) (sym (no_answers p.callers c));
   }
 
-  left_by_run : IsRunOf p s B (opening_at p B) (record_at_start p s B)
+  left_by_run : IsRunOfPlan p s B (opening_at p B) (record_at_start p s B)
   left_by_run = record {
     operations = λ c. [];
     outcomes = λ c. [];

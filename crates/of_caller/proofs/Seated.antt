@@ -16,7 +16,7 @@ use Rattle.of_core.specs.Table.{Setup}
 use Rattle.of_core.specs.Machine.{CallState, MayReplace, idle_machine}
 use Rattle.of_core.specs.Seen.{Machine, machine_setup}
 use Rattle.of_core.specs.Turn.{IsIdle}
-use Rattle.of_row.specs.Rows.{setup_at, start_at}
+use Rattle.of_row.specs.Rows.{setup_at, row_start}
 use Rattle.of_row.specs.Passes.{HasEnrolled}
 use Rattle.of_row.specs.declared.member.Member.{Member}
 use Rattle.of_row.specs.declared.member.Pass.{Pass}
@@ -41,7 +41,7 @@ take_none (x ∷ xs) = refl
 pub new_caller : (p : Plan) (r : Row Scripts) (n : ℕ) (before : Pass) (m : Member) (now : Pass) → HasEnrolled scripts_meaning r n before m now → (c : Caller Scripts) → IsCaller scripts_meaning r c → c.member ≡ m → IsIdle (caller_call c) → calls_begun_by c ≡ m.made
     → CallerHasAnswered p (done_at r n) n r c [] 0
 new_caller p r n before m now h c is same rests made =
-    let x : KnownCaller = new_known_caller (setup_at scripts_meaning r) (start_at scripts_meaning r) n (seen_seq (start_at scripts_meaning r) before.seat.me.0.seen) in
+    let x : KnownCaller = new_known_caller (setup_at scripts_meaning r) (row_start scripts_meaning r) n (seen_seq (row_start scripts_meaning r) before.seat.me.0.seen) in
     let kept : (sight_of c).kept ≡ x ∷ [] = ap (λ (k : Member). k.seat.me.0.kept) same ∙ ap (λ (v : View). v.kept) h.member_is in
     let y : KnownCaller = is.member.0 in
     let one : y ≡ x = same_kept y x (sym is.member.1 ∙ kept) in

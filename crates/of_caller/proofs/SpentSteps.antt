@@ -9,8 +9,8 @@ use Rattle.of_core.specs.declared.place.Place.TheVariants.{Idle, TryCurrent, Try
 use Rattle.of_core.specs.declared.place.Outcome.{Outcome}
 use Rattle.of_core.specs.declared.place.Outcome.TheVariants.{Answered, Spent}
 use Rattle.of_core.specs.Table.{Setup, ticket_cell}
-use Rattle.of_core.specs.Machine.{CallState, IsOpen, with_cell_known, log_words, nothing_known}
-use Rattle.of_core.specs.Steps.{take_word, take_word_at, with_step_counted, after_store_script, after_read_run, begin_reading, end_try, after_try_cell, is_request_open, after_try_request, resume, after_load_request, with_log_word_copied, after_copy_log, after_look_again, after_own_ticket_absent, after_own_ticket_found, after_own_ticket, first_marked_place, next_reply_place, with_shape, after_load_shape, with_reply, after_load_reply, next_scanned_caller, weigh, after_announcement, after_load_ticket, with_call_run, after_script_run, run_script, with_script_word, after_load_script, after_load_cell, after_raise_log, after_exchange, after_raise_current, after_load_target, next_entry, after_raise_closed}
+use Rattle.of_core.specs.Machine.{CallState, IsOpen, with_cell_known, log_words, no_cell_known}
+use Rattle.of_core.specs.Steps.{take_word, take_word_at, with_step_counted, after_store_script, after_read_run, begin_reading, end_try, after_try_cell, is_request_open, after_try_request, resume, after_load_request, with_log_word_copied, after_copy_log, after_look_again, after_own_ticket_absent, after_own_ticket_found, after_own_ticket, first_marked_place, next_reply_place, with_shape, after_load_shape, with_reply, after_load_reply, next_scanned_caller, weigh, after_announcement, after_load_ticket, with_call_run, after_script_run, run_script, with_script_word, after_load_script, after_load_cell, after_raise_log, after_commit_exchange, after_raise_current, after_load_target, next_entry, after_raise_closed}
 use Rattle.of_caller.specs.Vain.{MissesOwnTicketAtLimit, IsSpent}
 
 -- the machine isn't one whose call was just spent
@@ -32,7 +32,7 @@ over m true = λ s e f. cc
 over m false = λ s e f. cc
 
 tried_is : (S : Setup) (m : CallState) → NotSpent (begin_reading S m)
-tried_is S m = read_is (record m { known = nothing_known S; helps = false }) (S.meaning.walk (nothing_known S) m.op)
+tried_is S m = read_is (record m { known = no_cell_known S; helps = false }) (S.meaning.walk (no_cell_known S) m.op)
 
 try_cell : (S : Setup) (m : CallState) (a n : ℕ) (newer : Bool) → NotSpent (after_try_cell S m a n newer)
 try_cell S m a n true = over m (nat_lt m.tries 4)
@@ -105,7 +105,7 @@ raise_log : (m : CallState) (x : ℕ) (more : Bool) → NotSpent (after_raise_lo
 raise_log m x true = λ s e f. cc
 raise_log m x false = λ s e f. cc
 
-exchange : (m : CallState) (won : Bool) → NotSpent (after_exchange m won)
+exchange : (m : CallState) (won : Bool) → NotSpent (after_commit_exchange m won)
 exchange m true = λ s e f. cc
 exchange m false = λ s e f. cc
 

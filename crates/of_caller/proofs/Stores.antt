@@ -29,7 +29,7 @@ use Rattle.of_core.specs.Table.{Setup, first_operation_cell, durable_seq}
 use Rattle.of_core.specs.Machine.{no_call, is_idle}
 use Rattle.of_core.specs.World.{Moment, Batch, Read, TableStart}
 use Rattle.of_core.specs.Order.{no_read}
-use Rattle.of_core.specs.History.{numbers_after, no_batch, numbers_after_calls, HaveReplies, numbers_after_batches, SameReply}
+use Rattle.of_core.specs.History.{numbers_after, no_batch, numbers_after_calls, CallsHaveReplies, numbers_after_batches, SameReply}
 use Rattle.of_core.specs.Calls.{no_outcome}
 use Rattle.of_core.specs.Events.{machine_in}
 use Rattle.of_caller.specs.Tables.{plan_setup, operation_of}
@@ -131,7 +131,7 @@ module _ (p : Plan) (s : Start) (B : TableStart) (w : Moment) (ops : ℕ → Lis
   pub is_stored : (k : ℕ) → B.seq ≤ k → k ≤ B.seq + length w.batches → IsStored (base_of p.callers MOST_INSTRS) p.blocks (memory_of (numbers_after B w.batches k)) (store_at_seq p B s.store w k)
   is_stored k low high = (numbers_stand k low high).stored
 
-  met : (k : ℕ) → k < length w.batches → HaveReplies S.meaning (numbers_after_batches S.meaning start (take k w.batches)) (get_or w.batches k no_batch).calls
+  met : (k : ℕ) → k < length w.batches → CallsHaveReplies S.meaning (numbers_after_batches S.meaning start (take k w.batches)) (get_or w.batches k no_batch).calls
   met k l = legal_at S.meaning start w.batches k h.sound.legal l
 
   -- the call at a place of a batch has the reply of serial replay

@@ -20,7 +20,7 @@ use Rattle.of_store.specs.State.{replies_in_order}
 use Rattle.of_eval.specs.Shapes.{IsHeldBy}
 use Rattle.of_eval.specs.Stored.{cell_store, IsStored}
 use Rattle.of_eval.specs.Lawful.{reply_number, reply_in, OwnCellsAreSound, DataCellsStandFor}
-use Rattle.of_eval.specs.Record.{data_cells_of, recovered_seq, recovered_data_word, recovered_number}
+use Rattle.of_eval.specs.Record.{plan_data_cells, recovered_seq, recovered_data_word, record_number}
 use Rattle.of_eval.proofs.Overlay.{stands_below}
 use Rattle.of_plan.specs.Plan.{Plan, scripts_of}
 use Rattle.of_plan.specs.Report.{Start, finished_of}
@@ -50,15 +50,15 @@ pub record IsLastCall (p : Plan) (s : Start) (B : TableStart) (w : Moment) (e : 
   pub caller : (get_or (batch_calls B w number) place no_call).caller ≡ c
   pub absent : HasNoCallBetween B w.batches c number (durable_seq (plan_setup p) w.words)
   pub word_is : recovered_data_word p e (ticket_cell_at MOST_INSTRS c) ≡ pack number (get_or (batch_calls B w number) place no_call).ticket
-  pub ticket_is : recovered_number p e (ticket_cell_at MOST_INSTRS c) ≡ (get_or (batch_calls B w number) place no_call).ticket
-  pub reply : HasReply (reply_in MOST_INSTRS (recovered_number p e) c) (get_or (replies_in_order (store_at_seq p B s.store w (number - 1)) (batch_scripts p B w number)) place no_response)
+  pub ticket_is : record_number p e (ticket_cell_at MOST_INSTRS c) ≡ (get_or (batch_calls B w number) place no_call).ticket
+  pub reply : HasReply (reply_in MOST_INSTRS (record_number p e) c) (get_or (replies_in_order (store_at_seq p B s.store w (number - 1)) (batch_scripts p B w number)) place no_response)
 
 -- caller c has no call from the start up to the recovered sequence: its recovered ticket is the
 -- start's, and its own cells stand as there
 pub record HasNoCall (p : Plan) (s : Start) (B : TableStart) (w : Moment) (e : Ended) (c : ℕ) : Type 0 where
   pub absent : HasNoCallBetween B w.batches c B.seq (durable_seq (plan_setup p) w.words)
-  pub ticket_is : recovered_number p e (ticket_cell_at MOST_INSTRS c) ≡ finished_of s c
-  pub own : OwnCellsAreSound MOST_INSTRS (recovered_number p e) c
+  pub ticket_is : record_number p e (ticket_cell_at MOST_INSTRS c) ≡ finished_of s c
+  pub own : OwnCellsAreSound MOST_INSTRS (record_number p e) c
 
 -- ---- own cells that are the same stand the same way
 
@@ -105,39 +105,39 @@ module _ (p : Plan) (s : Start) (B : TableStart) (w : Moment) (ops : ℕ → Lis
 
   -- the recovered sequence is the durable one
   pub recovered_seq_is : recovered_seq p e ≡ durable_seq (plan_setup p) w.words
-  recovered_seq_is = ap (λ (ws : List ℕ). current_seq (λ c. get_or ws (durable_place p.callers (data_cells_of p) c) 0)) left
+  recovered_seq_is = ap (λ (ws : List ℕ). current_seq (λ c. get_or ws (durable_place p.callers (plan_data_cells p) c) 0)) left
 
-  word_at : (a : ℕ) → a < data_cells_of p → recovered_data_word p e a ≡ word_in a
-  word_at a l = ap (λ (ws : List ℕ). recovered_data p.callers (data_cells_of p) (λ c. get_or ws (durable_place p.callers (data_cells_of p) c) 0) a) left ∙ h.sound.recovers a l
+  word_at : (a : ℕ) → a < plan_data_cells p → recovered_data_word p e a ≡ word_in a
+  word_at a l = ap (λ (ws : List ℕ). recovered_data p.callers (plan_data_cells p) (λ c. get_or ws (durable_place p.callers (plan_data_cells p) c) 0) a) left ∙ h.sound.recovers a l
 
-  pay_at : (a : ℕ) → a < data_cells_of p → recovered_number p e a ≡ payload_of (word_in a)
+  pay_at : (a : ℕ) → a < plan_data_cells p → record_number p e a ≡ payload_of (word_in a)
   pay_at a l = ap payload_of (word_at a l)
 
   upto_last : d ≤ B.seq + length w.batches
   upto_last = h.sound.reaches
 
   -- the recovered cells stand for the store after the batches up to it
-  pub recovered_stored : IsStored (base_of p.callers MOST_INSTRS) p.blocks (recovered_number p e) (store_at_seq p B s.store w (durable_seq (plan_setup p) w.words))
+  pub recovered_stored : IsStored (base_of p.callers MOST_INSTRS) p.blocks (record_number p e) (store_at_seq p B s.store w (durable_seq (plan_setup p) w.words))
   recovered_stored =
       let stored = is_stored p s B w ops outs h d h.sound.from upto_last in
       record {
         state = stored.state;
-        stands = stands_below (base_of p.callers MOST_INSTRS) p.blocks (memory_of (numbers_after B w.batches d)) (recovered_number p e) (λ a low high. number_at (state_after B w.batches d) a ∙ sym (pay_at a high)) (cell_store (store_at_seq p B s.store w d)) stored.stands;
+        stands = stands_below (base_of p.callers MOST_INSTRS) p.blocks (memory_of (numbers_after B w.batches d)) (record_number p e) (λ a low high. number_at (state_after B w.batches d) a ∙ sym (pay_at a high)) (cell_store (store_at_seq p B s.store w d)) stored.stands;
       }
 
   -- ---- a caller's own cells
 
   -- those of the start
-  at_start : (a : ℕ) → a < data_cells_of p → word_in a ≡ data_word_after B w.batches B.seq a → recovered_number p e a ≡ start_number B a
+  at_start : (a : ℕ) → a < plan_data_cells p → word_in a ≡ data_word_after B w.batches B.seq a → record_number p e a ≡ start_number B a
   at_start a l same = pay_at a l ∙ ap payload_of (same ∙ ap (λ (ws : List ℕ). get_or ws a 0) (state_start B w.batches)) ∙ sym (number_at B.cells a)
 
   no_call_yet : (c : ℕ) → c < p.callers → HasNoCallBetween B w.batches c B.seq d → ((a : ℕ) → IsCellOfCaller S c a → word_in a ≡ data_word_after B w.batches B.seq a) → HasNoCall p s B w e c
   no_call_yet c l absent same =
-      let cells : (a : ℕ) → IsOwnCell c a → recovered_number p e a ≡ start_number B a = λ a own. at_start a (omega (arith, l, own.1)) (same a own) in
+      let cells : (a : ℕ) → IsOwnCell c a → record_number p e a ≡ start_number B a = λ a own. at_start a (omega (arith, l, own.1)) (same a own) in
       record {
         absent = absent;
         ticket_is = cells (ticket_cell_at MOST_INSTRS c) (omega arith, omega arith) ∙ h.starts.tickets c l;
-        own = stand_same (recovered_number p e) (start_number B) c cells (h.starts.stands.own c l);
+        own = stand_same (record_number p e) (start_number B) c cells (h.starts.stands.own c l);
       }
 
   -- a caller has fewer scripts than a word has numbers
@@ -149,7 +149,7 @@ module _ (p : Plan) (s : Start) (B : TableStart) (w : Moment) (ops : ℕ → Lis
     call = get_or (batch_calls B w q.number) q.place no_call
 
     abbrev raw : RawReply
-    raw = reply_in MOST_INSTRS (recovered_number p e) c
+    raw = reply_in MOST_INSTRS (record_number p e) c
 
     before : q.number ≤ B.seq + length w.batches
     before = omega (arith, q.upto, upto_last)
@@ -165,8 +165,8 @@ module _ (p : Plan) (s : Start) (B : TableStart) (w : Moment) (ops : ℕ → Lis
 
     number : (y : ℕ) → y < S.instrs → is_marked raw.shape y ≡ true → get_or raw.values y 0 ≡ get_or call.raw.values y 0
     number y k mark =
-        get_or-map-range_with_len (reply_number MOST_INSTRS (recovered_number p e) c) 0 MOST_INSTRS y y 0 k (omega arith)
-        ∙ ap (λ (b : Bool). if b then recovered_number p e (reply_at MOST_INSTRS c y) else 0) (lt-ltb y MOST_INSTRS k)
+        get_or-map-range_with_len (reply_number MOST_INSTRS (record_number p e) c) 0 MOST_INSTRS y y 0 k (omega arith)
+        ∙ ap (λ (b : Bool). if b then record_number p e (reply_at MOST_INSTRS c y) else 0) (lt-ltb y MOST_INSTRS k)
         ∙ pay_at (reply_at MOST_INSTRS c y) (omega (arith, l, k))
         ∙ ap (λ (i : ℕ). payload_of (word_in (reply_cell S i y))) (sym q.caller)
         ∙ q.shows.replies y k (ap (λ (s : ℕ). is_marked s y) (sym shape) ∙ mark)
@@ -196,7 +196,7 @@ module _ (p : Plan) (s : Start) (B : TableStart) (w : Moment) (ops : ℕ → Lis
   ]
 
   -- the recovered own cells of each caller are the start's, or hold the reply to its last call
-  pub recovered_own : (c : ℕ) → c < p.callers → OwnCellsAreSound MOST_INSTRS (recovered_number p e) c
+  pub recovered_own : (c : ℕ) → c < p.callers → OwnCellsAreSound MOST_INSTRS (record_number p e) c
   recovered_own c l = elim (recovered_ticket c l) [
     | inl q ↦ q.own
     | inr q ↦ record {
@@ -206,5 +206,5 @@ module _ (p : Plan) (s : Start) (B : TableStart) (w : Moment) (ops : ℕ → Lis
   ]
 
   -- so all recovered cells stand for that store
-  pub stands_for : DataCellsStandFor p.callers MOST_INSTRS p.blocks (recovered_number p e) (store_at_seq p B s.store w (durable_seq (plan_setup p) w.words))
+  pub stands_for : DataCellsStandFor p.callers MOST_INSTRS p.blocks (record_number p e) (store_at_seq p B s.store w (durable_seq (plan_setup p) w.words))
   stands_for = record { own = recovered_own; stored = recovered_stored }

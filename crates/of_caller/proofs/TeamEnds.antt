@@ -11,7 +11,7 @@ use Rattle.of_plan.specs.Plan.{Plan}
 use Rattle.of_plan.specs.Report.{Start}
 use Rattle.of_plan.specs.Ended.{Ended, answers_of, ending_of}
 use Rattle.of_row.specs.Views.{KnownCaller, View}
-use Rattle.of_row.specs.Rule.{members_of, IsAsked, ViewMeetsRule, IsKept, KeepsAll}
+use Rattle.of_row.specs.Rule.{members_of, IsAsked, ViewMeetsRule, IsCallerKept, KeepsAll}
 use Rattle.of_row.specs.Rows.{key_of, setup_at}
 use Rattle.of_row.specs.declared.row.Row.{Row}
 use Rattle.of_caller.specs.declared.lane.Lane.{Lane}
@@ -26,7 +26,7 @@ use Rattle.of_caller.proofs.RowStarts.{meets_for, done_is}
 use Rattle.of_caller.proofs.Pairs.{both_length}
 use Rattle.of_caller.proofs.Seated.{kept_in, gathered_is, kept_so}
 
-is_kept : (c : ℕ) (P : KnownCaller → Type 0) (xs : List KnownCaller) → KeepsCallerWith c P xs → IsKept c xs
+is_kept : (c : ℕ) (P : KnownCaller → Type 0) (xs : List KnownCaller) → KeepsCallerWith c P xs → IsCallerKept c xs
 is_kept c P [] q = absurd q
 is_kept c P (x ∷ xs) (inl q) = inl q.0
 is_kept c P (x ∷ xs) (inr q) = inr (is_kept c P xs q)

@@ -29,7 +29,7 @@ use Rattle.of_caller.specs.Tables.{plan_setup, IsLawfulFor, opening_at}
 use Rattle.of_caller.specs.Ends.{AnswersStandBeforeSpent, AreAnswers}
 use Rattle.of_caller.specs.PlanLaws.{KeepsLaws}
 use Rattle.of_caller.specs.Moments.{batch_calls}
-use Rattle.of_caller.specs.Runs.{AreNextScripts, IsMomentOf, IsRunOf, TellsCalls, steps_made, ending_of_calls}
+use Rattle.of_caller.specs.Runs.{AreNextScripts, IsMomentOf, IsRunOfPlan, TellsCalls, steps_made, ending_of_calls}
 use Rattle.of_caller.specs.Stops.{KeepToStop, answer_steps, open_call_steps}
 use Rattle.of_caller.specs.Teams.{KeepsCaller, KeepsCallerWith, IsTeamOf, seen_calls, AnnouncesSeen, TeamsAreLawful, TeamsKeepAllowances}
 use Rattle.of_caller.proofs.Schedules.{ticket_is}
@@ -129,7 +129,7 @@ module _ (p : Plan) (laws : KeepsLaws p) (runs : RunsAreSchedules (IsLawfulFor p
       }
 
   -- the world of the closed row is one that a run leads to
-  abbrev pub team_is_run : IsRunOf p s B w e
+  abbrev pub team_is_run : IsRunOfPlan p s B w e
   team_is_run = record {
     operations = operations_begun es;
     outcomes = outcomes T O es;
@@ -141,7 +141,7 @@ module _ (p : Plan) (laws : KeepsLaws p) (runs : RunsAreSchedules (IsLawfulFor p
     room = long;
   }
 
-  pub team_run : (x : Moment) × IsRunOf p s B x e
+  pub team_run : (x : Moment) × IsRunOfPlan p s B x e
   team_run = (w, team_is_run)
 
   -- the batches that were seen are those of its history

@@ -11,7 +11,7 @@ use Rattle.of_core.specs.Events.{Event}
 use Rattle.of_core.specs.Calls.{outcome_seq, IsNotBefore}
 use Rattle.of_core.specs.Linear.{CallEndsBefore}
 use Rattle.of_row.specs.declared.row.Row.{Row}
-use Rattle.of_row.specs.Rows.{setup_at, start_at, HasNoCall}
+use Rattle.of_row.specs.Rows.{setup_at, row_start, HasNoCall}
 use Rattle.of_row.specs.Trail.{first_of}
 use Rattle.of_caller.specs.declared.caller.Caller.{Caller}
 use Rattle.of_caller.specs.declared.caller.CallErr.{CallErr}
@@ -61,5 +61,5 @@ EndsFirst {W} meaning lawful =
     → (second : TellsCallOf meaning lawful row n b b' p q result) → 0 < second.steps
     → (es : List Event) → IsPrefix (sight_of b').past es
     → CallEndsBefore (setup_at meaning row)
-    (first_of (setup_at meaning row) (start_at meaning row)) es
+    (first_of (setup_at meaning row) (row_start meaning row)) es
     m.caller (length first.before.ended) n.caller (length second.before.ended)

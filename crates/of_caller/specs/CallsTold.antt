@@ -5,7 +5,7 @@ use Rattle.of_mem.specs.Meaning.{Meaning}
 use Rattle.of_core.specs.declared.place.Outcome.{Outcome}
 use Rattle.of_core.specs.declared.place.Outcome.TheVariants.{Spent as Over}
 use Rattle.of_core.specs.Table.{Setup}
-use Rattle.of_core.specs.Machine.{CallState, IsOpen, begin}
+use Rattle.of_core.specs.Machine.{CallState, IsOpen, begin_call}
 use Rattle.of_core.specs.World.{TableStart}
 use Rattle.of_core.specs.Bound.{bound}
 use Rattle.of_core.specs.Turn.{IsIdle}
@@ -16,7 +16,7 @@ use Rattle.of_row.specs.Trail.{IsToldBy}
 use Rattle.of_row.specs.Rule.{CallHasEnded, HasOwn, HasOwnOnce, IsLegalFront}
 use Rattle.of_row.specs.Turned.{IsMeantReply, TellsSteps, since_after}
 use Rattle.of_row.specs.declared.row.Row.{Row}
-use Rattle.of_row.specs.Rows.{key_of, setup_at, start_at}
+use Rattle.of_row.specs.Rows.{key_of, setup_at, row_start}
 use Rattle.of_caller.specs.declared.caller.Caller.{Caller}
 use Rattle.of_caller.specs.declared.caller.CallErr.{CallErr}
 use Rattle.of_caller.specs.declared.caller.CallErr.TheVariants.{Stopped, Spent}
@@ -111,9 +111,9 @@ pub record TellsCall (S : Setup) (Lawful : List ℕ → Type 0) (B : TableStart)
 abbrev pub TellsCallOf : {W : Type 0} → (W → Meaning) → (W → List ℕ → Type 0) → Row W → (m : CallState)
     → (before now : Caller W) → (a b : ℕ) → Result Outcome CallErr → Type 0
 TellsCallOf meaning lawful r m before now a b result =
-    TellsCall (setup_at meaning r) (lawful (key_of r).work) (start_at meaning r)
+    TellsCall (setup_at meaning r) (lawful (key_of r).work) (row_start meaning r)
     m (sight_of before) a (caller_call now) (sight_of now) b result
 
 -- the call that a caller of the row begins with these words
 abbrev pub call_begun_by : {W : Type 0} → (W → Meaning) → Row W → Caller W → (op : List ℕ) → CallState
-call_begun_by meaning r c op = begin (setup_at meaning r) (caller_call c) op
+call_begun_by meaning r c op = begin_call (setup_at meaning r) (caller_call c) op

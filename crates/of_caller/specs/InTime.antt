@@ -13,8 +13,8 @@ use Rattle.of_core.specs.Events.{Event, Begins, Turns, Loads, Evicts, Raises, af
 use Rattle.of_core.specs.Calls.{outcome_of_step, outcomes}
 use Rattle.of_row.specs.Views.{View}
 use Rattle.of_caller.specs.Tables.{plan_setup, IsLawfulFor, opening_at}
-use Rattle.of_caller.specs.Scheduled.{scheduled, IsScheduled}
-use Rattle.of_caller.specs.Runs.{IsRunOf}
+use Rattle.of_caller.specs.Scheduled.{events_of_items, IsScheduled}
+use Rattle.of_caller.specs.Runs.{IsRunOfPlan}
 use Rattle.of_caller.specs.Teams.{IsTeamOf}
 
 -- ---- what is seen of calls from outside
@@ -37,8 +37,8 @@ over_in c (BeginsCall d ∷ ms) = over_in c ms
 over_in c (EndsCall d ∷ ms) = (if c == d then 1 else 0) + over_in c ms
 
 -- after the first k marks, of a run from this start, the call of the entry has ended
-abbrev pub HasEnded : Start → List Mark → (k : ℕ) → Entry → Type 0
-HasEnded s ms k e = e.index < finished_of s e.caller + over_in e.caller (take k ms)
+abbrev pub EntryHasEnded : Start → List Mark → (k : ℕ) → Entry → Type 0
+EntryHasEnded s ms k e = e.index < finished_of s e.caller + over_in e.caller (take k ms)
 
 -- after the first k marks it has not begun
 abbrev pub NotBegun : Start → List Mark → (k : ℕ) → Entry → Type 0
@@ -46,7 +46,7 @@ NotBegun s ms k e = finished_of s e.caller + begun_in e.caller (take k ms) ≤ e
 
 -- the first call ends before the second begins: there is a moment between them
 abbrev pub EndsBefore : Start → List Mark → Entry → Entry → Type 0
-EndsBefore s ms e f = (k : ℕ) × HasEnded s ms k e × NotBegun s ms k f
+EndsBefore s ms e f = (k : ℕ) × EntryHasEnded s ms k e × NotBegun s ms k f
 
 -- the second comes after the first in the history: at a higher sequence, or, if it was not
 -- announced, at no lower one
@@ -76,7 +76,7 @@ marks_in S w (e ∷ es) = marks_of S w e ++ marks_in S (after_event S w e) es
 
 -- the marks of the plan's callers with these items for a schedule, from this start
 abbrev pub course_of : Plan → TableStart → List Item → List Mark
-course_of p B items = marks_in (plan_setup p) (opening_at p B) (scheduled p B items)
+course_of p B items = marks_in (plan_setup p) (opening_at p B) (events_of_items p B items)
 
 -- ---- what holds of all schedules and teams
 
@@ -85,7 +85,7 @@ abbrev pub SchedulesRespectTime : Plan → Type 0
 SchedulesRespectTime p =
     (s : Start) (B : TableStart) → MayStart (plan_setup p) (IsLawfulFor p) B
     → (es : List Event) → IsSchedule (plan_setup p) (opening_at p B) es
-    → (e : Ended) (left : IsRunOf p s B (after_events (plan_setup p) (opening_at p B) es) e)
+    → (e : Ended) (left : IsRunOfPlan p s B (after_events (plan_setup p) (opening_at p B) es) e)
     → ((c : ℕ) → c < p.callers
     → left.outcomes c ≡ outcomes (plan_setup p) (opening_at p B) es c)
     → (r : Report) → IsLawfulRecord p s e r

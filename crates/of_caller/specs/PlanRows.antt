@@ -1,26 +1,26 @@
 -- A row that a plan's callers can share.
 use Rattle.std.specs.Prelude.{◌≡◌, ℕ, ◌≤◌, ◌<◌, length}
 use Rattle.of_eval.specs.declared.scripts.Scripts.{Scripts}
-use Rattle.of_eval.specs.Record.{data_cells_of}
+use Rattle.of_eval.specs.Record.{plan_data_cells}
 use Rattle.of_eval.specs.Scripts.{scripts_meaning}
 use Rattle.of_plan.specs.Plan.{Plan, scripts_of}
 use Rattle.of_plan.specs.Report.{Start, finished_of}
 use Rattle.of_core.specs.World.{TableStart}
 use Rattle.of_row.specs.declared.row.Row.{Row}
-use Rattle.of_row.specs.Rows.{key_of, start_at}
+use Rattle.of_row.specs.Rows.{key_of, row_start}
 use Rattle.of_caller.specs.Starts.{StartsAtPlan}
 
 -- the row is one of the plan: its callers, cells, limit and work
 pub record IsRowOf (p : Plan) (r : Row Scripts) : Type 0 where
   pub callers : (key_of r).callers ≡ p.callers
-  pub cells : (key_of r).cells ≡ data_cells_of p
+  pub cells : (key_of r).cells ≡ plan_data_cells p
   pub limit : (key_of r).limit ≡ p.limit
   pub work_callers : (key_of r).work.callers ≡ p.callers
   pub work_blocks : (key_of r).work.blocks ≡ p.blocks
 
 -- where the row has started
 abbrev pub start_of_row : Row Scripts → TableStart
-start_of_row r = start_at scripts_meaning r
+start_of_row r = row_start scripts_meaning r
 
 -- no caller has done more scripts at the start than it has
 abbrev pub HasScripts : Plan → Start → Type 0

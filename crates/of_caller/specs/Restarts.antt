@@ -7,7 +7,7 @@ use Rattle.of_script.specs.declared.instr.TheConstants.{MOST_INSTRS}
 use Rattle.of_store.specs.Replies.{reply_value_of}
 use Rattle.of_eval.specs.Shapes.{IsHeldBy}
 use Rattle.of_eval.specs.Lawful.{reply_in, DataCellsStandFor}
-use Rattle.of_eval.specs.Record.{data_cells_of, IsLawfulRecord}
+use Rattle.of_eval.specs.Record.{plan_data_cells, IsLawfulRecord}
 use Rattle.of_plan.specs.Plan.{Plan}
 use Rattle.of_plan.specs.Report.{Entry, Start, Report, entries_of, finished_of}
 use Rattle.of_plan.specs.Ended.{Ended}
@@ -16,7 +16,7 @@ use Rattle.of_core.specs.Starts.{start_from_durable, IsDurable, IsStartRow}
 use Rattle.of_caller.specs.Tables.{plan_setup, IsLawfulFor}
 use Rattle.of_caller.specs.Starts.{start_number}
 use Rattle.of_row.specs.Views.{View}
-use Rattle.of_caller.specs.Runs.{IsRunOf}
+use Rattle.of_caller.specs.Runs.{IsRunOfPlan}
 use Rattle.of_caller.specs.Teams.{IsTeamOf}
 
 -- an announced entry, whose ticket and whose reply the caller's own cells hold
@@ -40,7 +40,7 @@ pub record HoldsLastAnnounced (m : ℕ → ℕ) (caller n : ℕ) (es : List Entr
 -- own cells hold its last announced entry
 pub record StartsAfterReport (p : Plan) (s : Start) (r : Report) (B : TableStart) : Type 0 where
   pub seq : B.seq ≡ r.seq
-  pub size : length B.cells ≡ data_cells_of p
+  pub size : length B.cells ≡ plan_data_cells p
   pub stands : DataCellsStandFor p.callers MOST_INSTRS p.blocks (start_number B) r.store
   pub callers : (c : ℕ) → c < p.callers
       → HoldsLastAnnounced (start_number B) c (finished_of s c) (entries_of r c)
@@ -50,14 +50,14 @@ pub record StartsAfterReport (p : Plan) (s : Start) (r : Report) (B : TableStart
 abbrev pub MayRestartAfter : Plan → Start → Ended → Report → Type 0
 MayRestartAfter p s e r =
     (row : List ℕ) → IsDurable (plan_setup p) e.words row
-    → let found : List ℕ = recovered_words p.callers (data_cells_of p) row in
+    → let found : List ℕ = recovered_words p.callers (plan_data_cells p) row in
     IsStartRow (plan_setup p) (IsLawfulFor p) found
-    × StartsAfterReport p s r (start_from_durable p.callers (data_cells_of p) found)
+    × StartsAfterReport p s r (start_from_durable p.callers (plan_data_cells p) found)
 
 -- so it is of each run
 abbrev pub RunsRestart : Type 0
 RunsRestart =
-    (p : Plan) (s : Start) (B : TableStart) (w : Moment) (e : Ended) → IsRunOf p s B w e
+    (p : Plan) (s : Start) (B : TableStart) (w : Moment) (e : Ended) → IsRunOfPlan p s B w e
     → (r : Report) → IsLawfulRecord p s e r → MayRestartAfter p s e r
 
 -- and of each team of a plan

@@ -53,7 +53,7 @@ pub record TellsCalls (p : Plan) (s : Start) (w : Moment) (e : Ended) (c : ℕ) 
   pub ended : ending_of e c ≡ ending_of_calls outs (machine_in w c).steps (scripts_left p s c) (length (answers_of e c))
 
 -- a run of the plan from the start has left this, where its table has come to this world
-pub record IsRunOf (p : Plan) (s : Start) (B : TableStart) (w : Moment) (e : Ended) : Type 0 where
+pub record IsRunOfPlan (p : Plan) (s : Start) (B : TableStart) (w : Moment) (e : Ended) : Type 0 where
   pub operations : ℕ → List (List ℕ)
   pub outcomes : ℕ → List Outcome
   pub moment : IsMomentOf p s B w operations outcomes
@@ -88,7 +88,7 @@ record_at_start p s B = record {
 abbrev pub StartsAreRuns : Plan → Type 0
 StartsAreRuns p =
     (s : Start) (B : TableStart) → StartsAtPlan p s B → IsStart (plan_setup p) B → B.seq ≤ p.limit
-    → IsRunOf p s B (opening_at p B) (record_at_start p s B)
+    → IsRunOfPlan p s B (opening_at p B) (record_at_start p s B)
 
 -- at each moment of a plan the raw reply of an answered call is that of some reply
 abbrev pub RepliesAreHeld : Type 0
@@ -102,13 +102,13 @@ RepliesAreHeld =
 -- what such a run leaves is a lawful record
 abbrev pub RunsAreLawful : Type 0
 RunsAreLawful =
-    (p : Plan) (s : Start) (B : TableStart) (w : Moment) (e : Ended) → IsRunOf p s B w e
+    (p : Plan) (s : Start) (B : TableStart) (w : Moment) (e : Ended) → IsRunOfPlan p s B w e
     → (r : Report) × IsLawfulRecord p s e r
 
 -- and of its report all holds that holds of every run
 abbrev pub RunsAreReported : Type 0
 RunsAreReported =
-    (p : Plan) (s : Start) (B : TableStart) (w : Moment) (e : Ended) → IsRunOf p s B w e
+    (p : Plan) (s : Start) (B : TableStart) (w : Moment) (e : Ended) → IsRunOfPlan p s B w e
     → (r : Report) → IsLawfulRecord p s e r → ReportsRun p s e r
 
 -- the steps that the outcomes of caller c tell, and those of its open call
@@ -119,7 +119,7 @@ steps_made w c outs = total_steps outs + (machine_in w c).steps
 -- keeps them as its allowance, where its open call has a step left
 abbrev pub RunsKeepAllowances : Type 0
 RunsKeepAllowances =
-    (p : Plan) (s : Start) (B : TableStart) (w : Moment) (e : Ended) (after_events : IsRunOf p s B w e)
+    (p : Plan) (s : Start) (B : TableStart) (w : Moment) (e : Ended) (after_events : IsRunOfPlan p s B w e)
     → (r : Report) → IsLawfulRecord p s e r → (c n : ℕ) → c < p.callers
     → (machine_in w c).steps < bound (plan_setup p) → steps_made w c (after_events.outcomes c) ≤ n
     → (end_state_of (ending_of e c) ≡ stopped → NoneSpent (after_events.outcomes c) → steps_made w c (after_events.outcomes c) ≡ n)

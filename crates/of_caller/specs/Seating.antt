@@ -8,7 +8,7 @@ use Rattle.of_eval.specs.Scripts.{scripts_meaning}
 use Rattle.of_row.specs.Views.{View}
 use Rattle.of_row.specs.Rule.{IsAsked, done_before}
 use Rattle.of_row.specs.Turned.{after_join}
-use Rattle.of_row.specs.Rows.{IsSeatOf, setup_at, start_at}
+use Rattle.of_row.specs.Rows.{IsSeatOf, setup_at, row_start}
 use Rattle.of_row.specs.declared.row.Row.{Row}
 use Rattle.of_caller.specs.declared.lane.Lane.{Lane}
 use Rattle.of_caller.specs.Callers.{sight_of}
@@ -32,7 +32,7 @@ pub record EvictsCells (cells : List ℕ) (v w : View) : Type 0 where
 
 -- how many scripts of a caller the row has behind it
 abbrev pub done_at : Row Scripts → ℕ → ℕ
-done_at r c = done_before (setup_at scripts_meaning r) (start_at scripts_meaning r) c
+done_at r c = done_before (setup_at scripts_meaning r) (row_start scripts_meaning r) c
 
 module _ {X : Type 0} {Y : X → Type 0} where
   -- the lane of a caller that has made no call

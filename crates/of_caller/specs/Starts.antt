@@ -5,7 +5,7 @@ use Rattle.of_mem.specs.Places.{ticket_cell_at}
 use Rattle.of_mem.specs.ProgramWork.{memory_of}
 use Rattle.of_script.specs.declared.instr.TheConstants.{MOST_INSTRS}
 use Rattle.of_eval.specs.Lawful.{DataCellsStandFor}
-use Rattle.of_eval.specs.Record.{data_cells_of}
+use Rattle.of_eval.specs.Record.{plan_data_cells}
 use Rattle.of_plan.specs.Plan.{Plan}
 use Rattle.of_plan.specs.Report.{Start, empty_start, finished_of}
 use Rattle.of_core.specs.World.{TableStart}
@@ -20,7 +20,7 @@ start_number B a = memory_of (map payload_of B.cells) a
 -- store, and each caller's ticket cell holds how many of its scripts are done
 pub record StartsAtPlan (p : Plan) (s : Start) (B : TableStart) : Type 0 where
   pub seq : B.seq ≡ s.seq
-  pub size : length B.cells ≡ data_cells_of p
+  pub size : length B.cells ≡ plan_data_cells p
   pub stands : DataCellsStandFor p.callers MOST_INSTRS p.blocks (start_number B) s.store
   pub each_caller : length s.finished ≡ p.callers
   pub tickets : (c : ℕ) → c < p.callers → start_number B (ticket_cell_at MOST_INSTRS c) ≡ finished_of s c

@@ -32,8 +32,8 @@ use Rattle.of_caller.specs.Scheduled.{IsScheduled}
 -- ---- what is kept of one caller
 
 -- the operation of a caller's script of this index
-abbrev pub operation_at : Plan → (caller index : ℕ) → List ℕ
-operation_at p c x = operation_of (slice_index_or (scripts_of p c) x [])
+abbrev pub script_operation_at : Plan → (caller index : ℕ) → List ℕ
+script_operation_at p c x = operation_of (slice_index_or (scripts_of p c) x [])
 
 -- calls that have ended are those of a caller's scripts behind so many, in order, and these are
 -- their answers
@@ -57,9 +57,9 @@ pub record IsStopped (p : Plan) (op : List ℕ) (asked : ℕ) (m : CallState) : 
 abbrev pub KeepsLastCall : Plan → (c x n : ℕ) → CallState → List EndedCall → Ending → Type 0
 KeepsLastCall p c x n m beyond Done = (x ≡ n) × IsIdle m × (beyond ≡ [])
 KeepsLastCall p c x n m beyond (Stopped asked) =
-    (x < n) × IsStopped p (operation_at p c x) asked m × (beyond ≡ [])
+    (x < n) × IsStopped p (script_operation_at p c x) asked m × (beyond ≡ [])
 KeepsLastCall p c x n m beyond (Spent seq) =
-    (x < n) × IsIdle m × (beyond ≡ record { op = operation_at p c x; outcome = RanOut seq } ∷ [])
+    (x < n) × IsIdle m × (beyond ≡ record { op = script_operation_at p c x; outcome = RanOut seq } ∷ [])
 
 -- what is kept of a caller, of whose scripts so many were done before, is what its answers and its
 -- ending tell

@@ -1,7 +1,7 @@
 -- The cells of a shape have different numbers, and the words of its table different places.
 use Rattle.std.proofs.Common.{◌≡◌, ℕ, ◌+◌, ◌*◌, ◌<◌, ◌≤◌, ◌⊎◌, inl, inr, refl, ap, arith}
 use Rattle.std.proofs.lemmas.Bool.{cases_order}
-use Rattle.of_cell.specs.Named.{Current, Request, DataCell, LogCount, LogAddr, LogValue, CellsDiffer, CellsBelow, CellWord, DurableWord, ScriptWord, Announcement, Members, PlacesDiffer, PlacesBelow}
+use Rattle.of_cell.specs.Named.{Current, Request, DataCell, LogCount, LogAddr, LogValue, CellsDiffer, CellsBelow, CellWord, DurableWord, ScriptWord, Announcement, Members, WordPlacesDiffer, PlacesBelow}
 
 -- of n rows of width k, row i ends where the last ends, or before
 pub row_within : (i n k : ℕ) → i < n → i * k + k ≤ n * k
@@ -54,7 +54,7 @@ places_below n l m Members h = omega arith
 same_said : (d l i j x y : ℕ) → x < l + 1 → y < l + 1 → d + d + i * (l + 1) + x ≡ d + d + j * (l + 1) + y → (i ≡ j) × (x ≡ y)
 same_said d l i j x y hx hy e = same_row i j (l + 1) x y hx hy (omega arith)
 
-pub places_differ : (callers instrs cells : ℕ) → PlacesDiffer callers instrs cells
+pub places_differ : (callers instrs cells : ℕ) → WordPlacesDiffer callers instrs cells
 places_differ n l m (CellWord c) (CellWord d) h k e = ap CellWord e
 places_differ n l m (DurableWord c) (DurableWord d) h k e = ap DurableWord (omega arith)
 places_differ n l m (ScriptWord i x) (ScriptWord j y) h k e = let s = same_said _ l i j x y (omega arith) (omega arith) e in cc (s.0, s.1)

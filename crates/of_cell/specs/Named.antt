@@ -58,8 +58,8 @@ word_place callers instrs cells (Announcement caller) = announce_place callers i
 word_place callers instrs cells Members = members_place callers instrs cells
 
 -- no two words have one place
-abbrev pub PlacesDiffer : (callers instrs cells : ℕ) → Type 0
-PlacesDiffer callers instrs cells = (v w : WordName) → IsWord callers instrs cells v → IsWord callers instrs cells w → word_place callers instrs cells v ≡ word_place callers instrs cells w → v ≡ w
+abbrev pub WordPlacesDiffer : (callers instrs cells : ℕ) → Type 0
+WordPlacesDiffer callers instrs cells = (v w : WordName) → IsWord callers instrs cells v → IsWord callers instrs cells w → word_place callers instrs cells v ≡ word_place callers instrs cells w → v ≡ w
 
 -- the places are below the number of words
 abbrev pub PlacesBelow : (callers instrs cells : ℕ) → Type 0

@@ -3,7 +3,7 @@
 ghost use Rattle.std.specs.Prelude.{◌≡◌, ℕ, ◌^◌, ◌<◌, ◌↔◌};
 ghost use Rattle.of_cell.specs.Words.{pack, seq_of, payload_of, IsEarlier};
 ghost use Rattle.of_cell.specs.Cells.{durable_cells, table_words, step_bound};
-ghost use Rattle.of_cell.specs.Named.{CellsDiffer, CellsBelow, PlacesDiffer, PlacesBelow};
+ghost use Rattle.of_cell.specs.Named.{CellsDiffer, CellsBelow, WordPlacesDiffer, PlacesBelow};
 
 use crate::Shape;
 
@@ -22,7 +22,7 @@ pub fn cells_differ(shape: &Shape)
 
 /// The words of a shape's table have different places, below its number of words.
 pub fn places_differ(shape: &Shape)
-    ensures differ { PlacesDiffer shape.now.callers shape.now.instrs shape.now.cells }
+    ensures differ { WordPlacesDiffer shape.now.callers shape.now.instrs shape.now.cells }
     ensures below { PlacesBelow shape.now.callers shape.now.instrs shape.now.cells }
 {}
 

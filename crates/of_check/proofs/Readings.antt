@@ -15,7 +15,7 @@ use Rattle.of_plan.specs.Lines.{text_lines}
 use Rattle.of_plan.specs.Report.{Entry, EndState, done, stopped, spent, Line, Report}
 use Rattle.of_plan.proofs.TextLines.{NoNewline}
 use Rattle.of_report.specs.StoreText.{register_line, register_lines, key_line, key_lines, item_text, queue_line, queue_lines, store_text}
-use Rattle.of_report.specs.ReportText.{reply_value_text, cause_text, reply_text, kind_text, entry_line, state_text, caller_line, seq_line, report_text}
+use Rattle.of_report.specs.ReportText.{reply_value_text, cause_text, reply_text, kind_text, entry_line, state_text, caller_line_text, seq_line, report_text}
 use Rattle.of_check.specs.Claims.{call_claim, code_end_state, end_claim, kind_named, state_named, call_of_line, end_of_line, call_claims_of_text, end_claims_of_text}
 use Rattle.of_check.proofs.Bounds.{IsSmallCall, IsSmallEnd}
 use Rattle.of_check.proofs.Texts.{number_line, number_first, number_last, one_line, Tells, tells_nothing, tells_line, tells_both, tells_same, tells_all}
@@ -162,14 +162,14 @@ module _ {X : Type 0} (read : List (List ℕ) → Option X) (passes : Passes rea
       (nothing_in (λ q. queue_line (q, queue s q)) (λ q. queue_tells (q, queue s q)) (range_with_len 0 QUEUES))
 
   -- the whole text, where the reader finds these in the entries and these in the lines of callers
-  report_tells : (r : Report) (xs ys : List X) → Tells read (flat_map entry_line r.entries) xs → Tells read (flat_map caller_line (enumerate_from 0 r.callers)) ys
+  report_tells : (r : Report) (xs ys : List X) → Tells read (flat_map entry_line r.entries) xs → Tells read (flat_map caller_line_text (enumerate_from 0 r.callers)) ys
       → flat_map (λ l. option_to_list (read (text_words l))) (text_lines (report_text r)) ≡ xs ++ ys
   report_tells r xs ys entries callers =
       tells_all read (report_text r) ((((xs ++ ys) ++ []) ++ []) ++ []) passes.nothing
-      (tells_both read (((((codes "onefile report 1\n" ++ flat_map entry_line r.entries) ++ flat_map caller_line (enumerate_from 0 r.callers)) ++ seq_line r.seq) ++ store_text r.store)) (codes "end\n") (((xs ++ ys) ++ []) ++ []) []
-      (tells_both read ((((codes "onefile report 1\n" ++ flat_map entry_line r.entries) ++ flat_map caller_line (enumerate_from 0 r.callers)) ++ seq_line r.seq)) (store_text r.store) ((xs ++ ys) ++ []) []
-      (tells_both read (((codes "onefile report 1\n" ++ flat_map entry_line r.entries) ++ flat_map caller_line (enumerate_from 0 r.callers))) (seq_line r.seq) (xs ++ ys) []
-      (tells_both read (codes "onefile report 1\n" ++ flat_map entry_line r.entries) (flat_map caller_line (enumerate_from 0 r.callers)) xs ys
+      (tells_both read (((((codes "onefile report 1\n" ++ flat_map entry_line r.entries) ++ flat_map caller_line_text (enumerate_from 0 r.callers)) ++ seq_line r.seq) ++ store_text r.store)) (codes "end\n") (((xs ++ ys) ++ []) ++ []) []
+      (tells_both read ((((codes "onefile report 1\n" ++ flat_map entry_line r.entries) ++ flat_map caller_line_text (enumerate_from 0 r.callers)) ++ seq_line r.seq)) (store_text r.store) ((xs ++ ys) ++ []) []
+      (tells_both read (((codes "onefile report 1\n" ++ flat_map entry_line r.entries) ++ flat_map caller_line_text (enumerate_from 0 r.callers))) (seq_line r.seq) (xs ++ ys) []
+      (tells_both read (codes "onefile report 1\n" ++ flat_map entry_line r.entries) (flat_map caller_line_text (enumerate_from 0 r.callers)) xs ys
       (tells_both read (codes "onefile report 1\n") (flat_map entry_line r.entries) [] xs title_tells entries) callers)
       (seq_tells r.seq)) (store_tells r.store)) end_tells)
       ∙ append-nil _ ∙ append-nil _ ∙ append-nil _
@@ -239,19 +239,19 @@ caller_words c l =
 end_read : (c e : List ℕ) (s : EndState) (a t : ℕ) → a ≤ 4294967295 → t ≤ 4294967295 → end_of_line (codes "caller" ∷ c ∷ state_text s ∷ decimal a ∷ e ∷ decimal t ∷ []) ≡ Some (record { state = code_end_state s; answered = a; longest = t })
 end_read c e s a t low high = rw (state_again s, number_again 4294967295 a (omega arith) low, number_again 4294967295 t (omega arith) high) refl
 
-callers_tell_ends : (n : ℕ) (ls : List Line) → Each IsSmallEnd ls → Tells end_of_line (flat_map caller_line (enumerate_from n ls)) (map end_claim ls)
+callers_tell_ends : (n : ℕ) (ls : List Line) → Each IsSmallEnd ls → Tells end_of_line (flat_map caller_line_text (enumerate_from n ls)) (map end_claim ls)
 callers_tell_ends n [] small = tells_nothing end_of_line
 callers_tell_ends n (l ∷ ls) small =
-    tells_both end_of_line (caller_line (n, l)) (flat_map caller_line (enumerate_from (n + 1) ls)) (end_claim l ∷ []) (map end_claim ls)
-    (tells_same end_of_line (caller_body n l ++ codes "\n") (caller_line (n, l)) (end_claim l ∷ []) (caller_parts (codes "caller ") (decimal n) (state_text l.state) (decimal l.answered) (decimal l.entries) (decimal l.longest) (codes "\n"))
+    tells_both end_of_line (caller_line_text (n, l)) (flat_map caller_line_text (enumerate_from (n + 1) ls)) (end_claim l ∷ []) (map end_claim ls)
+    (tells_same end_of_line (caller_body n l ++ codes "\n") (caller_line_text (n, l)) (end_claim l ∷ []) (caller_parts (codes "caller ") (decimal n) (state_text l.state) (decimal l.answered) (decimal l.entries) (decimal l.longest) (codes "\n"))
     (tells_line end_of_line (caller_body n l) (Some (end_claim l)) (caller_one_line n l) (ap end_of_line (caller_words n l) ∙ end_read (decimal n) (decimal l.entries) l.state l.answered l.longest small.0.0 small.0.1)))
     (callers_tell_ends (n + 1) ls small.1)
 
-callers_tell_calls : (n : ℕ) (ls : List Line) → Tells call_of_line (flat_map caller_line (enumerate_from n ls)) []
+callers_tell_calls : (n : ℕ) (ls : List Line) → Tells call_of_line (flat_map caller_line_text (enumerate_from n ls)) []
 callers_tell_calls n [] = tells_nothing call_of_line
 callers_tell_calls n (l ∷ ls) =
-    tells_both call_of_line (caller_line (n, l)) (flat_map caller_line (enumerate_from (n + 1) ls)) [] []
-    (tells_same call_of_line (caller_body n l ++ codes "\n") (caller_line (n, l)) [] (caller_parts (codes "caller ") (decimal n) (state_text l.state) (decimal l.answered) (decimal l.entries) (decimal l.longest) (codes "\n"))
+    tells_both call_of_line (caller_line_text (n, l)) (flat_map caller_line_text (enumerate_from (n + 1) ls)) [] []
+    (tells_same call_of_line (caller_body n l ++ codes "\n") (caller_line_text (n, l)) [] (caller_parts (codes "caller ") (decimal n) (state_text l.state) (decimal l.answered) (decimal l.entries) (decimal l.longest) (codes "\n"))
     (tells_line call_of_line (caller_body n l) None (caller_one_line n l) refl))
     (callers_tell_calls (n + 1) ls)
 

@@ -12,7 +12,7 @@ use Rattle.of_script.specs.Language.{reads_only}
 use Rattle.of_store.specs.State.{last_store}
 use Rattle.of_plan.specs.Plan.{Plan}
 use Rattle.of_plan.specs.Report.{Entry, EndState, done, stopped, spent, Line, Report, Start, entries_of, caller_line}
-use Rattle.of_plan.specs.Legal.{script_of_entry, scripts_left, StandsBefore, HasOpenCall, HasSequence, HasEndState, IsWithinBound, IsLegal}
+use Rattle.of_plan.specs.Legal.{script_of_entry, scripts_left, StandsBefore, HasOpenCall, HasSequence, HasEndState, LineIsWithinBound, IsLegal}
 use Rattle.of_plan.proofs.HistoriesLists.{pairs_in_line, in_line_pairs, each_weaker}
 use Rattle.of_report.specs.Report.{end_state_value}
 use Rattle.of_check.specs.declared.claims.CallClaim.{CallClaim}
@@ -81,7 +81,7 @@ module _ (p : Plan) (s : Start) (knows : KnowsEach p s) (calls : List CallClaim)
     final_store = store_is p (replay_at_start s) calls;
     endings = λ c lt.
         subst (λ (l : Line). HasEndState l.state l.answered (scripts_left p s c) (course_end p (replay_at_start s) calls).last.seq p.limit) (sym (line_is c _ lt)) (are.each c lt).ended;
-    within_bound = each_line (IsWithinBound p) (λ c lt. (are.each c lt).within);
+    within_bound = each_line (LineIsWithinBound p) (λ c lt. (are.each c lt).within);
   }
 
 -- ---- a legal report is the one that its claims make

@@ -4,7 +4,7 @@ use Rattle.of_script.specs.Language.{reads_only}
 use Rattle.of_plan.specs.Plan.{Plan, scripts_of}
 use Rattle.of_plan.specs.Lines.{text_lines}
 use Rattle.of_plan.specs.Report.{Report, Line, Start, empty_start}
-use Rattle.of_plan.specs.Legal.{HasOpenCall, HasEndState, IsWithinBound}
+use Rattle.of_plan.specs.Legal.{HasOpenCall, HasEndState, LineIsWithinBound}
 use Rattle.of_report.specs.ReportText.{report_text}
 use Rattle.of_check.specs.declared.claims.CallClaim.{CallClaim}
 use Rattle.of_check.specs.declared.claims.EndClaim.{EndClaim}
@@ -40,7 +40,7 @@ pub record BreaksAt (p : Plan) (s : Start) (calls : List CallClaim) (index : ℕ
 abbrev pub BreaksEnd : EndRule → Plan → (scripts seq : ℕ) → Line → Type 0
 BreaksEnd Answered p scripts seq l = HasOpenCall l.state l.answered l.entries → ⊥
 BreaksEnd Ending p scripts seq l = HasOpenCall l.state l.answered l.entries × (HasEndState l.state l.answered scripts seq p.limit → ⊥)
-BreaksEnd Steps p scripts seq l = HasOpenCall l.state l.answered l.entries × HasEndState l.state l.answered scripts seq p.limit × (IsWithinBound p l → ⊥)
+BreaksEnd Steps p scripts seq l = HasOpenCall l.state l.answered l.entries × HasEndState l.state l.answered scripts seq p.limit × (LineIsWithinBound p l → ⊥)
 
 -- the callers before this one may end so, and this one breaks the rule
 pub record BreaksFirst (p : Plan) (done : List ℕ) (seq : ℕ) (counts : List ℕ) (ends : List EndClaim) (caller : ℕ) (rule : EndRule) : Type 0 where

@@ -29,9 +29,9 @@ end_claim l = record { state = code_end_state l.state; answered = l.answered; lo
 -- ---- reading
 
 -- the first word, and the others
-abbrev pub first_word : List (List ℕ) → Option (List ℕ × List (List ℕ))
-first_word [] = None
-first_word (w ∷ ws) = Some (w, ws)
+abbrev pub first_and_other_words : List (List ℕ) → Option (List ℕ × List (List ℕ))
+first_and_other_words [] = None
+first_and_other_words (w ∷ ws) = Some (w, ws)
 
 -- whether a call was announced, by the word of its kind
 abbrev pub kind_named : List ℕ → Option Bool
@@ -53,8 +53,8 @@ abbrev pub call_in : List (List ℕ) → Option CallClaim
 call_in ws = do
   seq ← next_number 4294967295 ws
   caller ← next_number 4294967295 seq.1
-  index ← first_word caller.1
-  kind ← first_word index.1
+  index ← first_and_other_words caller.1
+  kind ← first_and_other_words index.1
   announced ← kind_named kind.0
   Some (record { seq = seq.0; caller = caller.0; announced = announced })
 
@@ -62,24 +62,24 @@ call_in ws = do
 -- of its longest call
 abbrev pub end_in : List (List ℕ) → Option EndClaim
 end_in ws = do
-  caller ← first_word ws
-  state ← first_word caller.1
+  caller ← first_and_other_words ws
+  state ← first_and_other_words caller.1
   named ← state_named state.0
   answered ← next_number 4294967295 state.1
-  entries ← first_word answered.1
+  entries ← first_and_other_words answered.1
   longest ← next_number 4294967295 entries.1
   Some (record { state = named; answered = answered.0; longest = longest.0 })
 
 -- what the words of a line claim, where they are an entry's
 abbrev pub call_of_line : List (List ℕ) → Option CallClaim
 call_of_line ws = do
-  name ← first_word ws
+  name ← first_and_other_words ws
   if bytes_eq name.0 (codes "entry") then call_in name.1 else None
 
 -- what the words of a line claim, where they are a caller's
 abbrev pub end_of_line : List (List ℕ) → Option EndClaim
 end_of_line ws = do
-  name ← first_word ws
+  name ← first_and_other_words ws
   if bytes_eq name.0 (codes "caller") then end_in name.1 else None
 
 -- the claims of a line, one or none

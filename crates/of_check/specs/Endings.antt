@@ -3,7 +3,7 @@ use Rattle.std.specs.Prelude.{◌≡◌, ℕ, ◌-◌, ◌<◌, List, length, ma
 use Rattle.std.specs.List.{range_with_len}
 use Rattle.of_plan.specs.Plan.{Plan, scripts_of}
 use Rattle.of_plan.specs.Report.{Line}
-use Rattle.of_plan.specs.Legal.{HasOpenCall, HasEndState, IsWithinBound}
+use Rattle.of_plan.specs.Legal.{HasOpenCall, HasEndState, LineIsWithinBound}
 use Rattle.of_report.specs.declared.report.EndState.TheVariants.{Done}
 use Rattle.of_report.specs.Report.{end_state_value}
 use Rattle.of_check.specs.declared.claims.EndClaim.{EndClaim}
@@ -25,7 +25,7 @@ left_of p done c = length (scripts_of p c) - slice_index done c
 pub record IsEnding (p : Plan) (scripts seq : ℕ) (l : Line) : Type 0 where
   pub open_call : HasOpenCall l.state l.answered l.entries
   pub ended : HasEndState l.state l.answered scripts seq p.limit
-  pub within : IsWithinBound p l
+  pub within : LineIsWithinBound p l
 
 -- the claim of a caller
 abbrev pub end_at : List EndClaim → ℕ → EndClaim

@@ -30,7 +30,7 @@ pub record EndsAt (p : Plan) (s : Start) (r : Report) (i : Image) : Type 0 where
   pub store : i.store ≡ r.store
 
 -- the image has the plan's callers and blocks
-pub record HasSizes (p : Plan) (i : Image) : Type 0 where
+pub record ImageHasSizes (p : Plan) (i : Image) : Type 0 where
   pub callers : i.row.callers ≡ p.callers
   pub blocks : i.row.blocks ≡ p.blocks
 
@@ -44,9 +44,9 @@ pub record BreaksTicket (p : Plan) (s : Start) (r : Report) (i : Image) (caller 
 abbrev pub BreaksLeft : Plan → Start → Report → Image → LeftRule → Type 0
 BreaksLeft p s r i Callers = i.row.callers ≢ p.callers
 BreaksLeft p s r i Blocks = (i.row.callers ≡ p.callers) × (i.row.blocks ≢ p.blocks)
-BreaksLeft p s r i Sequence = HasSizes p i × (i.seq ≢ r.seq)
+BreaksLeft p s r i Sequence = ImageHasSizes p i × (i.seq ≢ r.seq)
 BreaksLeft p s r i (Ticket c) =
-    HasSizes p i × (i.seq ≡ r.seq) × BreaksTicket p s r i c
+    ImageHasSizes p i × (i.seq ≡ r.seq) × BreaksTicket p s r i c
 BreaksLeft p s r i Store =
-    HasSizes p i × (i.seq ≡ r.seq) × ((c : ℕ) → c < p.callers → HasTicket s r i c)
+    ImageHasSizes p i × (i.seq ≡ r.seq) × ((c : ℕ) → c < p.callers → HasTicket s r i c)
     × (i.store ≢ r.store)

@@ -5,9 +5,9 @@ use Rattle.of_plan.specs.Report.{Start}
 use Rattle.of_check.specs.declared.start.Start.{Start as TheStart}
 
 -- the start at this sequence and this store, where so many scripts of each caller are done
-abbrev pub start_at : (seq : ℕ) (done : List ℕ) (store : Store) → Start
-start_at seq done store = record { store = store; seq = seq; finished = done }
+abbrev pub start_where_done : (seq : ℕ) (done : List ℕ) (store : Store) → Start
+start_where_done seq done store = record { store = store; seq = seq; finished = done }
 
 -- the start that the code has
 abbrev pub start_of : TheStart → Start
-start_of s = start_at s.seq s.finished.items s.store
+start_of s = start_where_done s.seq s.finished.items s.store

@@ -6,7 +6,7 @@ ghost use Rattle.of_script.specs.declared.instr.TheConstants.{MOST_INSTRS};
 ghost use Rattle.of_store.specs.declared.store.TheConstants.{MOST_BLOCKS};
 ghost use Rattle.of_store.specs.State.{empty_store};
 ghost use Rattle.of_report.specs.Image.{IsImage, image_value, image_ticket, start_of_image as image_start};
-ghost use Rattle.of_check.specs.Starts.{start_at, start_of};
+ghost use Rattle.of_check.specs.Starts.{start_where_done, start_of};
 
 use of_report::Image;
 use of_store::Store;
@@ -42,7 +42,7 @@ impl Start {
     pub fn empty(alloc: Global, callers: u32, blocks: u32) -> Result<Start, AllocError>
         requires { blocks ≤ MOST_BLOCKS }
         ensures { IfOk result (λ start. start_of start
-            ≡ start_at 0 (replicate callers 0) (empty_store blocks)) }
+            ≡ start_where_done 0 (replicate callers 0) (empty_store blocks)) }
     {
         Ok(Start {
             seq: 0,

@@ -14,8 +14,8 @@ use Rattle.of_core.specs.declared.place.Place.{Place}
 use Rattle.of_core.specs.declared.place.Place.TheVariants.{Idle, TryCurrent, TryRequest, TryCell, StoreScript, StoreAnnouncement, LoadCurrent, LoadRequest, CopyLog, LookAgain, LoadOwnTicket, LoadShape, LoadReply, LoadAnnouncement, LoadTicket, LoadScript, LoadCell, RaiseOld, StoreLog, RaiseLog, StoreRequest, RaiseRequest, ExchangeCurrent, RaiseCurrent, LoadTarget, ExchangeTarget, ReloadTarget, RaiseTarget, CloseRequest, RaiseClosed}
 use Rattle.of_core.specs.declared.machine.trying.TheConstants.{MOST_TRIES}
 use Rattle.of_core.specs.Table.{Setup, first_operation_cell, cell_count, ticket_cell, committed_seq}
-use Rattle.of_core.specs.Machine.{Call, CallState, IsOpen, is_idle, no_machine, no_call, begin, first_place, nothing_known, with_cell_known, log_words}
-use Rattle.of_core.specs.Steps.{after_read_run, begin_reading, resume, after_try_request, end_try, after_try_cell, want, want_at, word_found, take_word, take_word_at, with_step_counted, IsFoundBy, after_store_script, after_load_request, after_copy_log, after_look_again, after_own_ticket, after_load_shape, with_shape, after_load_reply, with_reply, next_reply_place, first_marked_place, after_announcement, weigh, after_load_ticket, after_load_script, with_script_word, call_as_run, after_script_run, next_scanned_caller, with_call_run, after_load_cell, after_raise_log, after_exchange, after_raise_current, after_load_target, next_entry, after_raise_closed, is_request_open, with_log_word_copied}
+use Rattle.of_core.specs.Machine.{Call, CallState, IsOpen, is_idle, no_machine, no_call, begin_call, first_place, no_cell_known, with_cell_known, log_words}
+use Rattle.of_core.specs.Steps.{after_read_run, begin_reading, resume, after_try_request, end_try, after_try_cell, want, want_at, word_found, take_word, take_word_at, with_step_counted, IsFoundBy, after_store_script, after_load_request, after_copy_log, after_look_again, after_own_ticket, after_load_shape, with_shape, after_load_reply, with_reply, next_reply_place, first_marked_place, after_announcement, weigh, after_load_ticket, after_load_script, with_script_word, call_as_run, after_script_run, next_scanned_caller, with_call_run, after_load_cell, after_raise_log, after_commit_exchange, after_raise_current, after_load_target, next_entry, after_raise_closed, is_request_open, with_log_word_copied}
 use Rattle.of_core.specs.World.{Moment, TableStart, Batch, step_batches, step_batches_at, one_batch}
 use Rattle.of_core.specs.History.{batch_at, numbers_after}
 use Rattle.of_core.specs.Shared.{MayStart}
@@ -72,7 +72,7 @@ module _ (S : Setup) (B : TableStart) (cs : List Batch) (m : CallState) (n : ℕ
   read_on_kept x (Gives es r) e k = tt
 
   tried_kept : Kept (begin_reading S now)
-  tried_kept k = read_on_kept (record now { known = nothing_known S; helps = false }) (S.meaning.walk (nothing_known S) m.op) refl k
+  tried_kept k = read_on_kept (record now { known = no_cell_known S; helps = false }) (S.meaning.walk (no_cell_known S) m.op) refl k
 
   resumed_kept : (b : Bool) → Kept (resume S now b)
   resumed_kept true k = tried_kept k
@@ -188,7 +188,7 @@ module _ (S : Setup) (B : TableStart) (cs : List Batch) (m : CallState) (n : ℕ
   collects RaiseRequest o t k = t
   collects ExchangeCurrent o t k = go (n == pack m.seq m.owner) k
     where
-      go : (b : Bool) → Kept (after_exchange now b)
+      go : (b : Bool) → Kept (after_commit_exchange now b)
       go true k = tt
       go false k = tt
   collects RaiseCurrent o t k = go (nat_lt 0 (length m.log)) k
@@ -302,10 +302,10 @@ record Collected (S : Setup) (B : TableStart) (w : Moment) : Type 0 where
 
 module _ (S : Setup) (Lawful : List ℕ → Type 0) (sound : IsSoundMeaning S.meaning Lawful (first_operation_cell S) S.cells) (B : TableStart) where
   -- a call that opens has collected nothing
-  opens : (bs : List Batch) (d : CallState) (op : List ℕ) → Collects S B bs (begin S d op) (begin S d op).place
+  opens : (bs : List Batch) (d : CallState) (op : List ℕ) → Collects S B bs (begin_call S d op) (begin_call S d op).place
   opens bs d op = go (S.meaning.reads_only op)
     where
-      go : (b : Bool) → Collects S B bs (record (begin S d op) { place = first_place b }) (first_place b)
+      go : (b : Bool) → Collects S B bs (record (begin_call S d op) { place = first_place b }) (first_place b)
       go true = tt
       go false = tt
 
@@ -384,7 +384,7 @@ module _ (S : Setup) (Lawful : List ℕ → Type 0) (sound : IsSoundMeaning S.me
       machines j l (inr away) = subst (λ (d : CallState). Collects S B w.batches d d.place) (sym (get_or-set_other w.machines i j _ no_machine away)) (c.machines j l)
       machines j l (inl e) =
           subst (λ (k : ℕ). Collects S B w.batches (machine_in v k) (machine_in v k).place) (sym e)
-          (subst (λ (d : CallState). Collects S B w.batches d d.place) (sym (get_or-set_same w.machines i (begin S (machine_in w i) op) no_machine (omega (arith, g.core.members, may.0)))) (opens w.batches (machine_in w i) op))
+          (subst (λ (d : CallState). Collects S B w.batches d d.place) (sym (get_or-set_same w.machines i (begin_call S (machine_in w i) op) no_machine (omega (arith, g.core.members, may.0)))) (opens w.batches (machine_in w i) op))
 
   collected_run : (es : List Event) (w : Moment) → MeetsInvariant S Lawful B w → Collected S B w → IsSchedule S w es → MeetsInvariant S Lawful B (after_events S w es) × Collected S B (after_events S w es)
   collected_run [] w g c s = (g, c)

@@ -10,7 +10,7 @@ use Rattle.of_core.specs.declared.place.Place.TheVariants.{Idle}
 use Rattle.of_core.specs.declared.place.Outcome.{Outcome}
 use Rattle.of_core.specs.declared.bank.Turn.{Turn}
 use Rattle.of_core.specs.Table.{Setup, first_operation_cell, setup_of, cell_count, durable_at}
-use Rattle.of_core.specs.Machine.{CallState, no_machine, idle_machine, begin}
+use Rattle.of_core.specs.Machine.{CallState, no_machine, idle_machine, begin_call}
 use Rattle.of_core.specs.Steps.{want, want_at, take_word, take_word_at, with_step_counted, word_of, words_after, word_found}
 use Rattle.of_core.specs.World.{Moment, TableStart}
 use Rattle.of_core.specs.Shared.{MayStart}
@@ -19,7 +19,7 @@ use Rattle.of_core.specs.Events.{Event, Begins, Turns, Raises, machine_in, after
 use Rattle.of_core.specs.Starts.{first_words}
 use Rattle.of_core.specs.Seen.{Machine, ended_outcome}
 use Rattle.of_core.specs.Meets.{MayTake}
-use Rattle.of_core.specs.Turn.{end_from_own_cells, turn_at}
+use Rattle.of_core.specs.Turn.{turn_of_outcome, turn_at}
 use Rattle.of_core.specs.Moment.{Bank, IsReached, RunSameWork, call_states, bank_after, bank_setup, table_word_count}
 use Rattle.of_core.proofs.Moments.{run_good}
 use Rattle.of_core.proofs.Openings.{start_good}
@@ -56,7 +56,7 @@ module _ (S : Setup) (Lawful : List ℕ → Type 0) (B : TableStart) (ws : List 
   is_machine : (i : ℕ) → machine_in (end S Lawful B ws ms r) i ≡ get_or ms i no_machine
   is_machine i = ap (λ (xs : List CallState). get_or xs i no_machine) r.machines
 
-  pub begins : (i : ℕ) (op : List ℕ) (m : CallState) → get_or ms i no_machine ≡ m → i < S.callers → m.place ≡ Idle → 1 ≤ length op → length op ≤ S.instrs → m.made + 1 < PAYLOADS → IsReached S Lawful B ws (set ms i (begin S m op))
+  pub begins : (i : ℕ) (op : List ℕ) (m : CallState) → get_or ms i no_machine ≡ m → i < S.callers → m.place ≡ Idle → 1 ≤ length op → length op ≤ S.instrs → m.made + 1 < PAYLOADS → IsReached S Lawful B ws (set ms i (begin_call S m op))
   begins i op m e h p l k t = rw (← r.words, ← r.machines, ← (is_machine i ∙ e)) (further (Begins i op) (h, rw (is_machine i ∙ e) p, l, k, rw (is_machine i ∙ e) t))
 
   pub turns : (i : ℕ) (m : CallState) → get_or ms i no_machine ≡ m → i < S.callers → IsReached S Lawful B (words_after (want S m) ws) (set ms i (take_word S m (word_found S ws m)))
@@ -161,9 +161,9 @@ rests S ws ms i m e p = go m.place p (get_or ws (word_of (want_at S m m.place)) 
     go p q n = rw q (set-get_or ws 0 0, rw (← e) (set-get_or ms i no_machine))
 
 -- what a turn says of a machine that wasn't idle
-pub turn_is : (p : Place) (m : CallState) (o : Option Outcome) (r : Turn) → (p ≡ Idle → ⊥) → r ≡ end_from_own_cells o → o ≡ ended_outcome m → r ≡ turn_at p m
+pub turn_is : (p : Place) (m : CallState) (o : Option Outcome) (r : Turn) → (p ≡ Idle → ⊥) → r ≡ turn_of_outcome o → o ≡ ended_outcome m → r ≡ turn_at p m
 turn_is Idle m o r h e q = absurd (h refl)
-turn_is p m o r h e q = e ∙ ap end_from_own_cells q
+turn_is p m o r h e q = e ∙ ap turn_of_outcome q
 
 -- what events leave, of a bench under another name
 pub carry : {X : Type 0} (M : X → Meaning) (b x y : Bank X) (es : List Event) → x ≡ y → b ≡ bank_after M es x → b ≡ bank_after M es y
@@ -172,7 +172,7 @@ carry M b x y es e p = p ∙ ap (bank_after M es) e
 -- what events leave of a bank
 module _ {X : Type 0} (M : X → Meaning) (b : Bank X) where
   module _ (i : ℕ) (m : CallState) (e : get_or b.machines i no_machine ≡ m) where
-    pub begun_after : (op : List ℕ) (ms : List CallState) → ms ≡ set b.machines i (begin (bank_setup M b) m op) → record b { machines = ms } ≡ bank_after M (Begins i op ∷ []) b
+    pub begun_after : (op : List ℕ) (ms : List CallState) → ms ≡ set b.machines i (begin_call (bank_setup M b) m op) → record b { machines = ms } ≡ bank_after M (Begins i op ∷ []) b
     begun_after op ms q = rw (q, ← e) refl
 
     pub rests_after : m.place ≡ Idle → b ≡ bank_after M (Turns i ∷ []) b

@@ -9,7 +9,7 @@ use Rattle.of_mem.specs.Meaning.{IsSoundMeaning}
 use Rattle.of_core.specs.declared.place.Place.TheVariants.{Idle}
 use Rattle.of_core.specs.declared.place.Outcome.{Outcome}
 use Rattle.of_core.specs.Table.{Setup, first_operation_cell, words_before_members, durable_at, durable_word, durable_seq}
-use Rattle.of_core.specs.Machine.{CallState, IsOpen, no_machine, begin, MayReplace}
+use Rattle.of_core.specs.Machine.{CallState, IsOpen, no_machine, begin_call, MayReplace}
 use Rattle.of_core.specs.Steps.{want, take_word, word_found, IsFoundBy}
 use Rattle.of_core.specs.World.{Moment, TableStart, Batch, Read, after_step}
 use Rattle.of_core.specs.History.{batch_at}
@@ -72,10 +72,10 @@ module _ (S : Setup) (Lawful : List ℕ → Type 0) (B : TableStart) (w : Moment
     own_begin before ops outs c =
         let here : machine_in w i ≡ m = get_or_default w.machines i no_machine m (omega (arith, g.core.members)) ∙ at in
         subst (λ (os : List Outcome). HasCalls S B before v i (ops ++ op ∷ []) os) (sym (append-nil outs))
-        (begins S B before w i ops outs c v (grows_same v good (omega arith) refl refl) refl refl m op here rest d (as_many takes) (get_or-set_same w.machines i (begin S d op) no_machine (omega (arith, g.core.members))))
+        (begins S B before w i ops outs c v (grows_same v good (omega arith) refl refl) refl refl m op here rest d (as_many takes) (get_or-set_same w.machines i (begin_call S d op) no_machine (omega (arith, g.core.members))))
 
     pub other_begin : KeepsOthersCalls S B i w v
-    other_begin j member away = quiet v good (omega arith) refl refl j (get_or-set_other w.machines i j (begin S d op) no_machine (λ e. away (sym e)))
+    other_begin j member away = quiet v good (omega arith) refl refl j (get_or-set_other w.machines i j (begin_call S d op) no_machine (λ e. away (sym e)))
 
 module _ (S : Setup) (Lawful : List ℕ → Type 0) (sound : IsSoundMeaning S.meaning Lawful (first_operation_cell S) S.cells) where
   -- what a step of the machine x of caller i leaves of all calls
@@ -150,10 +150,10 @@ module _ (S : Setup) (Lawful : List ℕ → Type 0) (sound : IsSoundMeaning S.me
       where
         go : (j ≡ i) ⊎ (j ≡ i → ⊥) → CountsStep (Begins j op) i
         go (inl e) =
-            let x : machine_in (after_event S w (Begins j op)) j ≡ begin S (machine_in w j) op = get_or-set_same w.machines j (begin S (machine_in w j) op) no_machine (omega (arith, g.core.members, may.0)) in
+            let x : machine_in (after_event S w (Begins j op)) j ≡ begin_call S (machine_in w j) op = get_or-set_same w.machines j (begin_call S (machine_in w j) op) no_machine (omega (arith, g.core.members, may.0)) in
             let z : (machine_in w j).steps ≡ 0 = (g.late j (machine_in w j) may.0 (own S Lawful B w g j may.0)).rests may.1 in
             subst (λ (k : ℕ). CountsStep (Begins j op) k) e (omega (arith, ap (λ (d : CallState). d.steps) x, z), λ q u. omega (arith, ap (λ (d : CallState). d.steps) x, z))
-        go (inr away) = let x : machine_in (after_event S w (Begins j op)) i ≡ machine_in w i = get_or-set_other w.machines j i (begin S (machine_in w j) op) no_machine (λ e. away (sym e)) in
+        go (inr away) = let x : machine_in (after_event S w (Begins j op)) i ≡ machine_in w i = get_or-set_other w.machines j i (begin_call S (machine_in w j) op) no_machine (λ e. away (sym e)) in
             (omega (arith, ap (λ (d : CallState). d.steps) x), λ q u. omega (arith, ap (λ (d : CallState). d.steps) x))
     steps_counted (Turns j) may i member = go (cases_eq j i)
       where

@@ -21,7 +21,7 @@ use Rattle.of_core.specs.Least.{TellsLeastSteps}
 use Rattle.of_core.specs.Order.{no_read}
 use Rattle.of_core.specs.Facts.{IsStep, TellsOutcome}
 use Rattle.of_core.specs.Seen.{ended_outcome, ended_outcome_at}
-use Rattle.of_core.specs.Turn.{end_from_own_cells, turn_at}
+use Rattle.of_core.specs.Turn.{turn_of_outcome, turn_at}
 use Rattle.of_core.specs.Events.{machine_in}
 use Rattle.of_core.specs.Calls.{outcome_of_turn, outcome_of_step, no_outcome, outcome_seq, IsNotBefore, OutcomeStands, IsOutcome, WasBegun, HasCalls, NoneSpent, total_steps}
 use Rattle.of_core.specs.Laws.{IsOpenCall}
@@ -138,8 +138,8 @@ module _ (S : Setup) (Lawful : List ℕ → Type 0) (sound : IsSoundMeaning S.me
         stays S B before w i ops outs c v step_grows (step_reads m d) refl (λ k r l q. absurd (away (sym (own_reads k r l) ∙ q))) (new_words i member before ops outs c) (machine_in w i) (not_now i away) refl (λ q. (q, refl)) (λ o. (o, refl, refl)) (λ low l r. r)
 
     -- how the step has ended the call
-    pub says_ended : IsOpen m.place → (o : Option Outcome) → ended_outcome d ≡ o → outcome_of_step m d ≡ outcome_of_turn (end_from_own_cells o)
-    says_ended live o e = sym (ap outcome_of_turn (turn_is m.place d (ended_outcome d) (end_from_own_cells (ended_outcome d)) (λ q. let z : true ≡ false = sym (ap is_idle q) ∙ live in cc) refl refl)) ∙ ap (λ (x : Option Outcome). outcome_of_turn (end_from_own_cells x)) e
+    pub says_ended : IsOpen m.place → (o : Option Outcome) → ended_outcome d ≡ o → outcome_of_step m d ≡ outcome_of_turn (turn_of_outcome o)
+    says_ended live o e = sym (ap outcome_of_turn (turn_is m.place d (ended_outcome d) (turn_of_outcome (ended_outcome d)) (λ q. let z : true ≡ false = sym (ap is_idle q) ∙ live in cc) refl refl)) ∙ ap (λ (x : Option Outcome). outcome_of_turn (turn_of_outcome x)) e
 
     pub says_idle : m.place ≡ Idle → outcome_of_step m d ≡ []
     says_idle q = ap (λ (p : Place). outcome_of_turn (turn_at p d)) q

@@ -9,7 +9,7 @@ use Rattle.of_core.specs.declared.place.Place.TheVariants.{Idle}
 use Rattle.of_core.specs.declared.place.Outcome.{Outcome}
 use Rattle.of_core.specs.declared.place.Outcome.TheVariants.{Answered, Spent}
 use Rattle.of_core.specs.Table.{Setup, durable_seq}
-use Rattle.of_core.specs.Machine.{Call, CallState, IsOpen, is_idle, begin, first_place}
+use Rattle.of_core.specs.Machine.{Call, CallState, IsOpen, is_idle, begin_call, first_place}
 use Rattle.of_core.specs.World.{Moment, TableStart, Batch, Read}
 use Rattle.of_core.specs.History.{batch_at}
 use Rattle.of_core.specs.Order.{no_read}
@@ -125,7 +125,7 @@ module _ (S : Setup) (B : TableStart) where
     }
 
     -- the caller begins a call, by the machine d with as many calls behind it
-    pub begins : (v : Moment) → Grows w v → v.reads ≡ w.reads → v.batches ≡ w.batches → (m : CallState) (op : List ℕ) → machine_in w i ≡ m → m.place ≡ Idle → (d : CallState) → d.made ≡ m.made → machine_in v i ≡ begin S d op → HasCalls S B before v i (ops ++ op ∷ []) outs
+    pub begins : (v : Moment) → Grows w v → v.reads ≡ w.reads → v.batches ≡ w.batches → (m : CallState) (op : List ℕ) → machine_in w i ≡ m → m.place ≡ Idle → (d : CallState) → d.made ≡ m.made → machine_in v i ≡ begin_call S d op → HasCalls S B before v i (ops ++ op ∷ []) outs
     begins v f e t m op own rest d as_many x = record {
       made = ap (λ (n : CallState). n.made) x ∙ omega (arith, as_many, sym (ap (λ (n : CallState). n.made) own) ∙ c.made, length-append ops (op ∷ []));
       idle = λ q. absurd (closed (S.meaning.reads_only op) (ap (λ (n : CallState). n.place) (sym x) ∙ q));

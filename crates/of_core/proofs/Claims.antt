@@ -15,7 +15,7 @@ use Rattle.of_core.specs.World.{Moment, TableStart}
 use Rattle.of_core.specs.History.{state_after, batch_at, data_word_after, numbers_after, last_ticket_by, numbers_after_batches}
 use Rattle.of_core.specs.Shared.{IsLastOpen, WasHeldByCell, IsRequest, IsLogWord}
 use Rattle.of_core.specs.Invariant.{MeetsCore, HoldsAtPlace, LastOutcomeStands, IsAtRest}
-use Rattle.of_core.specs.Bound.{bound, IsWithinBound, TellsWithinBound}
+use Rattle.of_core.specs.Bound.{bound, MachineIsWithinBound, TellsWithinBound}
 use Rattle.of_core.specs.Least.{HasMadeLeastSteps}
 use Rattle.of_core.specs.Events.{machine_in}
 use Rattle.of_core.specs.World.{Read}
@@ -46,7 +46,7 @@ module _ (S : Setup) (Lawful : List ℕ → Type 0) (sound : IsSoundMeaning S.me
         same : SameFrom (first_operation_cell S) (numbers_after B w.batches r.seq) (numbers_after_batches S.meaning (map payload_of B.cells) (take (r.seq - B.seq) w.batches))
         same = rw back data_word_after (upto S Lawful sound B w g (r.seq - B.seq) (omega (arith, p.upto))).0
 
-    pub is_sound : ((i : ℕ) (m : CallState) → i < S.callers → get_or w.machines i m ≡ m → IsWithinBound S m m.place) → ((i : ℕ) (m : CallState) → i < S.callers → get_or w.machines i m ≡ m → HasMadeLeastSteps S m m.place) → KeepsCallOrder S B w → IsSound S B w
+    pub is_sound : ((i : ℕ) (m : CallState) → i < S.callers → get_or w.machines i m ≡ m → MachineIsWithinBound S m m.place) → ((i : ℕ) (m : CallState) → i < S.callers → get_or w.machines i m ≡ m → HasMadeLeastSteps S m m.place) → KeepsCallOrder S B w → IsSound S B w
     is_sound within late order =
         let t : take (length w.batches) w.batches ≡ w.batches = take_all (length w.batches) w.batches (omega arith) in
         record {

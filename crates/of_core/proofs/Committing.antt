@@ -10,7 +10,7 @@ use Rattle.of_mem.specs.Meaning.{IsSoundMeaning}
 use Rattle.of_core.specs.declared.place.Place.TheVariants.{ExchangeCurrent}
 use Rattle.of_core.specs.Table.{Setup, script_word_at, cell_count, durable_at, request_at, data_at, first_operation_cell, log_at, ticket_cell, announcement_of, script_word, current_word, request_of, data_word, log_word_of, durable_word, durable_request, durable_cell, durable_log, committed_seq, committed_owner, durable_seq}
 use Rattle.of_core.specs.Machine.{CallState, Call, log_words, no_call}
-use Rattle.of_core.specs.Steps.{after_exchange, next_round}
+use Rattle.of_core.specs.Steps.{after_commit_exchange, next_round}
 use Rattle.of_core.specs.World.{Read, Moment, Batch, TableStart, after_counted_step, one_batch}
 use Rattle.of_core.specs.History.{state_after, batch_at, data_word_after, HasCall, last_ticket_by, ticket_in_state}
 use Rattle.of_core.specs.Shared.{AnnouncementsAreServed, IsRequest, IsLogWord, WordsMatchHistory, IsLastOpen, CountsBatches, DataCellsMatchState, RequestsMatchBatches, StatesFollowBatches, IsLog, DurableWordsMatch}
@@ -48,9 +48,9 @@ module _ (S : Setup) (Lawful : List ℕ → Type 0) (B : TableStart) where
         ci = round.begun.caller
 
         go : {rs : List Read} → (b : Bool) → (current_word w.words == pack m.seq m.owner) ≡ b
-            → KeepsGuarantee S Lawful B i w (record { words = set w.words 0 (if b then pack (m.seq + 1) m.caller else current_word w.words); machines = set w.machines i (after_exchange m b); batches = w.batches ++ one_batch S w.words m b; reads = rs; loaded = w.loaded })
+            → KeepsGuarantee S Lawful B i w (record { words = set w.words 0 (if b then pack (m.seq + 1) m.caller else current_word w.words); machines = set w.machines i (after_commit_exchange m b); batches = w.batches ++ one_batch S w.words m b; reads = rs; loaded = w.loaded })
         go false q =
-            assemble_read S Lawful B w g i h _ _ (after_exchange m false) (set-get_or w.words 0 0) (append-nil w.batches)
+            assemble_read S Lawful B w g i h _ _ (after_commit_exchange m false) (set-get_or w.words 0 0) (append-nil w.batches)
             (begun_as S Lawful B w g i m h m _ round.begun refl refl refl refl refl refl, calm (later_now (cases_lt m.seq (committed_seq w.words))), between (later_now (cases_lt m.seq (committed_seq w.words))))
           where
             ne : current_word w.words ≡ pack m.seq m.owner → ⊥
@@ -108,7 +108,7 @@ module _ (S : Setup) (Lawful : List ℕ → Type 0) (B : TableStart) where
             cs = w.batches ++ b ∷ []
 
             n : CallState
-            n = after_exchange m true
+            n = after_commit_exchange m true
 
             n_is : committed_seq w.words ≡ B.seq + length w.batches
             n_is = g.shared.counted.count

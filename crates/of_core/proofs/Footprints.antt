@@ -10,8 +10,8 @@ use Rattle.of_mem.specs.Pad.{overlaid}
 use Rattle.of_core.specs.declared.place.Place.{Place}
 use Rattle.of_core.specs.declared.place.Place.TheVariants.{Idle, TryCurrent, TryRequest, TryCell, StoreScript, StoreAnnouncement, LoadCurrent, LoadRequest, CopyLog, LookAgain, LoadOwnTicket, LoadShape, LoadReply, LoadAnnouncement, LoadTicket, LoadScript, LoadCell, RaiseOld, StoreLog, RaiseLog, StoreRequest, RaiseRequest, ExchangeCurrent, RaiseCurrent, LoadTarget, ExchangeTarget, ReloadTarget, RaiseTarget, CloseRequest, RaiseClosed}
 use Rattle.of_core.specs.Table.{Setup, first_operation_cell, ticket_cell, shape_cell, reply_cell, data_word}
-use Rattle.of_core.specs.Machine.{CallState, IsOpen, is_idle, no_machine, nothing_known, with_cell_known, log_words, begin, first_place}
-use Rattle.of_core.specs.Steps.{read_on, after_read_run, begin_reading, resume, after_try_request, end_try, after_try_cell, want, want_at, word_of, word_found, take_word, take_word_at, with_step_counted, after_store_script, after_load_request, after_copy_log, after_look_again, after_own_ticket, after_load_shape, with_shape, after_load_reply, with_reply, next_reply_place, first_marked_place, after_announcement, weigh, after_load_ticket, after_load_script, with_script_word, after_script_run, next_scanned_caller, with_call_run, after_load_cell, after_raise_log, after_exchange, after_raise_current, after_load_target, next_entry, after_raise_closed, is_request_open, with_log_word_copied}
+use Rattle.of_core.specs.Machine.{CallState, IsOpen, is_idle, no_machine, no_cell_known, with_cell_known, log_words, begin_call, first_place}
+use Rattle.of_core.specs.Steps.{read_on, after_read_run, begin_reading, resume, after_try_request, end_try, after_try_cell, want, want_at, word_of, word_found, take_word, take_word_at, with_step_counted, after_store_script, after_load_request, after_copy_log, after_look_again, after_own_ticket, after_load_shape, with_shape, after_load_reply, with_reply, next_reply_place, first_marked_place, after_announcement, weigh, after_load_ticket, after_load_script, with_script_word, after_script_run, next_scanned_caller, with_call_run, after_load_cell, after_raise_log, after_commit_exchange, after_raise_current, after_load_target, next_entry, after_raise_closed, is_request_open, with_log_word_copied}
 use Rattle.of_core.specs.World.{Moment, TableStart}
 use Rattle.of_core.specs.Invariant.{HoldsAtPlace, MeetsCore, MeetsInvariant}
 use Rattle.of_core.specs.Events.{Event, Begins, Turns, Loads, Evicts, Raises, after_event, MayHappen, machine_in, after_events, turn_count, turns_in_event, IsSchedule, StaysOpen}
@@ -116,10 +116,10 @@ record Spares (S : Setup) (W R : ℕ) (m : CallState) (p : Place) : Type 0 where
   pub copies : CopiesUpto W p
 
 -- a call that opens
-opens_sparing : (S : Setup) (W R : ℕ) (m : CallState) (op : List ℕ) → Spares S W R (begin S m op) (begin S m op).place
+opens_sparing : (S : Setup) (W R : ℕ) (m : CallState) (op : List ℕ) → Spares S W R (begin_call S m op) (begin_call S m op).place
 opens_sparing S W R m op = go (S.meaning.reads_only op)
   where
-    few : Few S (begin S m op)
+    few : Few S (begin_call S m op)
     few = (omega arith, omega arith, λ q. refl)
 
     first : (o a q r : ℕ) → 0 + (o + 1 + a) ≤ 0 * q + (o + 1) + (0 * r + a)
@@ -128,7 +128,7 @@ opens_sparing S W R m op = go (S.meaning.reads_only op)
     sum : (o a q r : ℕ) → 0 + (o - 0 + 1 + a) ≤ 0 * q + (o + 1) + (0 * r + a)
     sum o a q r = omega arith
 
-    go : (b : Bool) → Spares S W R (record (begin S m op) { place = first_place b }) (first_place b)
+    go : (b : Bool) → Spares S W R (record (begin_call S m op) { place = first_place b }) (first_place b)
     go true = record { copies = tt; few = few; steps = first (length op) (apply_steps W) (try_steps W R) (round_steps S W R) }
     go false = record { copies = tt; few = few; steps = sum (length op) (apply_steps W) (try_steps W R) (round_steps S W R) }
 
@@ -199,7 +199,7 @@ module _ (S : Setup) (W R : ℕ) where
       go (Gives es r) = record { copies = tt; few = f; steps = omega arith }
 
   tried_sparing : (n : CallState) → Few S n → n.steps + (R + announced S W R n) ≤ allowed S W R n → Spares S W R (begin_reading S n) (begin_reading S n).place
-  tried_sparing n f h = reads_sparing (record n { known = nothing_known S; helps = false }) f (all n.steps R (knowns (nothing_known S)) (announced S W R n) (allowed S W R n) (knowns_none S.cells) h)
+  tried_sparing n f h = reads_sparing (record n { known = no_cell_known S; helps = false }) f (all n.steps R (knowns (no_cell_known S)) (announced S W R n) (allowed S W R n) (knowns_none S.cells) h)
     where
       all : (s r k a l : ℕ) → k ≡ 0 → s + (r + a) ≤ l → s + (r - k + a) ≤ l
       all s r k a l e h = omega arith
@@ -386,7 +386,7 @@ module _ (S : Setup) (W R : ℕ) where
         none_of (suc n) zero = refl
         none_of (suc n) (suc y) = none_of n y
 
-        none_at : (ks : List (Option ℕ)) → ks ≡ nothing_known S → get_or ks (ticket_cell S m.caller) None ≡ None
+        none_at : (ks : List (Option ℕ)) → ks ≡ no_cell_known S → get_or ks (ticket_cell S m.caller) None ≡ None
         none_at ks q = rw q (none_of S.cells (ticket_cell S m.caller))
 
         known_one : R - knowns (with_cell_known S m (ticket_cell S m.caller) found) + 1 ≡ R
@@ -515,7 +515,7 @@ module _ (S : Setup) (W R : ℕ) where
         won : (s k l : ℕ) → s + (1 + k) ≤ l → s + 1 + (k + 0) ≤ l
         won s k l h = omega arith
 
-        go : (b : Bool) → Spares S W R (after_exchange now b) (after_exchange now b).place
+        go : (b : Bool) → Spares S W R (after_commit_exchange now b) (after_commit_exchange now b).place
         go true = record { copies = tt; few = t.few; steps = won m.steps (apply_steps W) (allowed S W R m) t.steps }
         go false = record { copies = tt; few = t.few; steps = fewer m.steps (1 + apply_steps W) (apply_steps W) (allowed S W R m) t.steps (omega arith) }
     sparing RaiseCurrent o a t e v = go (nat_lt 0 (length m.log))
@@ -688,8 +688,8 @@ by_footprint S Lawful sound B w g i op may es s o W R u =
     v : Moment
     v = after_event S w (Begins i op)
 
-    new : machine_in v i ≡ begin S (machine_in w i) op
-    new = get_or-set_same w.machines i (begin S (machine_in w i) op) no_machine (omega (arith, g.core.members, may.0))
+    new : machine_in v i ≡ begin_call S (machine_in w i) op
+    new = get_or-set_same w.machines i (begin_call S (machine_in w i) op) no_machine (omega (arith, g.core.members, may.0))
 
     none : (x y : ℕ) → x ≡ 0 → x + y ≡ y
     none x y e = omega arith

@@ -9,12 +9,12 @@ use Rattle.of_mem.specs.Meaning.{IsSoundMeaning}
 use Rattle.of_core.specs.declared.place.Place.{Place}
 use Rattle.of_core.specs.declared.place.Place.TheVariants.{Idle, TryCurrent, StoreScript}
 use Rattle.of_core.specs.Table.{durable_word, Setup, first_operation_cell, cell_count, log_word_of}
-use Rattle.of_core.specs.Machine.{is_idle, CallState, no_machine, first_place, begin, MayReplace}
+use Rattle.of_core.specs.Machine.{is_idle, CallState, no_machine, first_place, begin_call, MayReplace}
 use Rattle.of_core.specs.World.{Read, Moment, TableStart}
 use Rattle.of_core.specs.Shared.{IsRequest, IsLogWord}
 use Rattle.of_core.specs.Rounds.{IsUnannounced, KnowsOwnRequest}
 use Rattle.of_core.specs.Invariant.{MeetsInvariant, MeetsCore, HoldsAtPlace, IsAtRest, IsLoaded}
-use Rattle.of_core.specs.Bound.{IsWithinBound}
+use Rattle.of_core.specs.Bound.{MachineIsWithinBound}
 use Rattle.of_core.specs.Least.{HasMadeLeastSteps}
 use Rattle.of_core.specs.Order.{KeepsCallOrder, HasBegunTry, IsOlder}
 use Rattle.of_core.specs.Steps.{word_found}
@@ -47,56 +47,56 @@ module _ (S : Setup) (Lawful : List ℕ → Type 0) (B : TableStart) (w : Moment
     alike (inl e) = subst Alike (sym e) record { caller = at_rest.caller; made = refl; kept = at_rest.kept }
     alike (inr q) = subst Alike (sym q.1) record { caller = at_rest.caller; made = refl; kept = (omega arith, λ l. absurd (omega (arith, l, seq_zero))) }
 
-    fresh : (p : Place) → IsUnannounced S B w.words w.batches i (record (begin S d op) { place = p })
+    fresh : (p : Place) → IsUnannounced S B w.words w.batches i (record (begin_call S d op) { place = p })
     fresh p =
         let r = at_rest in
         let a = alike takes in
         record { caller = a.caller; ticket = ticket; words = few; some = some; kept = (omega arith, λ l. absurd (omega (arith, l, seq_zero))); above = omega (arith, r.upto, a.made); quieted = r.quieted; newer = omega (arith, r.older, a.made); rounds = refl }
 
-    at_first : (b : Bool) → S.meaning.reads_only op ≡ b → HoldsAtPlace S B w.words w.batches i (record (begin S d op) { place = first_place b }) (first_place b)
+    at_first : (b : Bool) → S.meaning.reads_only op ≡ b → HoldsAtPlace S B w.words w.batches i (record (begin_call S d op) { place = first_place b }) (first_place b)
     at_first true e = (fresh TryCurrent, at_rest.calm, e, omega arith)
     at_first false e = (fresh (StoreScript 0), at_rest.calm, omega arith, refl)
 
     begun_core : MeetsCore S Lawful B (after_begin S i d op w)
-    begun_core = (assemble S Lawful B w g.core i h w.words w.batches (begin S d op) (moves_not S Lawful B i w.words w.batches g.core.shared) g.core.shared (at_first (S.meaning.reads_only op) refl)).core
+    begun_core = (assemble S Lawful B w g.core i h w.words w.batches (begin_call S d op) (moves_not S Lawful B i w.words w.batches g.core.shared) g.core.shared (at_first (S.meaning.reads_only op) refl)).core
 
-    begun_orderly : Orderly S B i w.words m (begin S d op) w.words w.batches []
+    begun_orderly : Orderly S B i w.words m (begin_call S d op) w.words w.batches []
     begun_orderly = record { older = λ r q. older (S.meaning.reads_only op) r (older_upto m r (is_idle m.place) q); trying = λ t. absurd (not_trying (S.meaning.reads_only op) t); answers = inl refl }
       where
-        older : (b : Bool) (r : Read) → r.ticket ≤ m.made → IsOlder (record (begin S d op) { place = first_place b }) (first_place b) r
+        older : (b : Bool) (r : Read) → r.ticket ≤ m.made → IsOlder (record (begin_call S d op) { place = first_place b }) (first_place b) r
         older true r q = omega (arith, (alike takes).made)
         older false r q = omega (arith, (alike takes).made)
 
-        not_trying : (b : Bool) → HasBegunTry (record (begin S d op) { place = first_place b }) (first_place b) → ⊥
+        not_trying : (b : Bool) → HasBegunTry (record (begin_call S d op) { place = first_place b }) (first_place b) → ⊥
         not_trying true t = t
         not_trying false t = t
 
     begun_order : KeepsCallOrder S B (after_begin S i d op w)
-    begun_order = subst (λ (rs : List Read). KeepsCallOrder S B (record { words = w.words; machines = set w.machines i (begin S d op); batches = w.batches; reads = rs; loaded = w.loaded })) (append-nil w.reads)
-        (order_after S Lawful B w g.core g.order i m (begin S d op) h own w.words w.batches [] (moves_not S Lawful B i w.words w.batches g.core.shared) g.core.shared begun_orderly)
+    begun_order = subst (λ (rs : List Read). KeepsCallOrder S B (record { words = w.words; machines = set w.machines i (begin_call S d op); batches = w.batches; reads = rs; loaded = w.loaded })) (append-nil w.reads)
+        (order_after S Lawful B w g.core g.order i m (begin_call S d op) h own w.words w.batches [] (moves_not S Lawful B i w.words w.batches g.core.shared) g.core.shared begun_orderly)
 
     pub begin_kept : MeetsInvariant S Lawful B (after_begin S i d op w)
     begin_kept = record { core = begun_core; order = begun_order; within = λ j n l q. go j n l q (cases_eq j i); late = λ j n l q. late_go j n l q (cases_eq j i) }
       where
-        go : (j : ℕ) (n : CallState) → j < S.callers → get_or (set w.machines i (begin S d op)) j n ≡ n → (j ≡ i) ⊎ (j ≡ i → ⊥) → IsWithinBound S n n.place
+        go : (j : ℕ) (n : CallState) → j < S.callers → get_or (set w.machines i (begin_call S d op)) j n ≡ n → (j ≡ i) ⊎ (j ≡ i → ⊥) → MachineIsWithinBound S n n.place
         go j n l q (inl r) =
             let i_in : i < length w.machines = omega (arith, g.core.members) in
-            let same : begin S d op ≡ n = sym (get_or-set_same w.machines i (begin S d op) n i_in) ∙ (rw r at q) in
-            subst (λ (x : CallState). IsWithinBound S x x.place) same (opened_within S d op)
-        go j n l q (inr r) = g.within j n l (sym (get_or-set_other w.machines i j (begin S d op) n r) ∙ q)
+            let same : begin_call S d op ≡ n = sym (get_or-set_same w.machines i (begin_call S d op) n i_in) ∙ (rw r at q) in
+            subst (λ (x : CallState). MachineIsWithinBound S x x.place) same (opened_within S d op)
+        go j n l q (inr r) = g.within j n l (sym (get_or-set_other w.machines i j (begin_call S d op) n r) ∙ q)
 
-        late_go : (j : ℕ) (n : CallState) → j < S.callers → get_or (set w.machines i (begin S d op)) j n ≡ n → (j ≡ i) ⊎ (j ≡ i → ⊥) → HasMadeLeastSteps S n n.place
+        late_go : (j : ℕ) (n : CallState) → j < S.callers → get_or (set w.machines i (begin_call S d op)) j n ≡ n → (j ≡ i) ⊎ (j ≡ i → ⊥) → HasMadeLeastSteps S n n.place
         late_go j n l q (inl r) =
             let i_in : i < length w.machines = omega (arith, g.core.members) in
-            let same : begin S d op ≡ n = sym (get_or-set_same w.machines i (begin S d op) n i_in) ∙ (rw r at q) in
+            let same : begin_call S d op ≡ n = sym (get_or-set_same w.machines i (begin_call S d op) n i_in) ∙ (rw r at q) in
             subst (λ (x : CallState). HasMadeLeastSteps S x x.place) same (opened_late S d op)
-        late_go j n l q (inr r) = g.late j n l (sym (get_or-set_other w.machines i j (begin S d op) n r) ∙ q)
+        late_go j n l q (inr r) = g.late j n l (sym (get_or-set_other w.machines i j (begin_call S d op) n r) ∙ q)
 
-    pub rests_not : rests_on_seq (begin S d op) ≡ 0
+    pub rests_not : rests_on_seq (begin_call S d op) ≡ 0
     unfolding rests_on_seq
     rests_not = go (S.meaning.reads_only op)
       where
-        go : (b : Bool) → rests_on_seq_at (record (begin S d op) { place = first_place b }) (first_place b) ≡ 0
+        go : (b : Bool) → rests_on_seq_at (record (begin_call S d op) { place = first_place b }) (first_place b) ≡ 0
         go true = refl
         go false = refl
 

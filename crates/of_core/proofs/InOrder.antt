@@ -8,7 +8,7 @@ use Rattle.std.proofs.lemmas.List.Elements.{All-append}
 use Rattle.of_mem.specs.Meaning.{Meaning}
 use Rattle.of_core.specs.Machine.{Call, no_call}
 use Rattle.of_core.specs.World.{Batch, Read}
-use Rattle.of_core.specs.History.{no_batch, numbers_after_calls, HaveReplies, numbers_after_batches, IsLegalHistory}
+use Rattle.of_core.specs.History.{no_batch, numbers_after_calls, CallsHaveReplies, numbers_after_batches, IsLegalHistory}
 use Rattle.of_core.specs.Order.{no_read}
 use Rattle.of_core.specs.Calls.{if_so}
 use Rattle.of_core.proofs.Tests.{same_number, other_number}
@@ -186,7 +186,7 @@ module _ (W : Meaning) where
   after_append xs [] ds = refl
   after_append xs (c ∷ cs) ds = after_append (W.cells xs c.op) cs ds
 
-  pub replies_append : (xs : List ℕ) (cs ds : List Call) → HaveReplies W xs cs → HaveReplies W (numbers_after_calls W xs cs) ds → HaveReplies W xs (cs ++ ds)
+  pub replies_append : (xs : List ℕ) (cs ds : List Call) → CallsHaveReplies W xs cs → CallsHaveReplies W (numbers_after_calls W xs cs) ds → CallsHaveReplies W xs (cs ++ ds)
   replies_append xs [] ds h t = t
   replies_append xs (c ∷ cs) ds h t = (h.0, replies_append (W.cells xs c.op) cs ds h.1 t)
 
@@ -196,7 +196,7 @@ module _ (W : Meaning) where
 
   -- the calls run, and lead from these numbers to those
   abbrev Leads : List ℕ → List Call → List ℕ → Type 0
-  Leads xs cs ys = HaveReplies W xs cs × (numbers_after_calls W xs cs ≡ ys)
+  Leads xs cs ys = CallsHaveReplies W xs cs × (numbers_after_calls W xs cs ≡ ys)
 
   reads_lead : (xs : List ℕ) (s : ℕ) (rs : List Read) → ((a : ℕ) → a < length rs → s ≡ (get_or rs a no_read).seq → Reads xs (get_or rs a no_read)) → Leads xs (reads_of s rs) xs
   reads_lead xs s [] h = (tt, refl)
@@ -224,6 +224,6 @@ module _ (W : Meaning) where
 
       join : Leads (numbers_after_calls W xs b.calls) later (numbers_after_batches W (numbers_after_calls W xs b.calls) bs) → Leads xs (serial_order s (b ∷ bs) rs) (numbers_after_batches W xs (b ∷ bs))
       join rest = (
-        replies_append xs (reads_of s rs) (b.calls ++ later) first.0 (subst (λ (ys : List ℕ). HaveReplies W ys (b.calls ++ later)) (sym first.1) (replies_append xs b.calls later l.0 rest.0)),
+        replies_append xs (reads_of s rs) (b.calls ++ later) first.0 (subst (λ (ys : List ℕ). CallsHaveReplies W ys (b.calls ++ later)) (sym first.1) (replies_append xs b.calls later l.0 rest.0)),
         after_append xs (reads_of s rs) (b.calls ++ later) ∙ ap (λ (ys : List ℕ). numbers_after_calls W ys (b.calls ++ later)) first.1 ∙ after_append xs b.calls later ∙ rest.1,
       )

@@ -7,8 +7,8 @@ use Rattle.of_mem.specs.Pad.{overlaid}
 use Rattle.of_core.specs.declared.place.Place.{Place}
 use Rattle.of_core.specs.declared.place.Place.TheVariants.{Idle, TryCurrent, TryRequest, TryCell, StoreScript, StoreAnnouncement, LoadCurrent, LoadRequest, CopyLog, LookAgain, LoadOwnTicket, LoadShape, LoadReply, LoadAnnouncement, LoadTicket, LoadScript, LoadCell, RaiseOld, StoreLog, RaiseLog, StoreRequest, RaiseRequest, ExchangeCurrent, RaiseCurrent, LoadTarget, ExchangeTarget, ReloadTarget, RaiseTarget, CloseRequest, RaiseClosed}
 use Rattle.of_core.specs.Table.{Setup, ticket_cell}
-use Rattle.of_core.specs.Machine.{CallState, nothing_known, with_cell_known, log_words, begin, first_place, idle_machine}
-use Rattle.of_core.specs.Steps.{after_read_run, begin_reading, resume, after_try_request, end_try, after_try_cell, take_word_at, with_step_counted, after_store_script, after_load_request, after_copy_log, after_look_again, after_own_ticket, after_load_shape, with_shape, after_load_reply, with_reply, next_reply_place, first_marked_place, after_announcement, weigh, after_load_ticket, after_load_script, with_script_word, after_script_run, next_scanned_caller, with_call_run, after_load_cell, after_raise_log, after_exchange, after_raise_current, after_load_target, next_entry, after_raise_closed, is_request_open, with_log_word_copied}
+use Rattle.of_core.specs.Machine.{CallState, no_cell_known, with_cell_known, log_words, begin_call, first_place, idle_machine}
+use Rattle.of_core.specs.Steps.{after_read_run, begin_reading, resume, after_try_request, end_try, after_try_cell, take_word_at, with_step_counted, after_store_script, after_load_request, after_copy_log, after_look_again, after_own_ticket, after_load_shape, with_shape, after_load_reply, with_reply, next_reply_place, first_marked_place, after_announcement, weigh, after_load_ticket, after_load_script, with_script_word, after_script_run, next_scanned_caller, with_call_run, after_load_cell, after_raise_log, after_commit_exchange, after_raise_current, after_load_target, next_entry, after_raise_closed, is_request_open, with_log_word_copied}
 use Rattle.of_core.specs.World.{Batch, TableStart}
 use Rattle.of_core.specs.Invariant.{HoldsAtPlace}
 use Rattle.of_core.specs.Least.{least_of, least_read, made_helping, made_applying, HasMadeLeastSteps}
@@ -20,10 +20,10 @@ least_upto (Gives es r) = omega arith
 
 module _ (S : Setup) where
   -- a call that opens has made none
-  pub opened_late : (m : CallState) (op : List ℕ) → HasMadeLeastSteps S (begin S m op) (begin S m op).place
+  pub opened_late : (m : CallState) (op : List ℕ) → HasMadeLeastSteps S (begin_call S m op) (begin_call S m op).place
   opened_late m op = go (S.meaning.reads_only op)
     where
-      go : (b : Bool) → HasMadeLeastSteps S (record (begin S m op) { place = first_place b }) (first_place b)
+      go : (b : Bool) → HasMadeLeastSteps S (record (begin_call S m op) { place = first_place b }) (first_place b)
       go true = record { steps = omega arith; rests = λ q. cc; told = λ q. cc }
       go false = record { steps = omega arith; rests = λ q. cc; told = λ q. cc }
 
@@ -37,9 +37,9 @@ module _ (S : Setup) where
 
   -- with nothing known it ends behind two loads, or needs a cell
   tried_late : (n : CallState) → 2 ≤ n.steps → HasMadeLeastSteps S (begin_reading S n) (begin_reading S n).place
-  tried_late n h = go (S.meaning.walk (nothing_known S) n.op) refl
+  tried_late n h = go (S.meaning.walk (no_cell_known S) n.op) refl
     where
-      go : (r : WalkEnd) → S.meaning.walk (nothing_known S) n.op ≡ r → HasMadeLeastSteps S (after_read_run (record n { known = nothing_known S; helps = false }) r) (after_read_run (record n { known = nothing_known S; helps = false }) r).place
+      go : (r : WalkEnd) → S.meaning.walk (no_cell_known S) n.op ≡ r → HasMadeLeastSteps S (after_read_run (record n { known = no_cell_known S; helps = false }) r) (after_read_run (record n { known = no_cell_known S; helps = false }) r).place
       go (Needs a) e = record { steps = omega arith; rests = λ q. cc; told = λ q. cc }
       go (Gives es z) e = record { steps = omega arith; rests = λ q. refl; told = λ q. omega (arith, ap least_of e) }
 
@@ -92,7 +92,7 @@ module _ (S : Setup) where
 
         go : (b : Bool) → HasMadeLeastSteps S (after_try_cell S now x n b) (after_try_cell S now x n b).place
         go true = overlaid (nat_lt m.tries MOST_TRIES)
-        go false = read_late (record now { known = with_cell_known S m x n }) (S.meaning.walk (with_cell_known S m x n) m.op) (omega (arith, t.steps)) (omega (arith, t.steps, least_upto (S.meaning.walk (nothing_known S) m.op)))
+        go false = read_late (record now { known = with_cell_known S m x n }) (S.meaning.walk (with_cell_known S m x n) m.op) (omega (arith, t.steps)) (omega (arith, t.steps, least_upto (S.meaning.walk (no_cell_known S) m.op)))
     late (StoreScript j) a t e = go (nat_lt (j + 1) (length m.op)) refl
       where
         go : (b : Bool) → nat_lt (j + 1) (length m.op) ≡ b → HasMadeLeastSteps S (after_store_script now j b) (after_store_script now j b).place
@@ -171,7 +171,7 @@ module _ (S : Setup) where
     late RaiseRequest a t e = record { steps = omega (arith, t.steps); rests = λ q. cc; told = λ q. cc }
     late ExchangeCurrent a t e = go (n == pack m.seq m.owner)
       where
-        go : (b : Bool) → HasMadeLeastSteps S (after_exchange now b) (after_exchange now b).place
+        go : (b : Bool) → HasMadeLeastSteps S (after_commit_exchange now b) (after_commit_exchange now b).place
         go true = record { steps = omega (arith, t.steps); rests = λ q. cc; told = λ q. cc }
         go false = record { steps = omega (arith, t.steps); rests = λ q. cc; told = λ q. cc }
     late RaiseCurrent a t e = go (nat_lt 0 (length m.log))

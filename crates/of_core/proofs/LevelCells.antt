@@ -15,7 +15,7 @@ use Rattle.of_core.specs.declared.place.Place.{Place}
 use Rattle.of_core.specs.declared.place.Place.TheVariants.{StoreScript, StoreAnnouncement, RaiseOld, StoreLog, RaiseLog, StoreRequest, RaiseRequest, ExchangeCurrent, RaiseCurrent, ExchangeTarget, RaiseTarget, CloseRequest, RaiseClosed}
 use Rattle.of_core.specs.declared.place.Op.TheVariants.{Raise}
 use Rattle.of_core.specs.Table.{Setup, first_operation_cell, cell_count, durable_at, script_word_at, request_at, data_at, log_at, request_of, data_word, log_word_of, durable_word, durable_cell, durable_log, current_word, committed_seq, committed_owner, durable_seq}
-use Rattle.of_core.specs.Machine.{CallState, log_entry, log_words, no_machine, begin}
+use Rattle.of_core.specs.Machine.{CallState, log_entry, log_words, no_machine, begin_call}
 use Rattle.of_core.specs.Steps.{want, want_at, word_of, words_after, word_found, take_word, take_word_at, with_step_counted}
 use Rattle.of_core.specs.World.{Moment, TableStart}
 use Rattle.of_core.specs.History.{batch_at, data_word_after}
@@ -344,7 +344,7 @@ module _ (S : Setup) where
               level : (durable_log S w.words j x ≡ log_word_of S w.words j x) ⊎ ⊥ → (durable_log S w.words j x ≡ log_word_of S w.words j x) ⊎ RaisesAt (machine_in z j).place x
               level (inl q) = inl q
               level (inr q) = absurd q
-          logs j x l u (inr away) = subst (λ (d : CallState). (durable_log S w.words j x ≡ log_word_of S w.words j x) ⊎ RaisesAt d.place x) (sym (get_or-set_other w.machines i j (begin S (machine_in w i) op) no_machine (λ e. away (omega (arith, e))))) (v.logs j x l u)
+          logs j x l u (inr away) = subst (λ (d : CallState). (durable_log S w.words j x ≡ log_word_of S w.words j x) ⊎ RaisesAt d.place x) (sym (get_or-set_other w.machines i j (begin_call S (machine_in w i) op) no_machine (λ e. away (omega (arith, e))))) (v.logs j x l u)
 
       -- an event changes a cell only if its durable word is at least its word
       pub event_settles : (e : Event) → MayHappen S w e → (c : ℕ) → c < cell_count S → (get_or (after_event S w e).words c 0 ≡ get_or w.words c 0) ⊎ (get_or w.words c 0 ≤ durable_word S w.words c)

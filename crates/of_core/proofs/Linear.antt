@@ -18,8 +18,8 @@ use Rattle.of_core.specs.Order.{no_read}
 use Rattle.of_core.specs.Invariant.{MeetsInvariant}
 use Rattle.of_core.specs.Events.{Event, after_events, IsSchedule, start_ticket}
 use Rattle.of_core.specs.Calls.{operations_begun, outcomes, no_outcome, OutcomeStands, HasCalls}
-use Rattle.of_core.specs.Claim.{IsNewer, IsSound}
-use Rattle.of_core.specs.Linear.{Precedes, Explains, Linearizes, recovered_number, FindsCall, Detects, IsDurablyLinearizable}
+use Rattle.of_core.specs.Claim.{IsNewerCall, IsSound}
+use Rattle.of_core.specs.Linear.{Precedes, ExplainsOutcome, Linearizes, recovered_number, FindsCall, Detects, IsDurablyLinearizable}
 use Rattle.of_core.proofs.States.{state_length, state_start, batch_is, later, legal_front}
 use Rattle.of_core.proofs.Assembling.{logs_of}
 use Rattle.of_core.proofs.Logs.{room_for}
@@ -137,8 +137,8 @@ module _ (S : Setup) (Lawful : List ℕ → Type 0) (sound : IsSoundMeaning S.me
           (member, λ q. (omega (arith, p.3), omega (arith, p.2, p.3, below), p.4 ∙ ap (λ (x : ℕ). get_or (operations_begun es r.caller) x []) (omega (arith, p.3))))
 
   -- Each caller's stand in the order in which it made them.
-  rising : Pairs IsNewer order
-  rising = each_pair IsNewer (record {
+  rising : Pairs IsNewerCall order
+  rising = each_pair IsNewerCall (record {
     calls = λ j k l u v. tickets_rise S Lawful B w.batches good.core.shared.stands j k l u (omega (arith, v, claim.reaches));
     same = λ k l u p q a b e. absurd (omega (arith, good.core.shared.stands.ordered k l (omega (arith, u, claim.reaches)) p q a b, e));
     read_behind = λ k a l u v x y d z e. behind_is k a (get_or (batch_at B w.batches k).calls y d).ticket x ((good.order.ordered.apart k l (omega (arith, u, claim.reaches))) y d z a no_read v (sym e));
@@ -222,7 +222,7 @@ module _ (S : Setup) (Lawful : List ℕ → Type 0) (sound : IsSoundMeaning S.me
     reply = subst (λ (x : Call). SameReply S raw x.raw) (sym h.2) r;
   }
 
-  explained : (i x : ℕ) → i < S.callers → x < length (outcomes S first es i) → Explains S order i (start_ticket S B i + x + 1) (get_or (operations_begun es i) x []) (get_or (outcomes S first es i) x no_outcome)
+  explained : (i x : ℕ) → i < S.callers → x < length (outcomes S first es i) → ExplainsOutcome S order i (start_ticket S B i + x + 1) (get_or (operations_begun es i) x []) (get_or (outcomes S first es i) x no_outcome)
   explained i x member l = go (get_or (outcomes S first es i) x no_outcome) refl ((calls_of i member).each x l)
     where
       t : ℕ
@@ -231,7 +231,7 @@ module _ (S : Setup) (Lawful : List ℕ → Type 0) (sound : IsSoundMeaning S.me
       op : List ℕ
       op = get_or (operations_begun es i) x []
 
-      go : (o : Outcome) → get_or (outcomes S first es i) x no_outcome ≡ o → OutcomeStands S B w i t op o → Explains S order i t op o
+      go : (o : Outcome) → get_or (outcomes S first es i) x no_outcome ≡ o → OutcomeStands S B w i t op o → ExplainsOutcome S order i t op o
       go (Answered s true raw steps) e h = let c = h.2 in has (get_or (batch_at B w.batches s).calls c.place no_call) i t op raw (call_stands s c.place h.0 h.1 c.among) c.caller c.ticket c.same c.reply
       go (Answered s false raw steps) e h =
           let r = h.1.2 in

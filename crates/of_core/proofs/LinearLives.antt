@@ -14,10 +14,10 @@ use Rattle.of_core.specs.History.{numbers_after_calls}
 use Rattle.of_core.specs.Shared.{MayStart}
 use Rattle.of_core.specs.Invariant.{MeetsInvariant}
 use Rattle.of_core.specs.Events.{Event, after_events, IsSchedule, opening_moment, start_ticket}
-use Rattle.of_core.specs.Claim.{IsNewer, IsSound}
+use Rattle.of_core.specs.Claim.{IsNewerCall, IsSound}
 use Rattle.of_core.specs.Calls.{HasCalls}
 use Rattle.of_core.specs.Linear.{recovered_number, FindsCall, IsDurablyLinearizable}
-use Rattle.of_core.specs.LinearLives.{start_after, AreLives, whole_order, AreDurablyLinearizable}
+use Rattle.of_core.specs.LinearLives.{start_after, AreScheduleLives, whole_order, AreDurablyLinearizable}
 use Rattle.of_core.proofs.Logs.{room_for}
 use Rattle.of_core.proofs.Overlays.{calls_length}
 use Rattle.of_core.proofs.Replays.{calls_from, replies_from}
@@ -32,7 +32,7 @@ use Rattle.of_core.proofs.Linear.{durably_linearizable}
 module _ (S : Setup) (Lawful : List ℕ → Type 0) (sound : IsSoundMeaning S.meaning Lawful (first_operation_cell S) S.cells) (some : 0 < S.callers) (few : S.callers < PAYLOADS) (own_in : first_operation_cell S ≤ S.cells) (n : ℕ) (room : cell_count S + cell_count S + S.callers * (S.instrs + 1) ≤ n) (narrow : S.instrs ≤ MOST_INSTRS) (little : S.cells < PAYLOADS) where
   -- a call that may write is older than each later one of its caller
   abbrev Once : Call → Call → Type 0
-  Once c d = S.meaning.reads_only c.op ≡ false → IsNewer c d
+  Once c d = S.meaning.reads_only c.op ≡ false → IsNewerCall c d
 
   abbrev IsNew : TableStart → Call → Type 0
   IsNew B c = start_ticket S B c.caller < c.ticket
@@ -148,10 +148,10 @@ module _ (S : Setup) (Lawful : List ℕ → Type 0) (sound : IsSoundMeaning S.me
           let new = rest.newer q e u in
           omega (arith, old, new, next_ticket B may es schedule (get_or first.order p d).caller member, ap (start_ticket S (start_after S n B es)) own)
 
-  pub lives_linear : (lives : List (List Event)) (B : TableStart) → MayStart S Lawful B → AreLives S n B lives → Lives B lives
+  pub lives_linear : (lives : List (List Event)) (B : TableStart) → MayStart S Lawful B → AreScheduleLives S n B lives → Lives B lives
   lives_linear [] B may s = no_lives B
   lives_linear (es ∷ lives) B may s = one_more B may es s.0 lives (lives_linear lives (start_after S n B es) (next_start B may es s.0) s.1)
 
-  pub any_lives : (B : TableStart) → MayStart S Lawful B → (lives : List (List Event)) → AreLives S n B lives → AreDurablyLinearizable S n B lives
+  pub any_lives : (B : TableStart) → MayStart S Lawful B → (lives : List (List Event)) → AreScheduleLives S n B lives → AreDurablyLinearizable S n B lives
   unfolding Lives
   any_lives B may lives s = (lives_linear lives B may s).0

@@ -15,7 +15,7 @@ use Rattle.of_mem.specs.declared.work.RawReply.{RawReply}
 use Rattle.of_mem.specs.Meaning.{HasDistinctCells, with_writes_in, IsFinishedWalk}
 use Rattle.of_mem.specs.declared.work.TheConstants.{LEAST_ABORT}
 use Rattle.of_core.specs.Table.{Setup, first_operation_cell, ticket_cell}
-use Rattle.of_core.specs.Machine.{cells_from, own_cells, flat_entries, log_words, rotated}
+use Rattle.of_core.specs.Machine.{cells_from, own_cells, flat_entries, log_words, entries_going_round}
 use Rattle.of_core.specs.History.{with_log_applied}
 use Rattle.of_core.specs.Shared.{IsEntry, IsLog}
 use Rattle.of_core.specs.Transaction.{IsReorderingOf}
@@ -202,7 +202,7 @@ length-log_words es = omega (arith, length-flat es)
 pub turned_same : (es : List (ℕ × ℕ)) → IsReorderingOf es es
 turned_same es = record { many = refl; each = λ j l. (j, l, refl); all = λ k l. (k, l, refl) }
 
-pub turned_is : (f : ℕ) (es : List (ℕ × ℕ)) → IsReorderingOf es (rotated f es)
+pub turned_is : (f : ℕ) (es : List (ℕ × ℕ)) → IsReorderingOf es (entries_going_round f es)
 turned_is f es = record { many = many; each = λ j l. each j (rw many at l) (cases_lt j (length es - f)); all = λ k l. all k l (cases_lt k f) }
   where
     ld : length (drop f es) ≡ length es - f

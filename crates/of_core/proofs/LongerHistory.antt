@@ -10,7 +10,7 @@ use Rattle.of_mem.specs.Meaning.{IsSoundMeaning, SameFrom, with_writes_in}
 use Rattle.of_core.specs.Table.{Setup, first_operation_cell, ticket_cell, shape_cell, reply_cell}
 use Rattle.of_core.specs.Machine.{Call, no_call}
 use Rattle.of_core.specs.World.{Batch, TableStart}
-use Rattle.of_core.specs.History.{state_after, batch_at, data_word_after, with_log_applied, ShowsCall, OwnCellsShowLast, HasNoCallBetween, IsCellOfCaller, CallersRise, last_ticket_by, numbers_after, numbers_after_calls, HaveReplies}
+use Rattle.of_core.specs.History.{state_after, batch_at, data_word_after, with_log_applied, ShowsCall, OwnCellsShowLast, HasNoCallBetween, IsCellOfCaller, CallersRise, last_ticket_by, numbers_after, numbers_after_calls, CallsHaveReplies}
 use Rattle.of_core.specs.Shared.{IsLog, IsStart, StatesFollowBatches}
 use Rattle.of_core.specs.Scan.{LogsCell, LogsOwnCells, IsOverlayOf, WasTakenByScan}
 use Rattle.of_core.proofs.States.{state_same, batch_same, batch_new, state_next, state_length, old, changed_at, changed_other}
@@ -241,7 +241,7 @@ module _ (S : Setup) (Lawful : List ℕ → Type 0) (sound : IsSoundMeaning S.me
       leads_at k l (inl u) v = rw (states (k + 1) (omega arith), states k v, batches (k + 1) (omega arith) (omega arith)) (st.leads k l (omega (arith, n_is)))
       leads_at k l (inr u) v = rw (at_n k u v, new_batch, states n (omega arith)) same_from
 
-      replies_at : (k : ℕ) → B.seq ≤ k → (k < n) ⊎ (n ≤ k) → k ≤ n → HaveReplies S.meaning (numbers_after B cs k) (batch_at B cs (k + 1)).calls
+      replies_at : (k : ℕ) → B.seq ≤ k → (k < n) ⊎ (n ≤ k) → k ≤ n → CallsHaveReplies S.meaning (numbers_after B cs k) (batch_at B cs (k + 1)).calls
       replies_at k l (inl u) v = rw (states k v, batches (k + 1) (omega arith) (omega arith)) (st.replies k l (omega (arith, n_is)))
       replies_at k l (inr u) v = rw (at_n k u v, new_batch, states n (omega arith)) over.replies
 

@@ -12,8 +12,8 @@ use Rattle.of_core.specs.declared.place.Place.TheVariants.{Idle, TryCurrent, Try
 use Rattle.of_core.specs.declared.place.Outcome.{Outcome}
 use Rattle.of_core.specs.declared.place.Outcome.TheVariants.{Answered, Spent}
 use Rattle.of_core.specs.Table.{Setup, ticket_cell}
-use Rattle.of_core.specs.Machine.{CallState, nothing_known, with_cell_known, log_words}
-use Rattle.of_core.specs.Steps.{take_word_at, with_step_counted, after_read_run, resume, first_round_seq, after_try_request, end_try, after_try_cell, after_store_script, after_load_request, after_copy_log, after_look_again, after_own_ticket, after_load_shape, after_load_reply, after_announcement, after_load_ticket, after_load_script, after_load_cell, after_raise_log, after_exchange, after_raise_current, after_load_target, next_entry, after_raise_closed, after_script_run, weigh, next_scanned_caller, with_call_run, next_reply_place, with_shape, with_reply, with_log_word_copied, with_script_word, first_marked_place, is_request_open}
+use Rattle.of_core.specs.Machine.{CallState, no_cell_known, with_cell_known, log_words}
+use Rattle.of_core.specs.Steps.{take_word_at, with_step_counted, after_read_run, resume, first_round_seq, after_try_request, end_try, after_try_cell, after_store_script, after_load_request, after_copy_log, after_look_again, after_own_ticket, after_load_shape, after_load_reply, after_announcement, after_load_ticket, after_load_script, after_load_cell, after_raise_log, after_commit_exchange, after_raise_current, after_load_target, next_entry, after_raise_closed, after_script_run, weigh, next_scanned_caller, with_call_run, next_reply_place, with_shape, with_reply, with_log_word_copied, with_script_word, first_marked_place, is_request_open}
 use Rattle.of_core.specs.World.{Moment, TableStart}
 use Rattle.of_core.specs.Order.{HasBegunTry}
 use Rattle.of_core.specs.Facts.{loads_current_at}
@@ -93,7 +93,7 @@ module _ (S : Setup) (B : TableStart) (w : Moment) (i : ℕ) (m : CallState) (n 
 
   -- after a look at the request, or a help, a try or a round goes on
   resumed_step : (p : Place) → loads_current_at p ≡ false → announces_at p ≡ false → (b : Bool) → (m.rounds ≡ 0 → b ≡ true) → BeginsNone p (resume S now b)
-  resumed_step p l a true e = read_within p (record now { known = nothing_known S; helps = false }) l refl refl refl refl a (S.meaning.walk (nothing_known S) m.op)
+  resumed_step p l a true e = read_within p (record now { known = no_cell_known S; helps = false }) l refl refl refl refl a (S.meaning.walk (no_cell_known S) m.op)
   resumed_step p l a false e = away p (resume S now false) l refl refl refl (λ z q. let k : false ≡ true = e z in cc)
 
   no_rounds : (b : Bool) → (m.rounds == 0) ≡ b → m.rounds ≡ 0 → b ≡ true
@@ -187,9 +187,9 @@ module _ (S : Setup) (B : TableStart) (w : Moment) (i : ℕ) (m : CallState) (n 
   losing RaiseRequest a = inr (inr (away RaiseRequest (take_word_at S now n RaiseRequest) refl refl refl refl (λ z q. q)))
   losing ExchangeCurrent a = inr (inr (go (n == pack m.seq m.owner)))
     where
-      go : (b : Bool) → BeginsNone ExchangeCurrent (after_exchange now b)
-      go true = away ExchangeCurrent (after_exchange now true) refl refl refl refl (λ z q. q)
-      go false = away ExchangeCurrent (after_exchange now false) refl refl refl refl (λ z q. q)
+      go : (b : Bool) → BeginsNone ExchangeCurrent (after_commit_exchange now b)
+      go true = away ExchangeCurrent (after_commit_exchange now true) refl refl refl refl (λ z q. q)
+      go false = away ExchangeCurrent (after_commit_exchange now false) refl refl refl refl (λ z q. q)
   losing RaiseCurrent a = inr (inr (go (nat_lt 0 (length m.log))))
     where
       go : (b : Bool) → BeginsNone RaiseCurrent (after_raise_current now b)

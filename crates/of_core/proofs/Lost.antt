@@ -12,7 +12,7 @@ use Rattle.of_core.specs.declared.place.Place.TheVariants.{Idle, TryCurrent, Try
 use Rattle.of_core.specs.declared.place.Outcome.{Outcome}
 use Rattle.of_core.specs.declared.place.Outcome.TheVariants.{Answered, Spent}
 use Rattle.of_core.specs.Table.{Setup, first_operation_cell, ticket_cell}
-use Rattle.of_core.specs.Machine.{CallState, no_call, IsOpen, is_idle, no_machine, begin, first_place}
+use Rattle.of_core.specs.Machine.{CallState, no_call, IsOpen, is_idle, no_machine, begin_call, first_place}
 use Rattle.of_core.specs.Steps.{want, take_word, word_found, first_round_seq, IsFoundBy}
 use Rattle.of_core.specs.World.{Moment, TableStart, Batch, step_batches, after_step}
 use Rattle.of_core.specs.History.{last_ticket_by}
@@ -316,7 +316,7 @@ module _ (S : Setup) (Lawful : List ℕ → Type 0) (sound : IsSoundMeaning S.me
   }
 
   -- a call that begins has lost nothing
-  fresh : (bs : List Batch) (m : CallState) (op : List ℕ) → low ≤ B.seq + length bs → Lost S B low j bs (begin S m op)
+  fresh : (bs : List Batch) (m : CallState) (op : List ℕ) → low ≤ B.seq + length bs → Lost S B low j bs (begin_call S m op)
   fresh bs m op l = record {
     from = l;
     tries = omega (arith, l);
@@ -378,9 +378,9 @@ module _ (S : Setup) (Lawful : List ℕ → Type 0) (sound : IsSoundMeaning S.me
       go : (i ≡ j) ⊎ (i ≡ j → ⊥) → Leads w v (if_so (j == i) (op ∷ [])) []
       go (inr away) =
           subst (λ (b : Bool). Leads w v (if_so b (op ∷ [])) []) (sym (other_number j i away))
-          (quiet w v (get_or-set_other w.machines i j (begin S (machine_in w i) op) no_machine (λ e. away (sym e))) [] (sym (append-nil w.batches)))
+          (quiet w v (get_or-set_other w.machines i j (begin_call S (machine_in w i) op) no_machine (λ e. away (sym e))) [] (sym (append-nil w.batches)))
       go (inl same) =
-          let here : machine_in v j ≡ begin S (machine_in w i) op = ap (λ (x : ℕ). machine_in v x) (sym same) ∙ get_or-set_same w.machines i (begin S (machine_in w i) op) no_machine (omega (arith, g.core.members, may.0)) in
+          let here : machine_in v j ≡ begin_call S (machine_in w i) op = ap (λ (x : ℕ). machine_in v x) (sym same) ∙ get_or-set_same w.machines i (begin_call S (machine_in w i) op) no_machine (omega (arith, g.core.members, may.0)) in
           let none : LostAt v = λ o. subst (Lost S B low j w.batches) (sym here) (fresh w.batches (machine_in w i) op u) in
           record {
             few = omega arith;

@@ -8,7 +8,7 @@ use Rattle.of_cell.specs.Cells.{data_cell}
 use Rattle.of_cell.proofs.Order.{seq_zero, pay_zero}
 use Rattle.of_recover.specs.Row.{is_open}
 use Rattle.of_recover.specs.Recovered.{recovered_words}
-use Rattle.of_recover.specs.Writes.{row_after, recovery_writes}
+use Rattle.of_recover.specs.Writes.{words_after_writes, recovery_writes}
 use Rattle.of_recover.specs.Renumbered.{renumbering_writes, BeginsAnewPartly}
 use Rattle.of_recover.proofs.Kept.{closed_after}
 use Rattle.of_recover.proofs.Fronts.{fronts_recover}
@@ -23,8 +23,8 @@ use Rattle.of_core.proofs.RecoveredRow.{restarts, start_is}
 
 -- a recovery
 pub restarts_midway : (S : Setup) (Lawful : List ℕ → Type 0) (B : TableStart) (w : Moment) → MeetsInvariant S Lawful B w → IsSound S B w → (row : List ℕ) → IsDurable S w.words row → (made : ℕ)
-    → IsStartRow S Lawful (recovered_words S.callers S.cells (row_after (take made (recovery_writes S.callers S.cells (λ c. get_or row c 0))) row))
-    × (start_from_durable S.callers S.cells (recovered_words S.callers S.cells (row_after (take made (recovery_writes S.callers S.cells (λ c. get_or row c 0))) row)) ≡ recovered_start S B w)
+    → IsStartRow S Lawful (recovered_words S.callers S.cells (words_after_writes (take made (recovery_writes S.callers S.cells (λ c. get_or row c 0))) row))
+    × (start_from_durable S.callers S.cells (recovered_words S.callers S.cells (words_after_writes (take made (recovery_writes S.callers S.cells (λ c. get_or row c 0))) row)) ≡ recovered_start S B w)
 restarts_midway S Lawful B w g sound row durable made =
     subst (λ (found : List ℕ). IsStartRow S Lawful found × (start_from_durable S.callers S.cells found ≡ recovered_start S B w)) (sym (fronts_recover S.callers S.cells row durable.long made))
     (restarts S Lawful B w g sound row durable, start_is S Lawful B w g sound row durable)
@@ -32,7 +32,7 @@ restarts_midway S Lawful B w g sound row durable made =
 -- a renumbering
 module _ (S : Setup) (Lawful : List ℕ → Type 0) (row : List ℕ) (is_row : IsStartRow S Lawful row) (made : ℕ) where
   abbrev left : List ℕ
-  left = row_after (take made (renumbering_writes S.callers S.cells row)) row
+  left = words_after_writes (take made (renumbering_writes S.callers S.cells row)) row
 
   closed : is_open S.callers (λ c. get_or row c 0) ≡ false
   closed = subst (λ (ws : List ℕ). is_open S.callers (λ c. get_or ws c 0) ≡ false) is_row.recovered (closed_after S.callers S.cells row is_row.long)

@@ -8,8 +8,8 @@ use Rattle.of_core.specs.declared.place.Place.{Place}
 use Rattle.of_core.specs.declared.place.Place.TheVariants.{Idle, TryCurrent, TryRequest, TryCell, StoreScript, StoreAnnouncement, LoadCurrent, LoadRequest, CopyLog, LookAgain, LoadOwnTicket, LoadShape, LoadReply, LoadAnnouncement, LoadTicket, LoadScript, LoadCell, RaiseOld, StoreLog, RaiseLog, StoreRequest, RaiseRequest, ExchangeCurrent, RaiseCurrent, LoadTarget, ExchangeTarget, ReloadTarget, RaiseTarget, CloseRequest, RaiseClosed}
 use Rattle.of_core.specs.declared.machine.trying.TheConstants.{MOST_TRIES}
 use Rattle.of_core.specs.Table.{Setup, ticket_cell, request_of}
-use Rattle.of_core.specs.Machine.{CallState, IsOpen, nothing_known, with_cell_known, log_words}
-use Rattle.of_core.specs.Steps.{want, want_at, IsFoundBy, take_word, take_word_at, with_step_counted, after_read_run, resume, after_try_request, end_try, after_try_cell, after_store_script, after_load_request, after_copy_log, after_look_again, after_own_ticket, after_load_shape, with_shape, after_load_reply, with_reply, next_reply_place, first_marked_place, after_announcement, weigh, after_load_ticket, after_load_script, with_script_word, after_script_run, next_scanned_caller, with_call_run, after_load_cell, after_raise_log, after_exchange, after_raise_current, after_load_target, next_entry, after_raise_closed, is_request_open, with_log_word_copied}
+use Rattle.of_core.specs.Machine.{CallState, IsOpen, no_cell_known, with_cell_known, log_words}
+use Rattle.of_core.specs.Steps.{want, want_at, IsFoundBy, take_word, take_word_at, with_step_counted, after_read_run, resume, after_try_request, end_try, after_try_cell, after_store_script, after_load_request, after_copy_log, after_look_again, after_own_ticket, after_load_shape, with_shape, after_load_reply, with_reply, next_reply_place, first_marked_place, after_announcement, weigh, after_load_ticket, after_load_script, with_script_word, after_script_run, next_scanned_caller, with_call_run, after_load_cell, after_raise_log, after_commit_exchange, after_raise_current, after_load_target, next_entry, after_raise_closed, is_request_open, with_log_word_copied}
 use Rattle.of_core.specs.World.{Moment}
 use Rattle.of_core.proofs.Tests.{is_newer}
 
@@ -26,7 +26,7 @@ module _ (S : Setup) (ws : List ℕ) (m : CallState) (n : ℕ) where
   read_on x (Gives es r) e = cc
 
   resumed_on : (b : Bool) → Elsewhere (resume S now b)
-  resumed_on true e = read_on (record now { known = nothing_known S; helps = false }) (S.meaning.walk (nothing_known S) m.op) e
+  resumed_on true e = read_on (record now { known = no_cell_known S; helps = false }) (S.meaning.walk (no_cell_known S) m.op) e
   resumed_on false e = cc
 
   next_on : (x : CallState) (b : Bool) → Elsewhere (next_scanned_caller x b)
@@ -133,7 +133,7 @@ module _ (S : Setup) (ws : List ℕ) (m : CallState) (n : ℕ) where
   opens_at RaiseRequest o f e = cc
   opens_at ExchangeCurrent o f e = absurd (by (n == pack m.seq m.owner) e)
     where
-      by : (b : Bool) → Elsewhere (after_exchange now b)
+      by : (b : Bool) → Elsewhere (after_commit_exchange now b)
       by true e = cc
       by false e = cc
   opens_at RaiseCurrent o f e = absurd (by (nat_lt 0 (length m.log)) e)

@@ -13,7 +13,7 @@ use Rattle.of_core.specs.Shared.{MayStart}
 use Rattle.of_core.specs.Order.{KeepsCallOrder, HasOnlyOlderCalls}
 use Rattle.of_core.specs.Facts.{rests_on_seq}
 use Rattle.of_core.specs.Invariant.{MeetsInvariant, MeetsCore, HoldsAtPlace}
-use Rattle.of_core.specs.Bound.{IsWithinBound}
+use Rattle.of_core.specs.Bound.{MachineIsWithinBound}
 use Rattle.of_core.specs.Least.{HasMadeLeastSteps}
 use Rattle.of_core.specs.Events.{idle_machines, start_ticket, opening_moment}
 use Rattle.of_core.specs.Starts.{first_cells, first_words}
@@ -184,6 +184,6 @@ module _ (S : Setup) (Lawful : List ℕ → Type 0) (sound : IsSoundMeaning S.me
   start_good = record {
     core = good_start;
     order = start_order;
-    within = λ i m h e. subst (λ (x : CallState). IsWithinBound S x x.place) (sym (idle_at S (start_ticket S B) i m h) ∙ e) (record { steps = omega arith; told = λ r. tt });
+    within = λ i m h e. subst (λ (x : CallState). MachineIsWithinBound S x x.place) (sym (idle_at S (start_ticket S B) i m h) ∙ e) (record { steps = omega arith; told = λ r. tt });
     late = λ i m h e. subst (λ (x : CallState). HasMadeLeastSteps S x x.place) (sym (idle_at S (start_ticket S B) i m h) ∙ e) (idle_late S i (start_ticket S B i));
   }

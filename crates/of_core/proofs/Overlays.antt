@@ -13,7 +13,7 @@ use Rattle.of_mem.specs.Pairs.{put_pair, put_all}
 use Rattle.of_mem.specs.Pad.{overlaid}
 use Rattle.of_core.specs.Table.{Setup, first_operation_cell, ticket_cell, shape_cell, reply_cell}
 use Rattle.of_core.specs.Machine.{Call, cells_from, own_cells, no_call}
-use Rattle.of_core.specs.History.{IsCellOfCaller, numbers_after_calls, HaveReplies}
+use Rattle.of_core.specs.History.{IsCellOfCaller, numbers_after_calls, CallsHaveReplies}
 use Rattle.of_core.specs.Shared.{IsEntry, IsLog}
 use Rattle.of_core.specs.Scan.{LogsCell, LogsOwnCells, IsOverlayOf}
 use Rattle.of_core.proofs.States.{once_tail}
@@ -216,7 +216,7 @@ pub after_push : (W : Meaning) (xs : List ℕ) (cs : List Call) (c : Call) → n
 after_push W xs [] c = refl
 after_push W xs (d ∷ cs) c = after_push W (W.cells xs d.op) cs c
 
-replies_push : (W : Meaning) (xs : List ℕ) (cs : List Call) (c : Call) → HaveReplies W xs cs → W.reply (numbers_after_calls W xs cs) c.op ≡ c.raw → HaveReplies W xs (cs ++ c ∷ [])
+replies_push : (W : Meaning) (xs : List ℕ) (cs : List Call) (c : Call) → CallsHaveReplies W xs cs → W.reply (numbers_after_calls W xs cs) c.op ≡ c.raw → CallsHaveReplies W xs (cs ++ c ∷ [])
 replies_push W xs [] c h r = (r, tt)
 replies_push W xs (d ∷ cs) c h r = (h.0, replies_push W (W.cells xs d.op) cs c h.1 r)
 

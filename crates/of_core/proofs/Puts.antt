@@ -12,7 +12,7 @@ use Rattle.of_core.specs.Table.{Setup, first_operation_cell, ticket_cell}
 use Rattle.of_mem.specs.declared.work.TheConstants.{MOST_INSTRS}
 use Rattle.of_mem.specs.declared.work.RawReply.{RawReply}
 use Rattle.of_core.specs.declared.place.Place.{Place}
-use Rattle.of_core.specs.Machine.{CallState, flat_entries, log_words, entries_of_words, log_of, own_cells, cells_from, rotated}
+use Rattle.of_core.specs.Machine.{CallState, flat_entries, log_words, entries_of_words, log_of, own_cells, cells_from, entries_going_round}
 use Rattle.of_core.specs.Steps.{after_read_run, first_marked_place}
 use Rattle.of_core.proofs.Logs.{whole_log, once_append}
 
@@ -155,10 +155,10 @@ pub put_no_part : (ds es : List (ℕ × ℕ)) (from : ℕ) → put_all ds (drop 
 put_no_part ds es from = ap (put_all ds) (drop_all from (take from es) (omega (arith, length-take from es)))
 
 -- the parts of a log, going round
-pub put_round : (ds es : List (ℕ × ℕ)) (f n : ℕ) → length es ≡ n → put_all (put_all ds (drop f (take n es))) (drop 0 (take f es)) ≡ put_all ds (rotated f es)
+pub put_round : (ds es : List (ℕ × ℕ)) (f n : ℕ) → length es ≡ n → put_all (put_all ds (drop f (take n es))) (drop 0 (take f es)) ≡ put_all ds (entries_going_round f es)
 put_round ds es f n e = ap (λ (xs : List (ℕ × ℕ)). put_all (put_all ds (drop f xs)) (take f es)) (take_all n es (omega arith)) ∙ sym (put_all_append ds (drop f es) (take f es))
 
-pub turned_none : (es : List (ℕ × ℕ)) (f : ℕ) → length es ≡ 0 → rotated f es ≡ []
+pub turned_none : (es : List (ℕ × ℕ)) (f : ℕ) → length es ≡ 0 → entries_going_round f es ≡ []
 turned_none es f e = ap (λ (xs : List (ℕ × ℕ)). xs ++ take f es) (drop_all f es (omega arith)) ∙ none (take f es) (omega (arith, length-take f es))
   where
     none : (xs : List (ℕ × ℕ)) → length xs ≡ 0 → xs ≡ []
@@ -166,7 +166,7 @@ turned_none es f e = ap (λ (xs : List (ℕ × ℕ)). xs ++ take f es) (drop_all
     none (x ∷ xs) q = absurd (omega arith)
 
 -- going round names no cell twice either
-pub once_turned : (es : List (ℕ × ℕ)) (f : ℕ) → HasDistinctCells es → HasDistinctCells (rotated f es)
+pub once_turned : (es : List (ℕ × ℕ)) (f : ℕ) → HasDistinctCells es → HasDistinctCells (entries_going_round f es)
 once_turned es f o = once_append (drop f es) (take f es) behind before apart
   where
     size : length (drop f es) ≡ length es - f

@@ -6,7 +6,7 @@ use Rattle.std.proofs.lemmas.Bool.{cases_eq, and_parts, eq-eqb, ne_eqb, lt-ltb, 
 use Rattle.of_cell.specs.Words.{pack, seq_of, payload_of}
 use Rattle.of_cell.proofs.Order.{seq_word, pay_word}
 use Rattle.of_recover.specs.Row.{current_owner, is_open}
-use Rattle.of_recover.specs.Log.{owner_log_word, entry_count, entry_value, entry_names, first_naming}
+use Rattle.of_recover.specs.Log.{owner_log_word, entry_count, log_entry_value, entry_names, first_naming}
 use Rattle.of_recover.specs.Recovered.{replayed_data, recovered_data}
 use Rattle.of_core.specs.Table.{Setup, request_at, request_of, durable_word, durable_request, durable_cell, committed_seq, committed_owner, durable_seq}
 use Rattle.of_core.specs.Machine.{log_words}
@@ -83,7 +83,7 @@ module _ (S : Setup) (Lawful : List ℕ → Type 0) (B : TableStart) (w : Moment
         ∙ ap (λ (x : ℕ). x == a) p
 
     -- and has its own value
-    valued : (j : ℕ) → j < length es → entry_value S.callers S.cells row j ≡ (get_or es j (0, 0)).1
+    valued : (j : ℕ) → j < length es → log_entry_value S.callers S.cells row j ≡ (get_or es j (0, 0)).1
     valued j l = ap payload_of (value_is j l) ∙ pay_word d (get_or es j (0, 0)).1 (log.entries j (0, 0) l).1
 
     -- an entry for the cell, or none from j on
@@ -151,7 +151,7 @@ module _ (S : Setup) (Lawful : List ℕ → Type 0) (B : TableStart) (w : Moment
 
       -- and each other one takes the value of its entry
       abbrev given : Option ℕ → ℕ
-      given o = unwrap_or (option_map (λ j. pack d (entry_value S.callers S.cells row j)) o) (durable_cell S w.words a)
+      given o = unwrap_or (option_map (λ j. pack d (log_entry_value S.callers S.cells row j)) o) (durable_cell S w.words a)
 
       entry_given : (o : Option ℕ) → Found log here a 0 o → given o ≡ data_word_after B w.batches d a
       entry_given o (inl k) =

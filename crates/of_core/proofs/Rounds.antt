@@ -7,7 +7,7 @@ use Rattle.of_cell.specs.Words.{pack, seq_of, payload_of}
 use Rattle.of_cell.proofs.Order.{seq_word}
 use Rattle.of_core.specs.declared.place.Place.TheVariants.{Idle, LoadCurrent, LoadRequest, LoadOwnTicket}
 use Rattle.of_core.specs.Table.{Setup, announcement_of, current_word, request_of, data_word, committed_seq, committed_owner, durable_seq}
-use Rattle.of_core.specs.Machine.{CallState, nothing_known, with_cell_known}
+use Rattle.of_core.specs.Machine.{CallState, no_cell_known, with_cell_known}
 use Rattle.of_core.specs.Steps.{after_load_request, enter, is_request_open, take_word_at, next_round, first_round_seq}
 use Rattle.of_core.specs.World.{Moment, TableStart, after_counted_step}
 use Rattle.of_core.specs.History.{batch_at, data_word_after, IsCellOfCaller, last_ticket_by, numbers_after}
@@ -136,9 +136,9 @@ module _ (S : Setup) (Lawful : List ℕ → Type 0) (B : TableStart) where
       refl,
     )
       where
-        unknown_at : (x : ℕ) → (x < S.cells) ⊎ (S.cells ≤ x) → get_or (nothing_known S) x None ≡ None
+        unknown_at : (x : ℕ) → (x < S.cells) ⊎ (S.cells ≤ x) → get_or (no_cell_known S) x None ≡ None
         unknown_at x (inl l) = get_or-replicate S.cells x None None l
-        unknown_at x (inr l) = get_or_past (nothing_known S) x None (rw length-replicate l)
+        unknown_at x (inr l) = get_or_past (no_cell_known S) x None (rw length-replicate l)
 
         elim_none : (v : ℕ) → ◌≡◌ {A = Option ℕ} None (Some v) → ⊥
         elim_none v q = cc

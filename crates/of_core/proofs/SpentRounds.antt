@@ -8,8 +8,8 @@ use Rattle.of_core.specs.declared.place.Place.TheVariants.{Idle, TryCurrent, Try
 use Rattle.of_core.specs.declared.place.Outcome.TheVariants.{Spent}
 use Rattle.of_core.specs.declared.machine.trying.TheConstants.{MOST_TRIES}
 use Rattle.of_core.specs.Table.{Setup, ticket_cell}
-use Rattle.of_core.specs.Machine.{CallState, IsOpen, nothing_known, with_cell_known, log_words}
-use Rattle.of_core.specs.Steps.{take_word, take_word_at, with_step_counted, after_read_run, resume, after_try_request, end_try, after_try_cell, after_store_script, after_load_request, after_copy_log, after_look_again, after_own_ticket, after_load_shape, with_shape, after_load_reply, with_reply, next_reply_place, first_marked_place, after_announcement, weigh, after_load_ticket, after_load_script, with_script_word, after_script_run, next_scanned_caller, with_call_run, after_load_cell, after_raise_log, after_exchange, after_raise_current, after_load_target, next_entry, after_raise_closed, is_request_open, with_log_word_copied}
+use Rattle.of_core.specs.Machine.{CallState, IsOpen, no_cell_known, with_cell_known, log_words}
+use Rattle.of_core.specs.Steps.{take_word, take_word_at, with_step_counted, after_read_run, resume, after_try_request, end_try, after_try_cell, after_store_script, after_load_request, after_copy_log, after_look_again, after_own_ticket, after_load_shape, with_shape, after_load_reply, with_reply, next_reply_place, first_marked_place, after_announcement, weigh, after_load_ticket, after_load_script, with_script_word, after_script_run, next_scanned_caller, with_call_run, after_load_cell, after_raise_log, after_commit_exchange, after_raise_current, after_load_target, next_entry, after_raise_closed, is_request_open, with_log_word_copied}
 use Rattle.of_core.specs.World.{Moment, TableStart}
 use Rattle.of_core.specs.Invariant.{HoldsAtPlace, MeetsInvariant}
 use Rattle.of_core.specs.SpentRound.{IsSpentInRound}
@@ -27,7 +27,7 @@ module _ (S : Setup) (m : CallState) (n s : ℕ) where
   read_on x (Gives es r) e q = cc
 
   resumed_on : (b : Bool) → Unspent (resume S now b)
-  resumed_on true e q = read_on (record now { known = nothing_known S; helps = false }) (S.meaning.walk (nothing_known S) m.op) e q
+  resumed_on true e q = read_on (record now { known = no_cell_known S; helps = false }) (S.meaning.walk (no_cell_known S) m.op) e q
   resumed_on false e q = cc
 
   next_on : (x : CallState) (b : Bool) → Unspent (next_scanned_caller x b)
@@ -137,7 +137,7 @@ module _ (S : Setup) (m : CallState) (n s : ℕ) where
       is RaiseRequest o e q = cc
       is ExchangeCurrent o e q = absurd (by (n == pack m.seq m.owner) e q)
         where
-          by : (b : Bool) → Unspent (after_exchange now b)
+          by : (b : Bool) → Unspent (after_commit_exchange now b)
           by true e q = cc
           by false e q = cc
       is RaiseCurrent o e q = absurd (by (nat_lt 0 (length m.log)) e q)

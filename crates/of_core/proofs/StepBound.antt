@@ -9,12 +9,12 @@ use Rattle.of_mem.specs.Pad.{overlaid}
 use Rattle.of_core.specs.declared.place.Place.{Place}
 use Rattle.of_core.specs.declared.place.Place.TheVariants.{Idle, TryCurrent, TryRequest, TryCell, StoreScript, StoreAnnouncement, LoadCurrent, LoadRequest, CopyLog, LookAgain, LoadOwnTicket, LoadShape, LoadReply, LoadAnnouncement, LoadTicket, LoadScript, LoadCell, RaiseOld, StoreLog, RaiseLog, StoreRequest, RaiseRequest, ExchangeCurrent, RaiseCurrent, LoadTarget, ExchangeTarget, ReloadTarget, RaiseTarget, CloseRequest, RaiseClosed}
 use Rattle.of_core.specs.Table.{Setup, ticket_cell, shape_cell, reply_cell, data_word}
-use Rattle.of_core.specs.Machine.{CallState, nothing_known, with_cell_known, log_words, begin, first_place}
-use Rattle.of_core.specs.Steps.{read_on, after_read_run, begin_reading, resume, after_try_request, end_try, after_try_cell, want_at, word_of, take_word_at, with_step_counted, after_store_script, after_load_request, after_copy_log, after_look_again, after_own_ticket, after_load_shape, with_shape, after_load_reply, with_reply, next_reply_place, first_marked_place, after_announcement, weigh, after_load_ticket, after_load_script, with_script_word, after_script_run, next_scanned_caller, with_call_run, after_load_cell, after_raise_log, after_exchange, after_raise_current, after_load_target, next_entry, after_raise_closed, is_request_open, with_log_word_copied}
+use Rattle.of_core.specs.Machine.{CallState, no_cell_known, with_cell_known, log_words, begin_call, first_place}
+use Rattle.of_core.specs.Steps.{read_on, after_read_run, begin_reading, resume, after_try_request, end_try, after_try_cell, want_at, word_of, take_word_at, with_step_counted, after_store_script, after_load_request, after_copy_log, after_look_again, after_own_ticket, after_load_shape, with_shape, after_load_reply, with_reply, next_reply_place, first_marked_place, after_announcement, weigh, after_load_ticket, after_load_script, with_script_word, after_script_run, next_scanned_caller, with_call_run, after_load_cell, after_raise_log, after_commit_exchange, after_raise_current, after_load_target, next_entry, after_raise_closed, is_request_open, with_log_word_copied}
 use Rattle.of_core.specs.World.{Moment, TableStart}
 use Rattle.of_core.specs.Transaction.{IsApplying}
 use Rattle.of_core.specs.Invariant.{HoldsAtPlace, MeetsCore}
-use Rattle.of_core.specs.Bound.{bound, unknown_cell_count, apply_steps, round_steps_after_help, lost_round_steps, steps_left_in_rounds, steps_left_after_apply, steps_left_after_help, steps_left_in_tries, steps_left_announced, steps_left_in_scan, IsWithinBound}
+use Rattle.of_core.specs.Bound.{bound, unknown_cell_count, steps_to_apply, round_steps_after_help, lost_round_steps, steps_left_in_rounds, steps_left_after_apply, steps_left_after_help, steps_left_in_tries, steps_left_announced, steps_left_in_scan, MachineIsWithinBound}
 use Rattle.of_core.proofs.Logs.{room_for, length-log_words}
 use Rattle.of_core.proofs.Tests.{differ, mark_some}
 use Rattle.of_core.proofs.Rounds.{own_row_old}
@@ -81,7 +81,7 @@ round_sum : (st m p x q l : ℕ) → x + (11 * m + p + 13) ≡ q → st + (q + (
 round_sum st m p x q l e h = omega arith
 
 -- a call that opens
-pub opened_within : (S : Setup) (m : CallState) (op : List ℕ) → IsWithinBound S (begin S m op) (begin S m op).place
+pub opened_within : (S : Setup) (m : CallState) (op : List ℕ) → MachineIsWithinBound S (begin_call S m op) (begin_call S m op).place
 opened_within S m op = go (S.meaning.reads_only op)
   where
     sum : (i m p : ℕ) → 0 + (i - 0 + 1 + (3 * (11 * m + p + 13) + (4 * m + 3))) ≤ i + 1 + 3 * (15 * m + p + 15) + 4 * (7 * m + 7)
@@ -90,13 +90,13 @@ opened_within S m op = go (S.meaning.reads_only op)
     first : (i m p : ℕ) → 0 + ((4 - 0) * (7 * m + 7) + (i + 1 + (3 * (11 * m + p + 13) + (4 * m + 3)))) ≤ i + 1 + 3 * (15 * m + p + 15) + 4 * (7 * m + 7)
     first i m p = omega arith
 
-    go : (b : Bool) → IsWithinBound S (record (begin S m op) { place = first_place b }) (first_place b)
+    go : (b : Bool) → MachineIsWithinBound S (record (begin_call S m op) { place = first_place b }) (first_place b)
     go true = record { told = λ q. cc; steps = rw (mul_comm (S.instrs + 1) S.callers) (first S.instrs S.cells (S.callers * (S.instrs + 1))) }
     go false = record { told = λ q. cc; steps = rw (mul_comm (S.instrs + 1) S.callers) (sum S.instrs S.cells (S.callers * (S.instrs + 1))) }
 
 module _ (S : Setup) where
   -- the scan goes on behind the caller that it has come to
-  next_within : (n : CallState) → n.scan < S.callers → n.steps + steps_left_in_scan S n ≤ bound S → (b : Bool) → nat_lt (n.scan + 1) S.callers ≡ b → IsWithinBound S (next_scanned_caller n b) (next_scanned_caller n b).place
+  next_within : (n : CallState) → n.scan < S.callers → n.steps + steps_left_in_scan S n ≤ bound S → (b : Bool) → nat_lt (n.scan + 1) S.callers ≡ b → MachineIsWithinBound S (next_scanned_caller n b) (next_scanned_caller n b).place
   next_within n l h true e = record {
     told = λ q. cc;
     steps = next_sum n.steps (S.instrs + 1) ((S.callers - (n.scan + 1) - 1) * (S.instrs + 1)) ((S.callers - n.scan - 1) * (S.instrs + 1)) (unknown_cell_count n.known) (4 * S.cells + 6) (steps_left_in_rounds S n) (bound S)
@@ -104,7 +104,7 @@ module _ (S : Setup) where
   }
   next_within n l h false e = record { told = λ q. cc; steps = done_sum n.steps ((S.callers - n.scan - 1) * (S.instrs + 1)) (unknown_cell_count n.known) (4 * S.cells + 6) (steps_left_in_rounds S n) (bound S) h }
 
-  weighed_within : (n : CallState) → n.scan < S.callers → n.steps + (S.instrs + steps_left_in_scan S n) ≤ bound S → (b : Bool) → IsWithinBound S (weigh S n b) (weigh S n b).place
+  weighed_within : (n : CallState) → n.scan < S.callers → n.steps + (S.instrs + steps_left_in_scan S n) ≤ bound S → (b : Bool) → MachineIsWithinBound S (weigh S n b) (weigh S n b).place
   weighed_within n l h true = record { told = λ q. cc; steps = same n.steps S.instrs (steps_left_in_scan S n) (bound S) h }
     where
       same : (s k x l : ℕ) → s + (k + x) ≤ l → s + (k - 0 + x) ≤ l
@@ -114,31 +114,31 @@ module _ (S : Setup) where
       less : (s k x l : ℕ) → s + (k + x) ≤ l → s + x ≤ l
       less s k x l h = omega arith
 
-  ran_within : (n : CallState) → n.scan < S.callers → n.steps + steps_left_in_scan S n ≤ bound S → (r : WalkEnd) → IsWithinBound S (after_script_run S n r) (after_script_run S n r).place
+  ran_within : (n : CallState) → n.scan < S.callers → n.steps + steps_left_in_scan S n ≤ bound S → (r : WalkEnd) → MachineIsWithinBound S (after_script_run S n r) (after_script_run S n r).place
   ran_within n l h (Needs a) = record { told = λ q. cc; steps = h }
   ran_within n l h (Gives es r) = next_within (with_call_run S n es r) l h (nat_lt (n.scan + 1) S.callers) refl
 
-  asks_within : (n : CallState) (x j : ℕ) → n.steps + (S.instrs - x) ≤ bound S → x ≤ j → (r : Option ℕ) → ((k : ℕ) → r ≡ Some k → x ≤ k) → IsWithinBound S (next_reply_place n r) (next_reply_place n r).place
+  asks_within : (n : CallState) (x j : ℕ) → n.steps + (S.instrs - x) ≤ bound S → x ≤ j → (r : Option ℕ) → ((k : ℕ) → r ≡ Some k → x ≤ k) → MachineIsWithinBound S (next_reply_place n r) (next_reply_place n r).place
   asks_within n x j h l None f = record { steps = omega arith; told = λ q. omega arith }
   asks_within n x j h l (Some k) f = record { told = λ q. cc; steps = sum n.steps S.instrs x k (bound S) h (f k refl) }
     where
       sum : (s i x k l : ℕ) → s + (i - x) ≤ l → x ≤ k → s + (i - k) ≤ l
       sum s i x k l h f = omega arith
 
-  reads_within : (n : CallState) → n.steps + (unknown_cell_count n.known + steps_left_in_tries S n) ≤ bound S → IsWithinBound S (read_on S n) (read_on S n).place
+  reads_within : (n : CallState) → n.steps + (unknown_cell_count n.known + steps_left_in_tries S n) ≤ bound S → MachineIsWithinBound S (read_on S n) (read_on S n).place
   reads_within n h = go (S.meaning.walk n.known n.op)
     where
       fewer_by : (s x l : ℕ) → s + x ≤ l → s ≤ l
       fewer_by s x l h = omega arith
 
-      go : (r : WalkEnd) → IsWithinBound S (after_read_run n r) (after_read_run n r).place
+      go : (r : WalkEnd) → MachineIsWithinBound S (after_read_run n r) (after_read_run n r).place
       go (Needs a) = record { told = λ q. cc; steps = h }
       go (Gives es r) = record { steps = omega arith; told = λ q. fewer_by n.steps (unknown_cell_count n.known + steps_left_in_tries S n) (bound S) h }
 
-  tried_within : (n : CallState) → n.steps + (S.cells + steps_left_in_tries S n) ≤ bound S → IsWithinBound S (begin_reading S n) (begin_reading S n).place
-  tried_within n h = reads_within (record n { known = nothing_known S; helps = false }) (rw (unknowns_all S.cells) h)
+  tried_within : (n : CallState) → n.steps + (S.cells + steps_left_in_tries S n) ≤ bound S → MachineIsWithinBound S (begin_reading S n) (begin_reading S n).place
+  tried_within n h = reads_within (record n { known = no_cell_known S; helps = false }) (rw (unknowns_all S.cells) h)
 
-  resumed_within : (n : CallState) (b : Bool) → n.steps + steps_left_after_help S n b ≤ bound S → IsWithinBound S (resume S n b) (resume S n b).place
+  resumed_within : (n : CallState) (b : Bool) → n.steps + steps_left_after_help S n b ≤ bound S → MachineIsWithinBound S (resume S n b) (resume S n b).place
   resumed_within n true h = tried_within n h
   resumed_within n false h = record { told = λ q. cc; steps = h }
 
@@ -154,9 +154,9 @@ module _ (S : Setup) where
     words_row = let r : i * (S.instrs + 1) + (S.instrs + 1) ≤ S.callers * (S.instrs + 1) = room_for i S.callers (S.instrs + 1) h in omega arith
 
     -- each step leaves one less
-    pub within : (p : Place) → HoldsAtPlace S B w.words w.batches i m p → IsWithinBound S m p → m.place ≡ p
-        → IsWithinBound S (take_word_at S (with_step_counted p m) (get_or w.words (word_of (want_at S m p)) 0) p) (take_word_at S (with_step_counted p m) (get_or w.words (word_of (want_at S m p)) 0) p).place
-    within Idle a t e = subst (λ (q : Place). IsWithinBound S m q) (sym e) t
+    pub within : (p : Place) → HoldsAtPlace S B w.words w.batches i m p → MachineIsWithinBound S m p → m.place ≡ p
+        → MachineIsWithinBound S (take_word_at S (with_step_counted p m) (get_or w.words (word_of (want_at S m p)) 0) p) (take_word_at S (with_step_counted p m) (get_or w.words (word_of (want_at S m p)) 0) p).place
+    within Idle a t e = subst (λ (q : Place). MachineIsWithinBound S m q) (sym e) t
     within TryCurrent a t e = record { told = λ q. cc; steps = sum m.steps S.cells ((MOST_TRIES - (m.tries + 1)) * (7 * S.cells + 7)) ((MOST_TRIES - m.tries) * (7 * S.cells + 7)) (steps_left_announced S) (bound S) (try_cost m.tries (7 * S.cells + 7) a.3) t.steps }
       where
         sum : (s c x y r l : ℕ) → x + (7 * c + 7) ≡ y → s + (y + r) ≤ l → s + 1 + (7 * c + 6 + (x + r)) ≤ l
@@ -169,11 +169,11 @@ module _ (S : Setup) where
         closed : (s c r l : ℕ) → s + (7 * c + 6 + r) ≤ l → s + 1 + (c + r) ≤ l
         closed s c r l h = omega arith
 
-        trying : (b : Bool) → (m.rounds == 0) ≡ b → m.steps + 1 + (2 * S.cells + 1 - 0 + 1 + apply_steps S + steps_left_after_help S m b) ≤ bound S
+        trying : (b : Bool) → (m.rounds == 0) ≡ b → m.steps + 1 + (2 * S.cells + 1 - 0 + 1 + steps_to_apply S + steps_left_after_help S m b) ≤ bound S
         trying true q = opens m.steps S.cells (steps_left_in_tries S m) (bound S) t.steps
         trying false q = absurd (differ m.rounds 0 q a.0.fresh.rounds)
 
-        go : (b : Bool) → IsWithinBound S (after_try_request S now b) (after_try_request S now b).place
+        go : (b : Bool) → MachineIsWithinBound S (after_try_request S now b) (after_try_request S now b).place
         go true = record { told = λ q. cc; steps = trying (m.rounds == 0) refl }
         go false = tried_within now (closed m.steps S.cells (steps_left_in_tries S m) (bound S) t.steps)
     within (TryCell x) a t e = go (nat_lt m.seq (seq_of found))
@@ -193,11 +193,11 @@ module _ (S : Setup) where
         less : (s u v r l : ℕ) → v + 1 ≡ u → s + (u + r) ≤ l → s + 1 + (v + r) ≤ l
         less s u v r l e h = omega arith
 
-        over : (b : Bool) → IsWithinBound S (end_try now b) (end_try now b).place
+        over : (b : Bool) → MachineIsWithinBound S (end_try now b) (end_try now b).place
         overlaid true = record { told = λ q. cc; steps = again m.steps (unknown_cell_count m.known) (unknown_cell_count (with_cell_known S m x found)) (steps_left_in_tries S m) (bound S) one t.steps }
-        overlaid false = record { told = λ q. cc; steps = aloud m.steps (unknown_cell_count m.known) (unknown_cell_count (with_cell_known S m x found)) ((MOST_TRIES - m.tries) * (7 * S.cells + 7)) S.instrs (3 * lost_round_steps S + apply_steps S) (bound S) one t.steps }
+        overlaid false = record { told = λ q. cc; steps = aloud m.steps (unknown_cell_count m.known) (unknown_cell_count (with_cell_known S m x found)) ((MOST_TRIES - m.tries) * (7 * S.cells + 7)) S.instrs (3 * lost_round_steps S + steps_to_apply S) (bound S) one t.steps }
 
-        go : (b : Bool) → IsWithinBound S (after_try_cell S now x found b) (after_try_cell S now x found b).place
+        go : (b : Bool) → MachineIsWithinBound S (after_try_cell S now x found b) (after_try_cell S now x found b).place
         go true = overlaid (nat_lt m.tries MOST_TRIES)
         go false = reads_within (record now { known = with_cell_known S m x found }) (less m.steps (unknown_cell_count m.known) (unknown_cell_count (with_cell_known S m x found)) (steps_left_in_tries S m) (bound S) one t.steps)
     within (StoreScript j) a t e = go (nat_lt (j + 1) (length m.op))
@@ -211,10 +211,10 @@ module _ (S : Setup) where
         j_in : j < S.instrs
         j_in = omega (arith, a.2, a.0.words)
 
-        go : (b : Bool) → IsWithinBound S (after_store_script now j b) (after_store_script now j b).place
-        go true = record { told = λ q. cc; steps = more m.steps S.instrs j (3 * lost_round_steps S + apply_steps S) (bound S) j_in t.steps }
-        go false = record { told = λ q. cc; steps = last m.steps S.instrs j (3 * lost_round_steps S + apply_steps S) (bound S) j_in t.steps }
-    within StoreAnnouncement a t e = record { told = λ q. cc; steps = sum m.steps m.rounds (lost_round_steps S) (apply_steps S) (bound S) a.0.rounds t.steps }
+        go : (b : Bool) → MachineIsWithinBound S (after_store_script now j b) (after_store_script now j b).place
+        go true = record { told = λ q. cc; steps = more m.steps S.instrs j (3 * lost_round_steps S + steps_to_apply S) (bound S) j_in t.steps }
+        go false = record { told = λ q. cc; steps = last m.steps S.instrs j (3 * lost_round_steps S + steps_to_apply S) (bound S) j_in t.steps }
+    within StoreAnnouncement a t e = record { told = λ q. cc; steps = sum m.steps m.rounds (lost_round_steps S) (steps_to_apply S) (bound S) a.0.rounds t.steps }
       where
         sum : (s r q x l : ℕ) → r ≡ 0 → s + (1 + (3 * q + x)) ≤ l → s + 1 + ((3 - r) * q + x) ≤ l
         sum s r q x l e h = rw e (omega arith)
@@ -227,11 +227,11 @@ module _ (S : Setup) where
         closed : (s c x l : ℕ) → s + (6 * c + 6 + x) ≤ l → s + 1 + x ≤ l
         closed s c x l h = omega arith
 
-        round : (b : Bool) → (m.rounds == 0) ≡ b → m.steps + 1 + (2 * S.cells + 1 - 0 + 1 + apply_steps S + steps_left_after_help S m b) ≤ bound S
+        round : (b : Bool) → (m.rounds == 0) ≡ b → m.steps + 1 + (2 * S.cells + 1 - 0 + 1 + steps_to_apply S + steps_left_after_help S m b) ≤ bound S
         round false q = opens m.steps S.cells (round_steps_after_help S + steps_left_in_rounds S m) (bound S) t.steps
         round true q = let z : m.rounds ≡ 0 = grind (arith, nat_tests) in absurd (omega (arith, a.0.begun_one))
 
-        go : (b : Bool) → IsWithinBound S (after_load_request S now b) (after_load_request S now b).place
+        go : (b : Bool) → MachineIsWithinBound S (after_load_request S now b) (after_load_request S now b).place
         go true = record { told = λ q. cc; steps = round (m.rounds == 0) refl }
         go false = record { told = λ q. cc; steps = closed m.steps S.cells (round_steps_after_help S + steps_left_in_rounds S m) (bound S) t.steps }
     within (CopyLog x) a t e = go (nat_lt (x + 1) (2 * get_or (with_log_word_copied m found) 0 0 + 1))
@@ -245,9 +245,9 @@ module _ (S : Setup) where
         last : (s c x k r l : ℕ) → x < c → s + (c - x + 1 + k + r) ≤ l → s + 1 + (1 + k + r) ≤ l
         last s c x k r l z h = omega arith
 
-        go : (b : Bool) → IsWithinBound S (after_copy_log now x found b) (after_copy_log now x found b).place
-        go true = record { told = λ q. cc; steps = more m.steps (2 * S.cells + 1) x (apply_steps S) (steps_left_after_help S m (m.rounds == 0)) (bound S) a.2 t.steps }
-        go false = record { told = λ q. cc; steps = last m.steps (2 * S.cells + 1) x (apply_steps S) (steps_left_after_help S m (m.rounds == 0)) (bound S) a.2 t.steps }
+        go : (b : Bool) → MachineIsWithinBound S (after_copy_log now x found b) (after_copy_log now x found b).place
+        go true = record { told = λ q. cc; steps = more m.steps (2 * S.cells + 1) x (steps_to_apply S) (steps_left_after_help S m (m.rounds == 0)) (bound S) a.2 t.steps }
+        go false = record { told = λ q. cc; steps = last m.steps (2 * S.cells + 1) x (steps_to_apply S) (steps_left_after_help S m (m.rounds == 0)) (bound S) a.2 t.steps }
     within LookAgain a t e = go (get_or w.words (m.owner + 1) 0 == pack m.seq 0) (m.rounds == 0) t.steps
       where
         opens : (s k r l : ℕ) → s + (1 + k + r) ≤ l → s + 1 + (k + r) ≤ l
@@ -256,13 +256,13 @@ module _ (S : Setup) where
         closed : (s k r l : ℕ) → s + (1 + k + r) ≤ l → s + 1 + r ≤ l
         closed s k r l h = omega arith
 
-        helping : (b : Bool) → b ≡ true → m.steps + 1 + (apply_steps S + steps_left_after_apply S m b) ≤ bound S
-        helping true q = opens m.steps (apply_steps S) (steps_left_after_help S m (m.rounds == 0)) (bound S) t.steps
+        helping : (b : Bool) → b ≡ true → m.steps + 1 + (steps_to_apply S + steps_left_after_apply S m b) ≤ bound S
+        helping true q = opens m.steps (steps_to_apply S) (steps_left_after_help S m (m.rounds == 0)) (bound S) t.steps
         helping false q = cc
 
-        go : (b d : Bool) → m.steps + (1 + apply_steps S + steps_left_after_help S m d) ≤ bound S → IsWithinBound S (after_look_again S now b d) (after_look_again S now b d).place
+        go : (b d : Bool) → m.steps + (1 + steps_to_apply S + steps_left_after_help S m d) ≤ bound S → MachineIsWithinBound S (after_look_again S now b d) (after_look_again S now b d).place
         go true d u = record { told = λ q. cc; steps = helping m.helps a.0.helps }
-        go false d u = resumed_within now d (closed m.steps (apply_steps S) (steps_left_after_help S m d) (bound S) u)
+        go false d u = resumed_within now d (closed m.steps (steps_to_apply S) (steps_left_after_help S m d) (bound S) u)
     within LoadOwnTicket a t e = go (nat_lt m.seq (seq_of found)) (payload_of found == m.made) (m.seq == S.limit)
       where
         found : ℕ
@@ -292,10 +292,10 @@ module _ (S : Setup) where
             none_of (suc n) zero = refl
             none_of (suc n) (suc y) = none_of n y
 
-            none_at : (ks : List (Option ℕ)) → ks ≡ nothing_known S → get_or ks (ticket_cell S m.caller) None ≡ None
+            none_at : (ks : List (Option ℕ)) → ks ≡ no_cell_known S → get_or ks (ticket_cell S m.caller) None ≡ None
             none_at ks q = rw q (none_of S.cells (ticket_cell S m.caller))
 
-        go : (b c d : Bool) → IsWithinBound S (after_own_ticket S now found b c d) (after_own_ticket S now found b c d).place
+        go : (b c d : Bool) → MachineIsWithinBound S (after_own_ticket S now found b c d) (after_own_ticket S now found b c d).place
         go true c d = record { told = λ q. cc; steps = newer m.steps (round_steps_after_help S) (steps_left_in_rounds S m) (bound S) (omega arith) t.steps }
         go false true d = record { told = λ q. cc; steps = shape m.steps S.instrs S.cells (S.callers * (S.instrs + 1)) (steps_left_in_rounds S m) (bound S) words_row t.steps }
         go false false true = record { steps = omega arith; told = λ q. tt }
@@ -315,7 +315,7 @@ module _ (S : Setup) where
         fresh : seq_of (data_word S w.words (shape_cell S m.caller)) ≤ m.seq
         fresh = rw a.0.round.begun.caller (own_row_old S Lawful B w g i m h m a.0 (done_now S Lawful B w g i m h m a.2) (shape_cell S i) (omega arith, omega arith))
 
-        go : (b : Bool) → nat_lt m.seq (seq_of found) ≡ b → IsWithinBound S (after_load_shape S now found b) (after_load_shape S now found b).place
+        go : (b : Bool) → nat_lt m.seq (seq_of found) ≡ b → MachineIsWithinBound S (after_load_shape S now found b) (after_load_shape S now found b).place
         go true q = let z : m.seq < seq_of found = grind (arith, nat_tests) in absurd (omega (arith, fresh))
         go false q = asks_within (with_shape S now found) 0 0 (same m.steps S.instrs (bound S) t.steps) (omega arith) (first_marked_place (payload_of found) 0 S.instrs) (λ k z. omega arith)
     within (LoadReply j) a t e = go (nat_lt m.seq (seq_of found)) refl
@@ -329,7 +329,7 @@ module _ (S : Setup) where
         less : (s i j l : ℕ) → j < i → s + (i - j) ≤ l → s + 1 + (i - (j + 1)) ≤ l
         less s i j l z h = omega arith
 
-        go : (b : Bool) → nat_lt m.seq (seq_of found) ≡ b → IsWithinBound S (after_load_reply S now j found b) (after_load_reply S now j found b).place
+        go : (b : Bool) → nat_lt m.seq (seq_of found) ≡ b → MachineIsWithinBound S (after_load_reply S now j found b) (after_load_reply S now j found b).place
         go true q = let z : m.seq < seq_of found = grind (arith, nat_tests) in absurd (omega (arith, fresh))
         go false q = asks_within (with_reply now j found) (j + 1) (j + 1) (less m.steps S.instrs j (bound S) a.4 t.steps) (omega arith) (first_marked_place m.raw.shape (j + 1) (S.instrs - j - 1)) (λ k z. (mark_some m.raw.shape (j + 1) (S.instrs - j - 1) k z).0)
     within LoadAnnouncement a t e = go (get_or m.known (ticket_cell S m.scan) None)
@@ -340,7 +340,7 @@ module _ (S : Setup) where
         less : (s k x l : ℕ) → s + (k + 1 + x) ≤ l → s + 1 + (k + x) ≤ l
         less s k x l h = omega arith
 
-        go : (r : Option ℕ) → IsWithinBound S (after_announcement S now found r) (after_announcement S now found r).place
+        go : (r : Option ℕ) → MachineIsWithinBound S (after_announcement S now found r) (after_announcement S now found r).place
         go None = record { told = λ q. cc; steps = less m.steps S.instrs (steps_left_in_scan S m) (bound S) t.steps }
         go (Some v) = weighed_within (record now { heard = found }) a.3 (less m.steps S.instrs (steps_left_in_scan S m) (bound S) t.steps) (nat_lt v (seq_of found))
     within LoadTicket a t e = go (nat_lt m.seq (seq_of found))
@@ -348,7 +348,7 @@ module _ (S : Setup) where
         found : ℕ
         found = get_or w.words (word_of (want_at S m LoadTicket)) 0
 
-        go : (b : Bool) → IsWithinBound S (after_load_ticket S now found b) (after_load_ticket S now found b).place
+        go : (b : Bool) → MachineIsWithinBound S (after_load_ticket S now found b) (after_load_ticket S now found b).place
         go true = record { told = λ q. cc; steps = again_sum m.steps S.instrs ((S.callers - m.scan - 1) * (S.instrs + 1)) (unknown_cell_count m.known) (4 * S.cells + 6) (steps_left_in_rounds S m) (bound S) (omega arith) t.steps }
         go false = weighed_within (record now { known = with_cell_known S m (ticket_cell S m.scan) found }) a.3
             (known_sum m.steps S.instrs ((S.callers - m.scan - 1) * (S.instrs + 1)) (unknown_cell_count m.known) (unknown_cell_count (with_cell_known S m (ticket_cell S m.scan) found)) (4 * S.cells + 6) (steps_left_in_rounds S m) (bound S)
@@ -368,7 +368,7 @@ module _ (S : Setup) where
         last : (s i j x l : ℕ) → j < i → s + (i - j + x) ≤ l → s + 1 + x ≤ l
         last s i j x l z h = omega arith
 
-        go : (b : Bool) → IsWithinBound S (after_load_script S now j found b) (after_load_script S now j found b).place
+        go : (b : Bool) → MachineIsWithinBound S (after_load_script S now j found b) (after_load_script S now j found b).place
         go true = record { told = λ q. cc; steps = more m.steps S.instrs j (steps_left_in_scan S m) (bound S) j_in t.steps }
         go false = ran_within (record now { script = with_script_word m found }) a.3 (last m.steps S.instrs j (steps_left_in_scan S m) (bound S) j_in t.steps) (S.meaning.walk (overlaid m.known m.log) (with_script_word m found))
     within (LoadCell x) a t e = go (nat_lt m.seq (seq_of found))
@@ -376,7 +376,7 @@ module _ (S : Setup) where
         found : ℕ
         found = get_or w.words (word_of (want_at S m (LoadCell x))) 0
 
-        go : (b : Bool) → IsWithinBound S (after_load_cell S now x found b) (after_load_cell S now x found b).place
+        go : (b : Bool) → MachineIsWithinBound S (after_load_cell S now x found b) (after_load_cell S now x found b).place
         go true = record { told = λ q. cc; steps = again_sum0 m.steps ((S.callers - m.scan - 1) * (S.instrs + 1)) (unknown_cell_count m.known) (4 * S.cells + 6) (steps_left_in_rounds S m) (bound S) (omega arith) t.steps }
         go false = ran_within (record now { known = with_cell_known S m x found }) a.3
             (known_sum0 m.steps ((S.callers - m.scan - 1) * (S.instrs + 1)) (unknown_cell_count m.known) (unknown_cell_count (with_cell_known S m x found)) (4 * S.cells + 6) (steps_left_in_rounds S m) (bound S)
@@ -401,7 +401,7 @@ module _ (S : Setup) where
         last : (s c x r l : ℕ) → x < c → s + (2 * (c - x) + 2 + r) ≤ l → s + 1 + (3 + r) ≤ l
         last s c x r l z h = omega arith
 
-        go : (b : Bool) → IsWithinBound S (after_raise_log now x b) (after_raise_log now x b).place
+        go : (b : Bool) → MachineIsWithinBound S (after_raise_log now x b) (after_raise_log now x b).place
         go true = record { told = λ q. cc; steps = more m.steps (2 * S.cells + 1) x (steps_left_in_rounds S m) (bound S) x_in t.steps }
         go false = record { told = λ q. cc; steps = last m.steps (2 * S.cells + 1) x (steps_left_in_rounds S m) (bound S) x_in t.steps }
     within StoreRequest a t e = record { told = λ q. cc; steps = fewer m.steps (3 + steps_left_in_rounds S m) (2 + steps_left_in_rounds S m) (bound S) t.steps (omega arith) }
@@ -411,8 +411,8 @@ module _ (S : Setup) where
         won : (s y k l : ℕ) → s + (1 + (y + k)) ≤ l → s + 1 + (k + 0) ≤ l
         won s y k l h = omega arith
 
-        go : (b : Bool) → IsWithinBound S (after_exchange now b) (after_exchange now b).place
-        go true = record { told = λ q. cc; steps = won m.steps ((3 - m.rounds) * lost_round_steps S) (apply_steps S) (bound S) t.steps }
+        go : (b : Bool) → MachineIsWithinBound S (after_commit_exchange now b) (after_commit_exchange now b).place
+        go true = record { told = λ q. cc; steps = won m.steps ((3 - m.rounds) * lost_round_steps S) (steps_to_apply S) (bound S) t.steps }
         go false = record { told = λ q. cc; steps = fewer m.steps (1 + steps_left_in_rounds S m) (steps_left_in_rounds S m) (bound S) t.steps (omega arith) }
     within RaiseCurrent a t e = go (nat_lt 0 (length m.log))
       where
@@ -422,7 +422,7 @@ module _ (S : Setup) where
         none : (s c r l : ℕ) → s + (4 * c + 3 + r) ≤ l → s + 1 + (2 + r) ≤ l
         none s c r l h = omega arith
 
-        go : (b : Bool) → IsWithinBound S (after_raise_current now b) (after_raise_current now b).place
+        go : (b : Bool) → MachineIsWithinBound S (after_raise_current now b) (after_raise_current now b).place
         go true = record { told = λ q. cc; steps = more m.steps S.cells (steps_left_after_apply S m m.helps) (bound S) t.steps }
         go false = record { told = λ q. cc; steps = none m.steps S.cells (steps_left_after_apply S m m.helps) (bound S) t.steps }
     within (LoadTarget j) a t e = go (nat_lt (seq_of found) m.seq)
@@ -436,7 +436,7 @@ module _ (S : Setup) where
         newer : (s y r l : ℕ) → s + (y + 2 + r) ≤ l → s + 1 + (y - 1 + r) ≤ l
         newer s y r l h = omega arith
 
-        go : (b : Bool) → IsWithinBound S (after_load_target now j found b) (after_load_target now j found b).place
+        go : (b : Bool) → MachineIsWithinBound S (after_load_target now j found b) (after_load_target now j found b).place
         go true = record { told = λ q. cc; steps = older m.steps (4 * (S.cells - j)) (steps_left_after_apply S m m.helps) (bound S) t.steps }
         go false = record { told = λ q. cc; steps = newer m.steps (4 * (S.cells - j)) (steps_left_after_apply S m m.helps) (bound S) t.steps }
     within (ExchangeTarget j f) a t e = record { told = λ q. cc; steps = sum m.steps (4 * (S.cells - j)) (steps_left_after_apply S m m.helps) (bound S) t.steps }
@@ -458,7 +458,7 @@ module _ (S : Setup) where
         last : (s c j r l : ℕ) → j < c → s + (4 * (c - j) - 1 + r) ≤ l → s + 1 + (2 + r) ≤ l
         last s c j r l z h = omega arith
 
-        go : (b : Bool) → IsWithinBound S (next_entry now j b) (next_entry now j b).place
+        go : (b : Bool) → MachineIsWithinBound S (next_entry now j b) (next_entry now j b).place
         go true = record { told = λ q. cc; steps = more m.steps S.cells j (steps_left_after_apply S m m.helps) (bound S) j_in t.steps }
         go false = record { told = λ q. cc; steps = last m.steps S.cells j (steps_left_after_apply S m m.helps) (bound S) j_in t.steps }
     within CloseRequest a t e = record { told = λ q. cc; steps = sum m.steps (steps_left_after_apply S m m.helps) (bound S) t.steps }
@@ -473,6 +473,6 @@ module _ (S : Setup) where
         sum0 : (s l : ℕ) → s + (1 + 0) ≤ l → s + 1 ≤ l
         sum0 s l h = omega arith
 
-        go : (b d : Bool) → (m.rounds == 0) ≡ d → m.steps + (1 + steps_left_after_apply S m b) ≤ bound S → IsWithinBound S (after_raise_closed S now b d) (after_raise_closed S now b d).place
+        go : (b d : Bool) → (m.rounds == 0) ≡ d → m.steps + (1 + steps_left_after_apply S m b) ≤ bound S → MachineIsWithinBound S (after_raise_closed S now b d) (after_raise_closed S now b d).place
         go true d q u = resumed_within now d (subst (λ (x : Bool). m.steps + 1 + steps_left_after_help S m x ≤ bound S) q (sum m.steps (steps_left_after_help S m (m.rounds == 0)) (bound S) u))
         go false d q u = record { steps = omega arith; told = λ q. sum0 m.steps (bound S) u }

@@ -8,8 +8,8 @@ use Rattle.of_mem.specs.Pad.{overlaid}
 use Rattle.of_core.specs.declared.place.Place.{Place}
 use Rattle.of_core.specs.declared.place.Place.TheVariants.{Idle, TryCurrent, TryRequest, TryCell, StoreScript, StoreAnnouncement, LoadCurrent, LoadRequest, CopyLog, LookAgain, LoadOwnTicket, LoadShape, LoadReply, LoadAnnouncement, LoadTicket, LoadScript, LoadCell, RaiseOld, StoreLog, RaiseLog, StoreRequest, RaiseRequest, ExchangeCurrent, RaiseCurrent, LoadTarget, ExchangeTarget, ReloadTarget, RaiseTarget, CloseRequest, RaiseClosed}
 use Rattle.of_core.specs.Table.{Setup, ticket_cell}
-use Rattle.of_core.specs.Machine.{CallState, IsOpen, nothing_known, with_cell_known, log_words}
-use Rattle.of_core.specs.Steps.{after_read_run, resume, after_try_request, end_try, after_try_cell, after_load_request, after_copy_log, after_look_again, after_own_ticket, after_load_shape, after_load_reply, after_announcement, after_load_ticket, after_load_script, after_load_cell, after_raise_log, after_exchange, after_raise_current, after_load_target, next_entry, after_raise_closed, after_store_script, after_script_run, weigh, next_scanned_caller, with_call_run, next_reply_place, with_shape, with_reply, with_log_word_copied, with_script_word, first_marked_place, is_request_open, take_word_at, with_step_counted}
+use Rattle.of_core.specs.Machine.{CallState, IsOpen, no_cell_known, with_cell_known, log_words}
+use Rattle.of_core.specs.Steps.{after_read_run, resume, after_try_request, end_try, after_try_cell, after_load_request, after_copy_log, after_look_again, after_own_ticket, after_load_shape, after_load_reply, after_announcement, after_load_ticket, after_load_script, after_load_cell, after_raise_log, after_commit_exchange, after_raise_current, after_load_target, next_entry, after_raise_closed, after_store_script, after_script_run, weigh, next_scanned_caller, with_call_run, next_reply_place, with_shape, with_reply, with_log_word_copied, with_script_word, first_marked_place, is_request_open, take_word_at, with_step_counted}
 use Rattle.of_core.specs.World.{Moment, Batch, TableStart, step_batches_at, one_batch}
 use Rattle.of_core.specs.History.{state_after}
 use Rattle.of_core.specs.Rounds.{FindsOwnTicket, IsPastRequest}
@@ -56,7 +56,7 @@ module _ (S : Setup) (Lawful : List ℕ → Type 0) (B : TableStart) (w : Moment
   read_facts p e r t x a b c s k y (Gives es z) = on p (after_read_run x (Gives es z)) a b c e (omega arith) (λ q. absurd q) ((t, s, omega (arith, k)), r)
 
   resumed_facts : (p : Place) → loads_current_at p ≡ false → m.seq ≤ rests_on_seq_at m p → (b : Bool) → (b ≡ true → HasBegunTry m p) → IsStepAtPlace S m n p (resume S now b) []
-  resumed_facts p e r true t = read_facts p e r (t refl) (record now { known = nothing_known S; helps = false }) refl refl refl refl refl refl (S.meaning.walk (nothing_known S) m.op)
+  resumed_facts p e r true t = read_facts p e r (t refl) (record now { known = no_cell_known S; helps = false }) refl refl refl refl refl refl (S.meaning.walk (no_cell_known S) m.op)
   resumed_facts p e r false t = on p (resume S now false) refl refl refl e r (λ q. absurd q) (refl, refl)
 
   -- a scan goes on to the next caller
@@ -191,7 +191,7 @@ module _ (S : Setup) (Lawful : List ℕ → Type 0) (B : TableStart) (w : Moment
   step_facts RaiseRequest o a = on RaiseRequest (take_word_at S now n RaiseRequest) refl refl refl refl (omega arith) (λ q. absurd q) (refl, refl)
   step_facts ExchangeCurrent o a = go (n == pack m.seq m.owner) refl
     where
-      go : (b : Bool) → (n == pack m.seq m.owner) ≡ b → IsStepAtPlace S m n ExchangeCurrent (after_exchange now b) (one_batch S w.words m b)
+      go : (b : Bool) → (n == pack m.seq m.owner) ≡ b → IsStepAtPlace S m n ExchangeCurrent (after_commit_exchange now b) (one_batch S w.words m b)
       go true e = record {
         caller = refl;
         made = refl;
@@ -209,7 +209,7 @@ module _ (S : Setup) (Lawful : List ℕ → Type 0) (B : TableStart) (w : Moment
           one : (j : ℕ) (x : Batch) → j < 1 → (get_or (one_batch S w.words m true) j x).owner ≡ m.caller
           one zero x l = refl
           one (suc j) x l = absurd (omega arith)
-      go false e = on ExchangeCurrent (after_exchange now false) refl refl refl refl (omega arith) (λ q. absurd q) (refl, refl)
+      go false e = on ExchangeCurrent (after_commit_exchange now false) refl refl refl refl (omega arith) (λ q. absurd q) (refl, refl)
   step_facts RaiseCurrent o a = go (nat_lt 0 (length m.log))
     where
       go : (b : Bool) → IsStepAtPlace S m n RaiseCurrent (after_raise_current now b) []

@@ -11,7 +11,7 @@ use Rattle.of_core.specs.Steps.{want, want_at, word_of, take_word_at, with_step_
 use Rattle.of_core.specs.World.{Moment, TableStart, Batch, after_step, after_step_at, step_reads_at, step_batches_at}
 use Rattle.of_core.specs.Invariant.{MeetsInvariant, MeetsCore, HoldsAtPlace, IsLoaded}
 use Rattle.of_core.specs.Moves.{KeepsGuarantee, Guarantees}
-use Rattle.of_core.specs.Bound.{IsWithinBound}
+use Rattle.of_core.specs.Bound.{MachineIsWithinBound}
 use Rattle.of_core.specs.Least.{HasMadeLeastSteps}
 use Rattle.of_core.specs.Machine.{is_idle}
 use Rattle.of_core.proofs.StepBound.{within}
@@ -82,14 +82,14 @@ module _ (S : Setup) (Lawful : List ℕ → Type 0) (sound : IsSoundMeaning S.me
   goes : KeepsGuarantee S Lawful B i w (after_step_at S i m m.place w)
   goes = core_kept S Lawful sound B w g.core i m h own
 
-  own_within : IsWithinBound S (take_word_at S (with_step_counted m.place m) (get_or w.words (word_of (want_at S m m.place)) 0) m.place) (take_word_at S (with_step_counted m.place m) (get_or w.words (word_of (want_at S m m.place)) 0) m.place).place
+  own_within : MachineIsWithinBound S (take_word_at S (with_step_counted m.place m) (get_or w.words (word_of (want_at S m m.place)) 0) m.place) (take_word_at S (with_step_counted m.place m) (get_or w.words (word_of (want_at S m m.place)) 0) m.place).place
   own_within = within S Lawful B w g.core i m h m.place (g.core.each i m h own) (g.within i m h own) refl
 
-  within_after : (j : ℕ) (n : CallState) → j < S.callers → get_or (set w.machines i new) j n ≡ n → (j ≡ i) ⊎ (j ≡ i → ⊥) → IsWithinBound S n n.place
+  within_after : (j : ℕ) (n : CallState) → j < S.callers → get_or (set w.machines i new) j n ≡ n → (j ≡ i) ⊎ (j ≡ i → ⊥) → MachineIsWithinBound S n n.place
   within_after j n l q (inl r) =
       let i_in : i < length w.machines = omega (arith, g.core.members) in
       let same : new ≡ n = sym (get_or-set_same w.machines i new n i_in) ∙ (rw r at q) in
-      subst (λ (x : CallState). IsWithinBound S x x.place) same own_within
+      subst (λ (x : CallState). MachineIsWithinBound S x x.place) same own_within
   within_after j n l q (inr r) = g.within j n l (sym (get_or-set_other w.machines i j new n r) ∙ q)
 
   own_late : HasMadeLeastSteps S (take_word_at S (with_step_counted m.place m) (get_or w.words (word_of (want_at S m m.place)) 0) m.place) (take_word_at S (with_step_counted m.place m) (get_or w.words (word_of (want_at S m m.place)) 0) m.place).place

@@ -8,7 +8,7 @@ use Rattle.of_core.specs.declared.place.Place.TheVariants.{Idle, TryCurrent, Try
 use Rattle.of_core.specs.declared.place.Outcome.{Outcome}
 use Rattle.of_core.specs.declared.place.Outcome.TheVariants.{Answered, Spent}
 use Rattle.of_core.specs.Table.{Setup, committed_seq}
-use Rattle.of_core.specs.Machine.{CallState, IsOpen, is_idle, begin, first_place}
+use Rattle.of_core.specs.Machine.{CallState, IsOpen, is_idle, begin_call, first_place}
 use Rattle.of_core.specs.Steps.{want, want_at, take_word, take_word_at, with_step_counted, IsFoundBy}
 use Rattle.of_core.specs.World.{Moment, TableStart, Batch, Read, step_batches, step_reads, step_reads_if, step_reads_at, read_of, step_batches_at}
 use Rattle.of_core.specs.Order.{HasBegunTry}
@@ -63,11 +63,11 @@ same_read : (c t : ℕ) (op : List ℕ) (r : Read) → c ≡ r.caller → t ≡ 
 same_read c t op r e f q = rw (e, f, q) refl
 
 -- a call that has just begun has loaded nothing
-pub opened_reads : (S : Setup) (m : CallState) (op : List ℕ) (low : ℕ) → ReadsFrom low (begin S m op)
+pub opened_reads : (S : Setup) (m : CallState) (op : List ℕ) (low : ℕ) → ReadsFrom low (begin_call S m op)
 unfolding ReadsFrom
 opened_reads S m op low = go (S.meaning.reads_only op)
   where
-    go : (b : Bool) → HasBegunTry (begin S m op) (first_place b) → low ≤ 0
+    go : (b : Bool) → HasBegunTry (begin_call S m op) (first_place b) → low ≤ 0
     go true t = absurd t
     go false t = absurd t
 

@@ -8,7 +8,7 @@ use Rattle.of_cell.specs.Words.{pack, seq_of, payload_of}
 use Rattle.of_mem.specs.Meaning.{WalkEnd, Needs, Gives, WalkFits, IsSoundMeaning}
 use Rattle.of_core.specs.declared.place.Place.TheVariants.{TryCurrent, TryRequest, TryCell}
 use Rattle.of_core.specs.Table.{Setup, data_at, first_operation_cell, current_word, request_of, data_word, committed_seq, committed_owner, durable_seq}
-use Rattle.of_core.specs.Machine.{CallState, nothing_known, with_cell_known}
+use Rattle.of_core.specs.Machine.{CallState, no_cell_known, with_cell_known}
 use Rattle.of_core.specs.Steps.{read_on, after_read_run, begin_reading, resume, after_try_request, end_try, after_try_cell, is_request_open, take_word_at}
 use Rattle.of_core.specs.World.{Moment, TableStart, after_counted_step}
 use Rattle.of_core.specs.History.{state_after, data_word_after, numbers_after}
@@ -86,19 +86,19 @@ module _ (S : Setup) (Lawful : List ℕ → Type 0) (B : TableStart) where
           told = (c.from, seen_risen n.seq n.owner n.known c k, c.upto, (rw e data_word_after f).reply, p.reads);
         }
 
-    none_known : (x v : ℕ) → get_or (nothing_known S) x None ≡ Some v → ⊥
+    none_known : (x v : ℕ) → get_or (no_cell_known S) x None ≡ Some v → ⊥
     none_known x v q = elim_none (sym (unknown_at (cases_lt x S.cells)) ∙ q)
       where
-        unknown_at : (x < S.cells) ⊎ (S.cells ≤ x) → get_or (nothing_known S) x None ≡ None
+        unknown_at : (x < S.cells) ⊎ (S.cells ≤ x) → get_or (no_cell_known S) x None ≡ None
         unknown_at (inl l) = get_or-replicate S.cells x None None l
-        unknown_at (inr l) = get_or_past (nothing_known S) x None (rw length-replicate l)
+        unknown_at (inr l) = get_or_past (no_cell_known S) x None (rw length-replicate l)
 
         elim_none : ◌≡◌ {A = Option ℕ} None (Some v) → ⊥
         elim_none q = cc
 
     tried_at : (n : CallState) → IsSoundMeaning S.meaning Lawful (first_operation_cell S) S.cells → IsInTry S B w.words w.batches i n → WasCurrent S B w.words w.batches n.seq n.owner → HasNothingUnderWay S B w.words w.batches i n.seq
         → (n.seq ≡ committed_seq w.words → B.seq < n.seq → pack n.seq 0 < request_of w.words (committed_owner w.words)) → HoldsAtPlace S B w.words w.batches i (begin_reading S n) (begin_reading S n).place
-    tried_at n sound p c o quiet = reads_at (record n { known = nothing_known S; helps = false }) sound (trying_as S Lawful B w g i m h n _ p refl refl refl refl refl refl) c o
+    tried_at n sound p c o quiet = reads_at (record n { known = no_cell_known S; helps = false }) sound (trying_as S Lawful B w g i m h n _ p refl refl refl refl refl refl) c o
         (record { quiet = quiet; agrees = λ x v q. absurd (none_known x v q); all = length-replicate S.cells None })
 
     pub resumed_at : (n : CallState) → IsSoundMeaning S.meaning Lawful (first_operation_cell S) S.cells → MayHelp S B w.words w.batches i n → WasCurrent S B w.words w.batches n.seq n.owner → HasNothingUnderWay S B w.words w.batches i n.seq

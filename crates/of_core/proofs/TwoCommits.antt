@@ -13,7 +13,7 @@ use Rattle.of_core.specs.Rounds.{AnnouncesNothingNew}
 use Rattle.of_core.specs.Invariant.{MeetsInvariant}
 use Rattle.of_core.specs.Moves.{Guarantees}
 use Rattle.of_core.specs.Events.{Event, Begins, Turns, Loads, Evicts, Raises, after_event, machine_in, after_events, after_raise, MayHappen, IsSchedule, start_ticket}
-use Rattle.of_core.specs.Commits.{HasRun}
+use Rattle.of_core.specs.Commits.{BatchHasCall}
 use Rattle.of_core.proofs.States.{state_start, later}
 use Rattle.of_core.proofs.Assembling.{logs_of}
 use Rattle.of_core.proofs.Logs.{room_for}
@@ -26,7 +26,7 @@ use Rattle.of_core.proofs.CallSteps.{own, last_is, few}
 use Rattle.of_core.proofs.Parts.{run_append, first_part, second_part, GoesOn, goes_on, batch_stands, no_fewer}
 
 -- what a batch has run stays run
-run_stays : (B : TableStart) (w v : Moment) → GoesOn w v → (n i t : ℕ) → n ≤ B.seq + length w.batches → HasRun B w.batches n i t → HasRun B v.batches n i t
+run_stays : (B : TableStart) (w v : Moment) → GoesOn w v → (n i t : ℕ) → n ≤ B.seq + length w.batches → BatchHasCall B w.batches n i t → BatchHasCall B v.batches n i t
 run_stays B w v g n i t u h = record {
   number = h.number;
   from = h.from;
@@ -74,7 +74,7 @@ module _ (S : Setup) (Lawful : List ℕ → Type 0) (sound : IsSoundMeaning S.me
 
   -- an announcement of this table that the state k has done is in a batch up to it
   done_by : start_ticket S B i < seq_of (announcement_of S w.words i) → (k : ℕ) → B.seq ≤ k → k ≤ B.seq + length w.batches
-      → seq_of (announcement_of S w.words i) ≤ last_ticket_by S B w.batches k i → HasRun B w.batches k i (seq_of (announcement_of S w.words i))
+      → seq_of (announcement_of S w.words i) ≤ last_ticket_by S B w.batches k i → BatchHasCall B w.batches k i (seq_of (announcement_of S w.words i))
   done_by new k l u done = go (g.core.shared.stands.last k i l u member)
     where
       t : ℕ
@@ -95,7 +95,7 @@ module _ (S : Setup) (Lawful : List ℕ → Type 0) (sound : IsSoundMeaning S.me
           below : (x y : ℕ) → last_ticket_by S B w.batches k i ≤ max x y → x < y → last_ticket_by S B w.batches k i ≤ y
           below x y a b = omega (arith, a, b)
 
-      go : OwnCellsShowLast S B w.batches k i → HasRun B w.batches k i t
+      go : OwnCellsShowLast S B w.batches k i → BatchHasCall B w.batches k i t
       go (inl h) = absurd (omega (arith, ap payload_of (h.1 (ticket_cell S i) (omega arith, omega arith)), first, new, done))
       go (inr h) = record {
         number = h.number;
@@ -116,7 +116,7 @@ module _ (S : Setup) (Lawful : List ℕ → Type 0) (sound : IsSoundMeaning S.me
 -- The moments after the announcement a stood, beside s batches.
 module _ (S : Setup) (Lawful : List ℕ → Type 0) (sound : IsSoundMeaning S.meaning Lawful (first_operation_cell S) S.cells) (B : TableStart) (i : ℕ) (member : i < S.callers) (a s : ℕ) (from : B.seq ≤ s) (new : start_ticket S B i < seq_of a) where
   abbrev IsDone : Moment → Type 0
-  IsDone v = (n : ℕ) × (n ≤ s + 2) × (n ≤ B.seq + length v.batches) × HasRun B v.batches n i (seq_of a)
+  IsDone v = (n : ℕ) × (n ≤ s + 2) × (n ≤ B.seq + length v.batches) × BatchHasCall B v.batches n i (seq_of a)
 
   -- it still stands, and the batches since remember it
   abbrev StillStands : Moment → Type 0
@@ -131,7 +131,7 @@ module _ (S : Setup) (Lawful : List ℕ → Type 0) (sound : IsSoundMeaning S.me
 
   done_when : (w : Moment) → MeetsInvariant S Lawful B w → announcement_of S w.words i ≡ a → (k : ℕ) → B.seq ≤ k → k ≤ B.seq + length w.batches → k ≤ s + 2 → seq_of a ≤ last_ticket_by S B w.batches k i → IsDone w
   done_when w g e k l u m done =
-      (k, m, u, subst (HasRun B w.batches k i) (ap seq_of e) (done_by S Lawful sound B w g i member (omega (arith, new, ap seq_of e)) k l u (omega (arith, done, ap seq_of e))))
+      (k, m, u, subst (BatchHasCall B w.batches k i) (ap seq_of e) (done_by S Lawful sound B w g i member (omega (arith, new, ap seq_of e)) k l u (omega (arith, done, ap seq_of e))))
 
   -- two commits have followed
   met : (w : Moment) → MeetsInvariant S Lawful B w → StillStands w → s + 2 ≤ B.seq + length w.batches → IsDone w
@@ -188,7 +188,7 @@ module _ (S : Setup) (Lawful : List ℕ → Type 0) (sound : IsSoundMeaning S.me
 
   -- so two more batches have run the call
   pub done : (es : List Event) (w : Moment) → MeetsInvariant S Lawful B w → IsSchedule S w es → announcement_of S w.words i ≡ a → B.seq + length w.batches ≡ s
-      → s + 2 ≤ B.seq + length (after_events S w es).batches → HasRun B (after_events S w es).batches (s + 2) i (seq_of a)
+      → s + 2 ≤ B.seq + length (after_events S w es).batches → BatchHasCall B (after_events S w es).batches (s + 2) i (seq_of a)
   done es w g t e q u = go (follow es w g t (inr (inl (e, λ k l m. absurd (omega (arith, l, m, q))))))
     where
       v : Moment
@@ -197,10 +197,10 @@ module _ (S : Setup) (Lawful : List ℕ → Type 0) (sound : IsSoundMeaning S.me
       good : MeetsInvariant S Lawful B v
       good = run_good S Lawful sound B es w g t
 
-      of_done : IsDone v → HasRun B v.batches (s + 2) i (seq_of a)
+      of_done : IsDone v → BatchHasCall B v.batches (s + 2) i (seq_of a)
       of_done h = record { number = h.3.number; from = h.3.from; upto = omega (arith, h.3.upto, h.1); place = h.3.place; among = h.3.among; caller = h.3.caller; ticket = h.3.ticket }
 
-      go : Follows v → HasRun B v.batches (s + 2) i (seq_of a)
+      go : Follows v → BatchHasCall B v.batches (s + 2) i (seq_of a)
       go (inl h) = of_done h
       go (inr (inl h)) = of_done (met v good h u)
       go (inr (inr h)) = absurd (omega (arith, h.0, h.1, u))
@@ -209,9 +209,9 @@ module _ (S : Setup) (Lawful : List ℕ → Type 0) (sound : IsSoundMeaning S.me
 pub done_in_schedule : (S : Setup) (Lawful : List ℕ → Type 0) → IsSoundMeaning S.meaning Lawful (first_operation_cell S) S.cells → (B : TableStart) (first : Moment) → MeetsInvariant S Lawful B first → (es : List Event) → IsSchedule S first es
     → (k i : ℕ) → i < S.callers → start_ticket S B i < seq_of (announcement_of S (after_events S first (take k es)).words i)
     → B.seq + length (after_events S first (take k es)).batches + 2 ≤ B.seq + length (after_events S first es).batches
-    → HasRun B (after_events S first es).batches (B.seq + length (after_events S first (take k es)).batches + 2) i (seq_of (announcement_of S (after_events S first (take k es)).words i))
+    → BatchHasCall B (after_events S first es).batches (B.seq + length (after_events S first (take k es)).batches + 2) i (seq_of (announcement_of S (after_events S first (take k es)).words i))
 done_in_schedule S Lawful sound B first g es s k i member new more =
-    subst (λ (v : Moment). HasRun B v.batches (B.seq + length w.batches + 2) i (seq_of (announcement_of S w.words i))) whole
+    subst (λ (v : Moment). BatchHasCall B v.batches (B.seq + length w.batches + 2) i (seq_of (announcement_of S w.words i))) whole
     (done S Lawful sound B i member (announcement_of S w.words i) (B.seq + length w.batches) (omega arith) new (drop k es) w
     (run_good S Lawful sound B (take k es) first g (first_part S first (take k es) (drop k es) split)) (second_part S first (take k es) (drop k es) split) refl refl
     (omega (arith, more, ap (λ (v : Moment). length v.batches) whole)))

@@ -93,8 +93,8 @@ WasBegunByCaller S B w c =
     × (c.ticket ≤ m.made) × (IsOpen m.place → c.ticket ≡ m.made → c.op ≡ m.op)
 
 -- of two calls of one caller the second is the newer
-abbrev pub IsNewer : Call → Call → Type 0
-IsNewer c d = d.caller ≡ c.caller → c.ticket < d.ticket
+abbrev pub IsNewerCall : Call → Call → Type 0
+IsNewerCall c d = d.caller ≡ c.caller → c.ticket < d.ticket
 
 -- what is claimed of a moment
 pub record IsSound (S : Setup) (B : TableStart) (w : Moment) : Type 0 where
@@ -112,7 +112,7 @@ pub record IsSound (S : Setup) (B : TableStart) (w : Moment) : Type 0 where
   pub some : EachBatch B w.batches (λ cs. 0 < length cs)
   pub rising : EachBatch B w.batches CallersRise
   pub tickets : (j k : ℕ) → B.seq < j → j < k → k ≤ B.seq + length w.batches
-      → All (λ c. All (IsNewer c) (batch_at B w.batches k).calls) (batch_at B w.batches j).calls
+      → All (λ c. All (IsNewerCall c) (batch_at B w.batches k).calls) (batch_at B w.batches j).calls
   -- each caller's calls, in batches and read, stand in the order in which it made them, and no read
   -- is newer than the durable sequence
   pub order : AreInCallOrder S B w.words w.batches w.reads

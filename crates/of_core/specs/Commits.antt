@@ -30,7 +30,7 @@ abbrev pub announced_ticket : Setup → Moment → (i : ℕ) → ℕ
 announced_ticket S w i = seq_of (announcement_of S w.words i)
 
 -- a batch, the batch n at the latest, has the call t of caller i
-pub record HasRun (B : TableStart) (bs : List Batch) (n i t : ℕ) : Type 0 where
+pub record BatchHasCall (B : TableStart) (bs : List Batch) (n i t : ℕ) : Type 0 where
   pub number : ℕ
   pub from : B.seq < number
   pub upto : number ≤ n
@@ -48,7 +48,7 @@ DoneAfterTwoCommits S Lawful = EachSchedule S Lawful (λ B n es.
     let w : Moment = after_events S (opening_moment S B n) (take k es) in
     let v : Moment = after_events S (opening_moment S B n) es in
     start_ticket S B i < announced_ticket S w i → last_batch B w + 2 ≤ last_batch B v
-    → HasRun B v.batches (last_batch B w + 2) i (announced_ticket S w i))
+    → BatchHasCall B v.batches (last_batch B w + 2) i (announced_ticket S w i))
 
 -- Lost tries and rounds.
 

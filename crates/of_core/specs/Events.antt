@@ -5,7 +5,7 @@ use Rattle.of_cell.specs.declared.word.TheConstants.{PAYLOADS}
 use Rattle.of_core.specs.declared.place.Place.TheVariants.{Idle}
 use Rattle.of_cell.specs.Words.{payload_of}
 use Rattle.of_core.specs.Table.{Setup, cell_count, durable_at, ticket_cell}
-use Rattle.of_core.specs.Machine.{CallState, IsOpen, no_machine, idle_machine, begin}
+use Rattle.of_core.specs.Machine.{CallState, IsOpen, no_machine, idle_machine, begin_call}
 use Rattle.of_core.specs.Steps.{word_found}
 use Rattle.of_core.specs.World.{Moment, TableStart, after_step}
 use Rattle.of_core.specs.Starts.{first_words}
@@ -31,7 +31,7 @@ after_raise S w e = record w { words = set w.words (durable_at S e.0) (max (get_
 
 -- the machine m of caller i begins a call
 abbrev pub after_begin : Setup → ℕ → CallState → List ℕ → Moment → Moment
-after_begin S i m op w = record w { machines = set w.machines i (begin S m op) }
+after_begin S i m op w = record w { machines = set w.machines i (begin_call S m op) }
 
 -- the world after an event
 abbrev pub after_event : Setup → Moment → Event → Moment

@@ -7,5 +7,5 @@ abbrev pub helped_by : (helps : Bool) → (owner : ℕ) → Option ℕ
 helped_by true owner = Some owner
 helped_by false owner = None
 
-abbrev pub steps_left_after_help : CallState → Option ℕ
-steps_left_after_help m = helped_by m.helps m.owner
+abbrev pub helped_owner : CallState → Option ℕ
+helped_owner m = helped_by m.helps m.owner

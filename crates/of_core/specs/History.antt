@@ -57,9 +57,9 @@ numbers_after_calls W xs [] = xs
 numbers_after_calls W xs (c ∷ cs) = numbers_after_calls W (W.cells xs c.op) cs
 
 -- the calls, in order, have the replies that they meet
-abbrev pub HaveReplies : Meaning → List ℕ → List Call → Type 0
-HaveReplies W xs [] = Unit {0}
-HaveReplies W xs (c ∷ cs) = (W.reply xs c.op ≡ c.raw) × HaveReplies W (W.cells xs c.op) cs
+abbrev pub CallsHaveReplies : Meaning → List ℕ → List Call → Type 0
+CallsHaveReplies W xs [] = Unit {0}
+CallsHaveReplies W xs (c ∷ cs) = (W.reply xs c.op ≡ c.raw) × CallsHaveReplies W (W.cells xs c.op) cs
 
 -- the numbers after the batches, from those of the start
 abbrev pub numbers_after_batches : Meaning → List ℕ → List Batch → List ℕ
@@ -69,7 +69,7 @@ numbers_after_batches W xs (b ∷ bs) = numbers_after_batches W (numbers_after_c
 -- in that replay each call has the reply that it meets
 abbrev pub IsLegalHistory : Meaning → List ℕ → List Batch → Type 0
 IsLegalHistory W xs [] = Unit {0}
-IsLegalHistory W xs (b ∷ bs) = HaveReplies W xs b.calls × IsLegalHistory W (numbers_after_calls W xs b.calls) bs
+IsLegalHistory W xs (b ∷ bs) = CallsHaveReplies W xs b.calls × IsLegalHistory W (numbers_after_calls W xs b.calls) bs
 
 -- the number of caller i's ticket cell
 abbrev pub ticket_in_state : Setup → List ℕ → ℕ → ℕ

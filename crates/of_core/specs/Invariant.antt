@@ -9,7 +9,7 @@ use Rattle.of_core.specs.declared.place.Outcome.{Outcome}
 use Rattle.of_core.specs.declared.place.Outcome.TheVariants.{Answered, Spent}
 use Rattle.std.specs.List.{All}
 use Rattle.of_core.specs.Table.{Setup, log_at, cell_count, ticket_cell, request_of, data_word, log_word_of, durable_request, announcement_of, script_words_of, committed_seq, durable_seq}
-use Rattle.of_core.specs.Machine.{CallState, log_entry, log_words, nothing_known}
+use Rattle.of_core.specs.Machine.{CallState, log_entry, log_words, no_cell_known}
 use Rattle.of_core.specs.World.{Batch, Moment, TableStart}
 use Rattle.of_core.specs.History.{state_after, batch_at, numbers_after, last_ticket_by, HasCall}
 use Rattle.of_core.specs.Shared.{WasHeldByCell, IsRequest, IsLogWord, WordsMatchHistory}
@@ -17,7 +17,7 @@ use Rattle.of_core.specs.Rounds.{KnowsOwnRequest, AnnouncesNothingNew, IsUnannou
 use Rattle.of_core.specs.Scan.{HasScannedUpTo, HasLoadedAnnouncement, HasLoadedScript, IsInScan}
 use Rattle.of_core.specs.Transaction.{IsApplying, IsCopyingLog, HasStoredLog, HasClosedDurably, IsStoringLog}
 use Rattle.of_core.specs.Order.{KeepsCallOrder}
-use Rattle.of_core.specs.Bound.{IsWithinBound}
+use Rattle.of_core.specs.Bound.{MachineIsWithinBound}
 use Rattle.of_core.specs.Least.{HasMadeLeastSteps}
 
 -- what the last answer says
@@ -49,7 +49,7 @@ HoldsAtPlace S B ws bs i m LoadCurrent = IsAnnounced S B ws bs i m × HasNothing
 HoldsAtPlace S B ws bs i m LoadRequest = IsInRound S B ws bs i m × HasNothingUnderWay S B ws bs i m.seq
 HoldsAtPlace S B ws bs i m (CopyLog x) = IsCopyingLog S B ws bs i m x × (request_of ws m.owner ≡ pack m.seq 0 → x < length (log_words (batch_at B bs m.seq).log)) × (x < 2 * S.cells + 1)
 HoldsAtPlace S B ws bs i m LookAgain = IsCopyingLog S B ws bs i m (length m.copy) × (request_of ws m.owner ≡ pack m.seq 0 → length m.copy ≡ length (log_words (batch_at B bs m.seq).log))
-HoldsAtPlace S B ws bs i m LoadOwnTicket = IsPastRequest S B ws bs i m × HasNothingUnderWay S B ws bs i m.seq × (m.known ≡ nothing_known S) × (m.log ≡ []) × (m.calls ≡ []) × (m.scan ≡ 0)
+HoldsAtPlace S B ws bs i m LoadOwnTicket = IsPastRequest S B ws bs i m × HasNothingUnderWay S B ws bs i m.seq × (m.known ≡ no_cell_known S) × (m.log ≡ []) × (m.calls ≡ []) × (m.scan ≡ 0)
 HoldsAtPlace S B ws bs i m LoadShape = IsPastRequest S B ws bs i m × HasNothingUnderWay S B ws bs i m.seq × FindsOwnTicket S (state_after B bs m.seq) i m
 HoldsAtPlace S B ws bs i m (LoadReply j) = IsPastRequest S B ws bs i m × HasNothingUnderWay S B ws bs i m.seq × FindsOwnTicket S (state_after B bs m.seq) i m × HasReadReplyUpTo S (state_after B bs m.seq) i m j × (j < S.instrs)
 HoldsAtPlace S B ws bs i m LoadAnnouncement = IsPastOwnTicket S B ws bs i m × HasNothingUnderWay S B ws bs i m.seq × IsInScan S B ws bs i m × (m.scan < S.callers)
@@ -95,5 +95,5 @@ pub record MeetsCore (S : Setup) (Lawful : List ℕ → Type 0) (B : TableStart)
 pub record MeetsInvariant (S : Setup) (Lawful : List ℕ → Type 0) (B : TableStart) (w : Moment) : Type 0 where
   pub core : MeetsCore S Lawful B w
   pub order : KeepsCallOrder S B w
-  pub within : (i : ℕ) (m : CallState) → i < S.callers → get_or w.machines i m ≡ m → IsWithinBound S m m.place
+  pub within : (i : ℕ) (m : CallState) → i < S.callers → get_or w.machines i m ≡ m → MachineIsWithinBound S m m.place
   pub late : (i : ℕ) (m : CallState) → i < S.callers → get_or w.machines i m ≡ m → HasMadeLeastSteps S m m.place

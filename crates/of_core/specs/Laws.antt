@@ -6,7 +6,7 @@ use Rattle.of_cell.specs.declared.word.TheConstants.{PAYLOADS}
 use Rattle.of_cell.specs.Words.{pack, payload_of}
 use Rattle.of_mem.specs.Meaning.{Meaning}
 use Rattle.of_recover.specs.Recovered.{recovered_words}
-use Rattle.of_recover.specs.Writes.{row_after, recovery_writes}
+use Rattle.of_recover.specs.Writes.{words_after_writes, recovery_writes}
 use Rattle.of_recover.specs.Renumbered.{renumbering_writes}
 use Rattle.of_core.specs.declared.place.Place.{Place}
 use Rattle.of_core.specs.declared.place.Place.TheVariants.{Idle, LoadCurrent}
@@ -14,7 +14,7 @@ use Rattle.of_core.specs.declared.place.Outcome.{Outcome}
 use Rattle.of_core.specs.Table.{Setup, setup_of, cell_count, words_before_members, data_word, durable_at, durable_word}
 use Rattle.of_core.specs.declared.place.Op.{Op}
 use Rattle.of_core.specs.declared.place.Op.TheVariants.{Load, Store, Exchange, Raise}
-use Rattle.of_core.specs.Machine.{Call, CallState, IsOpen, is_idle, idle_machine, begin, MayReplace}
+use Rattle.of_core.specs.Machine.{Call, CallState, IsOpen, is_idle, idle_machine, begin_call, MayReplace}
 use Rattle.of_core.specs.Steps.{want, take_word, word_found, word_of, IsFoundBy}
 use Rattle.of_core.specs.World.{Moment, TableStart, Batch, step_batches, step_reads, after_step}
 use Rattle.of_core.specs.History.{state_after, batch_at, no_batch, IsLegalHistory}
@@ -28,7 +28,7 @@ use Rattle.of_core.specs.Bound.{bound}
 use Rattle.of_core.specs.Claim.{IsSound}
 use Rattle.of_core.specs.Calls.{HasCalls, TurnsAreTold, operation_begun, outcome_of_event, outcome_of_step, operations_begun, outcomes, no_outcome, outcome_seq, IsNotBefore}
 use Rattle.of_core.specs.Linear.{HasNotBegunBy, CallEndsBefore, Linearizes, IsRecovered, IsDurablyLinearizable, IsDetectable}
-use Rattle.of_core.specs.LinearLives.{AreLives, AreDurablyLinearizable}
+use Rattle.of_core.specs.LinearLives.{AreScheduleLives, AreDurablyLinearizable}
 
 -- the setup of a table for a work, with this limit
 abbrev pub setup_for : {X : Type 0} → (many cell_count : X → ℕ) → (X → Meaning) → (limit : ℕ) → X → Setup
@@ -130,7 +130,7 @@ NewCallsWereOpen S Lawful = EachStep S Lawful (λ B w i m n.
 -- to begin a call keeps the invariant; the call rests on nothing yet, and no try of it has read
 abbrev pub BeginsKeepInvariant : Setup → (List ℕ → Type 0) → Type 0
 BeginsKeepInvariant S Lawful = EachBegin S Lawful (λ B w i d op. MeetsInvariant S Lawful B (after_begin S i d op w)
-    × (rests_on_seq (begin S d op) ≡ 0) × ((low : ℕ) → ReadsFrom low (begin S d op)))
+    × (rests_on_seq (begin_call S d op) ≡ 0) × ((low : ℕ) → ReadsFrom low (begin_call S d op)))
 
 -- a word that was loaded from its cell may be raised at any later time: it is such a word
 -- when it is loaded
@@ -306,7 +306,7 @@ OwnTime S Lawful = EachSchedule S Lawful (λ B n es.
 -- and lives one after the other, any number of them, are durably linearizable together
 abbrev pub EveryLife : Setup → (List ℕ → Type 0) → Type 0
 EveryLife S Lawful = EachStart S Lawful (λ B n.
-    (lives : List (List Event)) → AreLives S n B lives → AreDurablyLinearizable S n B lives)
+    (lives : List (List Event)) → AreScheduleLives S n B lives → AreDurablyLinearizable S n B lives)
 
 -- a call that stays open has made fewer steps than the bound, so its last one comes in time;
 -- and it never begins a fourth round
@@ -367,7 +367,7 @@ RestartsMidway S Lawful =
     (B : TableStart) (w : Moment) → MeetsInvariant S Lawful B w → (row : List ℕ) → IsDurable S w.words row
     → (made : ℕ) →
     let writes : List (ℕ × ℕ) = recovery_writes S.callers S.cells (slice_index row) in
-    let found : List ℕ = recovered_words S.callers S.cells (row_after (take made writes) row) in
+    let found : List ℕ = recovered_words S.callers S.cells (words_after_writes (take made writes) row) in
     IsStartRow S Lawful found × (start_from_durable S.callers S.cells found ≡ recovered_start S B w)
 
 -- and what a renumbering of such a row leaves, stopped between two of its writes, is a row from
@@ -375,7 +375,7 @@ RestartsMidway S Lawful =
 abbrev pub RenumbersMidway : Setup → (List ℕ → Type 0) → Type 0
 RenumbersMidway S Lawful = (row : List ℕ) → IsStartRow S Lawful row → (made : ℕ) →
     let writes : List (ℕ × ℕ) = renumbering_writes S.callers S.cells row in
-    let left : List ℕ = row_after (take made writes) row in
+    let left : List ℕ = words_after_writes (take made writes) row in
     IsStartRow S Lawful left
     × (map payload_of (start_from_durable S.callers S.cells left).cells
     ≡ map payload_of (start_from_durable S.callers S.cells row).cells)

@@ -6,7 +6,7 @@ use Rattle.of_core.specs.declared.place.Place.TheVariants.{Idle, TryCurrent, Try
 use Rattle.of_core.specs.declared.place.Outcome.{Outcome}
 use Rattle.of_core.specs.declared.place.Outcome.TheVariants.{Answered, Spent}
 use Rattle.of_core.specs.Table.{Setup}
-use Rattle.of_core.specs.Machine.{CallState, nothing_known}
+use Rattle.of_core.specs.Machine.{CallState, no_cell_known}
 
 -- the two loads of a try, and one more where its run with nothing known needs a cell
 abbrev pub least_of : WalkEnd → ℕ
@@ -15,7 +15,7 @@ least_of (Gives es r) = 2
 
 -- the least steps of a read that is answered without being announced
 abbrev pub least_read : Setup → List ℕ → ℕ
-least_read S op = least_of (S.meaning.walk (nothing_known S) op)
+least_read S op = least_of (S.meaning.walk (no_cell_known S) op)
 
 -- the least steps of an announced call: its words, the announcement, the two loads of a round, its ticket and its shape
 abbrev pub least_call : List ℕ → ℕ

@@ -9,10 +9,10 @@ use Rattle.of_mem.specs.Meaning.{SameFrom}
 use Rattle.of_core.specs.Table.{Setup, first_operation_cell}
 use Rattle.of_core.specs.Machine.{Call, no_call}
 use Rattle.of_core.specs.World.{TableStart}
-use Rattle.of_core.specs.History.{numbers_after_calls, HaveReplies}
+use Rattle.of_core.specs.History.{numbers_after_calls, CallsHaveReplies}
 use Rattle.of_core.specs.Starts.{recovered_start}
 use Rattle.of_core.specs.Events.{Event, after_events, IsSchedule, opening_moment, start_ticket}
-use Rattle.of_core.specs.Claim.{IsNewer}
+use Rattle.of_core.specs.Claim.{IsNewerCall}
 use Rattle.of_core.specs.Linear.{Linearizes, IsRecovered}
 
 -- the start that recovery finds after the life of these events
@@ -25,10 +25,10 @@ start_after_all S n B [] = B
 start_after_all S n B (es ∷ lives) = start_after_all S n (start_after S n B es) lives
 
 -- each is a schedule from what recovery finds after the one before
-abbrev pub AreLives : Setup → (n : ℕ) → TableStart → List (List Event) → Type 0
-AreLives S n B [] = Unit {0}
-AreLives S n B (es ∷ lives) =
-    IsSchedule S (opening_moment S B n) es × AreLives S n (start_after S n B es) lives
+abbrev pub AreScheduleLives : Setup → (n : ℕ) → TableStart → List (List Event) → Type 0
+AreScheduleLives S n B [] = Unit {0}
+AreScheduleLives S n B (es ∷ lives) =
+    IsSchedule S (opening_moment S B n) es × AreScheduleLives S n (start_after S n B es) lives
 
 -- each order linearizes its life, and leads to what recovery finds after it
 abbrev pub AreLinearized : Setup → (n : ℕ) → TableStart → List (List Event)
@@ -52,12 +52,12 @@ pub record AreDurablyLinearizable (S : Setup) (n : ℕ) (B : TableStart) (lives 
   pub orders : List (List Call)
   pub each : AreLinearized S n B lives orders
   -- all of its calls have their replies, and it leads to the start after the last life
-  pub legal : HaveReplies S.meaning (map payload_of B.cells) (whole_order orders)
+  pub legal : CallsHaveReplies S.meaning (map payload_of B.cells) (whole_order orders)
   pub leads : SameFrom (first_operation_cell S) (map payload_of (start_after_all S n B lives).cells)
       (numbers_after_calls S.meaning (map payload_of B.cells) (whole_order orders))
   -- no call that may write is in it twice: only newer calls of its caller come after it
   pub once : (p q : ℕ) → p < q → q < length (whole_order orders)
       → S.meaning.reads_only (get_or (whole_order orders) p no_call).op ≡ false
-      → IsNewer (get_or (whole_order orders) p no_call) (get_or (whole_order orders) q no_call)
+      → IsNewerCall (get_or (whole_order orders) p no_call) (get_or (whole_order orders) q no_call)
   -- and none was done before the first start
   pub newer : All (λ (c : Call). start_ticket S B c.caller < c.ticket) (whole_order orders)

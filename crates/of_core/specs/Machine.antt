@@ -93,12 +93,12 @@ no_machine = record {
 }
 
 -- nothing is known of any cell
-abbrev pub nothing_known : Setup → List (Option ℕ)
-nothing_known S = replicate S.cells None
+abbrev pub no_cell_known : Setup → List (Option ℕ)
+no_cell_known S = replicate S.cells None
 
 -- the machine of caller i that was just made, where so many calls were begun before
 abbrev pub idle_machine : Setup → ℕ → (made : ℕ) → CallState
-idle_machine S i made = record no_machine { caller = i; made = made; known = nothing_known S; raw = record { shape = 0; values = replicate S.instrs 0 } }
+idle_machine S i made = record no_machine { caller = i; made = made; known = no_cell_known S; raw = record { shape = 0; values = replicate S.instrs 0 } }
 
 -- the machine d is m, or a fresh one of its caller, which may take the place of an idle one
 abbrev pub MayReplace : Setup → (m d : CallState) → Type 0
@@ -110,8 +110,8 @@ first_place true = TryCurrent
 first_place false = StoreScript 0
 
 -- it begins anew: of the calls before it the machine keeps their number alone
-abbrev pub begin : Setup → CallState → List ℕ → CallState
-begin S m op = record (idle_machine S m.caller m.made) { made = m.made + 1; op = op; place = first_place (S.meaning.reads_only op) }
+abbrev pub begin_call : Setup → CallState → List ℕ → CallState
+begin_call S m op = record (idle_machine S m.caller m.made) { made = m.made + 1; op = op; place = first_place (S.meaning.reads_only op) }
 
 -- The words of a log: the number of its entries, and then cell and number of each.
 abbrev pub flat_entries : List (ℕ × ℕ) → List ℕ
@@ -132,8 +132,8 @@ log_of [] = []
 log_of (n ∷ ws) = entries_of_words ws
 
 -- the entries from entry f on, going round
-abbrev pub rotated : ℕ → List (ℕ × ℕ) → List (ℕ × ℕ)
-rotated f es = drop f es ++ take f es
+abbrev pub entries_going_round : ℕ → List (ℕ × ℕ) → List (ℕ × ℕ)
+entries_going_round f es = drop f es ++ take f es
 
 -- what is known when a word of the data cell a was found
 abbrev pub with_cell_known : Setup → CallState → (a found : ℕ) → List (Option ℕ)
@@ -145,9 +145,9 @@ cells_from a [] = []
 cells_from a (v ∷ vs) = (a, v) ∷ cells_from (a + 1) vs
 
 -- the reply cells of the caller whose ticket cell this is, where the shape isn't that of an abort
-abbrev pub reply_cells : (row count : ℕ) → RawReply → List (ℕ × ℕ)
-reply_cells row count r = if nat_lt r.shape LEAST_ABORT then cells_from (row + 2) (take count r.values) else []
+abbrev pub reply_cell_pairs : (row count : ℕ) → RawReply → List (ℕ × ℕ)
+reply_cell_pairs row count r = if nat_lt r.shape LEAST_ABORT then cells_from (row + 2) (take count r.values) else []
 
 -- what a call with so many words writes into its own cells, of which this is the ticket cell: the reply, and then the shape and the ticket
 abbrev pub own_cells : (row ticket count : ℕ) → RawReply → List (ℕ × ℕ)
-own_cells row ticket count r = reply_cells row count r ++ (row + 1, r.shape) ∷ (row, ticket) ∷ []
+own_cells row ticket count r = reply_cell_pairs row count r ++ (row + 1, r.shape) ∷ (row, ticket) ∷ []

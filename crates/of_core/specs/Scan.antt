@@ -9,7 +9,7 @@ use Rattle.std.specs.List.{All}
 use Rattle.of_core.specs.Table.{Setup, first_operation_cell, ticket_cell, shape_cell, reply_cell, announcement_of, script_words_of, committed_seq}
 use Rattle.of_core.specs.Machine.{Call, no_call, CallState}
 use Rattle.of_core.specs.World.{Batch, TableStart}
-use Rattle.of_core.specs.History.{state_after, batch_at, numbers_after, numbers_after_calls, HaveReplies, ticket_in_state, last_ticket_by, IsCellOfCaller, CallersRise}
+use Rattle.of_core.specs.History.{state_after, batch_at, numbers_after, numbers_after_calls, CallsHaveReplies, ticket_in_state, last_ticket_by, IsCellOfCaller, CallersRise}
 use Rattle.of_core.specs.Shared.{IsLog}
 
 -- the log names the cell with the number
@@ -28,7 +28,7 @@ pub record LogsOwnCells (S : Setup) (es : List (ℕ × ℕ)) (c : Call) : Type 0
 pub record IsOverlayOf (S : Setup) (xs : List ℕ) (cs : List Call) (es : List (ℕ × ℕ)) : Type 0 where
   pub is_log : IsLog S es
   pub effect : SameFrom (first_operation_cell S) (with_writes_in xs es) (numbers_after_calls S.meaning xs cs)
-  pub replies : HaveReplies S.meaning xs cs
+  pub replies : CallsHaveReplies S.meaning xs cs
   pub own : All (LogsOwnCells S es) cs
   -- what it names below the others' cells is a caller's own that has a call
   pub rows : (j : ℕ) → j < length es → (get_or es j (0, 0)).0 < first_operation_cell S → (y : ℕ) × (y < length cs) × IsCellOfCaller S (get_or cs y no_call).caller (get_or es j (0, 0)).0

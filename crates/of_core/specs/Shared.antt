@@ -9,7 +9,7 @@ use Rattle.std.specs.List.{All}
 use Rattle.of_core.specs.Table.{Setup, first_operation_cell, cell_count, request_of, data_word, log_word_of, durable_word, durable_request, durable_cell, durable_log, announcement_of, committed_seq, committed_owner, durable_seq}
 use Rattle.of_core.specs.Machine.{Call, log_words}
 use Rattle.of_core.specs.World.{Batch, TableStart}
-use Rattle.of_core.specs.History.{batch_at, data_word_after, numbers_after, numbers_after_calls, HaveReplies, last_ticket_by, OwnCellsShowLast, CallersRise}
+use Rattle.of_core.specs.History.{batch_at, data_word_after, numbers_after, numbers_after_calls, CallsHaveReplies, last_ticket_by, OwnCellsShowLast, CallersRise}
 
 -- an entry of a log that may be: a data cell, and a number that a word holds
 abbrev pub IsEntry : Setup → ℕ × ℕ → Type 0
@@ -105,7 +105,7 @@ pub record StatesFollowBatches (S : Setup) (Lawful : List ℕ → Type 0) (B : T
   -- apart from the callers' own cells the calls of a batch lead from the state before to its own
   pub leads : (k : ℕ) → B.seq ≤ k → k < B.seq + length bs → SameFrom (first_operation_cell S) (numbers_after B bs (k + 1)) (numbers_after_calls S.meaning (numbers_after B bs k) (batch_at B bs (k + 1)).calls)
   -- and have the replies that they meet there
-  pub replies : (k : ℕ) → B.seq ≤ k → k < B.seq + length bs → HaveReplies S.meaning (numbers_after B bs k) (batch_at B bs (k + 1)).calls
+  pub replies : (k : ℕ) → B.seq ≤ k → k < B.seq + length bs → CallsHaveReplies S.meaning (numbers_after B bs k) (batch_at B bs (k + 1)).calls
   -- each caller's own cells show its last call
   pub last : (k i : ℕ) → B.seq ≤ k → k ≤ B.seq + length bs → i < S.callers → OwnCellsShowLast S B bs k i
   -- a call of a batch has a newer ticket than its caller had before

@@ -13,7 +13,7 @@ use Rattle.of_core.specs.declared.place.Op.{Op}
 use Rattle.of_core.specs.declared.place.Op.TheVariants.{Load, Store, Exchange, Raise}
 use Rattle.of_core.specs.declared.place.Outcome.TheVariants.{Answered, Spent}
 use Rattle.of_core.specs.Table.{Setup, request_at, data_at, log_at, durable_at, script_word_at, ticket_cell, shape_cell, reply_cell}
-use Rattle.of_core.specs.Machine.{Call, CallState, log_entry, log_words, log_of, rotated, nothing_known, with_cell_known, own_cells}
+use Rattle.of_core.specs.Machine.{Call, CallState, log_entry, log_words, log_of, entries_going_round, no_cell_known, with_cell_known, own_cells}
 
 -- what the machine m asks for at a place
 abbrev pub want_at : Setup → CallState → Place → Op
@@ -94,7 +94,7 @@ read_on S m = after_read_run m (S.meaning.walk m.known m.op)
 
 -- behind the look at the request, or the help
 abbrev pub begin_reading : Setup → CallState → CallState
-begin_reading S m = read_on S (record m { known = nothing_known S; helps = false })
+begin_reading S m = read_on S (record m { known = no_cell_known S; helps = false })
 
 -- a try that met a newer cell is over; after the last the call is announced
 abbrev pub end_try : CallState → (more : Bool) → CallState
@@ -123,7 +123,7 @@ first_round_seq m s false = m.first
 
 -- behind the look at the request, or the help: one's own ticket comes next
 abbrev pub enter : Setup → CallState → CallState
-enter S m = record m { place = LoadOwnTicket; known = nothing_known S; helps = false; log = []; calls = []; scan = 0 }
+enter S m = record m { place = LoadOwnTicket; known = no_cell_known S; helps = false; log = []; calls = []; scan = 0 }
 
 abbrev pub resume : Setup → CallState → (in_try : Bool) → CallState
 resume S m true = begin_reading S m
@@ -142,7 +142,7 @@ after_copy_log m x found true = record m { place = CopyLog (x + 1); copy = with_
 after_copy_log m x found false = record m { place = LookAgain; copy = with_log_word_copied m found }
 
 abbrev pub after_look_again : Setup → CallState → (opened in_try : Bool) → CallState
-after_look_again S m true in_try = record m { place = RaiseCurrent; log = rotated (S.begins m.caller (length (log_of m.copy))) (log_of m.copy) }
+after_look_again S m true in_try = record m { place = RaiseCurrent; log = entries_going_round (S.begins m.caller (length (log_of m.copy))) (log_of m.copy) }
 after_look_again S m false in_try = resume S m in_try
 
 -- One's own ticket: where it is there the call is in the history, and its reply is read; else it is spent at the limit.
@@ -247,9 +247,9 @@ abbrev pub after_raise_log : CallState → ℕ → (more : Bool) → CallState
 after_raise_log m x true = record m { place = StoreLog (x + 1) }
 after_raise_log m x false = record m { place = StoreRequest }
 
-abbrev pub after_exchange : CallState → (won : Bool) → CallState
-after_exchange m true = record m { place = RaiseCurrent; helps = false; seq = m.seq + 1; owner = m.caller }
-after_exchange m false = next_round m
+abbrev pub after_commit_exchange : CallState → (won : Bool) → CallState
+after_commit_exchange m true = record m { place = RaiseCurrent; helps = false; seq = m.seq + 1; owner = m.caller }
+after_commit_exchange m false = next_round m
 
 -- Applying: the current-transaction word is raised, each entry's cell is exchanged where it is older, and raised; then the request is closed.
 abbrev pub after_raise_current : CallState → (some : Bool) → CallState
@@ -293,7 +293,7 @@ take_word_at S m found (StoreLog x) = record m { place = RaiseLog x }
 take_word_at S m found (RaiseLog x) = after_raise_log m x (nat_lt (x + 1) (length (log_words m.log)))
 take_word_at S m found StoreRequest = record m { place = RaiseRequest }
 take_word_at S m found RaiseRequest = record m { place = ExchangeCurrent; kept = pack (m.seq + 1) 0 }
-take_word_at S m found ExchangeCurrent = after_exchange m (found == pack m.seq m.owner)
+take_word_at S m found ExchangeCurrent = after_commit_exchange m (found == pack m.seq m.owner)
 take_word_at S m found RaiseCurrent = after_raise_current m (nat_lt 0 (length m.log))
 take_word_at S m found (LoadTarget j) = after_load_target m j found (nat_lt (seq_of found) m.seq)
 take_word_at S m found (ExchangeTarget j f) = record m { place = ReloadTarget j }

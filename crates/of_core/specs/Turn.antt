@@ -9,14 +9,14 @@ use Rattle.of_core.specs.Machine.{CallState}
 use Rattle.of_core.specs.Seen.{ended_outcome}
 
 -- the call has ended with an outcome, or it is open
-abbrev pub end_from_own_cells : Option Outcome → Turn
-end_from_own_cells None = Open
-end_from_own_cells (Some o) = Ended o
+abbrev pub turn_of_outcome : Option Outcome → Turn
+turn_of_outcome None = Open
+turn_of_outcome (Some o) = Ended o
 
 -- what the step from a place says, where it led to this machine
 abbrev pub turn_at : Place → CallState → Turn
 turn_at Idle m = NoCall
-turn_at p m = end_from_own_cells (ended_outcome m)
+turn_at p m = turn_of_outcome (ended_outcome m)
 
 -- what a turn says that led from one machine to the other
 abbrev pub turn_of : (before now : CallState) → Turn

@@ -11,7 +11,7 @@ ghost use Rattle.of_core.specs.Events.{Begins, Turns, Raises, zero_start, idle_m
 ghost use Rattle.of_core.specs.Shared.{MayStart};
 ghost use Rattle.of_core.specs.Starts.{IsStartRow, closed_request, first_cells, first_words, start_from_durable};
 ghost use Rattle.of_core.specs.Moment.{IsReached, RunSameWork, bank_after, call_states, machine_of, bank_setup, table_word_count};
-ghost use Rattle.of_core.specs.Turn.{turn_of, end_from_own_cells, IsIdle};
+ghost use Rattle.of_core.specs.Turn.{turn_of, turn_of_outcome, IsIdle};
 
 use crate::machine::{GREATEST_LIMIT, Machine};
 use crate::performer::OnWords;
@@ -62,7 +62,7 @@ impl<W: Work> Model for Bank<W> {
 
 /// What a turn says of a call that was open before it.
 fn turn_to(answer: Option<Outcome>) -> Turn
-    ensures { result ≡ end_from_own_cells answer }
+    ensures { result ≡ turn_of_outcome answer }
 {
     match answer {
         Some(outcome) => Turn::Ended(outcome),

@@ -6,7 +6,7 @@ ghost use Rattle.of_mem.specs.declared.work.TheConstants.{MOST_INSTRS};
 ghost use Rattle.of_cell.specs.declared.word.TheConstants.{PAYLOADS};
 ghost use Rattle.of_core.specs.Table.{cell_count, words_before_members, data_at, log_at, durable_at, ticket_cell, shape_cell, reply_cell};
 ghost use Rattle.of_core.specs.Seen.{machine_setup, ended_outcome};
-ghost use Rattle.of_core.specs.Machine.{idle_machine, begin, log_words};
+ghost use Rattle.of_core.specs.Machine.{idle_machine, begin_call, log_words};
 ghost use Rattle.of_core.specs.Steps.{want, want_at, take_word, take_word_at, with_step_counted, word_of};
 ghost use Rattle.of_core.specs.declared.place.Op.{Op};
 ghost use Rattle.of_core.specs.Meets.{MayTake};
@@ -152,7 +152,7 @@ impl<W: Work> Machine<W> {
         requires some { 1 ≤ length op.now }
         requires few { length op.now ≤ MOST_INSTRS }
         requires made { self.old.call.made + 1 < PAYLOADS }
-        ensures { self.new ≡ record self.old { call = begin (machine_setup W.meaning self.old) self.old.call op.now } }
+        ensures { self.new ≡ record self.old { call = begin_call (machine_setup W.meaning self.old) self.old.call op.now } }
     {
         self.op.clear();
         match self.op.extend_from_slice(op) {

@@ -10,7 +10,7 @@ use Rattle.of_row.specs.declared.member.Member.{Member}
 use Rattle.of_row.specs.declared.row.Row.{Row}
 use Rattle.of_row.specs.Views.{last_caller}
 use Rattle.of_row.specs.Rows.{IsSeatOf, HasNoCall}
-use Rattle.of_door.specs.Hands.{HandLog, no_exchange, after_exchange, after_store}
+use Rattle.of_door.specs.Hands.{HandLog, no_exchange, log_after_exchange, after_store}
 use Rattle.of_door.specs.Rule.{SlotHolds, SlotMatchesWord, IsMemberAtDoor, IsMemberAtToldDoor, DoorMeetsRule, TakesSlot, GivesSlotBack}
 
 no : (b : Bool) → b ≡ false → b ≡ true → ⊥
@@ -33,18 +33,18 @@ module _ (May : Member → Type 0) where
     calm ne j u e h = ne (r.out j u e h)
 
     -- a miss, and a hit that takes what stands there
-    missed : (n : ℕ) → v.holds ≡ false → DoorMeetsRule May record { words = s.words; homes = s.homes; views = set s.views id (after_exchange n false v) }
+    missed : (n : ℕ) → v.holds ≡ false → DoorMeetsRule May record { words = s.words; homes = s.homes; views = set s.views id (log_after_exchange n false v) }
     missed n free = record {
       word = r.word;
       words = r.words;
       home = r.home;
-      out = λ j u e h. ⊎_elim (λ (t : (j ≡ id) × (after_exchange n false v ≡ u)). absurd (let z : false ≡ true = ap (λ (x : HandLog). x.holds) t.1 ∙ h in cc)) (λ (t : (j ≢ id) × (get_elem? s.views j ≡ some u)). r.out j u t.1 h) (at_set s.views id j (after_exchange n false v) u e);
-      one = λ j k u w e f h g. ⊎_elim (λ (t : (j ≡ id) × (after_exchange n false v ≡ u)). absurd (let z : false ≡ true = ap (λ (x : HandLog). x.holds) t.1 ∙ h in cc))
-          (λ (t : (j ≢ id) × (get_elem? s.views j ≡ some u)). ⊎_elim (λ (q : (k ≡ id) × (after_exchange n false v ≡ w)). absurd (let z : false ≡ true = ap (λ (x : HandLog). x.holds) q.1 ∙ g in cc)) (λ (q : (k ≢ id) × (get_elem? s.views k ≡ some w)). r.one j k u w t.1 q.1 h g) (at_set s.views id k (after_exchange n false v) w f))
-          (at_set s.views id j (after_exchange n false v) u e);
+      out = λ j u e h. ⊎_elim (λ (t : (j ≡ id) × (log_after_exchange n false v ≡ u)). absurd (let z : false ≡ true = ap (λ (x : HandLog). x.holds) t.1 ∙ h in cc)) (λ (t : (j ≢ id) × (get_elem? s.views j ≡ some u)). r.out j u t.1 h) (at_set s.views id j (log_after_exchange n false v) u e);
+      one = λ j k u w e f h g. ⊎_elim (λ (t : (j ≡ id) × (log_after_exchange n false v ≡ u)). absurd (let z : false ≡ true = ap (λ (x : HandLog). x.holds) t.1 ∙ h in cc))
+          (λ (t : (j ≢ id) × (get_elem? s.views j ≡ some u)). ⊎_elim (λ (q : (k ≡ id) × (log_after_exchange n false v ≡ w)). absurd (let z : false ≡ true = ap (λ (x : HandLog). x.holds) q.1 ∙ g in cc)) (λ (q : (k ≢ id) × (get_elem? s.views k ≡ some w)). r.one j k u w t.1 q.1 h g) (at_set s.views id k (log_after_exchange n false v) w f))
+          (at_set s.views id j (log_after_exchange n false v) u e);
     }
 
-    hit : (n : ℕ) → r.word ≢ 2 → (homes : List (maybe.Option (Option Member))) → homes ≡ maybe.none ∷ [] → DoorMeetsRule May record { words = 2 ∷ []; homes = homes; views = set s.views id (after_exchange n true v) }
+    hit : (n : ℕ) → r.word ≢ 2 → (homes : List (maybe.Option (Option Member))) → homes ≡ maybe.none ∷ [] → DoorMeetsRule May record { words = 2 ∷ []; homes = homes; views = set s.views id (log_after_exchange n true v) }
     hit n ne homes away = record {
       word = 2;
       words = refl;
@@ -53,8 +53,8 @@ module _ (May : Member → Type 0) where
       one = λ j k u w e f h g. only j u e h ∙ sym (only k w f g);
     }
       where
-        only : (j : ℕ) (u : HandLog) → get_elem? (set s.views id (after_exchange n true v)) j ≡ some u → u.holds ≡ true → j ≡ id
-        only j u e h = ⊎_elim (λ (t : (j ≡ id) × (after_exchange n true v ≡ u)). t.0) (λ (t : (j ≢ id) × (get_elem? s.views j ≡ some u)). absurd (calm ne j u t.1 h)) (at_set s.views id j (after_exchange n true v) u e)
+        only : (j : ℕ) (u : HandLog) → get_elem? (set s.views id (log_after_exchange n true v)) j ≡ some u → u.holds ≡ true → j ≡ id
+        only j u e h = ⊎_elim (λ (t : (j ≡ id) × (log_after_exchange n true v ≡ u)). t.0) (λ (t : (j ≢ id) × (get_elem? s.views j ≡ some u)). absurd (calm ne j u t.1 h)) (at_set s.views id j (log_after_exchange n true v) u e)
 
     -- the holder gives the slot back
     given : (n : ℕ) → v.holds ≡ true → (homes : List (maybe.Option (Option Member))) → SlotMatchesWord May n homes → DoorMeetsRule May record { words = n ∷ []; homes = homes; views = set s.views id (after_store n v) }
@@ -79,7 +79,7 @@ module _ (May : Member → Type 0) where
       by_miss : w ≢ old → Goes w
       by_miss ne =
           let same : set s.words 0 w ≡ s.words = ap (λ (xs : List ℕ). set xs 0 (get_or xs 0 0)) r.words ∙ sym r.words in
-          (after_exchange w false me.0, keeps, tt, subst (λ (ws : List ℕ). DoorMeetsRule May record { words = ws; homes = s.homes; views = set s.views id (after_exchange w false me.0) }) (sym same) (missed s r id me.0 at w free), (λ e. absurd (ne e), λ _. refl))
+          (log_after_exchange w false me.0, keeps, tt, subst (λ (ws : List ℕ). DoorMeetsRule May record { words = ws; homes = s.homes; views = set s.views id (log_after_exchange w false me.0) }) (sym same) (missed s r id me.0 at w free), (λ e. absurd (ne e), λ _. refl))
 
       -- what stands there
       found : w ≡ old → (x : Option Member) × SlotHolds May old x × (s.homes ≡ some x ∷ [])
@@ -99,10 +99,10 @@ module _ (May : Member → Type 0) where
           let words : set s.words 0 2 ≡ 2 ∷ [] = ap (λ (xs : List ℕ). set xs 0 2) r.words in
           let ne : r.word ≢ 2 = λ two. absurd (omega (arith, low, two, word_is, e)) in
           let homes : set s.homes 0 maybe.none ≡ maybe.none ∷ [] = ap (λ (hs : List (maybe.Option (Option Member))). set hs 0 maybe.none) f.2 in (
-            after_exchange w true me.0,
+            log_after_exchange w true me.0,
             takes 0 f.0,
             ap (λ (hs : List (maybe.Option (Option Member))). get_elem? hs 0) f.2,
-            subst (λ (ws : List ℕ). DoorMeetsRule May record { words = ws; homes = set s.homes 0 maybe.none; views = set s.views id (after_exchange w true me.0) }) (sym words) (hit s r id me.0 at w ne (set s.homes 0 maybe.none) homes),
+            subst (λ (ws : List ℕ). DoorMeetsRule May record { words = ws; homes = set s.homes 0 maybe.none; views = set s.views id (log_after_exchange w true me.0) }) (sym words) (hit s r id me.0 at w ne (set s.homes 0 maybe.none) homes),
             (λ _. (f.0, f.1, refl), λ no. absurd (no e)),
           )
 
@@ -157,7 +157,7 @@ abbrev carry : Option Member → List (ℕ × Option Member) → List (ℕ × Op
 carry x c = (0, x) ∷ c
 
 -- a store, by a hand that has exchanged the word, and has put x into the slot
-pub puts_for : (May : Member → Type 0) (slots : ℕ) → slots ≡ 1 → (id n found : ℕ) (me taken now : Me (Option Member) HandLog) (was x : Option Member) → me.1 ≡ [] → taken ≡ (after_exchange found true me.0, (0, was) ∷ me.1) → now ≡ (taken.0, (0, x) ∷ rest taken.1)
+pub puts_for : (May : Member → Type 0) (slots : ℕ) → slots ≡ 1 → (id n found : ℕ) (me taken now : Me (Option Member) HandLog) (was x : Option Member) → me.1 ≡ [] → taken ≡ (log_after_exchange found true me.0, (0, was) ∷ me.1) → now ≡ (taken.0, (0, x) ∷ rest taken.1)
     → n < 2 → SlotHolds May n x → Allows (DoorMeetsRule May) slots id now 0 (λ _. n) (λ _ after. GivesSlotBack n now after)
 puts_for May slots one id n found me taken now was x free took put low stands =
     let carried : now.1 ≡ (0, x) ∷ [] = ap (λ (m : Me (Option Member) HandLog). m.1) put ∙ ap (λ (m : Me (Option Member) HandLog). carry x (rest m.1)) took ∙ ap (λ (c : List (ℕ × Option Member)). carry x c) free in

@@ -5,7 +5,7 @@ use Rattle.of_row.specs.declared.member.Member.{Member}
 use Rattle.of_row.specs.declared.row.Row.{Row}
 use Rattle.of_row.specs.Views.{seen_seq, seen_history}
 use Rattle.of_row.specs.Rule.{EachCallBetween}
-use Rattle.of_row.specs.Rows.{start_at}
+use Rattle.of_row.specs.Rows.{row_start}
 use Rattle.of_door.specs.declared.door.Door.{Door}
 use Rattle.of_door.specs.declared.door.Hand.{Hand}
 
@@ -38,6 +38,6 @@ WasRefused w n before now = (n ≢ w) × (found_by now ≡ found_by before ++ n 
 -- each of the member's calls in what it has seen has a ticket that it has begun
 abbrev pub TicketsUpTo : {W : Type 0} → (W → Meaning) → Row W → Member → Type 0
 TicketsUpTo meaning r m =
-    let B = start_at meaning r in
+    let B = row_start meaning r in
     let seen = m.seat.me.0.seen in
     EachCallBetween B (seen_history seen) B.seq (seen_seq B seen) (λ c. c.caller ≡ m.number → c.ticket ≤ m.made)

@@ -12,8 +12,8 @@ abbrev pub no_exchange : HandLog
 no_exchange = record { found = []; stored = []; holds = false }
 
 -- an exchange has found the word n, and has got the slot or not
-abbrev pub after_exchange : ℕ → Bool → HandLog → HandLog
-after_exchange n got v = record { found = v.found ++ n ∷ []; stored = v.stored; holds = got }
+abbrev pub log_after_exchange : ℕ → Bool → HandLog → HandLog
+log_after_exchange n got v = record { found = v.found ++ n ∷ []; stored = v.stored; holds = got }
 
 -- the word n was stored, and the slot went back
 abbrev pub after_store : ℕ → HandLog → HandLog

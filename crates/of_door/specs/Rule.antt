@@ -6,7 +6,7 @@ use Rattle.atomic_table.specs.Table.{State, Me, rest}
 use Rattle.of_row.specs.declared.member.Member.{Member}
 use Rattle.of_row.specs.declared.row.Row.{Row}
 use Rattle.of_row.specs.Rows.{IsSeatOf, HasNoCall}
-use Rattle.of_door.specs.Hands.{HandLog, after_exchange, after_store}
+use Rattle.of_door.specs.Hands.{HandLog, log_after_exchange, after_store}
 
 -- the member is one of this row, has this number, and has no open call
 abbrev pub IsMemberAtDoor : {W : Type 0} → Row W → ℕ → Member → Type 0
@@ -42,8 +42,8 @@ pub record DoorMeetsRule (May : Member → Type 0) (s : State (Option Member) Ha
 -- with what the word says, and else nothing has changed.
 abbrev pub TakesSlot : (Member → Type 0) → (old : ℕ) → Me (Option Member) HandLog → (n : ℕ) → Me (Option Member) HandLog → Type 0
 TakesSlot May old me n after =
-    (n ≡ old → (x : Option Member) × SlotHolds May old x × (after ≡ (after_exchange n true me.0, (0, x) ∷ me.1)))
-    × (n ≢ old → after ≡ (after_exchange n false me.0, me.1))
+    (n ≡ old → (x : Option Member) × SlotHolds May old x × (after ≡ (log_after_exchange n true me.0, (0, x) ∷ me.1)))
+    × (n ≢ old → after ≡ (log_after_exchange n false me.0, me.1))
 
 -- a store of the word n has given the slot back
 abbrev pub GivesSlotBack : (n : ℕ) → (me after : Me (Option Member) HandLog) → Type 0

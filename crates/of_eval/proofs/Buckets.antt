@@ -11,7 +11,7 @@ use Rattle.of_mem.specs.Stores.{IsBucket, front_at, first_at, second_at, cell_af
 use Rattle.of_mem.proofs.Frames.{none_value}
 use Rattle.of_script.specs.Language.{greatest}
 use Rattle.of_store.specs.State.{Store, stored_count, with_key}
-use Rattle.of_eval.specs.Faults.{Has, IsNoKey, LeadsToNewBlock, IsFirstFault, pointer_cell}
+use Rattle.of_eval.specs.Faults.{ContainsNumber, IsNoKey, LeadsToNewBlock, IsFirstFault, pointer_cell}
 use Rattle.of_eval.specs.Faults.ChainFault.{Key, Value}
 use Rattle.of_eval.specs.Walking.{HasWalked, HoldsWhatWasMet, IsBeforeChain, LinkLeadsOn}
 use Rattle.of_eval.proofs.Paths.{has_each}
@@ -23,13 +23,13 @@ use Rattle.of_eval.proofs.Filling.{bucket_push, bucket_kept, kept_blocks}
 pub here_start : (o n : ℕ) (chains : ℕ → List ℕ) → chains n ≡ [] → pointer_cell o n chains ≡ front_at o n
 here_start o n chains e = ap (cell_after o (front_at o n)) e
 
-value_case : (o : ℕ) (m : ℕ → ℕ) (key v b : ℕ) (l : List ℕ) → (value_in o m key l ≡ Some v → (x : ℕ) × Has l x × (m (first_at o x) ≡ key))
-    → (t : Bool) → eqb (m (first_at o b)) key ≡ t → cond t (Some (m (second_at o b))) (value_in o m key l) ≡ Some v → (x : ℕ) × Has (b ∷ l) x × (m (first_at o x) ≡ key)
+value_case : (o : ℕ) (m : ℕ → ℕ) (key v b : ℕ) (l : List ℕ) → (value_in o m key l ≡ Some v → (x : ℕ) × ContainsNumber l x × (m (first_at o x) ≡ key))
+    → (t : Bool) → eqb (m (first_at o b)) key ≡ t → cond t (Some (m (second_at o b))) (value_in o m key l) ≡ Some v → (x : ℕ) × ContainsNumber (b ∷ l) x × (m (first_at o x) ≡ key)
 value_case o m key v b l rest true q e = (b, inl refl, eqb-true (m (first_at o b)) key q)
 value_case o m key v b l rest false q e = let r = rest e in (r.0, inr r.1, r.2)
 
 -- a key with a value stands in a block
-value_has : (o : ℕ) (m : ℕ → ℕ) (key v : ℕ) (l : List ℕ) → value_in o m key l ≡ Some v → (x : ℕ) × Has l x × (m (first_at o x) ≡ key)
+value_has : (o : ℕ) (m : ℕ → ℕ) (key v : ℕ) (l : List ℕ) → value_in o m key l ≡ Some v → (x : ℕ) × ContainsNumber l x × (m (first_at o x) ≡ key)
 value_has o m key v [] e = absurd (false≢true (ap is_some e))
 value_has o m key v (b ∷ l) e = value_case o m key v b l (value_has o m key v l) (eqb (m (first_at o b)) key) refl e
 

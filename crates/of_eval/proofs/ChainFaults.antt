@@ -7,7 +7,7 @@ use Rattle.of_mem.specs.Numbers.{IsNumber}
 use Rattle.of_mem.specs.Stores.{IsChain, IsBucket, front_at, first_at, second_at, last_pointer, blocks_in_chains}
 use Rattle.of_mem.proofs.Heaps.{each_left, each_right, chain_apart, same_chain}
 use Rattle.of_mem.proofs.Frames.{bucket_split}
-use Rattle.of_eval.specs.Faults.{Has, IsMet, IsNoKey, HasPassed, HasRightCounts, ChainFault, CountFault, pointer_cell}
+use Rattle.of_eval.specs.Faults.{ContainsNumber, IsMet, IsNoKey, HasPassed, HasRightCounts, ChainFault, CountFault, pointer_cell}
 use Rattle.of_eval.specs.Faults.ChainFault.{Pointer, Key, Value, Item}
 use Rattle.of_eval.specs.Faults.CountFault.{Keys, Tail, Length}
 use Rattle.of_eval.proofs.Paths.{has_each, path_front}
@@ -83,15 +83,15 @@ whole_goes_on o m n k chains others h w l b rest e =
     apart : Each (λ x. x ≢ b) (chains n)
     apart = each_left (λ x. x ≢ b) (chains n) rest (chain_apart o m (front_at o n) b (chains n) rest (subst (IsChain o m (front_at o n)) e (w.linked n l)))
 
-    met : (c : ℕ) → w.owner b ≡ n → Has (chains c) b → ⊥
+    met : (c : ℕ) → w.owner b ≡ n → ContainsNumber (chains c) b → ⊥
     met c own q = elim (cases_lt c n) [
       | inl i ↦
-          let there : Has (others c) b = subst (λ (x : List ℕ). Has x b) (same_chains o m n k chains others h w c i (omega (arith, i, l))) q in
+          let there : ContainsNumber (others c) b = subst (λ (x : List ℕ). ContainsNumber x b) (same_chains o m n k chains others h w c i (omega (arith, i, l))) q in
           let is = has_each (λ x. (x < m (fresh_at o)) × (w.owner x ≡ c)) (others c) b (w.owned c (omega (arith, i, l))) there in
           omega (arith, is.1, own, i)
       | inr i ↦ elim (cases_eq c n) [
-        | inl s ↦ has_each (λ x. x ≢ b) (chains n) b apart (subst (λ x. Has (chains x) b) s q) refl
-        | inr s ↦ subst (λ (x : List ℕ). Has x b) (h.others c (omega (arith, i, s))) q
+        | inl s ↦ has_each (λ x. x ≢ b) (chains n) b apart (subst (λ x. ContainsNumber (chains x) b) s q) refl
+        | inr s ↦ subst (λ (x : List ℕ). ContainsNumber x b) (h.others c (omega (arith, i, s))) q
       ]
     ]
 

@@ -19,7 +19,7 @@ use Rattle.of_eval.specs.ShapeLaws.{code_some}
 use Rattle.of_eval.specs.Stored.{IsStored}
 use Rattle.of_eval.specs.Words.{effect_of, words_outcome, run_words, reply_to}
 use Rattle.of_eval.specs.ScriptPrograms.{words_program}
-use Rattle.of_eval.specs.Scripts.{store_at, data_cells_of, is_success}
+use Rattle.of_eval.specs.Scripts.{store_at, scripts_data_cells, is_success}
 use Rattle.of_eval.specs.Scripted.{DoesOutcome, AnswerInRange, reply_behind, words_run, words_answer}
 use Rattle.of_eval.specs.Marked.{full_width, mask_all}
 use Rattle.of_eval.specs.Means.{DoesOperation, MeansWords, WordsMeanScript}
@@ -45,7 +45,7 @@ outcome_success n ws (Ok e) few l h =
     lt-ltb _ _ (omega (arith, small, few))
 outcome_success n ws (Err p) few l h = let c = code_some p.1 in le-ltb _ _ (omega (arith, c.0))
 
-module _ (w : Scripts) (xs op : List ℕ) (s : Store) (size : length xs ≡ data_cells_of w) (few : length op ≤ MOST_INSTRS) (h : IsStored (store_at w) w.blocks (memory_of xs) s) where
+module _ (w : Scripts) (xs op : List ℕ) (s : Store) (size : length xs ≡ scripts_data_cells w) (few : length op ≤ MOST_INSTRS) (h : IsStored (store_at w) w.blocks (memory_of xs) s) where
   abbrev program : Program RawReply
   program = words_program (store_at w) w.blocks (length op) [] op
 
@@ -56,7 +56,7 @@ module _ (w : Scripts) (xs op : List ℕ) (s : Store) (size : length xs ≡ data
       → IsStored (store_at w) w.blocks (memory_of (cond (is_success (program_answer program (memory_of xs))) (with_writes_in xs (program_writes program (memory_of xs))) xs)) (run_result s x).0 × (program_answer program (memory_of xs) ≡ reply_cells (reply_to (length op) (run_result s x).1))
   left (Ok e) a r =
       let k : is_success (program_answer program (memory_of xs)) ≡ true = ap is_success r.reply ∙ outcome_success (length op) op (Ok e) few few a in
-      (rw k (subst (λ (m : ℕ → ℕ). IsStored (store_at w) w.blocks m e.0) (sym (memory-written (store_at w) (data_cells_of w) program xs size r.inside)) r.leads), r.reply)
+      (rw k (subst (λ (m : ℕ → ℕ). IsStored (store_at w) w.blocks m e.0) (sym (memory-written (store_at w) (scripts_data_cells w) program xs size r.inside)) r.leads), r.reply)
   left (Err p) a r =
       let k : is_success (program_answer program (memory_of xs)) ≡ false = ap is_success r.reply ∙ outcome_success (length op) op (Err p) few few a in
       (rw k h, r.reply ∙ ap (λ (q : ℕ). reply_cells (reply_to (length op) (Aborted q p.1))) (omega arith))

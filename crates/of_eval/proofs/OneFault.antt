@@ -7,7 +7,7 @@ use Rattle.of_mem.specs.Numbers.{IsNumber}
 use Rattle.of_mem.specs.Stores.{IsBucket, front_at, first_at, second_at, link_at, cell_after, last_pointer}
 use Rattle.of_mem.proofs.Heaps.{each_right}
 use Rattle.of_eval.specs.Lawful.{OwnCellsAreSound}
-use Rattle.of_eval.specs.Faults.{Has, IsPath, IsMet, IsNoKey, LeadsToNewBlock, OwnFault, HasSoundHead, HasPassed, HasRightCounts, ChainFault, CountFault, IsFirstFault, pointer_cell}
+use Rattle.of_eval.specs.Faults.{ContainsNumber, IsPath, IsMet, IsNoKey, LeadsToNewBlock, OwnFault, HasSoundHead, HasPassed, HasRightCounts, ChainFault, CountFault, IsFirstFault, pointer_cell}
 use Rattle.of_eval.specs.Faults.ChainFault.{Pointer, Key, Value, Item}
 use Rattle.of_eval.specs.Faults.CountFault.{Keys, Tail, Length}
 use Rattle.of_eval.specs.Faults.IsFirstFault.{Own, Register, Fresh, Chain, Count, Lost}
@@ -45,7 +45,7 @@ long_enough [] rest b = omega arith
 long_enough (a ∷ l) rest b = let r = long_enough l rest b in omega (arith, r)
 
 -- a block stands once
-once_apart : (l rest : List ℕ) (b : ℕ) → AllPairs (λ x y. x ≢ y) (l ++ b ∷ rest) → Has l b → ⊥
+once_apart : (l rest : List ℕ) (b : ℕ) → AllPairs (λ x y. x ≢ y) (l ++ b ∷ rest) → ContainsNumber l b → ⊥
 once_apart [] rest b h k = k
 once_apart (a ∷ l) rest b h (inl e) = let r = long_enough l rest b in h 0 (suc (length l)) 0 (omega arith) (omega (arith, r)) (sym e ∙ sym (get_behind l rest b 0))
 once_apart (a ∷ l) rest b h (inr k) = once_apart l rest b (λ i j d lt within. h (suc i) (suc j) d (omega arith) (omega arith)) k
@@ -64,15 +64,15 @@ module _ (o : ℕ) (m : ℕ → ℕ) (n : ℕ) where
         item = λ q q_in is. (each_right (λ x. IsNumber (m (first_at o x))) (chains n) (b ∷ rest) (subst (Each (λ x. IsNumber (m (first_at o x)))) (ap others (sym is) ∙ e) (g.items q q_in))).0;
       }
     where
-      met : (c : ℕ) → g.owner b ≡ n → Has (chains c) b → ⊥
+      met : (c : ℕ) → g.owner b ≡ n → ContainsNumber (chains c) b → ⊥
       met c own q = elim (cases_lt c n) [
         | inl i ↦
-            let there : Has (others c) b = subst (λ (x : List ℕ). Has x b) (same_chains o m n n chains others h (whole_passed o m n others g) c i i) q in
+            let there : ContainsNumber (others c) b = subst (λ (x : List ℕ). ContainsNumber x b) (same_chains o m n n chains others h (whole_passed o m n others g) c i i) q in
             let is = has_each (λ x. (x < m (fresh_at o)) × (g.owner x ≡ c)) (others c) b (g.owned c) there in
             omega (arith, is.1, own, i)
         | inr i ↦ elim (cases_eq c n) [
-          | inl s ↦ once_apart (chains n) rest b (subst (AllPairs (λ x y. x ≢ y)) e g.once) (subst (λ x. Has (chains x) b) s q)
-          | inr s ↦ subst (λ (x : List ℕ). Has x b) (h.others c (omega (arith, i, s))) q
+          | inl s ↦ once_apart (chains n) rest b (subst (AllPairs (λ x y. x ≢ y)) e g.once) (subst (λ x. ContainsNumber (chains x) b) s q)
+          | inr s ↦ subst (λ (x : List ℕ). ContainsNumber x b) (h.others c (omega (arith, i, s))) q
         ]
       ]
 

@@ -27,7 +27,7 @@ use Rattle.of_eval.specs.Shapes.{IsWhole, reply_cells, mask_of, abort_part}
 use Rattle.of_eval.specs.ShapeLaws.{code_some, mask_width}
 use Rattle.of_eval.specs.Stored.{cell_store, IsStored, HasState}
 use Rattle.of_eval.specs.ScriptPrograms.{script_program}
-use Rattle.of_eval.specs.Scripts.{store_at, data_cells_of, LawfulCells, is_success, scripts_meaning}
+use Rattle.of_eval.specs.Scripts.{store_at, scripts_data_cells, LawfulCells, is_success, scripts_meaning}
 use Rattle.of_eval.specs.SoundScripts.{script_run}
 
 -- Only cells of the store are looked at.
@@ -109,25 +109,25 @@ alike_needs keeps (Ends s p) a h = absurd h
 
 -- what a run asks of its part of memory
 abbrev pub IsPartOfLawful : Scripts → Part → Type 0
-IsPartOfLawful w p = (xs : List ℕ) × (length xs ≡ data_cells_of w) × LawfulCells w xs × Agrees (overlaid p.known p.batch) xs
+IsPartOfLawful w p = (xs : List ℕ) × (length xs ≡ scripts_data_cells w) × LawfulCells w xs × Agrees (overlaid p.known p.batch) xs
 
-module _ (w : Scripts) (p : Part) (a : IsPartOfLawful w p) (size : length p.known ≡ data_cells_of w) (empty : p.script ≡ []) where
+module _ (w : Scripts) (p : Part) (a : IsPartOfLawful w p) (size : length p.known ≡ scripts_data_cells w) (empty : p.script ≡ []) where
   -- the list's cells, and past them whatever is known
   abbrev whole : ℕ → ℕ
-  whole x = cond (ltb x (data_cells_of w)) (memory_of a.0 x) (unwrap_or (newest_at p x) 0)
+  whole x = cond (ltb x (scripts_data_cells w)) (memory_of a.0 x) (unwrap_or (newest_at p x) 0)
 
-  inside : (x : ℕ) → x < data_cells_of w → memory_of a.0 x ≡ whole x
-  inside x l = rw (lt-ltb x (data_cells_of w) l) refl
+  inside : (x : ℕ) → x < scripts_data_cells w → memory_of a.0 x ≡ whole x
+  inside x l = rw (lt-ltb x (scripts_data_cells w) l) refl
 
-  newest_over : (x : ℕ) → x < data_cells_of w → newest_at p x ≡ get_or (overlaid p.known p.batch) x None
+  newest_over : (x : ℕ) → x < scripts_data_cells w → newest_at p x ≡ get_or (overlaid p.known p.batch) x None
   unfolding newest_at
   newest_over x l = ap (λ (es : List (ℕ × ℕ)). newer_of (value_for es x) (newer_of (value_for p.batch x) (get_or p.known x None))) empty ∙ sym (over_at p.known p.batch x (omega (arith, size, l)))
 
   is_part : (x v : ℕ) → newest_at p x ≡ Some v → whole x ≡ v
-  is_part x v e = go (ltb x (data_cells_of w)) refl
+  is_part x v e = go (ltb x (scripts_data_cells w)) refl
     where
-      go : (t : Bool) → ltb x (data_cells_of w) ≡ t → cond t (memory_of a.0 x) (unwrap_or (newest_at p x) 0) ≡ v
-      go true k = a.3 x v (sym (newest_over x (ltb-true x (data_cells_of w) k)) ∙ e)
+      go : (t : Bool) → ltb x (scripts_data_cells w) ≡ t → cond t (memory_of a.0 x) (unwrap_or (newest_at p x) 0) ≡ v
+      go true k = a.3 x v (sym (newest_over x (ltb-true x (scripts_data_cells w) k)) ∙ e)
       go false k = ap (λ (y : Option ℕ). unwrap_or y 0) e
 
   -- it is part of a memory that stands for the list's store
@@ -139,7 +139,7 @@ module _ (w : Scripts) (p : Part) (a : IsPartOfLawful w p) (size : length p.know
     program = script_program (store_at w) w.blocks op
 
     alike : RunsAlike (run_program program (fresh_part (overlaid p.known p.batch))) (run_program program p)
-    alike = run_alike (store_at w) (data_cells_of w) program (fresh_part (overlaid p.known p.batch)) p (memory_of a.0)
+    alike = run_alike (store_at w) (scripts_data_cells w) program (fresh_part (overlaid p.known p.batch)) p (memory_of a.0)
         (record { below = λ x l. over_at p.known p.batch x (omega (arith, size, l)); script = sym empty })
         (part_fresh (overlaid p.known p.batch) a.0 a.3)
         (script_run (store_at w) w.blocks w.few_blocks op (memory_of a.0) a.2.0 a.2.1).inside
@@ -156,7 +156,7 @@ module _ (w : Scripts) (p : Part) (a : IsPartOfLawful w p) (size : length p.know
       let h = has_state in
       record { fits = size_is ∙ sym (λ i. cells_at (e i) (f i)); memory = h.0; state = h.1; part = h.2; stored = rw (e, f) h.3 }
     where
-      size_is : length p.known ≡ data_cells_of w
+      size_is : length p.known ≡ scripts_data_cells w
       size_is = size
 
 pub run_at : (o at blocks many : ℕ) (op : List ℕ) (p : Part) (x : RunEnd RawReply) → o ≡ at → blocks ≡ many → run_program (script_program o blocks op) p ≡ x → run_program (script_program at many op) p ≡ x

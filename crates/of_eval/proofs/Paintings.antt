@@ -6,7 +6,7 @@ use Rattle.std.proofs.lemmas.List.{get_or-set_same, get_or-set_other}
 use Rattle.of_mem.specs.Programs.{with_value}
 use Rattle.of_mem.specs.Stores.{blocks_in_chains}
 use Rattle.of_mem.proofs.Changes.{changed_same, changed_other, total_changed}
-use Rattle.of_eval.specs.Faults.{Has, IsMet}
+use Rattle.of_eval.specs.Faults.{ContainsNumber, IsMet}
 use Rattle.of_eval.specs.Walking.{OwnersMatchChains, unmet_count}
 use Rattle.of_eval.proofs.Paths.{has_last, has_more, has_before, each_has}
 
@@ -44,28 +44,28 @@ module _ (fresh : ℕ) (chains : ℕ → List ℕ) (owners : List ℕ) (h : Owne
     abbrev owners' : List ℕ
     owners' = set owners b (n + 1)
 
-    paint' : (c x : ℕ) → Has (chains' c) x → get_or owners' x 0 ≡ c + 1
+    paint' : (c x : ℕ) → ContainsNumber (chains' c) x → get_or owners' x 0 ≡ c + 1
     paint' c x k = elim (cases_eq c n) [
       | inl e ↦
-          let k' : Has (chains n ++ b ∷ []) x = subst (λ (l : List ℕ). Has l x) (changed_same chains n (chains n ++ b ∷ [])) (subst (λ (d : ℕ). Has (chains' d) x) e k) in
+          let k' : ContainsNumber (chains n ++ b ∷ []) x = subst (λ (l : List ℕ). ContainsNumber l x) (changed_same chains n (chains n ++ b ∷ [])) (subst (λ (d : ℕ). ContainsNumber (chains' d) x) e k) in
           elim (cases_eq x b) [
             | inl q ↦ rw q (get_or-set_same owners b (n + 1) 0 b_in ∙ ap (λ d. d + 1) (sym e))
             | inr q ↦ get_or-set_other owners b x (n + 1) 0 q ∙ h.paint n x (has_before (chains n) b x k' q) ∙ ap (λ d. d + 1) (sym e)
           ]
       | inr e ↦
-          let k' : Has (chains c) x = subst (λ (l : List ℕ). Has l x) (changed_other chains n (chains n ++ b ∷ []) c e) k in
-          get_or-set_other owners b x (n + 1) 0 (λ q. not_met b free (c, subst (λ (y : ℕ). Has (chains c) y) q k')) ∙ h.paint c x k'
+          let k' : ContainsNumber (chains c) x = subst (λ (l : List ℕ). ContainsNumber l x) (changed_other chains n (chains n ++ b ∷ []) c e) k in
+          get_or-set_other owners b x (n + 1) 0 (λ q. not_met b free (c, subst (λ (y : ℕ). ContainsNumber (chains c) y) q k')) ∙ h.paint c x k'
     ]
 
     met' : (x : ℕ) → get_or owners' x 0 ≢ 0 → IsMet chains' x
     met' x k = elim (cases_eq x b) [
-      | inl q ↦ (n, subst (λ (l : List ℕ). Has l x) (sym (changed_same chains n (chains n ++ b ∷ []))) (subst (λ (y : ℕ). Has (chains n ++ b ∷ []) y) (sym q) (has_last (chains n) b)))
+      | inl q ↦ (n, subst (λ (l : List ℕ). ContainsNumber l x) (sym (changed_same chains n (chains n ++ b ∷ []))) (subst (λ (y : ℕ). ContainsNumber (chains n ++ b ∷ []) y) (sym q) (has_last (chains n) b)))
       | inr q ↦
           let old = h.met x (λ e. k (get_or-set_other owners b x (n + 1) 0 q ∙ e)) in (
             old.0,
             elim (cases_eq old.0 n) [
-              | inl e ↦ subst (λ (d : ℕ). Has (chains' d) x) (sym e) (subst (λ (l : List ℕ). Has l x) (sym (changed_same chains n (chains n ++ b ∷ []))) (has_more (chains n) (b ∷ []) x (subst (λ (d : ℕ). Has (chains d) x) e old.1)))
-              | inr e ↦ subst (λ (l : List ℕ). Has l x) (sym (changed_other chains n (chains n ++ b ∷ []) old.0 e)) old.1
+              | inl e ↦ subst (λ (d : ℕ). ContainsNumber (chains' d) x) (sym e) (subst (λ (l : List ℕ). ContainsNumber l x) (sym (changed_same chains n (chains n ++ b ∷ []))) (has_more (chains n) (b ∷ []) x (subst (λ (d : ℕ). ContainsNumber (chains d) x) e old.1)))
+              | inr e ↦ subst (λ (l : List ℕ). ContainsNumber l x) (sym (changed_other chains n (chains n ++ b ∷ []) old.0 e)) old.1
             ],
           )
     ]

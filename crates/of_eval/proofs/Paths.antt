@@ -3,7 +3,7 @@ use Rattle.std.proofs.Common.{◌≡◌, ℕ, zero, suc, ◌+◌, ◌<◌, ◌�
 use Rattle.std.specs.List.{AllByRecursion as Each, AllPairs}
 use Rattle.std.proofs.lemmas.List.Quantifiers.{all_pairs_push}
 use Rattle.of_mem.specs.Stores.{IsChain, link_at, cell_after}
-use Rattle.of_eval.specs.Faults.{IsPath, Has}
+use Rattle.of_eval.specs.Faults.{IsPath, ContainsNumber}
 
 pub path_push : (o : ℕ) (m : ℕ → ℕ) (start b : ℕ) (l : List ℕ) → IsPath o m start l → m (cell_after o start l) ≡ b + 1 → IsPath o m start (l ++ b ∷ [])
 path_push o m start b [] h e = (e, tt)
@@ -26,35 +26,35 @@ path_front o m start (b ∷ l) (c ∷ k) h g =
     let r = path_front o m (link_at o b) l k h.1 (subst (λ (x : ℕ). IsChain o m (link_at o x) k) e g.1) in
     (r.0, (let q : c ∷ k ≡ b ∷ (l ++ r.0) = ap (λ (x : ℕ). x ∷ k) e ∙ ap (λ (x : List ℕ). b ∷ x) r.1 in q), r.2)
 
-pub has_last : (l : List ℕ) (b : ℕ) → Has (l ++ b ∷ []) b
+pub has_last : (l : List ℕ) (b : ℕ) → ContainsNumber (l ++ b ∷ []) b
 has_last [] b = inl refl
 has_last (a ∷ l) b = inr (has_last l b)
 
-pub has_more : (l k : List ℕ) (x : ℕ) → Has l x → Has (l ++ k) x
+pub has_more : (l k : List ℕ) (x : ℕ) → ContainsNumber l x → ContainsNumber (l ++ k) x
 has_more [] k x h = absurd h
 has_more (a ∷ l) k x (inl e) = inl e
 has_more (a ∷ l) k x (inr h) = inr (has_more l k x h)
 
-pub has_before : (l : List ℕ) (b x : ℕ) → Has (l ++ b ∷ []) x → x ≢ b → Has l x
+pub has_before : (l : List ℕ) (b x : ℕ) → ContainsNumber (l ++ b ∷ []) x → x ≢ b → ContainsNumber l x
 has_before [] b x (inl e) n = n e
 has_before [] b x (inr h) n = absurd h
 has_before (a ∷ l) b x (inl e) n = inl e
 has_before (a ∷ l) b x (inr h) n = inr (has_before l b x h n)
 
-pub has_at : (l : List ℕ) (k d : ℕ) → k < length l → Has l (get_or l k d)
+pub has_at : (l : List ℕ) (k d : ℕ) → k < length l → ContainsNumber l (get_or l k d)
 has_at [] k d h = absurd (omega arith)
 has_at (a ∷ l) zero d h = inl refl
 has_at (a ∷ l) (suc k) d h = inr (has_at l k d (omega arith))
 
-pub each_has : (P : ℕ → Type 0) (l : List ℕ) → ((x : ℕ) → Has l x → P x) → Each P l
+pub each_has : (P : ℕ → Type 0) (l : List ℕ) → ((x : ℕ) → ContainsNumber l x → P x) → Each P l
 each_has P [] h = tt
 each_has P (a ∷ l) h = (h a (inl refl), each_has P l (λ x k. h x (inr k)))
 
-pub has_each : (P : ℕ → Type 0) (l : List ℕ) (x : ℕ) → Each P l → Has l x → P x
+pub has_each : (P : ℕ → Type 0) (l : List ℕ) (x : ℕ) → Each P l → ContainsNumber l x → P x
 has_each P [] x h k = absurd k
 has_each P (a ∷ l) x h (inl e) = subst P (sym e) h.0
 has_each P (a ∷ l) x h (inr k) = has_each P l x h.1 k
 
 -- a number that the list has not, behind it
-pub once_push : (l : List ℕ) (b : ℕ) → AllPairs (λ x y. x ≢ y) l → (Has l b → ⊥) → AllPairs (λ x y. x ≢ y) (l ++ b ∷ [])
-once_push l b h n = all_pairs_push (λ x y. x ≢ y) l b h (λ k d q e. n (subst (λ (x : ℕ). Has l x) e (has_at l k d q)))
+pub once_push : (l : List ℕ) (b : ℕ) → AllPairs (λ x y. x ≢ y) l → (ContainsNumber l b → ⊥) → AllPairs (λ x y. x ≢ y) (l ++ b ∷ [])
+once_push l b h n = all_pairs_push (λ x y. x ≢ y) l b h (λ k d q e. n (subst (λ (x : ℕ). ContainsNumber l x) e (has_at l k d q)))

@@ -10,7 +10,7 @@ use Rattle.of_mem.specs.Places.{base_of}
 use Rattle.of_mem.specs.Plots.{base}
 use Rattle.of_mem.specs.Programs.{Lacks, Ends, run_program}
 use Rattle.of_mem.specs.Calls.{HasStore}
-use Rattle.of_mem.specs.Remains.{SuspendedRun, begin, IsRunOf}
+use Rattle.of_mem.specs.Remains.{SuspendedRun, begin_run, IsSuspensionOf}
 use Rattle.of_mem.proofs.Extended.{ends_again}
 use Rattle.of_map.specs.MapPrograms.{seek_program}
 use Rattle.of_script.specs.declared.instr.TheConstants.{MOST_INSTRS}
@@ -22,7 +22,7 @@ use Rattle.of_eval.specs.Stored.{cell_store, HasState}
 use Rattle.of_eval.proofs.Walks.{script_is, ran_more, ran_lacks, word_leaves}
 
 -- nothing has run yet
-pub begun_goes : (o blocks room callers n : ℕ) (words : List ℕ) (p : Part) → 1 ≤ length words → MayResume o blocks (begin room callers n words) p
+pub begun_goes : (o blocks room callers n : ℕ) (words : List ℕ) (p : Part) → 1 ≤ length words → MayResume o blocks (begin_run room callers n words) p
 begun_goes o blocks room callers n words p some = record {
   runs = λ more e. refl;
   stands = λ more e h. h;
@@ -105,7 +105,7 @@ reaches o blocks few k p q g none op is most here key a e lacks =
     ran_so o blocks few k p g none op is most k.done refl q here ∙ ran_lacks o blocks (length op) op k.done left k.values q q a word
 
 -- how the call reads and leaves what is kept
-module _ (plot : Plot) (k : SuspendedRun) (p : Part) (words : List ℕ) (is : IsRunOf k plot.callers plot.blocks words) (instrs : plot.instrs ≡ MOST_INSTRS) where
+module _ (plot : Plot) (k : SuspendedRun) (p : Part) (words : List ℕ) (is : IsSuspensionOf k plot.callers plot.blocks words) (instrs : plot.instrs ≡ MOST_INSTRS) where
   at : base_of k.callers MOST_INSTRS ≡ base plot
   at i = base_of (is.callers i) (sym instrs i)
 

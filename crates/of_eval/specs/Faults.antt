@@ -63,9 +63,9 @@ IsPath o m cell [] = Unit {0}
 IsPath o m cell (b ∷ bs) = (m cell ≡ b + 1) × IsPath o m (link_at o b) bs
 
 -- the list has this number
-abbrev pub Has : List ℕ → ℕ → Type 0
-Has [] x = ⊥
-Has (a ∷ l) x = (x ≡ a) ⊎ Has l x
+abbrev pub ContainsNumber : List ℕ → ℕ → Type 0
+ContainsNumber [] x = ⊥
+ContainsNumber (a ∷ l) x = (x ≡ a) ⊎ ContainsNumber l x
 
 -- The blocks that were met: all of the chains before chain n, and those of chain n from its front up to here. Each is below fresh and
 -- stands in one chain, and once in it, and what stands in the blocks is sound.
@@ -91,7 +91,7 @@ pointer_cell o n chains = cell_after o (front_at o n) (chains n)
 
 -- the block was met
 abbrev pub IsMet : (ℕ → List ℕ) → ℕ → Type 0
-IsMet chains b = (c : ℕ) × Has (chains c) b
+IsMet chains b = (c : ℕ) × ContainsNumber (chains c) b
 
 -- the pointer leads to a block that was not met yet
 pub record LeadsToNewBlock (o : ℕ) (m : ℕ → ℕ) (n : ℕ) (chains : ℕ → List ℕ) (b : ℕ) : Type 0 where
@@ -101,7 +101,7 @@ pub record LeadsToNewBlock (o : ℕ) (m : ℕ → ℕ) (n : ℕ) (chains : ℕ �
 
 -- a key is none: too great, of another bucket, or met in its bucket before
 abbrev pub IsNoKey : ℕ → (ℕ → ℕ) → ℕ → List ℕ → ℕ → Type 0
-IsNoKey o m k bucket key = (IsNumber key → ⊥) ⊎ ((key % 32 ≢ k) ⊎ ((x : ℕ) × Has bucket x × (m (first_at o x) ≡ key)))
+IsNoKey o m k bucket key = (IsNumber key → ⊥) ⊎ ((key % 32 ≢ k) ⊎ ((x : ℕ) × ContainsNumber bucket x × (m (first_at o x) ≡ key)))
 
 -- the first fault, where these blocks were met
 pub data ChainFault (o : ℕ) (m : ℕ → ℕ) (n : ℕ) (chains : ℕ → List ℕ) (cell : ℕ) : Type 0 where

@@ -19,21 +19,21 @@ use Rattle.of_eval.specs.ShapeLaws.{code_some}
 use Rattle.of_eval.specs.Scripted.{reply_behind, AnswerInRange}
 use Rattle.of_script.specs.declared.instr.TheConstants.{MOST_INSTRS}
 
-doubled : (x k : ℕ) → x * 2 ^ suc k ≡ 2 * (x * 2 ^ k)
-doubled x k = let p : 2 ^ suc k ≡ 2 * 2 ^ k = grind arith in rw p (grind arith)
+power_doubles : (x k : ℕ) → x * 2 ^ suc k ≡ 2 * (x * 2 ^ k)
+power_doubles x k = let p : 2 ^ suc k ≡ 2 * 2 ^ k = grind arith in rw p (grind arith)
 
 -- a mark is the bit at its place, whatever stands above the marks
 bit_of : (vs : List (Option ℕ)) (x k j : ℕ) → j < k → (mask_of vs + x * 2 ^ k) / 2 ^ j % 2 ≡ mark_bit (get_or vs j None)
 bit_of vs x zero j l = absurd (omega arith)
-bit_of [] x (suc k) zero l = let e = doubled x k in rw e (omega arith)
-bit_of (v ∷ vs) x (suc k) zero l = let e = doubled x k in let s = mark_small v in rw e (omega (arith, s))
+bit_of [] x (suc k) zero l = let e = power_doubles x k in rw e (omega arith)
+bit_of (v ∷ vs) x (suc k) zero l = let e = power_doubles x k in let s = mark_small v in rw e (omega (arith, s))
 bit_of [] x (suc k) (suc j) l =
-    let e = doubled x k in
+    let e = power_doubles x k in
     let f : 2 ^ suc j ≡ 2 * 2 ^ j = grind arith in
     let half : (0 + x * 2 ^ suc k) / 2 ≡ 0 + x * 2 ^ k = rw e (omega arith) in
     ap (λ (d : ℕ). (0 + x * 2 ^ suc k) / d % 2) f ∙ ap (λ (q : ℕ). q % 2) (sym (div-div-eq-div-mul (0 + x * 2 ^ suc k) 2 (2 ^ j))) ∙ ap (λ (q : ℕ). q / 2 ^ j % 2) half ∙ bit_of [] x k j (omega arith)
 bit_of (v ∷ vs) x (suc k) (suc j) l =
-    let e = doubled x k in
+    let e = power_doubles x k in
     let f : 2 ^ suc j ≡ 2 * 2 ^ j = grind arith in
     let s = mark_small v in
     let half : (mask_of (v ∷ vs) + x * 2 ^ suc k) / 2 ≡ mask_of vs + x * 2 ^ k = rw e (omega (arith, s)) in

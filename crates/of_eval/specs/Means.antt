@@ -9,7 +9,7 @@ use Rattle.of_eval.specs.declared.scripts.Scripts.{Scripts}
 use Rattle.of_eval.specs.Shapes.{reply_cells}
 use Rattle.of_eval.specs.Stored.{IsStored}
 use Rattle.of_eval.specs.Words.{run_words, reply_to}
-use Rattle.of_eval.specs.Scripts.{store_at, data_cells_of, scripts_meaning}
+use Rattle.of_eval.specs.Scripts.{store_at, scripts_data_cells, scripts_meaning}
 
 -- the cells after an operation stand for the store that its words leave, and its reply is theirs
 pub record DoesOperation (w : Scripts) (xs op : List ℕ) (s : Store) : Type 0 where
@@ -18,7 +18,7 @@ pub record DoesOperation (w : Scripts) (xs op : List ℕ) (s : Store) : Type 0 w
 
 -- every operation over cells that stand for a store
 abbrev pub MeansWords : Scripts → Type 0
-MeansWords w = (xs op : List ℕ) (s : Store) → length xs ≡ data_cells_of w → length op ≤ MOST_INSTRS → IsStored (store_at w) w.blocks (memory_of xs) s → DoesOperation w xs op s
+MeansWords w = (xs op : List ℕ) (s : Store) → length xs ≡ scripts_data_cells w → length op ≤ MOST_INSTRS → IsStored (store_at w) w.blocks (memory_of xs) s → DoesOperation w xs op s
 
 -- the words of a script mean that script
 abbrev pub WordsMeanScript : Type 0

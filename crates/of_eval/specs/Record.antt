@@ -21,12 +21,12 @@ use Rattle.of_eval.specs.Shapes.{IsHeldBy, IsWhole}
 use Rattle.of_eval.specs.Lawful.{reply_in, DataCellsStandFor}
 
 -- how many data cells a plan has
-abbrev pub data_cells_of : Plan → ℕ
-data_cells_of p = data_cells p.callers p.blocks
+abbrev pub plan_data_cells : Plan → ℕ
+plan_data_cells p = data_cells p.callers p.blocks
 
 -- the durable words that a run leaves
 abbrev pub durable_of : Plan → Ended → ℕ → ℕ
-durable_of p e c = get_or e.words (durable_place p.callers (data_cells_of p) c) 0
+durable_of p e c = get_or e.words (durable_place p.callers (plan_data_cells p) c) 0
 
 -- the sequence that recovery finds
 abbrev pub recovered_seq : Plan → Ended → ℕ
@@ -34,10 +34,10 @@ recovered_seq p e = current_seq (durable_of p e)
 
 -- the word of a data cell that recovery finds, and its number
 abbrev pub recovered_data_word : Plan → Ended → ℕ → ℕ
-recovered_data_word p e a = recovered_data p.callers (data_cells_of p) (durable_of p e) a
+recovered_data_word p e a = recovered_data p.callers (plan_data_cells p) (durable_of p e) a
 
-abbrev pub recovered_number : Plan → Ended → ℕ → ℕ
-recovered_number p e a = payload_of (recovered_data_word p e a)
+abbrev pub record_number : Plan → Ended → ℕ → ℕ
+record_number p e a = payload_of (recovered_data_word p e a)
 
 -- the entry of a caller's answer
 abbrev pub answer_entry : (caller index : ℕ) → Answer → Entry
@@ -54,13 +54,13 @@ open_entry p e c x r = record { seq = seq_of (recovered_data_word p e (ticket_ce
 
 -- an open call is an entry where the caller's recovered ticket cell holds its ticket, with the reply that the other own cells hold
 abbrev pub OpenCall : Plan → Ended → (caller index : ℕ) → (recovered : Bool) → List Entry → Type 0
-OpenCall p e c x true extra = (r : Reply) × IsHeldBy (reply_in MOST_INSTRS (recovered_number p e) c) r × (extra ≡ open_entry p e c x r ∷ [])
+OpenCall p e c x true extra = (r : Reply) × IsHeldBy (reply_in MOST_INSTRS (record_number p e) c) r × (extra ≡ open_entry p e c x r ∷ [])
 OpenCall p e c x false extra = extra ≡ []
 
 -- what a caller has beyond its answers: a stopped one may have its open call
 abbrev pub BeyondAnswers : Plan → Ended → (caller index : ℕ) → Ending → List Entry → Type 0
 BeyondAnswers p e c x Done extra = extra ≡ []
-BeyondAnswers p e c x (Stopped asked) extra = OpenCall p e c x (recovered_number p e (ticket_cell_at MOST_INSTRS c) == x + 1) extra
+BeyondAnswers p e c x (Stopped asked) extra = OpenCall p e c x (record_number p e (ticket_cell_at MOST_INSTRS c) == x + 1) extra
 BeyondAnswers p e c x (Spent s) extra = extra ≡ []
 
 -- the entries of a caller in the record: its answers, and what is beyond them
@@ -85,13 +85,13 @@ pub record IsRecordOf (p : Plan) (s : Start) (e : Ended) (r : plain.Report) : Ty
   pub each_caller : length r.callers ≡ p.callers
   pub callers : (c : ℕ) → c < p.callers → caller_line r c ≡ line_for e c (length (entries_of r c))
   pub seq : r.seq ≡ recovered_seq p e
-  pub store : DataCellsStandFor p.callers MOST_INSTRS p.blocks (recovered_number p e) r.store
+  pub store : DataCellsStandFor p.callers MOST_INSTRS p.blocks (record_number p e) r.store
 
 -- what a run leaves is a record of the plan from the start, whose replies are whole, and whose report is this one and is legal
 pub record IsLawfulRecord (p : Plan) (s : Start) (e : Ended) (r : plain.Report) : Type 0 where
   pub answers : length e.answers ≡ p.callers
   pub endings : length e.endings ≡ p.callers
-  pub words : length e.words ≡ table_words p.callers MOST_INSTRS (data_cells_of p)
+  pub words : length e.words ≡ table_words p.callers MOST_INSTRS (plan_data_cells p)
   pub whole : (c : ℕ) → c < p.callers → All (λ a. IsWhole a.reply) (answers_of e c)
   pub report : IsRecordOf p s e r
   pub legal : IsLegal p s r

@@ -5,7 +5,7 @@ use Rattle.of_mem.specs.Places.{register_at}
 use Rattle.of_mem.specs.Programs.{Program, Done, Read, Write, then_do}
 use Rattle.of_map.specs.declared.answers.Put.{Put as PutAnswer}
 use Rattle.of_map.specs.declared.answers.Put.TheVariants.{Full, New, Over}
-use Rattle.of_map.specs.MapPrograms.{get_program, put_program, del_program, count_program}
+use Rattle.of_map.specs.MapPrograms.{get_program, put_program, del_program, key_count_program}
 use Rattle.of_order.specs.OrderPrograms.{least_program, drop_program}
 use Rattle.of_queue.specs.QueuePrograms.{push_program, pop_program, len_program}
 use Rattle.of_script.specs.declared.instr.Instr.{Instr}
@@ -34,19 +34,19 @@ abort_program cause = Done (Err cause)
 
 -- Registers: by whether the sum is too great, and whether too much is taken off.
 
-abbrev pub with_register : ℕ → ℕ → ℕ → Program InstrResult
-with_register o r v = Write (register_at o r) v (Done (Ok (Some v)))
+abbrev pub write_register : ℕ → ℕ → ℕ → Program InstrResult
+write_register o r v = Write (register_at o r) v (Done (Ok (Some v)))
 
 abbrev pub add_unless : ℕ → ℕ → ℕ → Bool → Program InstrResult
 add_unless o r v true = abort_program Overflow
-add_unless o r v false = with_register o r v
+add_unless o r v false = write_register o r v
 
 abbrev pub add_to : ℕ → ℕ → ℕ → ℕ → Program InstrResult
 add_to o r v n = add_unless o r (n + v) (nat_lt greatest (n + v))
 
 abbrev pub sub_unless : ℕ → ℕ → ℕ → Bool → Program InstrResult
 sub_unless o r v true = abort_program Short
-sub_unless o r v false = with_register o r v
+sub_unless o r v false = write_register o r v
 
 abbrev pub sub_from : ℕ → ℕ → ℕ → ℕ → Program InstrResult
 sub_from o r v n = sub_unless o r (n - v) (nat_lt n v)
@@ -77,7 +77,7 @@ instr_program o blocks (Need k v) = then_do (get_program o blocks k) (need_answe
 instr_program o blocks (Push q v) = then_do (push_program o blocks q v) (answers_if NoRoom)
 instr_program o blocks (Pop q) = then_do (pop_program o q) answer_program
 instr_program o blocks (Len q) = then_do (len_program o q) answers_number
-instr_program o blocks Count = then_do (count_program o) answers_number
+instr_program o blocks Count = then_do (key_count_program o) answers_number
 instr_program o blocks First = then_do (least_program o blocks 0) answer_program
 instr_program o blocks (Next k) = then_do (least_program o blocks (k + 1)) answer_program
 instr_program o blocks (DropBelow k) = then_do (drop_program o blocks k) answers_number

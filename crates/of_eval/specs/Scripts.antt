@@ -17,8 +17,8 @@ use Rattle.of_eval.specs.ScriptPrograms.{script_program}
 abbrev pub store_at : Scripts → ℕ
 store_at w = base_of w.callers MOST_INSTRS
 
-abbrev pub data_cells_of : Scripts → ℕ
-data_cells_of w = cells_at (store_at w) w.blocks
+abbrev pub scripts_data_cells : Scripts → ℕ
+scripts_data_cells w = cells_at (store_at w) w.blocks
 
 -- a memory stands for some store
 abbrev pub StandsForSome : ℕ → ℕ → (ℕ → ℕ) → Type 0

@@ -17,7 +17,7 @@ use Rattle.of_eval.specs.Stored.{cell_store, IsStored}
 use Rattle.of_eval.specs.Shapes.{reply_cells}
 use Rattle.of_eval.specs.Words.{words_outcome, reply_to}
 use Rattle.of_eval.specs.ScriptPrograms.{script_program}
-use Rattle.of_eval.specs.Scripts.{store_at, data_cells_of, StandsForSome, LawfulCells, is_success, script_reads, instr_reads, words_read, scripts_meaning}
+use Rattle.of_eval.specs.Scripts.{store_at, scripts_data_cells, StandsForSome, LawfulCells, is_success, script_reads, instr_reads, words_read, scripts_meaning}
 use Rattle.of_script.specs.Reading.{instr_at}
 use Rattle.of_eval.specs.Scripted.{DoesOutcome, LeadsToOutcome, reply_behind, words_run, words_answer}
 use Rattle.of_eval.specs.Marked.{reply_fits}
@@ -69,8 +69,8 @@ module _ (o blocks : ℕ) (few : blocks ≤ MOST_BLOCKS) where
   all_read : (op : List ℕ) → script_reads op ≡ true → words_read (first op) ≡ true
   all_read op e = taken_read MOST_INSTRS op (both (leb (length op) MOST_INSTRS) (words_read op) (both (leb 1 (length op)) (leb (length op) MOST_INSTRS && words_read op) e).1).1
 
-pub scripts_sound : (w : Scripts) → IsSoundMeaning (scripts_meaning w) (LawfulCells w) (w.callers * (MOST_INSTRS + 2)) (data_cells_of w)
-scripts_sound w = sound is_success script_reads (script_program (store_at w) w.blocks) (StandsForSome (store_at w) w.blocks) (store_at w) (data_cells_of w) (record {
+pub scripts_sound : (w : Scripts) → IsSoundMeaning (scripts_meaning w) (LawfulCells w) (w.callers * (MOST_INSTRS + 2)) (scripts_data_cells w)
+scripts_sound w = sound is_success script_reads (script_program (store_at w) w.blocks) (StandsForSome (store_at w) w.blocks) (store_at w) (scripts_data_cells w) (record {
   zeros = λ m z. (empty_store w.blocks, empty_is_stored (store_at w) w.blocks w.few_blocks m z);
   leads = λ m op l k. script_leads (store_at w) w.blocks w.few_blocks m op l k;
   lawful_from = λ m n same l. (l.0, record { state = l.1.state; stands = stands_from (store_at w) w.blocks m n same (cell_store l.0) l.1.stands });
@@ -80,5 +80,5 @@ scripts_sound w = sound is_success script_reads (script_program (store_at w) w.b
   reads_only = λ op e. words_only (store_at w) w.blocks (length (take MOST_INSTRS op)) (take MOST_INSTRS op) [] (all_read (store_at w) w.blocks w.few_blocks op e);
 })
 
-pub scripts_fit : (w : Scripts) → HasRoom w.callers (data_cells_of w)
+pub scripts_fit : (w : Scripts) → HasRoom w.callers (scripts_data_cells w)
 scripts_fit w = record { some = w.some_callers; few = w.few_callers; own = omega arith; small = omega (arith, w.few_callers, w.few_blocks) }

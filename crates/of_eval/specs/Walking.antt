@@ -11,7 +11,7 @@ use Rattle.of_store.specs.State.{Store, IsState, queue}
 use Rattle.of_eval.specs.declared.lawful_cells.LawErr.{LawErr}
 use Rattle.of_eval.specs.declared.lawful_cells.LawErr.TheVariants.{Memory, Unlawful}
 use Rattle.of_eval.specs.Lawful.{DataCellsStandFor}
-use Rattle.of_eval.specs.Faults.{IsFirstFault, HasSoundHead, HasPassed, HasRightCounts, Has, IsMet, NamesCellWith}
+use Rattle.of_eval.specs.Faults.{IsFirstFault, HasSoundHead, HasPassed, HasRightCounts, ContainsNumber, IsMet, NamesCellWith}
 
 -- an error that names a cell names the first one at fault
 abbrev pub NamesFault : Plot → List ℕ → LawErr → Type 0
@@ -33,7 +33,7 @@ unmet_count (x ∷ owners) = cond (eqb x 0) 1 0 + unmet_count owners
 -- The owners table has 1 more than its chain's number for each block that was met, and 0 for the others.
 pub record OwnersMatchChains (fresh : ℕ) (chains : ℕ → List ℕ) (owners : List ℕ) : Type 0 where
   pub sized : length owners ≡ fresh
-  pub paint : (c b : ℕ) → Has (chains c) b → get_or owners b 0 ≡ c + 1
+  pub paint : (c b : ℕ) → ContainsNumber (chains c) b → get_or owners b 0 ≡ c + 1
   pub met : (b : ℕ) → get_or owners b 0 ≢ 0 → IsMet chains b
   pub counted : blocks_in_chains chains 37 + unmet_count owners ≡ fresh
 

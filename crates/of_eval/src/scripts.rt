@@ -47,12 +47,12 @@ impl Keeps for Scripts {
 }
 
 impl Work for Scripts {
-    ghost use Rattle.of_eval.specs.Scripts.{data_cells_of, LawfulCells, scripts_meaning};
+    ghost use Rattle.of_eval.specs.Scripts.{scripts_data_cells, LawfulCells, scripts_meaning};
     ghost use Rattle.of_eval.specs.SoundScripts.{scripts_fit, scripts_sound};
 
     ghost many = { λ w. w.callers };
 
-    ghost size = { data_cells_of };
+    ghost size = { scripts_data_cells };
 
     ghost lawful = { LawfulCells };
 

@@ -4,7 +4,7 @@ ghost use Rattle.std.proofs.Common.{set};
 ghost use Rattle.std.specs.Prelude.{◌-◌, ◌≡◌, ◌≤◌, ◌<◌, [], length, IfOk, MatchResult, None};
 ghost use Rattle.of_mem.specs.Pad.{Part};
 ghost use Rattle.of_mem.specs.Programs.{NeedsAt};
-ghost use Rattle.of_mem.specs.Remains.{IsRunOf};
+ghost use Rattle.of_mem.specs.Remains.{IsSuspensionOf};
 ghost use Rattle.of_mem.specs.declared.work.TheConstants.{MOST_INSTRS};
 ghost use Rattle.of_mem.specs.Calls.{RunsProgram};
 ghost use Rattle.of_eval.specs.Calls.{script, in_cells};
@@ -62,7 +62,7 @@ pub(crate) fn run_words(
     requires room { kept.old.room ≡ length part.old.known }
     ensures runs { RunsProgram (script plot.now op.now) part.old part.new (in_cells result) }
     ensures whole { IfOk result IsWhole }
-    ensures of { IsRunOf kept.new plot.now.callers plot.now.blocks op.now }
+    ensures of { IsSuspensionOf kept.new plot.now.callers plot.now.blocks op.now }
     ensures holds { HoldsScript kept.new part.old }
     ensures room { kept.new.room ≡ kept.old.room }
 {

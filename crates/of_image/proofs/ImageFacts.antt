@@ -8,7 +8,7 @@ use Rattle.of_cell.specs.Words.{pack, seq_of}
 use Rattle.of_cell.specs.Cells.{request_cell, data_cell, durable_cells, table_words}
 use Rattle.of_cell.proofs.Order.{seq_small, pay_small}
 use Rattle.of_recover.specs.Row.{current_seq, current_owner, is_open}
-use Rattle.of_recover.specs.Log.{entry_count, entry_value, first_naming}
+use Rattle.of_recover.specs.Log.{entry_count, log_entry_value, first_naming}
 use Rattle.of_recover.specs.Recovered.{recovered_words, recovered_data, replayed_data, recovered_word, is_data}
 use Rattle.of_recover.proofs.Rows.{length-recovered, recovered_at}
 use Rattle.of_recover.proofs.Kept.{others_kept, recovered_twice}
@@ -55,8 +55,8 @@ module _ (N M : ℕ) (row : ℕ → ℕ) (small : (c : ℕ) → Small (row c)) w
   data_small : (a : ℕ) → Small (recovered_data N M row a)
   data_small a =
       either (is_open N row) (replayed_data N M row (entry_count N M row) a) (row (data_cell N a))
-      (either (nat_lt (seq_of (row (data_cell N a))) (current_seq row)) (unwrap_or (option_map (λ j. pack (current_seq row) (entry_value N M row j)) (first_naming N M row (entry_count N M row) a)) (row (data_cell N a))) (row (data_cell N a))
-      (some_small (λ j. pack (current_seq row) (entry_value N M row j)) (first_naming N M row (entry_count N M row) a) (row (data_cell N a)) (λ j. word_small (current_seq row) (entry_value N M row j) (seq_small (row 0) (small 0)) (pay_small _)) (small (data_cell N a)))
+      (either (nat_lt (seq_of (row (data_cell N a))) (current_seq row)) (unwrap_or (option_map (λ j. pack (current_seq row) (log_entry_value N M row j)) (first_naming N M row (entry_count N M row) a)) (row (data_cell N a))) (row (data_cell N a))
+      (some_small (λ j. pack (current_seq row) (log_entry_value N M row j)) (first_naming N M row (entry_count N M row) a) (row (data_cell N a)) (λ j. word_small (current_seq row) (log_entry_value N M row j) (seq_small (row 0) (small 0)) (pay_small _)) (small (data_cell N a)))
       (small (data_cell N a)))
       (small (data_cell N a))
 

@@ -11,7 +11,7 @@ use Rattle.of_image.specs.declared.line.Line.{Line}
 use Rattle.of_image.specs.declared.line.Line.TheVariants.{Title, Callers, Blocks, Cell, End}
 use Rattle.of_plan.specs.Reader.{SpellsLine, SpellsNoLine}
 use Rattle.of_image.specs.ImageText.{image_line_words}
-use Rattle.of_image.specs.ImageReading.{IsImageLineInRange, line_with_count, title_line, cell_line_of, line_named, image_language}
+use Rattle.of_image.specs.ImageReading.{IsImageLineInRange, line_with_count, image_title_line, cell_line_of, line_named, image_language}
 
 -- ---- what is read is a line's words
 
@@ -36,7 +36,7 @@ counted_takes f most ws l small e =
     let end = ended_takes (f n.0.0) l n.0.1 n.2 in
     record { number = n.0.0; small = t.1; words = t.0 ∙ ap (λ (v : List (List ℕ)). decimal n.0.0 ∷ v) end.0; line = end.1 }
 
-title_takes : (ws : List (List ℕ)) (l : Line) → title_line ws ≡ Some l → Takes (codes "onefile" ∷ ws) l
+title_takes : (ws : List (List ℕ)) (l : Line) → image_title_line ws ≡ Some l → Takes (codes "onefile" ∷ ws) l
 title_takes [] l e = absurd cc
 title_takes (kind ∷ ws) l e =
     let none : Option Line = None in

@@ -19,7 +19,7 @@ use Rattle.of_image.specs.declared.reading.Stage.TheVariants.{Start, Named, Coun
 use Rattle.of_report.specs.ImageRow.{DurableRow, IsRow, data_cell_count_for}
 use Rattle.of_image.specs.Version.{version_number, instrs_of}
 use Rattle.of_image.specs.ImageText.{cell_line, cell_lines, image_lines}
-use Rattle.of_image.specs.ImageReading.{IsImageLineInRange, Reading, row_read, nothing_read, with_cell, after_line_at, image_language, image_reader}
+use Rattle.of_image.specs.ImageReading.{IsImageLineInRange, RowReading, row_read, no_row_read, with_cell, after_line_at, image_language, image_reader}
 use Rattle.of_plan.specs.Reader.{after_lines}
 
 -- ---- the lines of cells
@@ -57,7 +57,7 @@ set_lines c (x ∷ xs) (suc i) w lt h some =
 -- ---- where a reading stands
 
 -- the lines that lead there
-abbrev pub lines_at : Version → Stage → Reading → List Line
+abbrev pub lines_at : Version → Stage → RowReading → List Line
 lines_at v Start p = []
 lines_at v Named p = Title (version_number v) ∷ []
 lines_at v Counted p = Title (version_number v) ∷ Callers p.callers ∷ []
@@ -65,11 +65,11 @@ lines_at v Body p = Title (version_number v) ∷ Callers p.callers ∷ Blocks p.
 lines_at v Ended p = image_lines v (row_read p)
 
 -- a row whose words are 0 from some cell on
-pub record IsBegun (v : Version) (p : Reading) : Type 0 where
+pub record IsBegun (v : Version) (p : RowReading) : Type 0 where
   pub row : IsRow (instrs_of v) (row_read p)
   pub zeros : (c : ℕ) → p.from ≤ c → get_or p.words c 0 ≡ 0
 
-abbrev pub Fits : Version → Stage → Reading → Type 0
+abbrev pub Fits : Version → Stage → RowReading → Type 0
 Fits v Start p = Unit {0}
 Fits v Named p = Unit {0}
 Fits v Counted p = (1 ≤ p.callers) × (p.callers ≤ 16)
@@ -77,7 +77,7 @@ Fits v Body p = IsBegun v p
 Fits v Ended p = IsRow (instrs_of v) (row_read p)
 
 -- a line has led from p to q
-record Stepped (v : Version) (stage : Stage) (p : Reading) (l : Line) (q : Reading) : Type 0 where
+record Stepped (v : Version) (stage : Stage) (p : RowReading) (l : Line) (q : RowReading) : Type 0 where
   pub fits : Fits v q.stage q
   pub lines : lines_at v q.stage q ≡ lines_at v stage p ++ l ∷ []
 
@@ -101,17 +101,17 @@ unfolding pack
 word_fits s p h k = omega arith
 
 -- where a test refuses, nothing is taken
-passed : (b : Bool) (o : Option Reading) (q : Reading) → cond b None o ≡ Some q → (b ≡ false) × (o ≡ Some q)
+passed : (b : Bool) (o : Option RowReading) (q : RowReading) → cond b None o ≡ Some q → (b ≡ false) × (o ≡ Some q)
 passed true o q e = absurd cc
 passed false o q e = (refl, e)
 
-begun : (v : Version) (p : Reading) (b : ℕ) → (1 ≤ p.callers) × (p.callers ≤ 16) → b ≤ 512 → IsBegun v (record p { stage = Body; blocks = b; words = replicate (durable_cells p.callers (data_cell_count_for (instrs_of v) p.callers b)) 0 })
+begun : (v : Version) (p : RowReading) (b : ℕ) → (1 ≤ p.callers) × (p.callers ≤ 16) → b ≤ 512 → IsBegun v (record p { stage = Body; blocks = b; words = replicate (durable_cells p.callers (data_cell_count_for (instrs_of v) p.callers b)) 0 })
 begun v p b f r = record {
   row = record { some_callers = f.0; few_callers = f.1; few_blocks = r; size = length-replicate {A = ℕ} _ 0; words = zeros_words _ };
   zeros = λ c le. zeros_are 0 _ c;
 }
 
-celled_step : (v : Version) (p q : Reading) (c s x : ℕ) → IsBegun v p → p.stage ≡ Body → (c ≤ 4294967295) × (s ≤ 4294967295) × (x ≤ 4294967295) → with_cell p c s x ≡ Some q → Stepped v Body p (Cell c s x) q
+celled_step : (v : Version) (p q : RowReading) (c s x : ℕ) → IsBegun v p → p.stage ≡ Body → (c ≤ 4294967295) × (s ≤ 4294967295) × (x ≤ 4294967295) → with_cell p c s x ≡ Some q → Stepped v Body p (Cell c s x) q
 celled_step v p q c s x f body r e =
     let one = passed (nat_lt c p.from) _ q e in
     let two = passed (nat_le (length p.words) c) _ q one.1 in
@@ -129,7 +129,7 @@ celled_step v p q c s x f body r e =
           ∙ (λ i. cell_lines 0 p.words ++ Cell (let here : 0 + c ≡ c = omega arith in here i) (seq_word s x (omega (arith, r.2)) i) (pay_word s x (omega (arith, r.2)) i) ∷ [])));
     })
 
-step : (v : Version) (stage : Stage) (p q : Reading) (l : Line) → p.stage ≡ stage → Fits v stage p → IsImageLineInRange l → after_line_at v stage p l ≡ Some q → Stepped v stage p l q
+step : (v : Version) (stage : Stage) (p q : RowReading) (l : Line) → p.stage ≡ stage → Fits v stage p → IsImageLineInRange l → after_line_at v stage p l ≡ Some q → Stepped v stage p l q
 step v Start p q (Title x) is f r e = elim (chosen (x == version_number v) (Some (record p { stage = Named })) None (Some q) e) [
   | inl h ↦ subst (Stepped v Start p (Title x)) (some_is _ q h.1) (record { fits = tt; lines = ap (λ (n : ℕ). Title n ∷ []) (sym (eqb-true x (version_number v) h.0)) })
   | inr h ↦ absurd (let k = h.1 in cc)
@@ -147,11 +147,11 @@ step v Body p q End is f r e = subst (Stepped v Body p End) (some_is _ q e) (rec
 step v stage p q l is f r e = absurd cc
 
 -- lines that have led to some place are those of that place
-pub record Said (v : Version) (p : Reading) (ls : List Line) (last : Reading) : Type 0 where
+pub record Said (v : Version) (p : RowReading) (ls : List Line) (last : RowReading) : Type 0 where
   pub fits : Fits v last.stage last
   pub lines : lines_at v last.stage last ≡ lines_at v p.stage p ++ ls
 
-pub said : (v : Version) (p last : Reading) (ls : List Line) → Fits v p.stage p → AllByRecursion IsImageLineInRange ls → after_lines image_language (image_reader v) p ls ≡ Some last → Said v p ls last
+pub said : (v : Version) (p last : RowReading) (ls : List Line) → Fits v p.stage p → AllByRecursion IsImageLineInRange ls → after_lines image_language (image_reader v) p ls ≡ Some last → Said v p ls last
 said v p last [] f r e = subst (Said v p []) (some_is p last e) (record { fits = f; lines = sym (append-nil _) })
 said v p last (l ∷ ls) f r e =
     let q = bind_some (after_line_at v p.stage p l) (λ q. after_lines image_language (image_reader v) q ls) last e in
@@ -161,10 +161,10 @@ said v p last (l ∷ ls) f r e =
 
 -- ---- a row's lines
 
-abbrev body : (callers blocks : ℕ) → List ℕ → ℕ → Reading
+abbrev body : (callers blocks : ℕ) → List ℕ → ℕ → RowReading
 body c b ws f = record { stage = Body; callers = c; blocks = b; words = ws; from = f }
 
-abbrev ended : (callers blocks : ℕ) → List ℕ → ℕ → Reading
+abbrev ended : (callers blocks : ℕ) → List ℕ → ℕ → RowReading
 ended c b ws f = record { stage = Ended; callers = c; blocks = b; words = ws; from = f }
 
 set_at : (front : List ℕ) (x w : ℕ) (back : List ℕ) (k : ℕ) → length front ≡ k → set (front ++ x ∷ back) k w ≡ front ++ w ∷ back
@@ -173,7 +173,7 @@ set_at (y ∷ front) x w back zero e = absurd (omega (arith, e))
 set_at (y ∷ front) x w back (suc k) e = ap (λ (l : List ℕ). y ∷ l) (set_at front x w back k (omega (arith, e)))
 
 -- the lines of the cells from here on, and what they lead to
-record Led (v : Version) (c b : ℕ) (p : Reading) (ls : List Line) (ws : List ℕ) : Type 0 where
+record Led (v : Version) (c b : ℕ) (p : RowReading) (ls : List Line) (ws : List ℕ) : Type 0 where
   pub from : ℕ
   pub leads : after_lines image_language (image_reader v) p ls ≡ Some (ended c b ws from)
 
@@ -199,7 +199,7 @@ cells_lead v c b front (w ∷ ws) k f e le = elim (eqb_tells w 0) [
 
 pub record LeadsTo (v : Version) (r : DurableRow) : Type 0 where
   pub from : ℕ
-  pub leads : after_lines image_language (image_reader v) nothing_read (image_lines v r) ≡ Some (ended r.callers r.blocks r.words from)
+  pub leads : after_lines image_language (image_reader v) no_row_read (image_lines v r) ≡ Some (ended r.callers r.blocks r.words from)
 
 pub row_leads : (v : Version) (r : DurableRow) → IsRow (instrs_of v) r → LeadsTo v r
 row_leads v r h =

@@ -20,7 +20,7 @@ use Rattle.of_recover.proofs.Kept.{closed_after}
 use Rattle.of_eval.specs.Shapes.{IsHeldBy}
 use Rattle.of_eval.specs.Stored.{cell_store}
 use Rattle.of_eval.specs.Lawful.{reply_number, reply_in, OwnCellsAreSound, DataCellsStandFor}
-use Rattle.of_report.specs.ImageRow.{DurableRow, IsRow, data_cell_count_for, numbers_in}
+use Rattle.of_report.specs.ImageRow.{DurableRow, IsRow, data_cell_count_for, data_numbers_in}
 use Rattle.of_report.specs.Image.{Image, IsImage, IsRestored}
 use Rattle.of_image.specs.Parsed.{ReadsImage, ImageIsRefused}
 use Rattle.of_report.specs.ImageRow.{recovered_row}
@@ -214,10 +214,10 @@ module _ (few many : ℕ) (i : Image) (h : IsImage few i) (le : few ≤ many) (l
 
   -- the numbers of the data cells, before and after
   abbrev m : ℕ → ℕ
-  m = memory_of (numbers_in few r)
+  m = memory_of (data_numbers_in few r)
 
   abbrev n : ℕ → ℕ
-  n = memory_of (numbers_in many (moved_row few many r))
+  n = memory_of (data_numbers_in many (moved_row few many r))
 
   m_at : (a : ℕ) → a < data_cell_count_for few N r.blocks → m a ≡ payload_of (get_or r.words (data_cell N a) 0)
   m_at a l = get_or-map-range_with_len (λ x. payload_of (get_or r.words (data_cell N x) 0)) 0 (data_cell_count_for few N r.blocks) a a 0 l (omega arith)

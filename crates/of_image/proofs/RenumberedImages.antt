@@ -14,7 +14,7 @@ use Rattle.of_recover.specs.Row.{is_open}
 use Rattle.of_recover.specs.Recovered.{is_data, recovered_words}
 use Rattle.of_recover.specs.Renumbered.{renumbered_words, BeginsAnew}
 use Rattle.of_eval.specs.Lawful.{DataCellsStandFor}
-use Rattle.of_report.specs.ImageRow.{DurableRow, IsRow, row_cell_count, numbers_in}
+use Rattle.of_report.specs.ImageRow.{DurableRow, IsRow, row_cell_count, data_numbers_in}
 use Rattle.of_report.specs.Image.{Image, IsImage}
 use Rattle.of_image.specs.declared.version.Version.TheVariants.{Two}
 use Rattle.of_image.specs.ImageText.{image_text}
@@ -72,7 +72,7 @@ module _ (i : Image) (h : IsImage MOST_INSTRS i) where
     number_same : (a : ℕ) → a < M → payload_of (get_or vs (data_cell r.callers a) 0) ≡ payload_of (get_or r.words (data_cell r.callers a) 0)
     number_same a l = ap payload_of (anew.numbers a l) ∙ pay_word 0 (payload_of (get_or r.words (data_cell r.callers a) 0)) (pay_small (get_or r.words (data_cell r.callers a) 0))
 
-    numbers_same : numbers_in MOST_INSTRS (renumbered_row MOST_INSTRS r) ≡ numbers_in MOST_INSTRS r
+    numbers_same : data_numbers_in MOST_INSTRS (renumbered_row MOST_INSTRS r) ≡ data_numbers_in MOST_INSTRS r
     numbers_same = same_below (λ a. payload_of (get_or vs (data_cell r.callers a) 0)) (λ a. payload_of (get_or r.words (data_cell r.callers a) 0)) M number_same
 
     none_newer : (a : ℕ) → a < M → seq_of (get_or vs (data_cell r.callers a) 0) ≤ seq_of (get_or vs 0 0)

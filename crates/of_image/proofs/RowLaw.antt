@@ -18,7 +18,7 @@ use Rattle.of_eval.proofs.FaultLaws.{first_excludes}
 use Rattle.of_eval.proofs.OneFault.{one_fault}
 use Rattle.of_eval.proofs.OneStore.{one_store}
 use Rattle.of_report.proofs.Recovery.{part_at, part_long}
-use Rattle.of_report.specs.ImageRow.{DurableRow, row_in, numbers_in}
+use Rattle.of_report.specs.ImageRow.{DurableRow, row_in, data_numbers_in}
 use Rattle.of_report.specs.ImageLaw.{NoneNewer, IsLawfulRow}
 use Rattle.of_image.specs.declared.law.Law.{Law}
 use Rattle.of_image.specs.declared.law.Law.TheVariants.{Owner, Newest, Store as RustStore}
@@ -72,16 +72,16 @@ one_row_fault instrs r x y f g = go f.law g.law f.breaks g.breaks
     go RustStore RustStore b c = b.is ∙ ap (data_cell r.callers) (one_fault _ _ _ _ b.at c.at b.first c.first) ∙ sym c.is
 
 -- the same where callers and data cells are a plot's
-pub law_numbers : (callers cells : ℕ) (p : Plot) (words numbers : List ℕ) → callers ≡ p.callers → cells ≡ data_cell_count p → IsDurableRow p.callers (data_cell_count p) words → numbers ≡ map payload_of (slice_range words (data_cell callers 0) (data_cell callers 0 + cells)) → numbers ≡ numbers_in p.instrs (row_in p words)
+pub law_numbers : (callers cells : ℕ) (p : Plot) (words numbers : List ℕ) → callers ≡ p.callers → cells ≡ data_cell_count p → IsDurableRow p.callers (data_cell_count p) words → numbers ≡ map payload_of (slice_range words (data_cell callers 0) (data_cell callers 0 + cells)) → numbers ≡ data_numbers_in p.instrs (row_in p words)
 law_numbers callers cells p words numbers one two row is =
     is ∙ numbers_are callers cells words (row ∙ (λ i. durable_cells (sym one i) (sym two i))) ∙ (λ i. map (λ a. payload_of (get_or words (data_cell (one i) a) 0)) (range_with_len 0 (two i)))
 
 -- what is read of the numbers is read of the row
-module _ (p : Plot) (words numbers : List ℕ) (is : numbers ≡ numbers_in p.instrs (row_in p words)) where
-  pub law_stands : (s : Store) → DataCellsStandFor p.callers p.instrs p.blocks (memory_of numbers) s → DataCellsStandFor p.callers p.instrs p.blocks (memory_of (numbers_in p.instrs (row_in p words))) s
+module _ (p : Plot) (words numbers : List ℕ) (is : numbers ≡ data_numbers_in p.instrs (row_in p words)) where
+  pub law_stands : (s : Store) → DataCellsStandFor p.callers p.instrs p.blocks (memory_of numbers) s → DataCellsStandFor p.callers p.instrs p.blocks (memory_of (data_numbers_in p.instrs (row_in p words))) s
   law_stands s h = subst (λ (l : List ℕ). DataCellsStandFor p.callers p.instrs p.blocks (memory_of l) s) is h
 
-  pub law_fault : (cell : ℕ) → IsFirstFault p.callers p.instrs p.blocks (memory_of numbers) cell → IsFirstFault p.callers p.instrs p.blocks (memory_of (numbers_in p.instrs (row_in p words))) cell
+  pub law_fault : (cell : ℕ) → IsFirstFault p.callers p.instrs p.blocks (memory_of numbers) cell → IsFirstFault p.callers p.instrs p.blocks (memory_of (data_numbers_in p.instrs (row_in p words))) cell
   law_fault cell h = subst (λ (l : List ℕ). IsFirstFault p.callers p.instrs p.blocks (memory_of l) cell) is h
 
 -- no cell of the row is newer

@@ -16,13 +16,13 @@ use Rattle.of_plan.specs.Plan.{Plan, IsPlan}
 use Rattle.of_plan.specs.Ended.{Ended}
 use Rattle.of_plan.specs.Report.{Report, Start}
 use Rattle.of_eval.specs.Lawful.{DataCellsStandFor}
-use Rattle.of_eval.specs.Record.{data_cells_of, durable_of, recovered_data_word, recovered_number, IsLawfulRecord}
-use Rattle.of_report.specs.ImageRow.{numbers_in}
+use Rattle.of_eval.specs.Record.{plan_data_cells, durable_of, recovered_data_word, record_number, IsLawfulRecord}
+use Rattle.of_report.specs.ImageRow.{data_numbers_in}
 use Rattle.of_report.proofs.Recovery.{row_long, row_at}
 use Rattle.of_report.proofs.Cells.{stands_for_same}
 use Rattle.of_image.specs.declared.version.Version.TheVariants.{Two}
 use Rattle.of_image.specs.ImageText.{image_text, SpellsImage}
-use Rattle.of_image.specs.RunImage.{durable_row, row_after, HasOwnerAndNoneNewer, IsImageOf}
+use Rattle.of_image.specs.RunImage.{durable_row, row_left_by_run, HasOwnerAndNoneNewer, IsImageOf}
 
 -- functions that agree below a number
 map_range_same : (f g : ℕ → ℕ) (n : ℕ) → ((k : ℕ) → k < n → f k ≡ g k) → map f (range_with_len 0 n) ≡ map g (range_with_len 0 n)
@@ -37,7 +37,7 @@ module _ (p : Plan) (s : Start) (e : Ended) (r : Report) (plan : IsPlan p) (lawf
   N = p.callers
 
   abbrev M : ℕ
-  M = data_cells_of p
+  M = plan_data_cells p
 
   abbrev ws : List ℕ
   ws = (durable_row p e).words
@@ -52,8 +52,8 @@ module _ (p : Plan) (s : Start) (e : Ended) (r : Report) (plan : IsPlan p) (lawf
   found : (a : ℕ) → a < M → get_or (recovered_words N M ws) (data_cell N a) 0 ≡ recovered_data_word p e a
   found a l = data_at N M ws size a l ∙ recovered_data-same N M (λ c. get_or ws c 0) (durable_of p e) (row_at N M e.words ws refl) a l (omega (arith, l, plan.few_callers, plan.few_blocks))
 
-  stands : DataCellsStandFor N MOST_INSTRS p.blocks (memory_of (numbers_in MOST_INSTRS (row_after p e))) r.store
-  stands = stands_for_same N p.blocks (recovered_number p e) (memory_of (numbers_in MOST_INSTRS (row_after p e)))
+  stands : DataCellsStandFor N MOST_INSTRS p.blocks (memory_of (data_numbers_in MOST_INSTRS (row_left_by_run p e))) r.store
+  stands = stands_for_same N p.blocks (record_number p e) (memory_of (data_numbers_in MOST_INSTRS (row_left_by_run p e)))
       (λ a l. sym (get_or-map-range_with_len (λ x. payload_of (get_or (recovered_words N M ws) (data_cell N x) 0)) 0 M a a 0 l (omega arith) ∙ ap payload_of (found a l)))
       r.store lawful.report.store
 
@@ -62,13 +62,13 @@ module _ (p : Plan) (s : Start) (e : Ended) (r : Report) (plan : IsPlan p) (lawf
   ticket_in_cells c l = omega (arith, l)
 
   -- each caller's ticket is the one that recovery finds
-  tickets_are : map (λ c. payload_of (get_or (recovered_words N M ws) (data_cell N (ticket_cell_at MOST_INSTRS c)) 0)) (range_with_len 0 N) ≡ map (λ c. recovered_number p e (ticket_cell_at MOST_INSTRS c)) (range_with_len 0 N)
-  tickets_are = map_range_same (λ c. payload_of (get_or (recovered_words N M ws) (data_cell N (ticket_cell_at MOST_INSTRS c)) 0)) (λ c. recovered_number p e (ticket_cell_at MOST_INSTRS c)) N (λ c l. ap payload_of (found (ticket_cell_at MOST_INSTRS c) (ticket_in_cells c l)))
+  tickets_are : map (λ c. payload_of (get_or (recovered_words N M ws) (data_cell N (ticket_cell_at MOST_INSTRS c)) 0)) (range_with_len 0 N) ≡ map (λ c. record_number p e (ticket_cell_at MOST_INSTRS c)) (range_with_len 0 N)
+  tickets_are = map_range_same (λ c. payload_of (get_or (recovered_words N M ws) (data_cell N (ticket_cell_at MOST_INSTRS c)) 0)) (λ c. record_number p e (ticket_cell_at MOST_INSTRS c)) N (λ c l. ap payload_of (found (ticket_cell_at MOST_INSTRS c) (ticket_in_cells c l)))
 
   pub has_image : HasOwnerAndNoneNewer p e → (text : List ℕ) → text ≡ image_text Two (durable_row p e) → SpellsImage Two text (durable_row p e) → IsImageOf p e r text
   has_image may text is spelled = record {
     text_is = is;
-    image = record { row = row_after p e; seq = r.seq; replayed = is_open N (λ c. get_or ws c 0); store = r.store };
+    image = record { row = row_left_by_run p e; seq = r.seq; replayed = is_open N (λ c. get_or ws c 0); store = r.store };
     reads = record {
       raw = durable_row p e;
       spelled = spelled;

@@ -14,7 +14,7 @@ use Rattle.of_image.specs.Version.{instrs_of}
 use Rattle.of_image.specs.ImageText.{SpellsImage, IsImageText}
 use Rattle.of_image.specs.RowFault.{Breaks}
 use Rattle.of_image.specs.Parsed.{ReadsImage}
-use Rattle.of_image.specs.Reasons.{IsTrueOf}
+use Rattle.of_image.specs.Reasons.{IsTrueOfImage}
 
 -- the text has an image
 abbrev pub HasImage : Version → List ℕ → Type 0
@@ -25,7 +25,7 @@ pub record IsLineFault (v : Version) (text : List ℕ) (p : BadPiece) : Type 0 w
   pub bad : HasBadLine (IsImageText v) text p.line
   pub order : p.start ≤ p.end
   pub within : p.end ≤ length (line_at (text_lines text) (p.line - 1))
-  pub is : let line = line_at (text_lines text) (p.line - 1) in IsTrueOf v p.reason (text_lines text) (p.line - 1) line (slice_range line p.start p.end)
+  pub is : let line = line_at (text_lines text) (p.line - 1) in IsTrueOfImage v p.reason (text_lines text) (p.line - 1) line (slice_range line p.start p.end)
 
 -- the text is in the grammar, and this is the first cell at fault of what recovery finds in its row, and the law that it breaks
 pub record IsCellFault (v : Version) (text : List ℕ) (cell : ℕ) (law : Law) : Type 0 where
@@ -34,6 +34,6 @@ pub record IsCellFault (v : Version) (text : List ℕ) (cell : ℕ) (law : Law) 
   pub breaks : Breaks law (instrs_of v) (recovered_row (instrs_of v) raw) cell
 
 -- what is wrong with a text
-abbrev pub IsFaultOf : Version → List ℕ → ImageFault → Type 0
-IsFaultOf v text (Line p) = IsLineFault v text p
-IsFaultOf v text (Cell cell law) = IsCellFault v text cell law
+abbrev pub IsImageFaultOf : Version → List ℕ → ImageFault → Type 0
+IsImageFaultOf v text (Line p) = IsLineFault v text p
+IsImageFaultOf v text (Cell cell law) = IsCellFault v text cell law

@@ -7,7 +7,7 @@ use Rattle.of_plan.specs.Reasons.{SaidAbove}
 use Rattle.of_image.specs.declared.explaining.Heading.{Heading}
 
 -- lines above say these numbers of callers and blocks, and both are in their ranges
-pub record IsHeading (ls : List (List ℕ)) (above : ℕ) (h : Heading) : Type 0 where
+pub record IsHeadingAbove (ls : List (List ℕ)) (above : ℕ) (h : Heading) : Type 0 where
   pub callers : SaidAbove ls above Callers h.callers
   pub blocks : SaidAbove ls above Blocks h.blocks
   pub few_callers : h.callers ≤ MOST_CALLERS

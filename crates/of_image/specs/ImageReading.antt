@@ -33,9 +33,9 @@ line_with_count f most ws = do
   n ← next_number most ws
   at_end_of_words (f n.0) n.1
 
-abbrev pub title_line : List (List ℕ) → Option Line
-title_line [] = None
-title_line (kind ∷ ws) = if bytes_eq kind (codes "image") then line_with_count Title 4294967295 ws else None
+abbrev pub image_title_line : List (List ℕ) → Option Line
+image_title_line [] = None
+image_title_line (kind ∷ ws) = if bytes_eq kind (codes "image") then line_with_count Title 4294967295 ws else None
 
 abbrev pub cell_line_of : List (List ℕ) → Option Line
 cell_line_of ws = do
@@ -47,37 +47,37 @@ cell_line_of ws = do
 -- the line whose first word is the name
 unfoldable pub line_named : (name : List ℕ) → List (List ℕ) → Option Line
 line_named name ws =
-    if bytes_eq name (codes "onefile") then title_line ws else if bytes_eq name (codes "callers") then line_with_count Callers MOST_CALLERS ws
+    if bytes_eq name (codes "onefile") then image_title_line ws else if bytes_eq name (codes "callers") then line_with_count Callers MOST_CALLERS ws
     else if bytes_eq name (codes "blocks") then line_with_count Blocks MOST_BLOCKS ws else if bytes_eq name (codes "cell") then cell_line_of ws
     else if bytes_eq name (codes "end") then at_end_of_words End ws else None
 
 -- ---- what a line leads to
 
 -- the row so far, and the first cell that may come next
-pub record Reading : Type 0 where
+pub record RowReading : Type 0 where
   pub stage : Stage
   pub callers : ℕ
   pub blocks : ℕ
   pub words : List ℕ
   pub from : ℕ
 
-abbrev pub reading_value : RustReading → Reading
-reading_value r = record { stage = r.stage; callers = r.callers; blocks = r.blocks; words = r.words.items; from = r.from }
+abbrev pub row_reading_value : RustReading → RowReading
+row_reading_value r = record { stage = r.stage; callers = r.callers; blocks = r.blocks; words = r.words.items; from = r.from }
 
-abbrev pub nothing_read : Reading
-nothing_read = record { stage = Start; callers = 0; blocks = 0; words = []; from = 0 }
+abbrev pub no_row_read : RowReading
+no_row_read = record { stage = Start; callers = 0; blocks = 0; words = []; from = 0 }
 
 -- the row that has been read
-abbrev pub row_read : Reading → DurableRow
+abbrev pub row_read : RowReading → DurableRow
 row_read p = record { callers = p.callers; blocks = p.blocks; words = p.words }
 
 -- a cell's line: no cell before it, a cell that there is, and a word that isn't 0
-abbrev pub with_cell : Reading → (cell seq payload : ℕ) → Option Reading
+abbrev pub with_cell : RowReading → (cell seq payload : ℕ) → Option RowReading
 with_cell p c s x =
     if nat_lt c p.from then None else if nat_le (length p.words) c then None else if pack s x == 0 then None
     else Some (record p { words = slice_set p.words c (pack s x); from = c + 1 })
 
-abbrev pub after_line_at : Version → Stage → Reading → Line → Option Reading
+abbrev pub after_line_at : Version → Stage → RowReading → Line → Option RowReading
 after_line_at v Start p (Title x) = if x == version_number v then Some (record p { stage = Named }) else None
 after_line_at v Named p (Callers n) = if n == 0 then None else Some (record p { stage = Counted; callers = n })
 after_line_at v Counted p (Blocks b) = Some (record p { stage = Body; blocks = b; words = replicate (durable_cells p.callers (data_cell_count_for (instrs_of v) p.callers b)) 0 })
@@ -90,4 +90,4 @@ abbrev pub image_language : Language
 image_language = record { Line = Line; words_of = image_line_words; InRange = IsImageLineInRange }
 
 abbrev pub image_reader : Version → Reader image_language
-image_reader v = record { Progress = Reading; next = λ p l. after_line_at v p.stage p l }
+image_reader v = record { Progress = RowReading; next = λ p l. after_line_at v p.stage p l }

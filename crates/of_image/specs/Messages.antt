@@ -8,7 +8,7 @@ use Rattle.of_plan.specs.Pointed as pointed
 use Rattle.of_image.specs.declared.refusal.BadPiece.{BadPiece}
 use Rattle.of_image.specs.declared.refusal.ImageFault.{ImageFault}
 use Rattle.of_image.specs.declared.refusal.ImageFault.TheVariants.{Line, Cell}
-use Rattle.of_image.specs.ReasonText.{reason_text}
+use Rattle.of_image.specs.ReasonText.{image_reason_text}
 use Rattle.of_image.specs.declared.law.Law.{Law}
 use Rattle.of_image.specs.declared.law.Law.TheVariants.{Owner, Newest, Store}
 
@@ -29,7 +29,7 @@ cell_message cell law = codes "cell " ++ (decimal cell ++ (codes ": " ++ (law_te
 
 -- what is printed of a bad line
 abbrev pub piece_message : (text : List ℕ) → BadPiece → List ℕ
-piece_message text p = pointed.message p.line (line_at (text_lines text) (p.line - 1)) p.start p.end (reason_text p.reason)
+piece_message text p = pointed.message p.line (line_at (text_lines text) (p.line - 1)) p.start p.end (image_reason_text p.reason)
 
 -- what is printed of a fault
 abbrev pub fault_message : (text : List ℕ) → ImageFault → List ℕ

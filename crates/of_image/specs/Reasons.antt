@@ -4,7 +4,7 @@ use Rattle.of_cell.specs.Cells.{durable_cells}
 use Rattle.of_script.specs.Text.{text_words}
 use Rattle.of_plan.specs.declared.above.Wanted.TheVariants.{Kept, Callers, Blocks, End, Cell}
 use Rattle.of_plan.specs.Above.{Says, NoneSays}
-use Rattle.of_plan.specs.Flaws.{IsNumber, HasFlaw}
+use Rattle.of_plan.specs.Flaws.{PieceIsNumber, HasFlaw}
 use Rattle.of_plan.specs.Reasons.{SaidAbove, HasNoEnd}
 use Rattle.of_report.specs.ImageRow.{data_cell_count_for}
 use Rattle.of_image.specs.declared.explaining.Finding.{Finding}
@@ -24,7 +24,7 @@ pub record IsNoTitle (v : Version) (ls : List (List ℕ)) (above : ℕ) (line : 
 -- no line above is kept, and the number in this one is of another version than is read
 pub record IsOtherVersion (v : Version) (ls : List (List ℕ)) (above : ℕ) (piece : List ℕ) (found read : ℕ) : Type 0 where
   pub first : NoneSays ls above Kept
-  pub is : IsNumber piece found
+  pub is : PieceIsNumber piece found
   pub read_is : read ≡ version_number v
   pub other : found ≡ read → ⊥
 
@@ -39,8 +39,8 @@ pub record IsNoName (piece : List ℕ) : Type 0 where
   pub «end» : piece ≡ codes "end" → ⊥
 
 -- the cell that the piece names is none of the image's
-pub record IsNoCell (v : Version) (ls : List (List ℕ)) (above : ℕ) (piece : List ℕ) (cell cells : ℕ) : Type 0 where
-  pub named : IsNumber piece cell
+pub record IsNoImageCell (v : Version) (ls : List (List ℕ)) (above : ℕ) (piece : List ℕ) (cell cells : ℕ) : Type 0 where
+  pub named : PieceIsNumber piece cell
   pub callers : ℕ
   pub blocks : ℕ
   pub said_callers : SaidAbove ls above Callers callers
@@ -51,7 +51,7 @@ pub record IsNoCell (v : Version) (ls : List (List ℕ)) (above : ℕ) (piece : 
 -- the line of this number, which stands above, has the cell that the piece names or a later one
 pub record IsOutOfOrder (ls : List (List ℕ)) (above : ℕ) (piece : List ℕ) (number : ℕ) : Type 0 where
   pub cell : ℕ
-  pub named : IsNumber piece cell
+  pub named : PieceIsNumber piece cell
   pub at : ℕ
   pub other : ℕ
   pub says : Says ls above (Cell cell) at other
@@ -62,23 +62,23 @@ abbrev pub IsEmptyCell : List ℕ → Type 0
 IsEmptyCell line = (cell : ℕ) × (text_words line ≡ image_line_words (CellLine cell 0 0))
 
 -- what a reason says of a line of a text, of the lines above it, and of the piece at fault
-abbrev pub IsTrueOf : Version → Reason → (ls : List (List ℕ)) (above : ℕ) (line piece : List ℕ) → Type 0
-IsTrueOf v (Flawed flaw) ls above line piece = HasFlaw flaw above piece
-IsTrueOf v (TitleExpected version) ls above line piece = IsNoTitle v ls above line version
-IsTrueOf v (OtherVersion found read) ls above line piece = IsOtherVersion v ls above piece found read
-IsTrueOf v CallersExpected ls above line piece = NoneSays ls above Callers × (piece ≡ codes "callers" → ⊥)
-IsTrueOf v BlocksExpected ls above line piece = NoneSays ls above Blocks × (piece ≡ codes "blocks" → ⊥)
-IsTrueOf v AfterEnd ls above line piece = (number : ℕ) × SaidAbove ls above End number
-IsTrueOf v UnknownLine ls above line piece = IsNoName piece
-IsTrueOf v (NoCell cell cells) ls above line piece = IsNoCell v ls above piece cell cells
-IsTrueOf v (OutOfOrder number) ls above line piece = IsOutOfOrder ls above piece number
-IsTrueOf v EmptyCell ls above line piece = IsEmptyCell line
-IsTrueOf v HeadingOver ls above line piece = IsHeadingName piece × ((number : ℕ) × SaidAbove ls above Blocks number)
-IsTrueOf v EndMissing ls above line piece = HasNoEnd ls above
-IsTrueOf v NotHere ls above line piece = Unit {0}
+abbrev pub IsTrueOfImage : Version → Reason → (ls : List (List ℕ)) (above : ℕ) (line piece : List ℕ) → Type 0
+IsTrueOfImage v (Flawed flaw) ls above line piece = HasFlaw flaw above piece
+IsTrueOfImage v (TitleExpected version) ls above line piece = IsNoTitle v ls above line version
+IsTrueOfImage v (OtherVersion found read) ls above line piece = IsOtherVersion v ls above piece found read
+IsTrueOfImage v CallersExpected ls above line piece = NoneSays ls above Callers × (piece ≡ codes "callers" → ⊥)
+IsTrueOfImage v BlocksExpected ls above line piece = NoneSays ls above Blocks × (piece ≡ codes "blocks" → ⊥)
+IsTrueOfImage v AfterEnd ls above line piece = (number : ℕ) × SaidAbove ls above End number
+IsTrueOfImage v UnknownLine ls above line piece = IsNoName piece
+IsTrueOfImage v (NoCell cell cells) ls above line piece = IsNoImageCell v ls above piece cell cells
+IsTrueOfImage v (OutOfOrder number) ls above line piece = IsOutOfOrder ls above piece number
+IsTrueOfImage v EmptyCell ls above line piece = IsEmptyCell line
+IsTrueOfImage v HeadingOver ls above line piece = IsHeadingName piece × ((number : ℕ) × SaidAbove ls above Blocks number)
+IsTrueOfImage v EndMissing ls above line piece = HasNoEnd ls above
+IsTrueOfImage v NotHere ls above line piece = Unit {0}
 
 -- a piece of a line, and a reason that is true of it
-pub record IsFinding (v : Version) (ls : List (List ℕ)) (above : ℕ) (line : List ℕ) (f : Finding) : Type 0 where
+pub record IsImageFinding (v : Version) (ls : List (List ℕ)) (above : ℕ) (line : List ℕ) (f : Finding) : Type 0 where
   pub order : f.start ≤ f.end
   pub within : f.end ≤ length line
-  pub is : IsTrueOf v f.reason ls above line (slice_range line f.start f.end)
+  pub is : IsTrueOfImage v f.reason ls above line (slice_range line f.start f.end)

@@ -2,7 +2,7 @@
 use Rattle.std.specs.Prelude.{◌≡◌, ℕ, List, false}
 use Rattle.of_script.specs.declared.instr.TheConstants.{MOST_INSTRS}
 use Rattle.of_recover.specs.Renumbered.{renumbered_words}
-use Rattle.of_report.specs.ImageRow.{DurableRow, row_cell_count, numbers_in}
+use Rattle.of_report.specs.ImageRow.{DurableRow, row_cell_count, data_numbers_in}
 use Rattle.of_report.specs.Image.{Image}
 use Rattle.of_image.specs.declared.version.Version.TheVariants.{Two}
 use Rattle.of_image.specs.ImageText.{image_text}
@@ -20,4 +20,4 @@ renumbered_image i = record { row = renumbered_row MOST_INSTRS i.row; seq = 0; r
 pub record Renumbers (i : Image) (text : List ℕ) : Type 0 where
   pub text_is : text ≡ image_text Two (renumbered_image i).row
   pub again : ReadsImage Two text (renumbered_image i)
-  pub numbers : numbers_in MOST_INSTRS (renumbered_image i).row ≡ numbers_in MOST_INSTRS i.row
+  pub numbers : data_numbers_in MOST_INSTRS (renumbered_image i).row ≡ data_numbers_in MOST_INSTRS i.row

@@ -5,7 +5,7 @@ use Rattle.of_cell.specs.Cells.{data_cell}
 use Rattle.of_mem.specs.ProgramWork.{memory_of}
 use Rattle.of_recover.specs.Row.{current_seq, current_owner}
 use Rattle.of_eval.specs.Faults.{IsFirstFault}
-use Rattle.of_report.specs.ImageRow.{DurableRow, row_cell_count, numbers_in}
+use Rattle.of_report.specs.ImageRow.{DurableRow, row_cell_count, data_numbers_in}
 use Rattle.of_report.specs.ImageLaw.{IsOwned, NoneNewer}
 use Rattle.of_image.specs.declared.law.Law.{Law}
 use Rattle.of_image.specs.declared.law.Law.TheVariants.{Owner, Newest, Store}
@@ -21,7 +21,7 @@ pub record IsUnowned (r : DurableRow) (cell : ℕ) : Type 0 where
   pub is : cell ≡ 0
 
 -- the first data cell that is newer than the current transaction
-pub record IsNewer (instrs : ℕ) (r : DurableRow) (cell : ℕ) : Type 0 where
+pub record HasNewerCell (instrs : ℕ) (r : DurableRow) (cell : ℕ) : Type 0 where
   pub owned : IsOwned r
   pub at : ℕ
   pub within : at < row_cell_count instrs r
@@ -33,13 +33,13 @@ pub record HasNoStore (instrs : ℕ) (r : DurableRow) (cell : ℕ) : Type 0 wher
   pub owned : IsOwned r
   pub none_newer : NoneNewer r.callers r.words (row_cell_count instrs r)
   pub at : ℕ
-  pub first : IsFirstFault r.callers instrs r.blocks (memory_of (numbers_in instrs r)) at
+  pub first : IsFirstFault r.callers instrs r.blocks (memory_of (data_numbers_in instrs r)) at
   pub is : cell ≡ data_cell r.callers at
 
 -- the first cell at fault and the law that it breaks. The laws before it are kept
 abbrev pub Breaks : Law → (instrs : ℕ) → DurableRow → (cell : ℕ) → Type 0
 Breaks Owner instrs r cell = IsUnowned r cell
-Breaks Newest instrs r cell = IsNewer instrs r cell
+Breaks Newest instrs r cell = HasNewerCell instrs r cell
 Breaks Store instrs r cell = HasNoStore instrs r cell
 
 -- the first cell at fault

@@ -6,7 +6,7 @@ use Rattle.of_mem.specs.Places.{ticket_cell_at}
 use Rattle.of_plan.specs.Plan.{Plan, IsPlan}
 use Rattle.of_plan.specs.Ended.{Ended}
 use Rattle.of_plan.specs.Report.{Report, Start}
-use Rattle.of_eval.specs.Record.{data_cells_of, recovered_number, IsLawfulRecord}
+use Rattle.of_eval.specs.Record.{plan_data_cells, record_number, IsLawfulRecord}
 use Rattle.of_report.specs.ImageRow.{DurableRow, recovered_row}
 use Rattle.of_report.specs.ImageLaw.{IsOwned, NoneNewer}
 use Rattle.of_report.specs.Image.{Image, start_of_image}
@@ -16,24 +16,24 @@ use Rattle.of_image.specs.ImageText.{image_text, SpellsImage}
 use Rattle.of_image.specs.Parsed.{ReadsImage}
 
 -- the durable words that a run leaves, recovered
-abbrev pub row_after : Plan → Ended → DurableRow
-row_after p e = recovered_row MOST_INSTRS (durable_row p e)
+abbrev pub row_left_by_run : Plan → Ended → DurableRow
+row_left_by_run p e = recovered_row MOST_INSTRS (durable_row p e)
 
 -- in it a caller owns the current transaction, and no data cell is newer
 pub record HasOwnerAndNoneNewer (p : Plan) (e : Ended) : Type 0 where
-  pub owned : IsOwned (row_after p e)
-  pub none_newer : NoneNewer p.callers (row_after p e).words (data_cells_of p)
+  pub owned : IsOwned (row_left_by_run p e)
+  pub none_newer : NoneNewer p.callers (row_left_by_run p e).words (plan_data_cells p)
 
 -- where a run is left: the store and the sequence of its report, and each caller's ticket that recovery finds
 abbrev pub start_left : Plan → Ended → Report → Start
-start_left p e r = record { store = r.store; seq = r.seq; finished = map (λ c. recovered_number p e (ticket_cell_at MOST_INSTRS c)) (range_with_len 0 p.callers) }
+start_left p e r = record { store = r.store; seq = r.seq; finished = map (λ c. record_number p e (ticket_cell_at MOST_INSTRS c)) (range_with_len 0 p.callers) }
 
 -- the text is that of the durable words that a run leaves, and its image has what the run's report says: the sequence and the store. It starts where the run is left
 pub record IsImageOf (p : Plan) (e : Ended) (r : Report) (text : List ℕ) : Type 0 where
   pub text_is : text ≡ image_text Two (durable_row p e)
   pub image : Image
   pub reads : ReadsImage Two text image
-  pub row : image.row ≡ row_after p e
+  pub row : image.row ≡ row_left_by_run p e
   pub seq : image.seq ≡ r.seq
   pub store : image.store ≡ r.store
   pub start : start_of_image image ≡ start_left p e r

@@ -8,8 +8,8 @@ ghost use Rattle.of_plan.specs.Above.{NoneSays, line_at as the_line};
 ghost use Rattle.of_plan.specs.Flaws.{IsFlawed};
 ghost use Rattle.of_plan.specs.declared.above.Wanted.TheVariants.{Kept};
 ghost use Rattle.of_image.specs.declared.version.Version.{Version as TheVersion};
-ghost use Rattle.of_image.specs.Reasons.{IsFinding, IsHeadingName};
-ghost use Rattle.of_image.specs.Heading.{IsHeading};
+ghost use Rattle.of_image.specs.Reasons.{IsImageFinding, IsHeadingName};
+ghost use Rattle.of_image.specs.Heading.{IsHeadingAbove};
 
 use crate::line::{Line, read_line};
 use crate::parsing::cells;
@@ -42,7 +42,7 @@ pub(crate) struct Finding {
 // The finding that a piece is wrong by itself.
 fn flawed(piece: FlawedPiece) -> Finding
     ensures { (v : TheVersion) (ls : List (List ℕ)) (above : ℕ) (line : List ℕ) →
-        IsFlawed above line piece → IsFinding v ls above line result }
+        IsFlawed above line piece → IsImageFinding v ls above line result }
 {
     Finding {
         start: piece.start,
@@ -78,7 +78,7 @@ fn other_version(
 ) -> Option<Finding>
     requires from { from ≤ length line.now }
     requires first { NoneSays (text_lines text.now) above Kept }
-    ensures { IfSome result (IsFinding version (text_lines text.now) above line.now) }
+    ensures { IfSome result (IsImageFinding version (text_lines text.now) above line.now) }
 {
     let (start, end) = word_from(line, from);
     let found = number(&line[start..end], u32::MAX)?;
@@ -96,7 +96,7 @@ fn other_version(
 // Why the first line is no title.
 fn in_title(text: &[u8], above: u64, line: &[u8], version: Version) -> Option<Finding>
     requires { NoneSays (text_lines text.now) above Kept }
-    ensures { IfSome result (IsFinding version (text_lines text.now) above line.now) }
+    ensures { IfSome result (IsImageFinding version (text_lines text.now) above line.now) }
 {
     let (start, end) = word_from(line, 0);
     let (next, last) = word_from(line, end);
@@ -121,8 +121,8 @@ fn in_title(text: &[u8], above: u64, line: &[u8], version: Version) -> Option<Fi
 // A cell that the image hasn't.
 fn no_cell(text: &[u8], above: u64, line: &[u8], from: usize, heading: Heading) -> Option<Finding>
     requires from { from ≤ length line.now }
-    requires heading { IsHeading (text_lines text.now) above heading }
-    ensures { IfSome result (IsFinding heading.version (text_lines text.now) above line.now) }
+    requires heading { IsHeadingAbove (text_lines text.now) above heading }
+    ensures { IfSome result (IsImageFinding heading.version (text_lines text.now) above line.now) }
 {
     let (start, end) = word_from(line, from);
     let cell = number(&line[start..end], u32::MAX)?;
@@ -141,7 +141,7 @@ fn no_cell(text: &[u8], above: u64, line: &[u8], from: usize, heading: Heading) 
 fn out_of_order(text: &[u8], above: u64, line: &[u8], from: usize) -> Option<Finding>
     requires { from ≤ length line.now }
     ensures { IfSome result (λ f. (v : TheVersion) →
-        IsFinding v (text_lines text.now) above line.now f) }
+        IsImageFinding v (text_lines text.now) above line.now f) }
 {
     let (start, end) = word_from(line, from);
     let least = number(&line[start..end], u32::MAX)?;
@@ -157,7 +157,7 @@ fn out_of_order(text: &[u8], above: u64, line: &[u8], from: usize) -> Option<Fin
 fn empty_cell(line: &[u8], from: usize) -> Option<Finding>
     requires { from ≤ length line.now }
     ensures { IfSome result (λ f. (v : TheVersion) (ls : List (List ℕ)) (above : ℕ) →
-        IsFinding v ls above line.now f) }
+        IsImageFinding v ls above line.now f) }
 {
     match read_line(line) {
         Some(Some(Line::Cell { seq, payload, .. })) => {
@@ -180,8 +180,8 @@ fn empty_cell(line: &[u8], from: usize) -> Option<Finding>
 // Why the line of a cell is none.
 fn in_cell(text: &[u8], above: u64, line: &[u8], from: usize, heading: Heading) -> Option<Finding>
     requires from { from ≤ length line.now }
-    requires heading { IsHeading (text_lines text.now) above heading }
-    ensures { IfSome result (IsFinding heading.version (text_lines text.now) above line.now) }
+    requires heading { IsHeadingAbove (text_lines text.now) above heading }
+    ensures { IfSome result (IsImageFinding heading.version (text_lines text.now) above line.now) }
 {
     let after = match past_numbers(line, from, u32::MAX, u32::MAX) {
         Ok(after) => after,
@@ -214,8 +214,8 @@ fn is_heading_name(name: &[u8]) -> bool
 
 // Why a line below the heading is none.
 fn below_heading(text: &[u8], above: u64, line: &[u8], heading: Heading) -> Option<Finding>
-    requires { IsHeading (text_lines text.now) above heading }
-    ensures { IfSome result (IsFinding heading.version (text_lines text.now) above line.now) }
+    requires { IsHeadingAbove (text_lines text.now) above heading }
+    ensures { IfSome result (IsImageFinding heading.version (text_lines text.now) above line.now) }
 {
     let (start, end) = word_from(line, 0);
     let name = &line[start..end];
@@ -241,7 +241,7 @@ fn below_heading(text: &[u8], above: u64, line: &[u8], heading: Heading) -> Opti
 
 // Why a line of the heading is none, or one below it.
 fn in_heading(text: &[u8], above: u64, line: &[u8], version: Version) -> Option<Finding>
-    ensures { IfSome result (IsFinding version (text_lines text.now) above line.now) }
+    ensures { IfSome result (IsImageFinding version (text_lines text.now) above line.now) }
 {
     if find(text, above, Wanted::Kept).is_none() {
         return in_title(text, above, line, version);
@@ -281,7 +281,7 @@ fn in_heading(text: &[u8], above: u64, line: &[u8], version: Version) -> Option<
 
 // Why a line is none that an image can have there.
 fn in_line(text: &[u8], above: u64, line: &[u8], version: Version) -> Option<Finding>
-    ensures { IfSome result (IsFinding version (text_lines text.now) above line.now) }
+    ensures { IfSome result (IsImageFinding version (text_lines text.now) above line.now) }
 {
     if let Some(piece) = hidden(line, above) {
         return Some(flawed(piece));
@@ -305,7 +305,7 @@ fn in_line(text: &[u8], above: u64, line: &[u8], version: Version) -> Option<Fin
 pub(crate) fn explain(version: Version, text: &[u8], number: u64) -> Finding
     requires { 1 ≤ number }
     ensures { let above = number - 1 in
-        IsFinding version (text_lines text.now) above (the_line (text_lines text.now) above) result }
+        IsImageFinding version (text_lines text.now) above (the_line (text_lines text.now) above) result }
 {
     let above = number - 1;
     let (line, last) = line_at(text, above);

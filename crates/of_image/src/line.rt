@@ -5,7 +5,7 @@ ghost use Rattle.of_script.specs.Text.{text_words};
 ghost use Rattle.of_script.specs.Reading.{at_end_of_words};
 ghost use Rattle.of_plan.specs.Lines.{is_skipped};
 ghost use Rattle.of_plan.specs.Reader.{SpellsLine, SpellsNoLine};
-ghost use Rattle.of_image.specs.ImageReading.{title_line, cell_line_of, line_named, line_with_count, image_language};
+ghost use Rattle.of_image.specs.ImageReading.{image_title_line, cell_line_of, line_named, line_with_count, image_language};
 ghost use Rattle.of_image.specs.declared.line.Line.TheVariants.{Callers, Blocks};
 
 use of_cell::MOST_CALLERS;
@@ -32,7 +32,7 @@ fn end_of(line: Line, bytes: &[u8]) -> Option<Line>
 }
 
 fn title(bytes: &[u8]) -> Option<Line>
-    ensures { result ≡ title_line (text_words bytes.now) }
+    ensures { result ≡ image_title_line (text_words bytes.now) }
 {
     let (kind, rest) = word(bytes)?;
     if kind != b"image".as_slice() {

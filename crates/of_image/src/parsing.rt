@@ -8,7 +8,7 @@ ghost use Rattle.of_report.specs.ImageRow.{data_cell_count_for};
 ghost use Rattle.of_image.specs.Version.{instrs_of};
 ghost use Rattle.of_image.specs.ImageText.{SpellsImage};
 ghost use Rattle.of_plan.specs.Reader.{ReadsLine, RefusesLine};
-ghost use Rattle.of_image.specs.ImageReading.{IsImageLineInRange, reading_value, nothing_read, with_cell, image_language, image_reader, row_read, after_line_at};
+ghost use Rattle.of_image.specs.ImageReading.{IsImageLineInRange, row_reading_value, no_row_read, with_cell, image_language, image_reader, row_read, after_line_at};
 ghost use Rattle.of_image.specs.Parsed.{IsNoImage};
 
 use crate::error::ImageErr;
@@ -22,7 +22,7 @@ use std::alloc::{AllocError, Global};
 
 // A reading of nothing yet.
 fn begun(alloc: Global) -> Reading
-    ensures { reading_value result ≡ nothing_read }
+    ensures { row_reading_value result ≡ no_row_read }
 {
     Reading {
         stage: Stage::Start,
@@ -46,7 +46,7 @@ pub(crate) fn cells(version: Version, callers: u32, blocks: u32) -> u32
 impl Reading {
     // Takes the word of a cell, where it may come next.
     fn take_cell(&mut self, cell: u32, seq: u32, payload: u32) -> bool
-        ensures { MatchBool result (with_cell (reading_value self.old) cell seq payload ≡ Some (reading_value self.new)) (with_cell (reading_value self.old) cell seq payload ≡ None) }
+        ensures { MatchBool result (with_cell (row_reading_value self.old) cell seq payload ≡ Some (row_reading_value self.new)) (with_cell (row_reading_value self.old) cell seq payload ≡ None) }
     {
         let place = cell as usize;
         let word = pack(seq, payload);
@@ -67,7 +67,7 @@ impl Reading {
     // Takes a line, where it may come next.
     fn take(&mut self, alloc: Global, version: Version, line: Line) -> Result<bool, AllocError>
         requires range { IsImageLineInRange line }
-        ensures { IfOk result (λ b. let p = reading_value self.old in MatchBool b (after_line_at version p.stage p line ≡ Some (reading_value self.new)) (after_line_at version p.stage p line ≡ None)) }
+        ensures { IfOk result (λ b. let p = row_reading_value self.old in MatchBool b (after_line_at version p.stage p line ≡ Some (row_reading_value self.new)) (after_line_at version p.stage p line ≡ None)) }
     {
         match self.stage {
             Stage::Start => match line {
@@ -116,7 +116,7 @@ impl Reading {
 
     // Reads a line, and takes it where it may come next.
     fn feed(&mut self, alloc: Global, version: Version, bytes: &[u8]) -> Result<bool, AllocError>
-        ensures { IfOk result (λ b. MatchBool b (ReadsLine image_language (image_reader version) (text_words bytes.now) (reading_value self.old) (reading_value self.new)) (RefusesLine image_language (image_reader version) (text_words bytes.now) (reading_value self.old))) }
+        ensures { IfOk result (λ b. MatchBool b (ReadsLine image_language (image_reader version) (text_words bytes.now) (row_reading_value self.old) (row_reading_value self.new)) (RefusesLine image_language (image_reader version) (text_words bytes.now) (row_reading_value self.old))) }
     {
         match read_line(bytes) {
             None => Ok(false),
@@ -130,7 +130,7 @@ impl Reading {
 
 /// The row that a text spells.
 pub(crate) fn read_row(alloc: Global, version: Version, text: &[u8]) -> Result<Reading, ImageErr>
-    ensures ok { IfOk result (λ reading. SpellsImage version text.now (row_read (reading_value reading))) }
+    ensures ok { IfOk result (λ reading. SpellsImage version text.now (row_read (row_reading_value reading))) }
     ensures err { IfErr result (IsNoImage version text.now) }
 {
     let mut reading = begun(alloc);

@@ -37,9 +37,9 @@ pub enum Reason {
 
 impl fmt::Display for Reason {
     ghost use Rattle.std.specs.Prelude.{Some};
-    ghost use Rattle.of_image.specs.ReasonText.{reason_text};
+    ghost use Rattle.of_image.specs.ReasonText.{image_reason_text};
 
-    ghost output = { λ r. Some (reason_text r) };
+    ghost output = { λ r. Some (image_reason_text r) };
 
     fn fmt<W: fmt::Write>(&self, f: &mut fmt::Formatter<W>) -> fmt::Result {
         match self {

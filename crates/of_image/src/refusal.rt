@@ -5,7 +5,7 @@ ghost use Rattle.of_plan.specs.Lines.{text_lines};
 ghost use Rattle.of_plan.specs.Above.{line_at as the_line};
 ghost use Rattle.of_plan.specs.BadLine.{HasBadLine};
 ghost use Rattle.of_image.specs.ImageText.{IsImageText};
-ghost use Rattle.of_image.specs.Faults.{HasImage, IsFaultOf, IsLineFault};
+ghost use Rattle.of_image.specs.Faults.{HasImage, IsImageFaultOf, IsLineFault};
 ghost use Rattle.of_image.specs.Messages.{piece_message};
 
 use crate::error::ImageErr;
@@ -45,7 +45,7 @@ pub enum ImageFault {
 /// is want of memory.
 pub fn fault(alloc: Global, version: Version, text: &[u8]) -> Result<Option<ImageFault>, AllocError>
     ensures { IfOk result (λ found.
-        MatchOption found (HasImage version text.now) (IsFaultOf version text.now)) }
+        MatchOption found (HasImage version text.now) (IsImageFaultOf version text.now)) }
 {
     let reading = match read_row(alloc, version, text) {
         Ok(reading) => reading,
@@ -99,12 +99,12 @@ fn print_piece(alloc: Global, text: &[u8], piece: &BadPiece) -> Result<Vec<u8>, 
 impl ImageFault {
     ghost use Rattle.std.specs.Prelude.{◌≡◌, IfOk};
     ghost use Rattle.of_image.specs.declared.version.Version.{Version as TheVersion};
-    ghost use Rattle.of_image.specs.Faults.{IsFaultOf};
+    ghost use Rattle.of_image.specs.Faults.{IsImageFaultOf};
     ghost use Rattle.of_image.specs.Messages.{fault_message};
 
     /// What is printed of the fault of a text. The error is want of memory.
     pub fn print(&self, alloc: Global, text: &[u8]) -> Result<Vec<u8>, AllocError>
-        requires { (v : TheVersion) × IsFaultOf v text.now self.now }
+        requires { (v : TheVersion) × IsImageFaultOf v text.now self.now }
         ensures { IfOk result (λ out. out.items ≡ fault_message text.now self.now) }
     {
         match self {

@@ -14,13 +14,13 @@ pub struct KeepingSource<S> {
 
 impl<S: Source> KeepingSource<S> {
     ghost use Rattle.std.specs.Prelude.{◌≡◌, [], true, None, Some, MatchOption};
-    ghost use Rattle.of_io.specs.Keeping.{kept_by};
+    ghost use Rattle.of_io.specs.Keeping.{bytes_kept};
 
     /// What the source has left; nothing is kept yet.
     pub fn new(alloc: Global, source: S) -> Self
         ensures remaining { ⟦<KeepingSource<S> as Source>⟧.remaining result ≡ S.remaining source }
         ensures faults { ⟦<KeepingSource<S> as Source>⟧.faults result ≡ S.faults source }
-        ensures kept { kept_by result ≡ Some [] }
+        ensures kept { bytes_kept result ≡ Some [] }
     {
         KeepingSource {
             source,
@@ -31,7 +31,7 @@ impl<S: Source> KeepingSource<S> {
 
     /// All that was given so far; nothing if memory ran out for it.
     pub fn kept(&self) -> Option<&[u8]>
-        ensures { MatchOption result (kept_by self.now ≡ None) (λ bytes. kept_by self.now ≡ Some bytes.now) }
+        ensures { MatchOption result (bytes_kept self.now ≡ None) (λ bytes. bytes_kept self.now ≡ Some bytes.now) }
     {
         if self.whole {
             return Some(self.kept.as_slice());
@@ -45,7 +45,7 @@ impl<S: Source> Source for KeepingSource<S> {
     ghost use Rattle.std.specs.Io.{ReadsAtMost};
     ghost use Rattle.std.specs.Io.KnownBytes.{ReadConsumes};
     ghost use Rattle.of_io.specs.Faults.{HasCause};
-    ghost use Rattle.of_io.specs.Keeping.{kept_by, Keeps};
+    ghost use Rattle.of_io.specs.Keeping.{bytes_kept, Keeps};
 
     ghost remaining = { λ s. S.remaining s.source };
 
@@ -58,8 +58,8 @@ impl<S: Source> Source for KeepingSource<S> {
         ensures cause { HasCause (S.faults self.old.source) (S.faults self.new.source) result }
 
         // What was given is kept behind what was kept before, or nothing is kept from now on.
-        ensures keeps { IfOk result (λ count. Keeps (kept_by self.old) (kept_by self.new) count into.new) }
-        ensures fails { OnErr result (kept_by self.new ≡ kept_by self.old) }
+        ensures keeps { IfOk result (λ count. Keeps (bytes_kept self.old) (bytes_kept self.new) count into.new) }
+        ensures fails { OnErr result (bytes_kept self.new ≡ bytes_kept self.old) }
     {
         let count = self.source.read(into)?;
         if !self.whole {

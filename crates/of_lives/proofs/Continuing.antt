@@ -6,7 +6,7 @@ use Rattle.std.proofs.lemmas.List.Elements.{All-from_recursion}
 use Rattle.of_mem.specs.Places.{base_of}
 use Rattle.of_mem.specs.ProgramWork.{memory_of, meaning_of}
 use Rattle.of_script.specs.declared.instr.TheConstants.{MOST_INSTRS}
-use Rattle.of_eval.specs.Record.{data_cells_of, IsLawfulRecord}
+use Rattle.of_eval.specs.Record.{plan_data_cells, IsLawfulRecord}
 use Rattle.of_eval.specs.Reported.{ReportsRun}
 use Rattle.of_eval.specs.ScriptPrograms.{script_program}
 use Rattle.of_eval.specs.Scripts.{StandsForSome, is_success, script_reads}
@@ -25,7 +25,7 @@ use Rattle.of_caller.specs.Allowances.{KeepsStopAsAllowance, KeepAllowances}
 use Rattle.of_caller.specs.Teams.{IsTeamOf, IsHandedBack, TeamsKeepAllowances}
 use Rattle.of_report.specs.Image.{Image, IsImage, start_of_image, durable_row}
 use Rattle.of_lives.specs.OneHistory.{IsBehind}
-use Rattle.of_lives.specs.Restarts.{start_of_row}
+use Rattle.of_lives.specs.Restarts.{start_from_row}
 use Rattle.of_lives.specs.Continuing.{IsLifeOf, LeavesImage}
 use Rattle.of_lives.proofs.OneLife.{lived}
 use Rattle.of_lives.specs.Images.{PlanFitsImage}
@@ -40,19 +40,19 @@ RowAt c n l m b ws =
     (λ (xs : List ℕ). StandsForSome (base_of m MOST_INSTRS) b (memory_of xs)) ws
 
 -- where the sizes are a plan's
-pub row_at : (p : Plan) (ws : List ℕ) (c n l m b : ℕ) → c ≡ p.callers → n ≡ data_cells_of p → l ≡ p.limit → m ≡ p.callers → b ≡ p.blocks → IsStartRow (plan_setup p) (IsLawfulFor p) ws → RowAt c n l m b ws
+pub row_at : (p : Plan) (ws : List ℕ) (c n l m b : ℕ) → c ≡ p.callers → n ≡ plan_data_cells p → l ≡ p.limit → m ≡ p.callers → b ≡ p.blocks → IsStartRow (plan_setup p) (IsLawfulFor p) ws → RowAt c n l m b ws
 row_at p ws c n l m b callers cells limit many blocks row =
     subst (λ (x : ℕ). RowAt x n l m b ws) (sym callers)
     (subst (λ (x : ℕ). RowAt p.callers x l m b ws) (sym cells)
-    (subst (λ (x : ℕ). RowAt p.callers (data_cells_of p) x m b ws) (sym limit)
-    (subst (λ (x : ℕ). RowAt p.callers (data_cells_of p) p.limit x b ws) (sym many)
-    (subst (λ (x : ℕ). RowAt p.callers (data_cells_of p) p.limit p.callers x ws) (sym blocks) row))))
+    (subst (λ (x : ℕ). RowAt p.callers (plan_data_cells p) x m b ws) (sym limit)
+    (subst (λ (x : ℕ). RowAt p.callers (plan_data_cells p) p.limit x b ws) (sym many)
+    (subst (λ (x : ℕ). RowAt p.callers (plan_data_cells p) p.limit p.callers x ws) (sym blocks) row))))
 
 -- a table of the plan's sizes that starts from the image's words starts where the image does
-pub table_at : (i : Image) (p : Plan) (ws : List ℕ) (c n : ℕ) (B : TableStart) → c ≡ p.callers → n ≡ data_cells_of p → ws ≡ i.row.words → B ≡ table_start c n ws → B ≡ start_of_row p i.row.words
+pub table_at : (i : Image) (p : Plan) (ws : List ℕ) (c n : ℕ) (B : TableStart) → c ≡ p.callers → n ≡ plan_data_cells p → ws ≡ i.row.words → B ≡ table_start c n ws → B ≡ start_from_row p i.row.words
 table_at i p ws c n B callers cells same start = start ∙ (λ j. table_start (callers j) (cells j) (same j))
 
-pub starts_at : (i : Image) (p : Plan) → IsImage MOST_INSTRS i → PlanFitsImage i p → (B : TableStart) → B ≡ start_of_row p i.row.words → StartsAtPlan p (start_of_image i) B
+pub starts_at : (i : Image) (p : Plan) → IsImage MOST_INSTRS i → PlanFitsImage i p → (B : TableStart) → B ≡ start_from_row p i.row.words → StartsAtPlan p (start_of_image i) B
 starts_at i p is fits B start = subst (StartsAtPlan p (start_of_image i)) (sym start) (image_begins i p is fits).starts
 
 -- what a life leaves, where a team has handed this back from a table that starts from the image, and the report is the one of each lawful record
@@ -62,14 +62,14 @@ pub record Left (i : Image) (p : Plan) (e : Ended) (w : View) (r : Report) : Typ
   pub not_again : All (IsBehind (start_of_image i)) r.entries
   pub leaves : (next : Image) × LeavesImage p (start_of_image i) e r next
 
-module _ (i : Image) (p : Plan) (restart : TeamsRestart p) (e : Ended) (w : View) (B : TableStart) (start : B ≡ start_of_row p i.row.words) (handed : IsHandedBack p (start_of_image i) B e w) (r : Report) (is : (q : Report) → IsLawfulRecord p (start_of_image i) e q → r ≡ q) where
+module _ (i : Image) (p : Plan) (restart : TeamsRestart p) (e : Ended) (w : View) (B : TableStart) (start : B ≡ start_from_row p i.row.words) (handed : IsHandedBack p (start_of_image i) B e w) (r : Report) (is : (q : Report) → IsLawfulRecord p (start_of_image i) e q → r ≡ q) where
   same : handed.report ≡ r
   same = sym (is handed.report handed.reported.lawful)
 
   reported : ReportsRun p (start_of_image i) e r
   reported = subst (ReportsRun p (start_of_image i) e) same handed.reported
 
-  both : (h : IsHandedBack p (start_of_image i) (start_of_row p i.row.words) e w) × (h.report ≡ r)
+  both : (h : IsHandedBack p (start_of_image i) (start_from_row p i.row.words) e w) × (h.report ≡ r)
   both = subst (λ (C : TableStart). (h : IsHandedBack p (start_of_image i) C e w) × (h.report ≡ r)) start (handed, same)
 
   leaves_image : (next : Image) × LeavesImage p (start_of_image i) e r next

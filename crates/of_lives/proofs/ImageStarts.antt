@@ -19,10 +19,10 @@ use Rattle.of_core.specs.Shared.{MayStart}
 use Rattle.of_core.specs.Starts.{start_from_durable, IsStartRow}
 use Rattle.of_caller.specs.Tables.{plan_setup, IsLawfulFor}
 use Rattle.of_caller.specs.Starts.{start_number, StartsAtPlan}
-use Rattle.of_report.specs.ImageRow.{DurableRow, row_cell_count, numbers_in}
+use Rattle.of_report.specs.ImageRow.{DurableRow, row_cell_count, data_numbers_in}
 use Rattle.of_report.specs.Image.{Image, IsImage, image_ticket}
 use Rattle.of_report.specs.Image.{start_of_image as image_start}
-use Rattle.of_lives.specs.Restarts.{start_of_row}
+use Rattle.of_lives.specs.Restarts.{start_from_row}
 use Rattle.of_lives.specs.Images.{PlanFitsImage}
 
 -- a part of a list, place by place
@@ -47,12 +47,12 @@ module _ (r : DurableRow) (size : IsDurableRow r.callers (row_cell_count MOST_IN
   pub word_at : (a : ℕ) → a < row_cell_count MOST_INSTRS r → get_or (start_from_durable r.callers (row_cell_count MOST_INSTRS r) r.words).cells a 0 ≡ get_or r.words (data_cell r.callers a) 0
   word_at a l = part_at r.words (data_cell r.callers 0) n a l ∙ ap (λ (k : ℕ). get_or r.words k 0) (let k : data_cell r.callers 0 + a ≡ data_cell r.callers a = omega arith in k)
 
-  pub number_there : (a : ℕ) → a < row_cell_count MOST_INSTRS r → get_or (numbers_in MOST_INSTRS r) a 0 ≡ payload_of (get_or r.words (data_cell r.callers a) 0)
+  pub number_there : (a : ℕ) → a < row_cell_count MOST_INSTRS r → get_or (data_numbers_in MOST_INSTRS r) a 0 ≡ payload_of (get_or r.words (data_cell r.callers a) 0)
   number_there a l = get_or-map-range_with_len (λ x. payload_of (get_or r.words (data_cell r.callers x) 0)) 0 n a a 0 l (omega arith)
 
   -- the numbers of its cells are those of the row
-  pub numbers_are : map payload_of (start_from_durable r.callers (row_cell_count MOST_INSTRS r) r.words).cells ≡ numbers_in MOST_INSTRS r
-  numbers_are = ext_get_or 0 (map payload_of C.cells) (numbers_in MOST_INSTRS r) (length-map C.cells payload_of ∙ cells_long ∙ sym (length-map-range_with_len (λ x. payload_of (get_or r.words (data_cell r.callers x) 0)) 0 n))
+  pub numbers_are : map payload_of (start_from_durable r.callers (row_cell_count MOST_INSTRS r) r.words).cells ≡ data_numbers_in MOST_INSTRS r
+  numbers_are = ext_get_or 0 (map payload_of C.cells) (data_numbers_in MOST_INSTRS r) (length-map C.cells payload_of ∙ cells_long ∙ sym (length-map-range_with_len (λ x. payload_of (get_or r.words (data_cell r.callers x) 0)) 0 n))
       (λ a l.
       let below : a < n = omega (arith, l, length-map C.cells payload_of, cells_long) in
       get_or-map payload_of C.cells a 0 0 (omega (arith, below, cells_long))
@@ -71,7 +71,7 @@ done_is_ticket i c lt = get_or-map-range_with_len (image_ticket i) 0 i.row.calle
 -- a table starts from the image, for a plan
 pub record Begins (i : Image) (p : Plan) : Type 0 where
   pub row : IsStartRow (plan_setup p) (IsLawfulFor p) i.row.words
-  pub starts : StartsAtPlan p (image_start i) (start_of_row p i.row.words)
+  pub starts : StartsAtPlan p (image_start i) (start_from_row p i.row.words)
 
 module _ (i : Image) (is : IsImage MOST_INSTRS i) (p : Plan) (few : i.seq ≤ p.limit) where
   -- the plan, with the sizes of the image
@@ -79,7 +79,7 @@ module _ (i : Image) (is : IsImage MOST_INSTRS i) (p : Plan) (few : i.seq ≤ p.
   q = record p { callers = i.row.callers; blocks = i.row.blocks }
 
   abbrev I : TableStart
-  I = start_of_row q i.row.words
+  I = start_from_row q i.row.words
 
   stands : DataCellsStandFor q.callers MOST_INSTRS q.blocks (start_number I) i.store
   stands = subst (λ (xs : List ℕ). DataCellsStandFor i.row.callers MOST_INSTRS i.row.blocks (memory_of xs) i.store) (sym (numbers_are i.row is.row.size)) is.lawful.stands

@@ -13,7 +13,7 @@ use Rattle.of_mem.specs.Places.{ticket_cell_at}
 use Rattle.of_mem.specs.ProgramWork.{memory_of}
 use Rattle.of_script.specs.declared.instr.TheConstants.{MOST_INSTRS}
 use Rattle.of_eval.specs.Lawful.{DataCellsStandFor}
-use Rattle.of_eval.specs.Record.{data_cells_of}
+use Rattle.of_eval.specs.Record.{plan_data_cells}
 use Rattle.of_plan.specs.Plan.{Plan, durable_cells_of}
 use Rattle.of_plan.specs.Report.{Start, Report, entries_of, finished_of}
 use Rattle.of_plan.specs.Ended.{Ended}
@@ -29,18 +29,18 @@ use Rattle.of_lives.specs.Continuing.{LeavesImage}
 use Rattle.of_lives.proofs.ImageStarts.{part_at, part_long, word_at, numbers_are, number_is}
 
 -- the durable words of a table are its durable row
-pub row_durable : (p : Plan) (e : Ended) → length e.words ≡ table_words p.callers MOST_INSTRS (data_cells_of p) → IsDurable (plan_setup p) e.words (durable_row p e).words
+pub row_durable : (p : Plan) (e : Ended) → length e.words ≡ table_words p.callers MOST_INSTRS (plan_data_cells p) → IsDurable (plan_setup p) e.words (durable_row p e).words
 row_durable p e long = record {
   long = part_long e.words (durable_cells_of p) (durable_cells_of p) (omega (arith, long));
   each = λ c lt. part_at e.words (durable_cells_of p) (durable_cells_of p) c lt;
 }
 
-module _ (p : Plan) (s : Start) (e : Ended) (r : Report) (long : length e.words ≡ table_words p.callers MOST_INSTRS (data_cells_of p)) (leaves : LeavesRow p s r (recovered_words p.callers (data_cells_of p) (durable_row p e).words)) where
+module _ (p : Plan) (s : Start) (e : Ended) (r : Report) (long : length e.words ≡ table_words p.callers MOST_INSTRS (plan_data_cells p)) (leaves : LeavesRow p s r (recovered_words p.callers (plan_data_cells p) (durable_row p e).words)) where
   abbrev row : List ℕ
   row = (durable_row p e).words
 
   abbrev found : List ℕ
-  found = recovered_words p.callers (data_cells_of p) row
+  found = recovered_words p.callers (plan_data_cells p) row
 
   abbrev l : Life
   l = record { plan = p; report = r }
@@ -49,14 +49,14 @@ module _ (p : Plan) (s : Start) (e : Ended) (r : Report) (long : length e.words 
   abbrev next : Image
   next = record { row = recovered_row MOST_INSTRS (durable_row p e); seq = r.seq; replayed = is_open p.callers (λ c. get_or row c 0); store = r.store }
 
-  row_long : length row ≡ durable_cells p.callers (data_cells_of p)
+  row_long : length row ≡ durable_cells p.callers (plan_data_cells p)
   row_long = (row_durable p e long).long
 
-  found_long : length found ≡ durable_cells p.callers (data_cells_of p)
-  found_long = length-recovered p.callers (data_cells_of p) row ∙ row_long
+  found_long : length found ≡ durable_cells p.callers (plan_data_cells p)
+  found_long = length-recovered p.callers (plan_data_cells p) row ∙ row_long
 
   first_kept : get_or found 0 0 ≡ get_or row 0 0
-  first_kept = others_kept p.callers (data_cells_of p) row row_long 0 (omega (arith, row_long)) (inl (omega arith)) (λ q. omega (arith, q))
+  first_kept = others_kept p.callers (plan_data_cells p) row row_long 0 (omega (arith, row_long)) (inl (omega arith)) (λ q. omega (arith, q))
 
   lawful : IsLawfulRow MOST_INSTRS next.row r.store
   lawful = record {

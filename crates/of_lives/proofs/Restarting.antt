@@ -5,7 +5,7 @@ use Rattle.std.proofs.Math.Nat.{le-max_left, le-max_right}
 use Rattle.std.proofs.lemmas.List.Elements.{recursion_from_All}
 use Rattle.std.proofs.lemmas.List.FromFn.{length-map-range_with_len}
 use Rattle.of_recover.specs.Recovered.{recovered_words}
-use Rattle.of_eval.specs.Record.{data_cells_of}
+use Rattle.of_eval.specs.Record.{plan_data_cells}
 use Rattle.of_plan.specs.Plan.{Plan}
 use Rattle.of_plan.specs.Report.{Entry, Start, Report, entries_of, finished_of}
 use Rattle.of_plan.specs.Legal.{IsLegal}
@@ -17,7 +17,7 @@ use Rattle.of_script.specs.declared.instr.TheConstants.{MOST_INSTRS}
 use Rattle.of_caller.specs.Starts.{start_number, StartsAtPlan}
 use Rattle.of_caller.specs.Restarts.{HoldsLastAnnounced, StartsAfterReport, RunsRestart}
 use Rattle.of_lives.specs.Lives.{Life, done_behind, callers_with, start_behind}
-use Rattle.of_lives.specs.Restarts.{start_of_row, LeavesRow, LivesRestart}
+use Rattle.of_lives.specs.Restarts.{start_from_row, LeavesRow, LivesRestart}
 use Rattle.of_lives.proofs.Indices.{OneByOne, from_first, rise}
 use Rattle.of_lives.proofs.Tickets.{done_low, done_high, done_above}
 use Rattle.of_lives.proofs.OneLife.{lived}
@@ -39,21 +39,21 @@ done_is m c n es counts ticket =
           omega (arith, found.4.ticket, high, above)
     ]
 
-module _ (p : Plan) (s : Start) (r : Report) (legal : IsLegal p s r) (each_caller : length s.finished ≡ p.callers) (found : List ℕ) (behind : StartsAfterReport p s r (start_of_row p found)) where
+module _ (p : Plan) (s : Start) (r : Report) (legal : IsLegal p s r) (each_caller : length s.finished ≡ p.callers) (found : List ℕ) (behind : StartsAfterReport p s r (start_from_row p found)) where
   abbrev l : Life
   l = record { plan = p; report = r }
 
   as_many : callers_with s l ≡ p.callers
   as_many = omega (arith, each_caller, le-max_left (length s.finished) p.callers, le-max_right (length s.finished) p.callers)
 
-  starts : StartsAtPlan p (start_behind s l) (start_of_row p found)
+  starts : StartsAtPlan p (start_behind s l) (start_from_row p found)
   starts = record {
     seq = behind.seq;
     size = behind.size;
     stands = behind.stands;
     each_caller = length-map-range_with_len (λ c. done_behind (finished_of s c) (entries_of r c)) 0 (callers_with s l) ∙ as_many;
     tickets = λ c lt.
-        done_is (start_number (start_of_row p found)) c (finished_of s c) (entries_of r c) (legal.in_order.one_by_one c lt) (behind.callers c lt)
+        done_is (start_number (start_from_row p found)) c (finished_of s c) (entries_of r c) (legal.in_order.one_by_one c lt) (behind.callers c lt)
         ∙ sym ((lived s l legal).tickets c);
   }
 
@@ -64,4 +64,4 @@ module _ (p : Plan) (s : Start) (r : Report) (legal : IsLegal p s r) (each_calle
 pub lives_restart : RunsRestart → LivesRestart
 lives_restart restart p s B w e run r lawful row durable =
     let found = restart p s B w e run r lawful row durable in
-    leaves p s r lawful.legal run.moment.starts.each_caller (recovered_words p.callers (data_cells_of p) row) found.1 found.0
+    leaves p s r lawful.legal run.moment.starts.each_caller (recovered_words p.callers (plan_data_cells p) row) found.1 found.0

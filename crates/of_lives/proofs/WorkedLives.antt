@@ -6,7 +6,7 @@ use Rattle.std.proofs.lemmas.List.Elements.{All-nil, All-cons, All-from_recursio
 use Rattle.of_script.specs.declared.instr.Instr.TheVariants.{Load}
 use Rattle.of_script.specs.Language.{reads_only}
 use Rattle.of_plan.specs.Report.{Entry, Report, Start, entries_of, finished_of, caller_line}
-use Rattle.of_plan.specs.Legal.{scripts_left, StandsBefore, HasSequence, HasOpenCall, HasEndState, IsWithinBound, IsLegal}
+use Rattle.of_plan.specs.Legal.{scripts_left, StandsBefore, HasSequence, HasOpenCall, HasEndState, LineIsWithinBound, IsLegal}
 use Rattle.of_plan.specs.Worked.{worked_entry}
 use Rattle.of_plan.proofs.HistoriesLists.{any_in, pairs_in_line}
 use Rattle.of_lives.specs.Lives.{start_behind}
@@ -63,6 +63,6 @@ second_is_legal = record {
   replies = refl;
   final_store = refl;
   endings = endings;
-  within_bound = All-from_recursion (IsWithinBound one_more_script) told.callers
+  within_bound = All-from_recursion (LineIsWithinBound one_more_script) told.callers
       ((omega arith, λ none. absurd (omega (arith, none))), ((omega arith, λ none. absurd (omega (arith, none))), tt));
 }

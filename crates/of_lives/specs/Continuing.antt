@@ -10,7 +10,7 @@ use Rattle.of_row.specs.Views.{View}
 use Rattle.of_caller.specs.Restarts.{HoldsLastAnnounced}
 use Rattle.of_caller.specs.Teams.{IsHandedBack}
 use Rattle.of_lives.specs.Lives.{start_behind}
-use Rattle.of_lives.specs.Restarts.{start_of_row}
+use Rattle.of_lives.specs.Restarts.{start_from_row}
 use Rattle.of_lives.specs.Images.{image_number}
 
 -- A team has run the plan over a table that starts so, and has handed back this run and a pass with
@@ -22,7 +22,7 @@ pub record IsReportOfTeam (p : Plan) (s : Start) (B : TableStart) (e : Ended) (w
 
 -- so it is over the table that starts from an image's row
 abbrev pub IsLifeOf : Image → Plan → Ended → View → Report → Type 0
-IsLifeOf i p e w r = IsReportOfTeam p (start_of_image i) (start_of_row p i.row.words) e w r
+IsLifeOf i p e w r = IsReportOfTeam p (start_of_image i) (start_from_row p i.row.words) e w r
 
 -- recovery finds this image in the durable words that a life with this report, from this start, has
 -- left: it is where the life ends, so the next one goes on from there

@@ -6,7 +6,7 @@ use Rattle.of_script.specs.declared.instr.TheConstants.{MOST_INSTRS}
 use Rattle.of_eval.specs.Shapes.{IsHeldBy}
 use Rattle.of_eval.specs.Lawful.{reply_in}
 use Rattle.of_plan.specs.Plan.{Plan}
-use Rattle.of_report.specs.ImageRow.{numbers_in}
+use Rattle.of_report.specs.ImageRow.{data_numbers_in}
 use Rattle.of_report.specs.Image.{Image, start_of_image}
 use Rattle.of_caller.specs.PlanRows.{HasScripts}
 
@@ -20,7 +20,7 @@ pub record PlanFitsImage (i : Image) (p : Plan) : Type 0 where
 
 -- the number in a data cell of an image
 abbrev pub image_number : Image → (cell : ℕ) → ℕ
-image_number i = memory_of (numbers_in MOST_INSTRS i.row)
+image_number i = memory_of (data_numbers_in MOST_INSTRS i.row)
 
 -- a caller's own cells hold this reply
 abbrev pub CallerHoldsReply : Image → (caller : ℕ) → Reply → Type 0

@@ -2,7 +2,7 @@
 -- row from which a table may start, at the start behind the life.
 use Rattle.std.specs.Prelude.{List, ℕ, ◌<◌}
 use Rattle.of_recover.specs.Recovered.{recovered_words}
-use Rattle.of_eval.specs.Record.{data_cells_of, IsLawfulRecord}
+use Rattle.of_eval.specs.Record.{plan_data_cells, IsLawfulRecord}
 use Rattle.of_plan.specs.Plan.{Plan}
 use Rattle.of_plan.specs.Report.{Start, Report, entries_of, finished_of}
 use Rattle.of_plan.specs.Ended.{Ended}
@@ -11,25 +11,25 @@ use Rattle.of_core.specs.Starts.{start_from_durable, IsDurable, IsStartRow}
 use Rattle.of_caller.specs.Tables.{plan_setup, IsLawfulFor}
 use Rattle.of_caller.specs.Starts.{start_number, StartsAtPlan}
 use Rattle.of_caller.specs.Restarts.{HoldsLastAnnounced}
-use Rattle.of_caller.specs.Runs.{IsRunOf}
+use Rattle.of_caller.specs.Runs.{IsRunOfPlan}
 use Rattle.of_lives.specs.Lives.{start_behind}
 
 -- the start that a durable row is, of a plan's table
-abbrev pub start_of_row : Plan → List ℕ → TableStart
-start_of_row p row = start_from_durable p.callers (data_cells_of p) row
+abbrev pub start_from_row : Plan → List ℕ → TableStart
+start_from_row p row = start_from_durable p.callers (plan_data_cells p) row
 
 -- a life with this report, from this start, has left this durable row
 pub record LeavesRow (p : Plan) (s : Start) (r : Report) (found : List ℕ) : Type 0 where
   -- a table may start from it, behind the life
   pub row : IsStartRow (plan_setup p) (IsLawfulFor p) found
-  pub start : StartsAtPlan p (start_behind s (record { plan = p; report = r })) (start_of_row p found)
+  pub start : StartsAtPlan p (start_behind s (record { plan = p; report = r })) (start_from_row p found)
   -- and each caller's own cells hold its last announced call, with the reply that the report tells
   pub last_calls : (c : ℕ) → c < p.callers
-      → HoldsLastAnnounced (start_number (start_of_row p found)) c (finished_of s c) (entries_of r c)
+      → HoldsLastAnnounced (start_number (start_from_row p found)) c (finished_of s c) (entries_of r c)
 
 -- so it is of what recovery makes of the durable words of each run of a plan from a start
 abbrev pub LivesRestart : Type 0
 LivesRestart =
-    (p : Plan) (s : Start) (B : TableStart) (w : Moment) (e : Ended) → IsRunOf p s B w e
+    (p : Plan) (s : Start) (B : TableStart) (w : Moment) (e : Ended) → IsRunOfPlan p s B w e
     → (r : Report) → IsLawfulRecord p s e r → (row : List ℕ) → IsDurable (plan_setup p) e.words row
-    → LeavesRow p s r (recovered_words p.callers (data_cells_of p) row)
+    → LeavesRow p s r (recovered_words p.callers (plan_data_cells p) row)

@@ -8,9 +8,9 @@ ghost use Rattle.of_mem.specs.Places.{keys_at};
 ghost use Rattle.of_mem.specs.Pad.{newest_at};
 ghost use Rattle.of_mem.specs.Calls.{RunsProgram, HasStore, AnswersOfStore, ActsOnStore};
 ghost use Rattle.of_map.specs.declared.answers.Put.TheVariants.{Full};
-ghost use Rattle.of_map.specs.MapPrograms.{seek, get, read_value, put, change, insert, fill, del, unlink, give_back, count_down, count};
+ghost use Rattle.of_map.specs.MapPrograms.{seek, get, read_value, put_in_map, change, insert, fill, del, unlink, give_key_back, count_key_down, count};
 ghost use Rattle.of_mem.specs.Programs.{NeedsAt};
-ghost use Rattle.of_map.specs.Found.{HasBucketChain, HasChainFrom, Looks, CanFill, IsKept, IsUnlinked};
+ghost use Rattle.of_map.specs.Found.{HasBucketChain, HasChainFrom, Looks, CanFill, IsPositionKept, IsUnlinked};
 ghost use Rattle.of_map.specs.Means.{IsPair, PutsValue, after_del};
 
 mod answers;
@@ -108,7 +108,7 @@ fn read_value(plot: &Plot, part: &Part, block: u32) -> Result<Option<u32>, Need>
 pub fn put(plot: &Plot, part: &mut Part, key: u32, value: u32) -> Result<Put, Need>
     requires stands { HasStore plot.now part.old }
     requires pair { IsPair key value }
-    ensures runs { RunsProgram (put plot.now key value) part.old part.new result }
+    ensures runs { RunsProgram (put_in_map plot.now key value) part.old part.new result }
     ensures puts { PutsValue plot.now part.old part.new key value result }
 {
     match seek(plot, part, key)? {
@@ -176,7 +176,7 @@ pub fn del(plot: &Plot, part: &mut Part, key: u32) -> Result<Option<u32>, Need>
 
 /// Takes a key's block out of its bucket.
 fn unlink(plot: &Plot, part: &mut Part, key: u32, place: Position) -> Result<Option<u32>, Need>
-    requires { IsKept plot.now part.old key place }
+    requires { IsPositionKept plot.now part.old key place }
     ensures { RunsProgram (unlink plot.now place) part.old part.new result }
 {
     let value = part.read(plot.block(place.block, 1))?;
@@ -189,7 +189,7 @@ fn unlink(plot: &Plot, part: &mut Part, key: u32, place: Position) -> Result<Opt
 #[tactic(auto, using(of_mem::proofs::Runs::run_then_needs))]
 fn give_back(plot: &Plot, part: &mut Part, block: u32, value: u32) -> Result<Option<u32>, Need>
     requires { IsUnlinked plot.now part.old block }
-    ensures { RunsProgram (give_back plot.now block value) part.old part.new result }
+    ensures { RunsProgram (give_key_back plot.now block value) part.old part.new result }
 {
     of_alloc::give(plot, part, block)?;
     count_down(plot, part, value)
@@ -199,7 +199,7 @@ fn give_back(plot: &Plot, part: &mut Part, block: u32, value: u32) -> Result<Opt
 fn count_down(plot: &Plot, part: &mut Part, value: u32) -> Result<Option<u32>, Need>
     requires fits { length part.old.known ≡ data_cell_count plot.now }
     requires keys { (k : ℕ) → newest_at part.old (keys_at (base plot.now)) ≡ Some k → 1 ≤ k }
-    ensures { RunsProgram (count_down plot.now value) part.old part.new result }
+    ensures { RunsProgram (count_key_down plot.now value) part.old part.new result }
 {
     let keys = part.read(plot.keys())?;
     part.write(plot.keys(), keys - 1);

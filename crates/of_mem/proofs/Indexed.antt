@@ -9,7 +9,7 @@ use Rattle.std.proofs.lemmas.Bool.Decides.{Decides-eqb, nat_tests}
 use Rattle.std.proofs.lemmas.Bool.{cases_eq}
 use Rattle.std.proofs.lemmas.List.{get_or-map, length-map, get_or-set_same, get_or-set_other, get_or_append_left, get_or_push, get_or_default, get_or-take, length-take-le}
 use Rattle.std.proofs.Math.Seq.{take-set-lt}
-use Rattle.of_mem.specs.Pairs.{CellMap, value_for, put_pair, entry_address, IsAbsent, IsMap}
+use Rattle.of_mem.specs.Pairs.{CellMap, value_for, put_pair, entry_address, IsAbsent, IsCellMap}
 use Rattle.of_mem.specs.Indexed.{IsIndexed, FindsEntry, MissesEntry}
 
 equals : (a b : ℕ) → a ≡ b → (a == b) ≡ true
@@ -71,7 +71,7 @@ module _ (es : List (ℕ × ℕ)) (ps : List ℕ) (n : ℕ) (h : IsIndexed es ps
           let here : entry_address es f.0 ≡ f.1 = sym (at_x f.0 f.1 mk) ∙ f.3 in
           omega (arith, h.below f.0 mk)
 
-  pub is_map : IsMap (record { room = length ps; entries = es })
+  pub is_map : IsCellMap (record { room = length ps; entries = es })
   is_map = record { once = once; below = h.below; few = few; room = h.room }
 
   pub finds : (a k : ℕ) → k < length es → entry_address es k ≡ a → FindsEntry (record { room = length ps; entries = es }) a k

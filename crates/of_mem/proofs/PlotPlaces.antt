@@ -5,7 +5,7 @@ use Rattle.std.proofs.lemmas.Bool.Decides.{nat_tests}
 use Rattle.std.proofs.lemmas.Nat.{div-mul-add, mod-mul-add, mul-le}
 use Rattle.of_mem.specs.declared.plot.Plot.{Plot}
 use Rattle.of_mem.specs.Places.{ticket_cell_at}
-use Rattle.of_mem.specs.Plots.{base, data_cell_count, DataPlace, Ticket, Shape, Reply, Register, Fresh, Free, Keys, Bucket, Head, Tail, Length, Block, HasPlace, cell_for, PlacesDiffer}
+use Rattle.of_mem.specs.Plots.{base, data_cell_count, DataPlace, Ticket, Shape, Reply, Register, Fresh, Free, Keys, Bucket, Head, Tail, Length, Block, HasPlace, cell_for, CellPlacesDiffer}
 
 not_below : (a b : ℕ) → b ≤ a → ltb a b ≡ false
 not_below a b h = grind (arith, nat_tests)
@@ -84,7 +84,7 @@ module _ (p : Plot) where
   below (Length q) h = omega arith
   below (Block b field) h = omega (arith, h.0, h.1)
 
-  pub places_differ : PlacesDiffer p
+  pub places_differ : CellPlacesDiffer p
   places_differ = record {
     below = below;
     differ = λ x y h k e. sym (read_off x h) ∙ ap (place_at p) e ∙ read_off y k;

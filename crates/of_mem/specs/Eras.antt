@@ -7,8 +7,8 @@ abbrev pub slot_number : ℕ → ℕ × ℕ → Option ℕ
 slot_number era s = if s.0 == era then Some s.1 else None
 
 -- what slots hold in an era
-unfoldable pub numbers_in : ℕ → List (ℕ × ℕ) → List (Option ℕ)
-numbers_in era slots = map (slot_number era) slots
+unfoldable pub slot_numbers : ℕ → List (ℕ × ℕ) → List (Option ℕ)
+slot_numbers era slots = map (slot_number era) slots
 
 -- no slot is of a later era
 abbrev pub IsUpToEra : ℕ → List (ℕ × ℕ) → Type 0

@@ -11,8 +11,8 @@ pub record Part : Type 0 where
   pub script : List (ℕ × ℕ)
 
 -- no cell of so many is known, and nothing is written
-abbrev pub nothing_known : ℕ → Part
-nothing_known n = record { known = replicate n None; batch = []; script = [] }
+abbrev pub empty_part : ℕ → Part
+empty_part n = record { known = replicate n None; batch = []; script = [] }
 
 -- the batch takes over what the script wrote
 abbrev pub keep : Part → Part

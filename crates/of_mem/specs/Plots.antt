@@ -58,6 +58,6 @@ cell_for p (Length q) = length_at (base p) q
 cell_for p (Block b field) = block_at (base p) b field
 
 -- each place has a cell of its own
-pub record PlacesDiffer (p : Plot) : Type 0 where
+pub record CellPlacesDiffer (p : Plot) : Type 0 where
   pub below : (x : DataPlace) → HasPlace p x → cell_for p x < data_cell_count p
   pub differ : (x y : DataPlace) → HasPlace p x → HasPlace p y → cell_for p x ≡ cell_for p y → x ≡ y

@@ -19,8 +19,8 @@ pub record SuspendedRun : Type 0 where
   pub sought : Option ℕ
 
 -- an operation of which nothing has run
-abbrev pub begin : ℕ → ℕ → ℕ → List ℕ → SuspendedRun
-begin room callers blocks words = record {
+abbrev pub begin_run : ℕ → ℕ → ℕ → List ℕ → SuspendedRun
+begin_run room callers blocks words = record {
   callers = callers;
   blocks = blocks;
   words = words;
@@ -33,10 +33,10 @@ begin room callers blocks words = record {
 
 -- nothing is kept
 abbrev pub nothing_suspended : ℕ → SuspendedRun
-nothing_suspended room = begin room 0 0 []
+nothing_suspended room = begin_run room 0 0 []
 
 -- this is kept of an operation with these words, by a work with these numbers
-pub record IsRunOf (k : SuspendedRun) (c b : ℕ) (ws : List ℕ) : Type 0 where
+pub record IsSuspensionOf (k : SuspendedRun) (c b : ℕ) (ws : List ℕ) : Type 0 where
   pub callers : k.callers ≡ c
   pub blocks : k.blocks ≡ b
   pub words : k.words ≡ ws

@@ -1,7 +1,7 @@
 //! A map from cells to numbers, in order of first writing.
 
 ghost use Rattle.std.specs.Prelude.{◌↔◌, IsTrue, ◌≡◌, ◌<◌, [], length, IfOk, MatchOption, slice_index_or};
-ghost use Rattle.of_mem.specs.Pairs.{value_for, put_pair, IsMap};
+ghost use Rattle.of_mem.specs.Pairs.{value_for, put_pair, IsCellMap};
 ghost use Rattle.of_mem.specs.Indexed.{FindsEntry, MissesEntry};
 
 use std::alloc::{AllocError, Global};
@@ -51,7 +51,7 @@ impl CellMap {
     /// The number of entries.
     pub fn len(&self) -> u32
         ensures value { result ≡ length self.now.entries }
-        ensures map { IsMap self.now }
+        ensures map { IsCellMap self.now }
     {
         self.count
     }
@@ -59,7 +59,7 @@ impl CellMap {
     /// The place of an address among the entries.
     fn find(&self, addr: u32) -> Option<usize>
         ensures place { MatchOption result (MissesEntry self.now addr) (FindsEntry self.now addr) }
-        ensures map { IsMap self.now }
+        ensures map { IsCellMap self.now }
     {
         let place = *self.places.get(addr as usize)?;
         if place >= self.count {

@@ -3,7 +3,7 @@
 ghost use Rattle.std.specs.Prelude.{◌≡◌, ◌≤◌, ◌<◌, ◌+◌, ◌↔◌, IsTrue, length, IfOk, None};
 ghost use Rattle.std.proofs.Common.{set};
 ghost use Rattle.of_mem.specs.declared.work.TheConstants.{MOST_INSTRS};
-ghost use Rattle.of_mem.specs.Remains.{nothing_suspended, begin, IsRunOf};
+ghost use Rattle.of_mem.specs.Remains.{nothing_suspended, begin_run, IsSuspensionOf};
 
 use crate::cell_map::CellMap;
 use crate::part::Part;
@@ -85,7 +85,7 @@ impl Kept {
     /// Keeps an operation of at most `MOST_INSTRS` words of which nothing has run.
     pub fn begin(&mut self, callers: u32, blocks: u32, words: &[u64])
         requires { length words.now ≤ MOST_INSTRS }
-        ensures { self.new ≡ begin self.old.room callers blocks words.now }
+        ensures { self.new ≡ begin_run self.old.room callers blocks words.now }
     {
         self.callers = callers;
         self.blocks = blocks;
@@ -98,7 +98,7 @@ impl Kept {
 
     /// Whether it is kept of this operation, by the work with these numbers.
     pub fn is_of(&self, callers: u32, blocks: u32, words: &[u64]) -> bool
-        ensures { IsTrue result ↔ IsRunOf self.now callers blocks words.now }
+        ensures { IsTrue result ↔ IsSuspensionOf self.now callers blocks words.now }
     {
         self.callers == callers && self.blocks == blocks && self.words[..self.count] == words[..]
     }

@@ -4,7 +4,7 @@ ghost use Rattle.std.specs.Prelude.{◌≡◌, ◌<◌, ◌≤◌, ◌↔◌, Is
 ghost use Rattle.std.proofs.Common.{get_or, is_some};
 ghost use Rattle.std.specs.Option.{option_or};
 ghost use Rattle.of_mem.specs.Pairs.{value_for};
-ghost use Rattle.of_mem.specs.Pad.{nothing_known, learn, write, keep, ReadsAt};
+ghost use Rattle.of_mem.specs.Pad.{empty_part, learn, write, keep, ReadsAt};
 
 use crate::cell_map::CellMap;
 use crate::part::Need;
@@ -42,7 +42,7 @@ impl Layers {
     /// A memory of the cells below `cells` of which nothing is known. The error is that there is no
     /// memory.
     pub fn new(alloc: Global, cells: u32) -> Result<Self, AllocError>
-        ensures { IfOk result (λ p. p ≡ nothing_known cells) }
+        ensures { IfOk result (λ p. p ≡ empty_part cells) }
     {
         let known = Slots::new(alloc, cells)?;
         let batch = CellMap::new(alloc, cells)?;
@@ -160,7 +160,7 @@ impl Layers {
 
     /// Forgets everything.
     pub fn clear(&mut self)
-        ensures { self.new ≡ nothing_known (length self.old.known) }
+        ensures { self.new ≡ empty_part (length self.old.known) }
     {
         self.known.clear();
         self.newest.clear();

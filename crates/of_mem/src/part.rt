@@ -2,7 +2,7 @@
 
 ghost use Rattle.std.specs.Prelude.{◌≡◌, ◌<◌, ◌≤◌, ◌%◌, [], length, slice_index_or, IfOk, None};
 ghost use Rattle.std.proofs.Common.{get_or, is_some};
-ghost use Rattle.of_mem.specs.Pad.{nothing_known, learn, write, keep, ReadsAt};
+ghost use Rattle.of_mem.specs.Pad.{empty_part, learn, write, keep, ReadsAt};
 ghost use Rattle.of_mem.specs.declared.plot.TheConstants.{BUCKETS};
 ghost use Rattle.of_mem.specs.Places.{bucket_at};
 ghost use Rattle.of_mem.specs.Plots.{base};
@@ -71,7 +71,7 @@ impl Part {
     /// A memory of the cells below `cells` of which nothing is known. The error is that there is no
     /// memory.
     pub fn new(alloc: Global, cells: u32) -> Result<Self, AllocError>
-        ensures { IfOk result (λ p. p ≡ nothing_known cells) }
+        ensures { IfOk result (λ p. p ≡ empty_part cells) }
     {
         let layers = Layers::new(alloc, cells)?;
         Ok(Part {
@@ -174,7 +174,7 @@ impl Part {
 
     /// Forgets everything.
     pub fn clear(&mut self)
-        ensures { self.new ≡ nothing_known (length self.old.known) }
+        ensures { self.new ≡ empty_part (length self.old.known) }
     {
         self.layers.clear();
         self.undone = false;

@@ -22,9 +22,9 @@ impl Model for Slots {
     ghost Value = { List (Option ℕ) };
 
     ghost use Rattle.std.specs.Prelude.{◌≤◌};
-    ghost use Rattle.of_mem.specs.Eras.{numbers_in, IsUpToEra};
+    ghost use Rattle.of_mem.specs.Eras.{slot_numbers, IsUpToEra};
 
-    ghost view = { λ s. numbers_in s.era s.slots.items };
+    ghost view = { λ s. slot_numbers s.era s.slots.items };
 
     ghost invariant = { λ s. (1 ≤ s.era) × IsUpToEra s.era s.slots.items };
 }

@@ -1,7 +1,7 @@
 //! Partial memory, and what a work keeps over it.
 
 ghost use Rattle.std.specs.Prelude.{◌≡◌, ◌<◌, ◌≤◌, [], length, slice_index_or, IfOk};
-ghost use Rattle.of_mem.specs.Pad.{nothing_known, learn, write, keep, ReadsAt};
+ghost use Rattle.of_mem.specs.Pad.{empty_part, learn, write, keep, ReadsAt};
 
 use crate::kept::{Keeps, Kept};
 use crate::part::{Need, Part};
@@ -33,7 +33,7 @@ impl<W: Keeps> Workspace<W> {
     /// A memory of the cells below `cells` of which nothing is known. The error is that there is no
     /// memory.
     pub fn new(alloc: Global, cells: u32) -> Result<Self, AllocError>
-        ensures { IfOk result (λ p. p ≡ nothing_known cells) }
+        ensures { IfOk result (λ p. p ≡ empty_part cells) }
     {
         let part = Part::new(alloc, cells)?;
         let kept = Kept::new(alloc, cells)?;
@@ -108,7 +108,7 @@ impl<W: Keeps> Workspace<W> {
 
     /// Forgets everything.
     pub fn clear(&mut self)
-        ensures { self.new ≡ nothing_known (length self.old.known) }
+        ensures { self.new ≡ empty_part (length self.old.known) }
     {
         self.kept.forget();
         self.part.clear();

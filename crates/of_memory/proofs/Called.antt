@@ -36,7 +36,7 @@ use Rattle.of_caller.specs.Lanes.{IsHeldAnswer}
 use Rattle.of_caller.specs.Tables.{plan_setup}
 use Rattle.of_caller.proofs.RawReplies.{IsFine, answer_holds}
 use Rattle.of_memory.specs.History.{End, Replied, Spent, Made}
-use Rattle.of_memory.specs.Calls.{IsOperation, EndsAs, IsMade, AreMade, RunsScripts}
+use Rattle.of_memory.specs.Calls.{IsScriptOperation, EndsAs, IsMade, AreMade, RunsScripts}
 use Rattle.of_memory.specs.Serving.{IsScriptsRow, Serves, start_of_row}
 use Rattle.of_memory.specs.declared.error.RunErr.{RunErr}
 use Rattle.of_memory.specs.declared.error.RunErr.TheVariants.{OutOfMemory, Stopped as Halted, Spent as RanOut, Open, NoTicket}
@@ -56,10 +56,10 @@ ends_as (Answered s announced raw steps) a t = (a.reply, t.2, refl)
 ends_as (Over s) a t = absurd t
 
 -- the words of a script are an operation
-pub operation_of_script : (script : List Instr) → IsScript script → IsOperation (map instr_word script)
+pub operation_of_script : (script : List Instr) → IsScript script → IsScriptOperation (map instr_word script)
 operation_of_script script is = (script, is, refl)
 
-pub words_few : (op : List ℕ) → IsOperation op → (1 ≤ length op) × (length op ≤ MOST_INSTRS)
+pub words_few : (op : List ℕ) → IsScriptOperation op → (1 ≤ length op) × (length op ≤ MOST_INSTRS)
 words_few op k =
     let many : length op ≡ length k.0 = ap length k.2 ∙ length-map k.0 instr_word in
     (omega (arith, many, k.1.some), omega (arith, many, k.1.few))
@@ -110,29 +110,29 @@ module _ (S : Setup) (L : List ℕ → Type 0) (B : TableStart) (m : CallState) 
   none_more still = ap (λ (x : KnownCaller). x.ended) (sym now_is) ∙ still.kept ∙ ap (λ (x : KnownCaller). x.ended) before_is
 
   abbrev Scripts_in : List EndedCall → Type 0
-  Scripts_in es = All (λ (e : EndedCall). IsOperation e.op) es
+  Scripts_in es = All (λ (e : EndedCall). IsScriptOperation e.op) es
 
-  ended_more : (o : Outcome) → IsOperation m.op → Scripts_in before.ended → now.ended ≡ before.ended ++ record { op = m.op; outcome = o } ∷ [] → Scripts_in now.ended
+  ended_more : (o : Outcome) → IsScriptOperation m.op → Scripts_in before.ended → now.ended ≡ before.ended ++ record { op = m.op; outcome = o } ∷ [] → Scripts_in now.ended
   ended_more o op all is =
-      All-same (λ (e : EndedCall). IsOperation e.op) now.ended (before.ended ++ record { op = m.op; outcome = o } ∷ []) is
-      (All-push (λ (e : EndedCall). IsOperation e.op) before.ended (record { op = m.op; outcome = o }) all op)
+      All-same (λ (e : EndedCall). IsScriptOperation e.op) now.ended (before.ended ++ record { op = m.op; outcome = o } ∷ []) is
+      (All-push (λ (e : EndedCall). IsScriptOperation e.op) before.ended (record { op = m.op; outcome = o }) all op)
 
   abbrev Told : Result Outcome CallErr → Type 0
   Told z = TellsResult S L B m v told.before told.steps d w told.kept z
 
-  ended_now : (z : Result Outcome CallErr) → Told z → IsOperation m.op → Scripts_in before.ended → Scripts_in now.ended
+  ended_now : (z : Result Outcome CallErr) → Told z → IsScriptOperation m.op → Scripts_in before.ended → Scripts_in now.ended
   ended_now (Ok o) h op all = ended_more o op all (one_more o h.1)
-  ended_now (Err (Stopped asked)) h op all = All-same (λ (e : EndedCall). IsOperation e.op) now.ended before.ended (none_more h.0) all
+  ended_now (Err (Stopped asked)) h op all = All-same (λ (e : EndedCall). IsScriptOperation e.op) now.ended before.ended (none_more h.0) all
   ended_now (Err (NoneLeft seq)) h op all = ended_more (Over seq) op all (one_more (Over seq) h)
 
-  open_now : (told.steps ≡ 0) ⊎ (0 < told.steps) → IsOperation m.op → RunsScripts before → IsOpen now.machine.place → IsOperation now.machine.op
+  open_now : (told.steps ≡ 0) ⊎ (0 < told.steps) → IsScriptOperation m.op → RunsScripts before → IsOpen now.machine.place → IsScriptOperation now.machine.op
   open_now (inl none) op runs is_open =
       let same : now ≡ before = ap (λ (x : View). last_caller x.kept) (told.none none) in
-      subst (λ (x : KnownCaller). IsOperation x.machine.op) (sym same) (runs.open_call (subst (λ (x : KnownCaller). IsOpen x.machine.place) same is_open))
+      subst (λ (x : KnownCaller). IsScriptOperation x.machine.op) (sym same) (runs.open_call (subst (λ (x : KnownCaller). IsOpen x.machine.place) same is_open))
   open_now (inr some) op runs is_open =
-      subst IsOperation (sym (ap (λ (x : KnownCaller). x.machine.op) (sym now_is) ∙ ap (λ (x : CallState). x.op) (told.some some).machine ∙ told.op)) op
+      subst IsScriptOperation (sym (ap (λ (x : KnownCaller). x.machine.op) (sym now_is) ∙ ap (λ (x : CallState). x.op) (told.some some).machine ∙ told.op)) op
 
-  pub runs_on : IsOperation m.op → RunsScripts before → RunsScripts now
+  pub runs_on : IsScriptOperation m.op → RunsScripts before → RunsScripts now
   runs_on op runs = record {
     ended = ended_now r told.result op runs.ended;
     open_call = open_now (none_or_some told.steps) op runs;
@@ -183,7 +183,7 @@ module _ (r : Row Scripts) (row : IsScriptsRow r) where
   start_fine : IsFine p plan (map payload_of (start_of_row r).cells)
   start_fine = record { size = length-map (start_of_row r).cells payload_of ∙ row.size; lawful = (row.store, row.stands) }
 
-  module _ (L : List ℕ → Type 0) (m : CallState) (v : View) (a : ℕ) (d : CallState) (w : View) (b : ℕ) (z : Result Outcome CallErr) (told : TellsCall (setup_at scripts_meaning r) L (start_of_row r) m v a d w b z) (op : IsOperation m.op) where
+  module _ (L : List ℕ → Type 0) (m : CallState) (v : View) (a : ℕ) (d : CallState) (w : View) (b : ℕ) (z : Result Outcome CallErr) (told : TellsCall (setup_at scripts_meaning r) L (start_of_row r) m v a d w b z) (op : IsScriptOperation m.op) where
     abbrev S : Setup
     S = setup_at scripts_meaning r
 
@@ -206,13 +206,13 @@ module _ (r : Row Scripts) (row : IsScriptsRow r) where
     held_of (Over k) is closes = absurd is
 
   -- the caller serves on
-  pub serves_on : (L : List ℕ → Type 0) (n : ℕ) (c k : Caller Scripts) (m : CallState) (a b : ℕ) (z : Result Outcome CallErr) → Serves r n c → m.caller ≡ (caller_call c).caller → IsOperation m.op
+  pub serves_on : (L : List ℕ → Type 0) (n : ℕ) (c k : Caller Scripts) (m : CallState) (a b : ℕ) (z : Result Outcome CallErr) → Serves r n c → m.caller ≡ (caller_call c).caller → IsScriptOperation m.op
       → TellsCall (setup_at scripts_meaning r) L (start_of_row r) m (sight_of c) a (caller_call k) (sight_of k) b z → IsCaller scripts_meaning r k → Serves r n k
   serves_on L n c k m a b z s same op told is = record {
     caller = is;
     number = told.caller ∙ same ∙ s.number;
     runs = runs_on (setup_at scripts_meaning r) L (start_of_row r) m (sight_of c) a (caller_call k) (sight_of k) b z told op s.runs;
-    begun = λ is_open. subst IsOperation (sym told.op) op;
+    begun = λ is_open. subst IsScriptOperation (sym told.op) op;
   }
 
 pub tried_is : (c : Caller Scripts) (r : Result Answer RunErr) → WasTried r → IsRefusedBy c r

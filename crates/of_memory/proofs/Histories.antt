@@ -27,7 +27,7 @@ use Rattle.of_caller.proofs.StoresHeld.{has_reply}
 use Rattle.of_core.specs.Linear.{recovered_number, FindsCall}
 use Rattle.of_store.specs.State.{Store}
 use Rattle.of_eval.specs.declared.scripts.Scripts.{Scripts}
-use Rattle.of_eval.specs.Scripts.{store_at, data_cells_of, LawfulCells, scripts_meaning, script_reads}
+use Rattle.of_eval.specs.Scripts.{store_at, scripts_data_cells, LawfulCells, scripts_meaning, script_reads}
 use Rattle.of_eval.specs.Stored.{cell_store}
 use Rattle.of_core.specs.Table.{Setup, cell_count, words_before_members, durable_at, durable_word, ticket_cell, shape_cell, reply_cell}
 use Rattle.of_core.specs.Machine.{Call, CallState, no_call, is_idle, IsOpen}
@@ -43,32 +43,32 @@ use Rattle.of_row.specs.Views.{EndedCall, KnownCaller, View, no_ended, Each}
 use Rattle.of_row.specs.Rule.{ViewMeetsRule, ticket_at as own_ticket, done_before}
 use Rattle.of_row.specs.Told.{open_operation, operations_known}
 use Rattle.of_row.specs.Trail.{first_of, moment, IsRunBy}
-use Rattle.of_row.specs.Moments.{ExplainsAll, StopsLoseNothing, LosesNothing, words_alone}
+use Rattle.of_row.specs.Moments.{ExplainsEndedCalls, StopsLoseNothing, LosesNothing, words_alone}
 use Rattle.of_caller.proofs.StoresReplay.{number_at}
-use Rattle.of_memory.specs.History.{Entry, no_entry, Made, no_made, store_after, IsOneOf, OnlyReads, IsUpTo}
-use Rattle.of_memory.specs.Calls.{IsOperation, IsMade, AreMade, RunsScripts}
-use Rattle.of_memory.specs.Laws.{setup_with, StandsAt, KeepsSo, KeepScripts, ExplainsKept, HasOpenScript, HasOnlyKept, TellsLast, Leads, HoldsHistory}
+use Rattle.of_memory.specs.History.{HistoryEntry, no_history_entry, Made, no_made, store_after, IsOneOf, ScriptOnlyReads, IsUpTo}
+use Rattle.of_memory.specs.Calls.{IsScriptOperation, IsMade, AreMade, RunsScripts}
+use Rattle.of_memory.specs.Laws.{setup_with, StandsAt, KeepsSo, KeepScripts, ExplainsKept, HasOpenScript, HasOnlyKept, TellsLast, HistoryLeads, HoldsHistory}
 use Rattle.of_memory.proofs.Replaying.{sizes, Cells, AreScripts, IsEntryOf, entries, serial, long, leads, at, in_order, explains}
 
 -- ---- the operations that a kept caller has begun are scripts'
 
-begun_scripts : (es : List EndedCall) (os : List (List ℕ)) → Every (λ (e : EndedCall). IsOperation e.op) es → Every IsOperation os → Every IsOperation (map (λ (e : EndedCall). e.op) es ++ os)
+begun_scripts : (es : List EndedCall) (os : List (List ℕ)) → Every (λ (e : EndedCall). IsScriptOperation e.op) es → Every IsScriptOperation os → Every IsScriptOperation (map (λ (e : EndedCall). e.op) es ++ os)
 begun_scripts [] os h k = k
 begun_scripts (e ∷ es) os h k = (h.0, begun_scripts es os h.1 k)
 
-open_scripts : (m : CallState) (b : Bool) → (b ≡ false → IsOperation m.op) → Every IsOperation (open_operation m b)
+open_scripts : (m : CallState) (b : Bool) → (b ≡ false → IsScriptOperation m.op) → Every IsScriptOperation (open_operation m b)
 open_scripts m true h = tt
 open_scripts m false h = (h refl, tt)
 
-begun_are : (x : KnownCaller) → RunsScripts x → All IsOperation (operations_known x)
+begun_are : (x : KnownCaller) → RunsScripts x → All IsScriptOperation (operations_known x)
 begun_are x r =
-    All-from_recursion IsOperation (operations_known x)
-    (begun_scripts x.ended (open_operation x.machine (is_idle x.machine.place)) (recursion_from_All (λ (e : EndedCall). IsOperation e.op) x.ended r.ended) (open_scripts x.machine (is_idle x.machine.place) r.open_call))
+    All-from_recursion IsScriptOperation (operations_known x)
+    (begun_scripts x.ended (open_operation x.machine (is_idle x.machine.place)) (recursion_from_All (λ (e : EndedCall). IsScriptOperation e.op) x.ended r.ended) (open_scripts x.machine (is_idle x.machine.place) r.open_call))
 
-operations_are : (S : Setup) (B : TableStart) (es : List Event) (n : ℕ) (xs : List KnownCaller) → KeepsSo n RunsScripts xs → Each (IsRunBy S B es) xs → All IsOperation (operations_begun es n)
+operations_are : (S : Setup) (B : TableStart) (es : List Event) (n : ℕ) (xs : List KnownCaller) → KeepsSo n RunsScripts xs → Each (IsRunBy S B es) xs → All IsScriptOperation (operations_begun es n)
 operations_are S B es n [] keeps told = absurd keeps
 operations_are S B es n (x ∷ xs) (inl h) told =
-    subst (λ (m : ℕ). All IsOperation (operations_begun es m)) h.0 (subst (All IsOperation) told.0.told.begun (begun_are x h.1))
+    subst (λ (m : ℕ). All IsScriptOperation (operations_begun es m)) h.0 (subst (All IsScriptOperation) told.0.told.begun (begun_are x h.1))
 operations_are S B es n (x ∷ xs) (inr h) told = operations_are S B es n xs h told.1
 
 -- ---- calls that are kept, as calls of scripts
@@ -85,7 +85,7 @@ each_of f [] h = tt
 each_of f (x ∷ xs) h = (f x h.0, each_of f xs h.1)
 
 -- a script that may write is no operation that only reads
-may_write : (op : List ℕ) (script : List Instr) → op ≡ map instr_word script → IsScript script → (OnlyReads script → ⊥) → script_reads op ≡ false
+may_write : (op : List ℕ) (script : List Instr) → op ≡ map instr_word script → IsScript script → (ScriptOnlyReads script → ⊥) → script_reads op ≡ false
 may_write op script words is writes = go (script_reads op) refl
   where
     go : (b : Bool) → script_reads op ≡ b → script_reads op ≡ false
@@ -93,7 +93,7 @@ may_write op script words is writes = go (script_reads op) refl
     go true e =
         let q = reads_of op e in
         let same : q.0.script ≡ script = words_injective q.0.script script q.0.range is.in_range (q.0.words ∙ words) in
-        absurd (writes (subst OnlyReads same (All-from_recursion (λ (i : Instr). IsTrue (reads_only i)) q.0.script q.0.reads)))
+        absurd (writes (subst ScriptOnlyReads same (All-from_recursion (λ (i : Instr). IsTrue (reads_only i)) q.0.script q.0.reads)))
 
 made_long : (es : List EndedCall) (ms : List Made) → AreMade es ms → length ms ≡ length es
 made_long [] [] h = refl
@@ -146,7 +146,7 @@ module _ (w : Scripts) (limit : ℕ) (start : StartsMeetInvariant (setup_with w 
     durable_same c low = lost.reached.words (durable_at S c) (omega (arith, low))
 
     -- recovery finds in the words what it finds at that moment
-    number_same : (a : ℕ) → a < data_cells_of w → recovered_number S (words_alone m.state.words) a ≡ recovered_number S u a
+    number_same : (a : ℕ) → a < scripts_data_cells w → recovered_number S (words_alone m.state.words) a ≡ recovered_number S u a
     number_same a low = ap payload_of (recovered_data-same S.callers S.cells (durable_word S m.state.words) (durable_word S u.words) durable_same a low (omega (arith, low, (grounds B u good).cells)))
 
     abbrev order : List Call
@@ -155,17 +155,17 @@ module _ (w : Scripts) (limit : ℕ) (start : StartsMeetInvariant (setup_with w 
     -- each call of the order is that of a script
     are_scripts : AreScripts w order
     are_scripts =
-        recursion_from_All (λ (c : Call). IsOperation c.op) order (All-from_get_or (λ (c : Call). IsOperation c.op) order no_call (λ y l.
+        recursion_from_All (λ (c : Call). IsScriptOperation c.op) order (All-from_get_or (λ (c : Call). IsScriptOperation c.op) order no_call (λ y l.
         let c = get_or order y no_call in
         let b = lost.linearizes.begun y no_call l in
         let was = b.1 refl in
-        subst IsOperation (sym was.2)
+        subst IsScriptOperation (sym was.2)
         (operations_are S B lost.events c.caller v.kept (keeps c.caller b.0) (lost.reached.callers m.seat v m.view awake) (c.ticket - start_ticket S B c.caller - 1) [] (omega (arith, was.0, was.1)))))
 
     abbrev found_in : List ℕ → List ℕ
-    found_in row = recovered_words w.callers (data_cells_of w) row
+    found_in row = recovered_words w.callers (scripts_data_cells w) row
 
-    starts_again : (row : List ℕ) → IsDurable S ws row → IsStartRow S L (found_in row) × (start_from_durable w.callers (data_cells_of w) (found_in row) ≡ recovered_start S B u)
+    starts_again : (row : List ℕ) → IsDurable S ws row → IsStartRow S L (found_in row) × (start_from_durable w.callers (scripts_data_cells w) (found_in row) ≡ recovered_start S B u)
     starts_again row durable = restarts B u good row record {
       long = durable.long;
       each = λ c low. durable.each c low ∙ ap (λ (xs : List ℕ). durable_word S xs c) (sym m.words) ∙ durable_same c low;
@@ -175,17 +175,17 @@ module _ (w : Scripts) (limit : ℕ) (start : StartsMeetInvariant (setup_with w 
       abbrev found : List ℕ
       found = found_in row
 
-      abbrev re : IsStartRow S L found × (start_from_durable w.callers (data_cells_of w) found ≡ recovered_start S B u)
+      abbrev re : IsStartRow S L found × (start_from_durable w.callers (scripts_data_cells w) found ≡ recovered_start S B u)
       re = starts_again row durable
 
       abbrev C : TableStart
-      C = start_from_durable w.callers (data_cells_of w) found
+      C = start_from_durable w.callers (scripts_data_cells w) found
 
       -- what recovery finds in a data cell
-      recovered_at : (a : ℕ) → a < data_cells_of w → recovered_number S (words_alone m.state.words) a ≡ payload_of (get_or C.cells a 0)
+      recovered_at : (a : ℕ) → a < scripts_data_cells w → recovered_number S (words_alone m.state.words) a ≡ payload_of (get_or C.cells a 0)
       recovered_at a lt = number_same a lt ∙ ap payload_of ((sound B u good).recovers a lt) ∙ ap (λ (B : TableStart). payload_of (get_or B.cells a 0)) (sym re.1)
 
-      number_found : (a : ℕ) → a < data_cells_of w → memory_of (map payload_of C.cells) a ≡ recovered_number S (words_alone m.state.words) a
+      number_found : (a : ℕ) → a < scripts_data_cells w → memory_of (map payload_of C.cells) a ≡ recovered_number S (words_alone m.state.words) a
       number_found a lt = number_at C.cells a ∙ sym (recovered_at a lt)
 
       abbrev xs : List ℕ
@@ -197,7 +197,7 @@ module _ (w : Scripts) (limit : ℕ) (start : StartsMeetInvariant (setup_with w 
       started : Cells w xs s
       started = record { size = length-map B.cells payload_of ∙ m.rule.from.start.size; stored = stands }
 
-      abbrev h : List Entry
+      abbrev h : List HistoryEntry
       h = entries w s order are_scripts
 
       led : Cells w ys (store_after s h)
@@ -205,7 +205,7 @@ module _ (w : Scripts) (limit : ℕ) (start : StartsMeetInvariant (setup_with w 
 
       -- the numbers that recovery finds are those behind the order
       same_cell : (a : ℕ) → store_at w ≤ a → memory_of ys a ≡ memory_of (map payload_of C.cells) a
-      same_cell a low = elim (cases_lt a (data_cells_of w)) [
+      same_cell a low = elim (cases_lt a (scripts_data_cells w)) [
         | inl lt ↦
             sym (lost.recovered_so.numbers a low lt) ∙ sym (number_found a lt)
         | inr past ↦
@@ -220,20 +220,20 @@ module _ (w : Scripts) (limit : ℕ) (start : StartsMeetInvariant (setup_with w 
       }
 
       -- the order explains how a kept caller's calls have ended, and so does the history
-      explained : (x : KnownCaller) → ExplainsAll S B order x → ExplainsKept S B h x
+      explained : (x : KnownCaller) → ExplainsEndedCalls S B order x → ExplainsKept S B h x
       explained x all ms made y l =
           let at = made_at x.ended ms y made l in
           explains w limit order xs s are_scripts started lost.linearizes.legal (get_or x.ended y no_ended).outcome (get_or ms y no_made).ended
           x.machine.caller (own_ticket S B x y) (get_or x.ended y no_ended).op (get_or ms y no_made).script at.1.script at.1.words at.1.ended (all y at.0)
 
-      entry_of : (y : ℕ) → y < length h → IsEntryOf w (get_or order y no_call) (get_or h y no_entry)
+      entry_of : (y : ℕ) → y < length h → IsEntryOf w (get_or order y no_call) (get_or h y no_history_entry)
       entry_of y l = at w limit order xs s are_scripts started lost.linearizes.legal y l
 
       -- each entry of a kept caller is one of its calls
       owned : (x : KnownCaller) → IsRunBy S B lost.events x → HasOnlyKept S B h x
-      owned x told ms made = All-from_get_or (λ (e : Entry). e.caller ≡ x.machine.caller → IsOneOf (done_before S B x.machine.caller) ms (HasOpenScript x) e) h no_entry (λ y l mine.
+      owned x told ms made = All-from_get_or (λ (e : HistoryEntry). e.caller ≡ x.machine.caller → IsOneOf (done_before S B x.machine.caller) ms (HasOpenScript x) e) h no_history_entry (λ y l mine.
           let c : Call = get_or order y no_call in
-          let e : Entry = get_or h y no_entry in
+          let e : HistoryEntry = get_or h y no_history_entry in
           let is = entry_of y l in
           let own : c.caller ≡ x.machine.caller = sym is.caller ∙ mine in
           let b = (lost.linearizes.begun y no_call (subst (λ (n : ℕ). y < n) (long w s order are_scripts) l)).1 refl in
@@ -256,12 +256,12 @@ module _ (w : Scripts) (limit : ℕ) (start : StartsMeetInvariant (setup_with w 
             | inr last ↦ inr (omega (arith, is.ticket, low, last.0, many), (last.1, is.script, sym last.2 ∙ sym op ∙ is.words))
           ])
 
-      below : All (λ (e : Entry). e.caller < w.callers) h
-      below = All-from_get_or (λ (e : Entry). e.caller < w.callers) h no_entry (λ y l.
+      below : All (λ (e : HistoryEntry). e.caller < w.callers) h
+      below = All-from_get_or (λ (e : HistoryEntry). e.caller < w.callers) h no_history_entry (λ y l.
           subst (λ (n : ℕ). n < w.callers) (sym (entry_of y l).caller) (lost.linearizes.begun y no_call (subst (λ (n : ℕ). y < n) (long w s order are_scripts) l)).0)
 
       module _ (n : ℕ) (low : n < w.callers) where
-        ticket_low : ticket_cell_at MOST_INSTRS n < data_cells_of w
+        ticket_low : ticket_cell_at MOST_INSTRS n < scripts_data_cells w
         ticket_low = omega (arith, low)
 
         found_last : (y : ℕ) → y < length order → (get_or order y no_call).caller ≡ n → FindsCall S (words_alone m.state.words) (get_or order y no_call) → TellsLast S B C h n
@@ -281,11 +281,11 @@ module _ (w : Scripts) (limit : ℕ) (start : StartsMeetInvariant (setup_with w 
                   ∙ finds.replies j k (ap (λ (x : ℕ). is_marked x j) (sym shape) ∙ mark),
             ) in
             inr (
-              get_or h y no_entry,
+              get_or h y no_history_entry,
               (y, l, refl),
               is.caller ∙ mine,
               is.ticket ∙ sym finds.ticket ∙ ap (λ (i : ℕ). recovered_number S (words_alone m.state.words) (ticket_cell S i)) mine ∙ recovered_at (ticket_cell_at MOST_INSTRS n) ticket_low,
-              has_reply (sizes w limit) raw (length c.op) (get_or h y no_entry).reply is.some is.few is.fits (subst (SameReply S raw) is.raw same),
+              has_reply (sizes w limit) raw (length c.op) (get_or h y no_history_entry).reply is.some is.few is.fits (subst (SameReply S raw) is.raw same),
             )
 
         tells_last : TellsLast S B C h n
@@ -295,15 +295,15 @@ module _ (w : Scripts) (limit : ℕ) (start : StartsMeetInvariant (setup_with w 
         ]
 
         up_to : IsUpTo h n (done_before S C n)
-        up_to = All-from_get_or (λ (e : Entry). e.caller ≡ n → (OnlyReads e.script → ⊥) → e.ticket ≤ done_before S C n) h no_entry (λ y l mine writes.
+        up_to = All-from_get_or (λ (e : HistoryEntry). e.caller ≡ n → (ScriptOnlyReads e.script → ⊥) → e.ticket ≤ done_before S C n) h no_history_entry (λ y l mine writes.
             let c : Call = get_or order y no_call in
             let is = entry_of y l in
             let among : y < length order = subst (λ (k : ℕ). y < k) (long w s order are_scripts) l in
-            let few = (lost.recovered_so.own n low).upto y no_call among (sym is.caller ∙ mine) (may_write c.op (get_or h y no_entry).script is.words is.script writes) in
+            let few = (lost.recovered_so.own n low).upto y no_call among (sym is.caller ∙ mine) (may_write c.op (get_or h y no_history_entry).script is.words is.script writes) in
             let at_end = recovered_at (ticket_cell_at MOST_INSTRS n) ticket_low in
             omega (arith, few, is.ticket, at_end))
 
-      leads_there : Leads w limit B v s found h
+      leads_there : HistoryLeads w limit B v s found h
       leads_there = record {
         serial = serial w s order are_scripts;
         ends = ends;

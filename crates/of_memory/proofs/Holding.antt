@@ -6,7 +6,7 @@ use Rattle.std.proofs.lemmas.List.{get_or-set_same, get_or-set_other, get_or_pas
 use Rattle.of_script.specs.declared.instr.Instr.{Instr}
 use Rattle.of_store.specs.State.{Store}
 use Rattle.of_eval.specs.declared.scripts.Scripts.{Scripts}
-use Rattle.of_eval.specs.Scripts.{data_cells_of}
+use Rattle.of_eval.specs.Scripts.{scripts_data_cells}
 use Rattle.of_core.specs.Table.{Setup}
 use Rattle.of_core.specs.Machine.{CallState, IsOpen}
 use Rattle.of_core.specs.World.{TableStart}
@@ -19,10 +19,10 @@ use Rattle.of_caller.specs.declared.caller.Caller.{Caller}
 use Rattle.of_caller.specs.Callers.{caller_call}
 use Rattle.of_memory.specs.declared.memory.Memory.{Memory}
 use Rattle.of_memory.specs.declared.saved.Saved.{Saved}
-use Rattle.of_memory.specs.History.{Entry, Made, store_after, ExplainsAll, IsOneOf, HasOnly, IsUpTo}
+use Rattle.of_memory.specs.History.{HistoryEntry, Made, store_after, ExplainsAll, IsOneOf, HasOnly, IsUpTo}
 use Rattle.of_memory.specs.Calls.{AreMade, RunsScripts}
 use Rattle.of_memory.specs.Called.{IsOpenAt}
-use Rattle.of_memory.specs.Laws.{setup_with, StandsAt, KeepsSo, ExplainsKept, HasOpenScript, HasOnlyKept, TellsLast, Leads}
+use Rattle.of_memory.specs.Laws.{setup_with, StandsAt, KeepsSo, ExplainsKept, HasOpenScript, HasOnlyKept, TellsLast, HistoryLeads}
 use Rattle.of_memory.specs.Serving.{Serves, AllHere, IsKeptOf, KeepsThose, ended_of, start_of_row}
 use Rattle.of_memory.specs.Memories.{IsMemory, HasMadeOf, HasOpenOf, KnowsOthers, OthersStayOpen, HasHistory, row_of, callers_of}
 use Rattle.of_memory.proofs.Seats.{number_below, keeps_as, same_caller}
@@ -75,21 +75,21 @@ is_within cs n c here = elim (cases_lt n (length cs)) [
   | inr high ↦ let none : get_or cs n None ≡ None = get_or_past cs n None high in absurd (cc (none, here))
 ]
 
-from_kept : (S : Setup) (B : TableStart) (h : List Entry) (n : ℕ) (c : Caller Scripts) (xs : List KnownCaller) → KeepsSo n (IsKeptOf c) xs → Each (ExplainsKept S B h) xs → (ms : List Made) → AreMade (ended_of c) ms → ExplainsAll h n (done_before S B n) ms
+from_kept : (S : Setup) (B : TableStart) (h : List HistoryEntry) (n : ℕ) (c : Caller Scripts) (xs : List KnownCaller) → KeepsSo n (IsKeptOf c) xs → Each (ExplainsKept S B h) xs → (ms : List Made) → AreMade (ended_of c) ms → ExplainsAll h n (done_before S B n) ms
 from_kept S B h n c [] k all ms made = absurd k
 from_kept S B h n c (x ∷ xs) (inl k) all ms made =
     subst (λ (i : ℕ). ExplainsAll h i (done_before S B i) ms) k.0 (all.0 ms (subst (λ (es : List EndedCall). AreMade es ms) (sym k.1.ended) made))
 from_kept S B h n c (x ∷ xs) (inr k) all ms made = from_kept S B h n c xs k all.1 ms made
 
 -- the history has none but these calls of the caller
-only_kept : (m : Memory) (S : Setup) (B : TableStart) (h : List Entry) (n : ℕ) (c : Caller Scripts) → get_or m.callers.items n None ≡ Some c → (xs : List KnownCaller) → KeepsSo n (IsKeptOf c) xs → Each (HasOnlyKept S B h) xs
+only_kept : (m : Memory) (S : Setup) (B : TableStart) (h : List HistoryEntry) (n : ℕ) (c : Caller Scripts) → get_or m.callers.items n None ≡ Some c → (xs : List KnownCaller) → KeepsSo n (IsKeptOf c) xs → Each (HasOnlyKept S B h) xs
     → (ms : List Made) → AreMade (ended_of c) ms → HasOnly h n (done_before S B n) ms (HasOpenOf m n)
 only_kept m S B h n c here [] k all ms made = absurd k
 only_kept m S B h n c here (x ∷ xs) (inl k) all ms made = λ y d lt mine.
     as_open (get_or h y d) (subst (λ (i : ℕ). IsOneOf (done_before S B i) ms (HasOpenScript x) (get_or h y d)) k.0
     (all.0 ms (subst (λ (es : List EndedCall). AreMade es ms) (sym k.1.ended) made) y d lt (mine ∙ sym k.0)))
   where
-    as_open : (e : Entry) → IsOneOf (done_before S B n) ms (HasOpenScript x) e → IsOneOf (done_before S B n) ms (HasOpenOf m n) e
+    as_open : (e : HistoryEntry) → IsOneOf (done_before S B n) ms (HasOpenScript x) e → IsOneOf (done_before S B n) ms (HasOpenOf m n) e
     as_open e (inl one) = inl one
     as_open e (inr last) =
         let same : x.machine ≡ caller_call c = k.1.open_call last.1.0 in
@@ -114,14 +114,14 @@ keep_scripts cs xs count long here keeps n lt =
     keeps_as n (IsKeptOf one.0) RunsScripts (λ x k. k.runs) xs (keeps n one.0 low one.1)
 
 pub history : (m : Memory) (d : Saved) (r : Row Scripts) (v : View) → r ≡ row_of m → (key_of r).callers ≡ (key_of r).work.callers → d.scripts ≡ (key_of r).work → KeepsThose m.callers.items (length m.callers.items) v.kept
-    → ((s : Store) → StandsAt (key_of r).work (start_of_row r) s → (h : List Entry) × Leads (key_of r).work (key_of r).limit (start_of_row r) v s d.row.items h) → HasHistory m d
+    → ((s : Store) → StandsAt (key_of r).work (start_of_row r) s → (h : List HistoryEntry) × HistoryLeads (key_of r).work (key_of r).limit (start_of_row r) v s d.row.items h) → HasHistory m d
 history m d r v same sizes scripts keeps leads s starts =
     let found = leads s (subst (λ (x : Row Scripts). StandsAt (key_of x).work (start_of_row x) s) (sym same) starts) in
     let h = found.0 in (
       h,
       record {
         serial = found.1.serial;
-        ends = subst (λ (w : Scripts). StandsAt w (start_from_durable w.callers (data_cells_of w) d.row.items) (store_after s h)) (sym scripts) found.1.ends;
+        ends = subst (λ (w : Scripts). StandsAt w (start_from_durable w.callers (scripts_data_cells w) d.row.items) (store_after s h)) (sym scripts) found.1.ends;
         order = found.1.order;
         made = λ n ms made.
             let explained = from_kept (setup_with (key_of r).work (key_of r).limit) (start_of_row r) h n made.caller v.kept (keeps n made.caller (is_within m.callers.items n made.caller made.here) made.here) found.1.calls ms made.made in
@@ -131,12 +131,12 @@ history m d r v same sizes scripts keeps leads s starts =
             subst (λ (x : Row Scripts). HasOnly h n (done_before (setup_with (key_of r).work (key_of r).limit) (start_of_row x) n) ms (HasOpenOf m n)) same owned;
         last = λ n lt.
             let S : Setup = setup_with (key_of r).work (key_of r).limit in
-            let Tells : Scripts → Row Scripts → Type 0 = λ w x. TellsLast S (start_of_row x) (start_from_durable w.callers (data_cells_of w) d.row.items) h n in
+            let Tells : Scripts → Row Scripts → Type 0 = λ w x. TellsLast S (start_of_row x) (start_from_durable w.callers (scripts_data_cells w) d.row.items) h n in
             subst (λ (x : Row Scripts). Tells d.scripts x) same (subst (λ (w : Scripts). Tells w r) (sym scripts) (found.1.last n (low n lt)));
         upto = λ n lt.
             let S : Setup = setup_with (key_of r).work (key_of r).limit in
-            subst (λ (w : Scripts). IsUpTo h n (done_before S (start_from_durable w.callers (data_cells_of w) d.row.items) n)) (sym scripts) (found.1.upto n (low n lt));
-        callers = subst (λ (k : ℕ). All (λ (e : Entry). e.caller < k) h) (sym sizes ∙ ap (λ (x : Row Scripts). (key_of x).callers) same) found.1.callers;
+            subst (λ (w : Scripts). IsUpTo h n (done_before S (start_from_durable w.callers (scripts_data_cells w) d.row.items) n)) (sym scripts) (found.1.upto n (low n lt));
+        callers = subst (λ (k : ℕ). All (λ (e : HistoryEntry). e.caller < k) h) (sym sizes ∙ ap (λ (x : Row Scripts). (key_of x).callers) same) found.1.callers;
       },
     )
   where

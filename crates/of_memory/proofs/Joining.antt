@@ -2,7 +2,7 @@
 use Rattle.std.proofs.Common.{◌≡◌, true, [], ◌∷◌, refl}
 use Rattle.std.proofs.lemmas.List.Elements.{All-head, All-tail}
 use Rattle.of_store.specs.State.{run}
-use Rattle.of_memory.specs.History.{Entry}
+use Rattle.of_memory.specs.History.{HistoryEntry}
 use Rattle.of_memory.specs.Joining.{HistoriesJoin, InvariantsHold}
 
 pub histories_join : HistoriesJoin
@@ -13,5 +13,5 @@ pub invariants_hold : InvariantsHold
 invariants_hold holds kind keeps s [] now all = now
 invariants_hold holds kind keeps s (e ∷ h) now all =
     invariants_hold holds kind keeps (run s e.script).0 h
-    (keeps s e.script now (All-head (λ (e : Entry). kind e.script ≡ true) e h all))
-    (All-tail (λ (e : Entry). kind e.script ≡ true) e h all)
+    (keeps s e.script now (All-head (λ (e : HistoryEntry). kind e.script ≡ true) e h all))
+    (All-tail (λ (e : HistoryEntry). kind e.script ≡ true) e h all)

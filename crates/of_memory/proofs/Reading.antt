@@ -12,11 +12,11 @@ use Rattle.of_store.specs.State.{Store}
 use Rattle.of_eval.specs.Stored.{IsStored}
 use Rattle.of_eval.specs.Walking.{CellsStandFor}
 use Rattle.of_memory.specs.declared.saved.Saved.{Saved}
-use Rattle.of_memory.specs.Saving.{start_in, Holds}
+use Rattle.of_memory.specs.Saving.{start_in, SavedHolds}
 
 -- the numbers of a durable row's data cells stand for the store that a plot's cells with these numbers stand for
 pub store_stands : (d : Saved) (p : Plot) (xs : List ℕ) (s : Store) → p.callers ≡ d.scripts.callers → p.instrs ≡ MOST_INSTRS → p.blocks ≡ d.scripts.blocks
-    → xs ≡ map payload_of (start_in d).cells → CellsStandFor p xs s → Holds d s
+    → xs ≡ map payload_of (start_in d).cells → CellsStandFor p xs s → SavedHolds d s
 store_stands d p xs s callers instrs blocks is h =
     subst (λ (k : ℕ × ℕ × ℕ × List ℕ). IsStored (base_of k.0 k.1) k.2 (memory_of k.3) s) (λ i. (callers i, instrs i, blocks i, is i)) h.stored
 

@@ -12,7 +12,7 @@ use Rattle.of_script.specs.Language.{IsScript, instr_word}
 use Rattle.of_script.proofs.WordLaws.{words_injective}
 use Rattle.of_store.specs.State.{Store, Reply, run}
 use Rattle.of_eval.specs.declared.scripts.Scripts.{Scripts}
-use Rattle.of_eval.specs.Scripts.{store_at, data_cells_of, scripts_meaning}
+use Rattle.of_eval.specs.Scripts.{store_at, scripts_data_cells, scripts_meaning}
 use Rattle.of_eval.specs.Stored.{IsStored}
 use Rattle.of_eval.specs.SoundScripts.{scripts_sound}
 use Rattle.of_eval.proofs.Meanings.{means_words, words_mean_script}
@@ -21,13 +21,13 @@ use Rattle.of_core.specs.declared.place.Outcome.{Outcome}
 use Rattle.of_core.specs.declared.place.Outcome.TheVariants.{Answered, Spent as Over}
 use Rattle.of_core.specs.Table.{Setup}
 use Rattle.of_core.specs.Machine.{Call, no_call}
-use Rattle.of_core.specs.History.{numbers_after_calls, HaveReplies, SameReply}
-use Rattle.of_core.specs.Claim.{IsNewer}
+use Rattle.of_core.specs.History.{numbers_after_calls, CallsHaveReplies, SameReply}
+use Rattle.of_core.specs.Claim.{IsNewerCall}
 use Rattle.of_core.specs.Linear as core
 use Rattle.of_caller.specs.Moments.{raw_reply_of}
 use Rattle.of_caller.proofs.StoresHeld.{FitsIn, script_fits, held_response}
-use Rattle.of_memory.specs.History.{Entry, no_entry, End, Replied, Spent, IsSerial, store_after, StandsInOrder, Has, Explains}
-use Rattle.of_memory.specs.Calls.{IsOperation, EndsAs}
+use Rattle.of_memory.specs.History.{HistoryEntry, no_history_entry, End, Replied, Spent, IsSerial, store_after, StandsInOrder, HasEntry, ExplainsEnd}
+use Rattle.of_memory.specs.Calls.{IsScriptOperation, EndsAs}
 use Rattle.of_memory.specs.Laws.{setup_with}
 
 -- a plan of these sizes, whose table is that of the scripts
@@ -40,7 +40,7 @@ module _ (w : Scripts) where
 
   -- so many cells, which stand for the store
   pub record Cells (xs : List ℕ) (s : Store) : Type 0 where
-    pub size : length xs ≡ data_cells_of w
+    pub size : length xs ≡ scripts_data_cells w
     pub stored : IsStored (store_at w) w.blocks (memory_of xs) s
 
   -- a script leads to the next store, and has its reply
@@ -72,10 +72,10 @@ module _ (w : Scripts) where
 
   -- the operation of each call is a script's
   abbrev pub AreScripts : List Call → Type 0
-  AreScripts cs = Each (λ (c : Call). IsOperation c.op) cs
+  AreScripts cs = Each (λ (c : Call). IsScriptOperation c.op) cs
 
   -- the entries of the calls, with the replies that they meet from this store on
-  abbrev pub entries : (s : Store) (cs : List Call) → AreScripts cs → List Entry
+  abbrev pub entries : (s : Store) (cs : List Call) → AreScripts cs → List HistoryEntry
   entries s [] k = []
   entries s (c ∷ cs) k = record { caller = c.caller; ticket = c.ticket; script = k.0.0; reply = (run s k.0.0).1 } ∷ entries (run s k.0.0).0 cs k.1
 
@@ -93,7 +93,7 @@ module _ (w : Scripts) where
   leads xs s (c ∷ cs) k h = leads (M.cells xs c.op) (run s k.0.0).0 cs k.1 (runs xs c.op s k.0.0 h k.0.2 k.0.1).cells
 
   -- the entry is that of the call
-  pub record IsEntryOf (c : Call) (e : Entry) : Type 0 where
+  pub record IsEntryOf (c : Call) (e : HistoryEntry) : Type 0 where
     pub caller : e.caller ≡ c.caller
     pub ticket : e.ticket ≡ c.ticket
     pub script : IsScript e.script
@@ -103,24 +103,24 @@ module _ (w : Scripts) where
     pub few : length c.op ≤ MOST_INSTRS
     pub fits : FitsIn (length c.op) e.reply
 
-  pub entry_at : (cs : List Call) (y : ℕ) (xs : List ℕ) (s : Store) (k : AreScripts cs) → Cells xs s → HaveReplies M xs cs → y < length cs → IsEntryOf (get_or cs y no_call) (get_or (entries s cs k) y no_entry)
+  pub entry_at : (cs : List Call) (y : ℕ) (xs : List ℕ) (s : Store) (k : AreScripts cs) → Cells xs s → CallsHaveReplies M xs cs → y < length cs → IsEntryOf (get_or cs y no_call) (get_or (entries s cs k) y no_history_entry)
   entry_at [] y xs s k h r l = absurd (omega arith)
   entry_at (c ∷ cs) zero xs s k h r l =
       let first = runs xs c.op s k.0.0 h k.0.2 k.0.1 in
       record { caller = refl; ticket = refl; script = k.0.1; words = k.0.2; raw = sym r.0 ∙ first.reply; some = first.some; few = first.few; fits = first.fits }
   entry_at (c ∷ cs) (suc y) xs s k h r l = entry_at cs y (M.cells xs c.op) (run s k.0.0).0 k.1 (runs xs c.op s k.0.0 h k.0.2 k.0.1).cells r.1 (omega arith)
 
-  module _ (limit : ℕ) (cs : List Call) (xs : List ℕ) (s : Store) (k : AreScripts cs) (h : Cells xs s) (r : HaveReplies M xs cs) where
+  module _ (limit : ℕ) (cs : List Call) (xs : List ℕ) (s : Store) (k : AreScripts cs) (h : Cells xs s) (r : CallsHaveReplies M xs cs) where
     abbrev S : Setup
     S = setup_with w limit
 
-    abbrev hs : List Entry
+    abbrev hs : List HistoryEntry
     hs = entries s cs k
 
-    pub at : (y : ℕ) → y < length hs → IsEntryOf (get_or cs y no_call) (get_or hs y no_entry)
+    pub at : (y : ℕ) → y < length hs → IsEntryOf (get_or cs y no_call) (get_or hs y no_history_entry)
     at y l = entry_at cs y xs s k h r (subst (λ (n : ℕ). y < n) (long s cs k) l)
 
-    pub in_order : ((p q : ℕ) → p < q → q < length cs → IsNewer (get_or cs p no_call) (get_or cs q no_call)) → StandsInOrder hs
+    pub in_order : ((p q : ℕ) → p < q → q < length cs → IsNewerCall (get_or cs p no_call) (get_or cs q no_call)) → StandsInOrder hs
     in_order rising p q lt high same =
         let l : q < length cs = subst (λ (n : ℕ). q < n) (long s cs k) high in
         let a = at p (omega (arith, lt, high)) in
@@ -130,21 +130,21 @@ module _ (w : Scripts) where
 
     has : (i t : ℕ) (op : List ℕ) (raw : RawReply) (script : List Instr) (response : Reply) → IsScript script → op ≡ map instr_word script → EndsAs (Answered 0 true raw 0) (Replied response)
         → (place : ℕ) → place < length cs → (get_or cs place no_call).caller ≡ i → (get_or cs place no_call).ticket ≡ t → (get_or cs place no_call).op ≡ op → SameReply S raw (get_or cs place no_call).raw
-        → Has hs (record { caller = i; ticket = t; script = script; reply = response })
+        → HasEntry hs (record { caller = i; ticket = t; script = script; reply = response })
     has i t op raw script response is words held place among caller ticket same reply =
         let l : place < length hs = subst (λ (n : ℕ). place < n) (sym (long s cs k)) among in
         let e = at place l in
-        let one : (get_or hs place no_entry).script ≡ script = words_injective (get_or hs place no_entry).script script e.script.in_range is.in_range (sym e.words ∙ same ∙ words) in
-        let answer : (get_or hs place no_entry).reply ≡ response =
-        sym (held_response (sizes w limit) raw held.0 (length (get_or cs place no_call).op) (get_or hs place no_entry).reply e.some e.few e.fits (subst (SameReply S raw) e.raw reply) held.1) ∙ held.2 in
+        let one : (get_or hs place no_history_entry).script ≡ script = words_injective (get_or hs place no_history_entry).script script e.script.in_range is.in_range (sym e.words ∙ same ∙ words) in
+        let answer : (get_or hs place no_history_entry).reply ≡ response =
+        sym (held_response (sizes w limit) raw held.0 (length (get_or cs place no_call).op) (get_or hs place no_history_entry).reply e.some e.few e.fits (subst (SameReply S raw) e.raw reply) held.1) ∙ held.2 in
         (place, l, λ j. record { caller = (e.caller ∙ caller) j; ticket = (e.ticket ∙ ticket) j; script = one j; reply = answer j })
 
     -- how the order explains the end of a call, the history does
-    pub explains : (o : Outcome) (end : End) (i t : ℕ) (op : List ℕ) (script : List Instr) → IsScript script → op ≡ map instr_word script → EndsAs o end → core.Explains S cs i t op o → Explains hs i t script end
+    pub explains : (o : Outcome) (end : End) (i t : ℕ) (op : List ℕ) (script : List Instr) → IsScript script → op ≡ map instr_word script → EndsAs o end → core.ExplainsOutcome S cs i t op o → ExplainsEnd hs i t script end
     explains (Answered n announced raw steps) (Replied response) i t op script is words held call =
         has i t op raw script response is words held call.place call.among call.caller call.ticket call.same call.reply
     explains (Answered n announced raw steps) Spent i t op script is words held call = absurd held
     explains (Over n) (Replied response) i t op script is words held call = absurd held
     explains (Over n) Spent i t op script is words held none =
-        All-from_get_or (λ (e : Entry). e.caller ≡ i → e.ticket ≡ t → ⊥) hs no_entry
+        All-from_get_or (λ (e : HistoryEntry). e.caller ≡ i → e.ticket ≡ t → ⊥) hs no_history_entry
         (λ y l a b. none y no_call (subst (λ (m : ℕ). y < m) (long s cs k) l) (sym (at y l).caller ∙ a) (sym (at y l).ticket ∙ b))

@@ -11,7 +11,7 @@ use Rattle.of_row.specs.declared.member.Member.{Member}
 use Rattle.of_row.specs.declared.member.Pass.{Pass}
 use Rattle.of_row.specs.declared.row.Row.{Row}
 use Rattle.of_row.specs.Passes.{HasEnrolled, IsFirst}
-use Rattle.of_row.specs.Rows.{key_of, setup_at, start_at}
+use Rattle.of_row.specs.Rows.{key_of, setup_at, row_start}
 use Rattle.of_row.specs.Rule.{IsAsked}
 use Rattle.of_row.specs.Views.{KnownCaller, View, Each, last_caller, seen_seq}
 use Rattle.of_row.specs.Turned.{new_known_caller, StandsForMachine}
@@ -70,7 +70,7 @@ new_caller r n before member now c e is same rest = record {
   none = ap (λ (x : KnownCaller). x.ended) kept;
 }
   where
-    kept : last_caller (sight_of c).kept ≡ new_known_caller (setup_at scripts_meaning r) (start_at scripts_meaning r) n (seen_seq (start_at scripts_meaning r) before.seat.me.0.seen)
+    kept : last_caller (sight_of c).kept ≡ new_known_caller (setup_at scripts_meaning r) (row_start scripts_meaning r) n (seen_seq (row_start scripts_meaning r) before.seat.me.0.seen)
     kept = ap (λ (m : Member). last_caller m.seat.me.0.kept) same ∙ ap (λ (v : View). last_caller v.kept) e.member_is
 
 -- ---- lists of places

@@ -8,14 +8,14 @@ use Rattle.of_mem.specs.ProgramWork.{memory_of}
 use Rattle.of_store.specs.State.{Store, empty_store}
 use Rattle.of_plan.specs.declared.plan.TheConstants.{GREATEST_LIMIT}
 use Rattle.of_eval.specs.declared.scripts.Scripts.{Scripts}
-use Rattle.of_eval.specs.Scripts.{store_at, data_cells_of, LawfulCells, scripts_meaning}
+use Rattle.of_eval.specs.Scripts.{store_at, scripts_data_cells, LawfulCells, scripts_meaning}
 use Rattle.of_eval.specs.SoundScripts.{empty_is_stored}
 use Rattle.of_core.specs.Table.{Setup, setup_of}
 use Rattle.of_core.specs.World.{TableStart}
 use Rattle.of_core.specs.Events.{zero_start}
 use Rattle.of_core.specs.Starts.{start_from_durable, IsStartRow}
 use Rattle.of_row.specs.declared.row.Row.{Row}
-use Rattle.of_row.specs.Rows.{key_of, setup_at, start_for, HasSizes, MayStartFrom, IsSeatOf}
+use Rattle.of_row.specs.Rows.{key_of, setup_at, start_for, RowHasSizes, MayStartFrom, IsSeatOf}
 use Rattle.of_row.specs.Rule.{done_before}
 use Rattle.of_caller.proofs.StoresReplay.{number_at}
 use Rattle.of_memory.specs.declared.memory.Memory.{Memory}
@@ -32,20 +32,20 @@ zero_at (suc n) (suc a) = zero_at n a
 number_zero : (n a : ℕ) → memory_of (map payload_of (replicate n 0)) a ≡ 0
 number_zero n a = number_at (replicate n 0) a ∙ ap payload_of (zero_at n a) ∙ pay_zero
 
-module _ (r : Row Scripts) (shape : Shape) (limit : ℕ) (w : Scripts) (callers : shape.callers ≡ w.callers) (cells : shape.cells ≡ data_cells_of w) (has : HasSizes r shape limit w) (some : 1 ≤ limit) (few : limit ≤ GREATEST_LIMIT) where
+module _ (r : Row Scripts) (shape : Shape) (limit : ℕ) (w : Scripts) (callers : shape.callers ≡ w.callers) (cells : shape.cells ≡ scripts_data_cells w) (has : RowHasSizes r shape limit w) (some : 1 ≤ limit) (few : limit ≤ GREATEST_LIMIT) where
   row_callers : (key_of r).callers ≡ (key_of r).work.callers
   row_callers = has.0 ∙ callers ∙ ap (λ (x : Scripts). x.callers) (sym has.3)
 
-  row_cells : (key_of r).cells ≡ data_cells_of (key_of r).work
-  row_cells = has.1 ∙ cells ∙ ap data_cells_of (sym has.3)
+  row_cells : (key_of r).cells ≡ scripts_data_cells (key_of r).work
+  row_cells = has.1 ∙ cells ∙ ap scripts_data_cells (sym has.3)
 
-  scripts_row : (s : Store) → length (start_of_row r).cells ≡ data_cells_of w → StandsAt w (start_of_row r) s → IsScriptsRow r
+  scripts_row : (s : Store) → length (start_of_row r).cells ≡ scripts_data_cells w → StandsAt w (start_of_row r) s → IsScriptsRow r
   scripts_row s size stands = record {
     callers = row_callers;
     cells = row_cells;
     some_limit = subst (λ (n : ℕ). 1 ≤ n) (sym has.2) some;
     few_limit = subst (λ (n : ℕ). n ≤ GREATEST_LIMIT) (sym has.2) few;
-    size = size ∙ ap data_cells_of (sym has.3);
+    size = size ∙ ap scripts_data_cells (sym has.3);
     store = s;
     stands = subst (λ (x : Scripts). StandsAt x (start_of_row r) s) (sym has.3) stands;
   }
@@ -70,10 +70,10 @@ module _ (r : Row Scripts) (shape : Shape) (limit : ℕ) (w : Scripts) (callers 
   -- ---- a row that goes on
 
   module _ (row : List ℕ) (start : start_of_row r ≡ start_for shape row) where
-    starts_there : start_of_row r ≡ start_from_durable w.callers (data_cells_of w) row
+    starts_there : start_of_row r ≡ start_from_durable w.callers (scripts_data_cells w) row
     starts_there = start ∙ (λ i. start_from_durable (callers i) (cells i) row)
 
-    pub holds_on : (s : Store) → StandsAt w (start_from_durable w.callers (data_cells_of w) row) s → StandsAt (key_of r).work (start_of_row r) s
+    pub holds_on : (s : Store) → StandsAt w (start_from_durable w.callers (scripts_data_cells w) row) s → StandsAt (key_of r).work (start_of_row r) s
     holds_on s h =
         subst (λ (x : Scripts). StandsAt x (start_of_row r) s) (sym has.3)
         (subst (λ (B : TableStart). StandsAt w B s) (sym starts_there) h)
@@ -86,11 +86,11 @@ module _ (r : Row Scripts) (shape : Shape) (limit : ℕ) (w : Scripts) (callers 
     same_setup : setup_at scripts_meaning r ≡ setup_with w limit
     same_setup = λ i. setup_of ((has.0 ∙ callers) i) ((has.1 ∙ cells) i) (has.2 i) (scripts_meaning (has.3 i))
 
-    pub ticket_on : (n : ℕ) → made_before r n ≡ done_before (setup_with w limit) (start_from_durable w.callers (data_cells_of w) row) n
+    pub ticket_on : (n : ℕ) → made_before r n ≡ done_before (setup_with w limit) (start_from_durable w.callers (scripts_data_cells w) row) n
     ticket_on n = ap (λ (S : Setup). done_before S (start_of_row r) n) same_setup ∙ ap (λ (B : TableStart). done_before (setup_with w limit) B n) starts_there
 
 -- a table of the scripts' shape may start from a row from which one of theirs may
-pub may_start : (shape : Shape) (w : Scripts) (limit : ℕ) (row : List ℕ) → shape.callers ≡ w.callers → shape.cells ≡ data_cells_of w
+pub may_start : (shape : Shape) (w : Scripts) (limit : ℕ) (row : List ℕ) → shape.callers ≡ w.callers → shape.cells ≡ scripts_data_cells w
     → IsStartRow (setup_with w limit) (LawfulCells w) row → MayStartFrom scripts_meaning LawfulCells shape limit w row
 may_start shape w limit row callers cells h =
     subst (λ (k : ℕ × ℕ). IsStartRow (setup_of k.0 k.1 limit (scripts_meaning w)) (LawfulCells w) row) (λ i. (sym callers i, sym cells i)) h

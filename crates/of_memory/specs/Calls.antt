@@ -15,8 +15,8 @@ use Rattle.of_row.specs.Views.{EndedCall, KnownCaller}
 use Rattle.of_memory.specs.History.{End, Replied, Spent, Made}
 
 -- the words are a script's
-abbrev pub IsOperation : List ℕ → Type 0
-IsOperation op = (script : List Instr) × IsScript script × (op ≡ map instr_word script)
+abbrev pub IsScriptOperation : List ℕ → Type 0
+IsScriptOperation op = (script : List Instr) × IsScript script × (op ≡ map instr_word script)
 
 -- the cells hold a reply that is this response
 abbrev pub HoldsResponse : RawReply → Reply → Type 0
@@ -44,5 +44,5 @@ AreMade (e ∷ es) (m ∷ ms) = IsMade e m × AreMade es ms
 
 -- each call that the kept caller has made is that of a script, also its open one
 pub record RunsScripts (x : KnownCaller) : Type 0 where
-  pub ended : All (λ (e : EndedCall). IsOperation e.op) x.ended
-  pub open_call : IsOpen x.machine.place → IsOperation x.machine.op
+  pub ended : All (λ (e : EndedCall). IsScriptOperation e.op) x.ended
+  pub open_call : IsOpen x.machine.place → IsScriptOperation x.machine.op

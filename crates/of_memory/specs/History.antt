@@ -8,32 +8,32 @@ use Rattle.of_store.specs.State.{Store, Reply, Answered as Replied, run}
 
 -- a call in the history: a script of a caller, the number that the call has among its caller's calls,
 -- and its reply
-pub record Entry : Type 0 where
+pub record HistoryEntry : Type 0 where
   pub caller : ℕ
   pub ticket : ℕ
   pub script : List Instr
   pub reply : Reply
 
-abbrev pub no_entry : Entry
-no_entry = record { caller = 0; ticket = 0; script = []; reply = Replied [] }
+abbrev pub no_history_entry : HistoryEntry
+no_history_entry = record { caller = 0; ticket = 0; script = []; reply = Replied [] }
 
 -- the scripts run one after the other from this store, and each has the reply that it meets
-abbrev pub IsSerial : Store → List Entry → Type 0
+abbrev pub IsSerial : Store → List HistoryEntry → Type 0
 IsSerial s [] = Unit {0}
 IsSerial s (e ∷ es) = ((run s e.script).1 ≡ e.reply) × IsSerial (run s e.script).0 es
 
 -- the store after them
-abbrev pub store_after : Store → List Entry → Store
+abbrev pub store_after : Store → List HistoryEntry → Store
 store_after s [] = s
 store_after s (e ∷ es) = store_after (run s e.script).0 es
 
 -- of two entries of one caller the second is the later call
-abbrev pub IsLater : Entry → Entry → Type 0
+abbrev pub IsLater : HistoryEntry → HistoryEntry → Type 0
 IsLater e f = f.caller ≡ e.caller → e.ticket < f.ticket
 
 -- each call stands there once at most, and the calls of each caller in the order in which it made them
-abbrev pub StandsInOrder : List Entry → Type 0
-StandsInOrder h = (p q : ℕ) → p < q → q < length h → IsLater (get_or h p no_entry) (get_or h q no_entry)
+abbrev pub StandsInOrder : List HistoryEntry → Type 0
+StandsInOrder h = (p q : ℕ) → p < q → q < length h → IsLater (get_or h p no_history_entry) (get_or h q no_history_entry)
 
 -- how a call has ended: with this reply, or with none, since the limit was reached before it
 pub data End : Type 0 where
@@ -49,35 +49,35 @@ abbrev pub no_made : Made
 no_made = record { script = []; ended = Spent }
 
 -- the entry stands in the history
-abbrev pub Has : List Entry → Entry → Type 0
-Has h e = (p : ℕ) × (p < length h) × (get_or h p no_entry ≡ e)
+abbrev pub HasEntry : List HistoryEntry → HistoryEntry → Type 0
+HasEntry h e = (p : ℕ) × (p < length h) × (get_or h p no_history_entry ≡ e)
 
 -- The history has the call with its reply; it has no call that was spent.
-abbrev pub Explains : List Entry → (caller ticket : ℕ) → List Instr → End → Type 0
-Explains h c t script (Replied r) = Has h (record { caller = c; ticket = t; script = script; reply = r })
-Explains h c t script Spent = All (λ (e : Entry). e.caller ≡ c → e.ticket ≡ t → ⊥) h
+abbrev pub ExplainsEnd : List HistoryEntry → (caller ticket : ℕ) → List Instr → End → Type 0
+ExplainsEnd h c t script (Replied r) = HasEntry h (record { caller = c; ticket = t; script = script; reply = r })
+ExplainsEnd h c t script Spent = All (λ (e : HistoryEntry). e.caller ≡ c → e.ticket ≡ t → ⊥) h
 
 -- so it is of each of these calls of a caller, the first of which has the number behind n
-abbrev pub ExplainsAll : List Entry → (caller n : ℕ) → List Made → Type 0
+abbrev pub ExplainsAll : List HistoryEntry → (caller n : ℕ) → List Made → Type 0
 ExplainsAll h c n ms =
     (y : ℕ) → y < length ms
-    → Explains h c (n + y + 1) (get_or ms y no_made).script (get_or ms y no_made).ended
+    → ExplainsEnd h c (n + y + 1) (get_or ms y no_made).script (get_or ms y no_made).ended
 
 -- the entry is one of these calls, the first of which has the number behind n, or the one behind them,
 -- which is open
-abbrev pub IsOneOf : (n : ℕ) → List Made → (IsOpenCall : List Instr → Type 0) → Entry → Type 0
+abbrev pub IsOneOf : (n : ℕ) → List Made → (IsOpenCall : List Instr → Type 0) → HistoryEntry → Type 0
 IsOneOf n ms IsOpenCall e =
     ((y : ℕ) × (y < length ms) × (e.ticket ≡ n + y + 1) × (e.script ≡ (get_or ms y no_made).script))
     ⊎ ((e.ticket ≡ n + length ms + 1) × IsOpenCall e.script)
 
 -- so is each entry of the caller
-abbrev pub HasOnly : List Entry → (caller n : ℕ) → List Made → (IsOpenCall : List Instr → Type 0) → Type 0
-HasOnly h c n ms IsOpenCall = All (λ (e : Entry). e.caller ≡ c → IsOneOf n ms IsOpenCall e) h
+abbrev pub HasOnly : List HistoryEntry → (caller n : ℕ) → List Made → (IsOpenCall : List Instr → Type 0) → Type 0
+HasOnly h c n ms IsOpenCall = All (λ (e : HistoryEntry). e.caller ≡ c → IsOneOf n ms IsOpenCall e) h
 
 -- the script leaves every store as it is
-abbrev pub OnlyReads : List Instr → Type 0
-OnlyReads script = All (λ (i : Instr). IsTrue (reads_only i)) script
+abbrev pub ScriptOnlyReads : List Instr → Type 0
+ScriptOnlyReads script = All (λ (i : Instr). IsTrue (reads_only i)) script
 
 -- no call of the caller that may write is later than this one
-abbrev pub IsUpTo : List Entry → (caller ticket : ℕ) → Type 0
-IsUpTo h c t = All (λ (e : Entry). e.caller ≡ c → (OnlyReads e.script → ⊥) → e.ticket ≤ t) h
+abbrev pub IsUpTo : List HistoryEntry → (caller ticket : ℕ) → Type 0
+IsUpTo h c t = All (λ (e : HistoryEntry). e.caller ≡ c → (ScriptOnlyReads e.script → ⊥) → e.ticket ≤ t) h

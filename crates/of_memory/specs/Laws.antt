@@ -9,7 +9,7 @@ use Rattle.of_script.specs.Language.{IsScript, instr_word}
 use Rattle.of_script.specs.declared.instr.TheConstants.{MOST_INSTRS}
 use Rattle.of_store.specs.State.{Store, Reply}
 use Rattle.of_eval.specs.declared.scripts.Scripts.{Scripts}
-use Rattle.of_eval.specs.Scripts.{store_at, data_cells_of, LawfulCells, scripts_meaning}
+use Rattle.of_eval.specs.Scripts.{store_at, scripts_data_cells, LawfulCells, scripts_meaning}
 use Rattle.of_eval.specs.Stored.{IsStored}
 use Rattle.of_eval.specs.Lawful.{reply_in}
 use Rattle.of_core.specs.Table.{Setup, setup_of}
@@ -18,12 +18,12 @@ use Rattle.of_core.specs.World.{TableStart}
 use Rattle.of_core.specs.Starts.{IsDurable, IsStartRow, start_from_durable}
 use Rattle.of_row.specs.Views.{KnownCaller, View, Each}
 use Rattle.of_row.specs.Rule.{ViewMeetsRule, done_before}
-use Rattle.of_memory.specs.History.{Entry, Made, IsSerial, store_after, StandsInOrder, ExplainsAll, HasOnly, Has, IsUpTo}
+use Rattle.of_memory.specs.History.{HistoryEntry, Made, IsSerial, store_after, StandsInOrder, ExplainsAll, HasOnly, HasEntry, IsUpTo}
 use Rattle.of_memory.specs.Calls.{RunsScripts, AreMade, HoldsResponse}
 
 -- what the machines on a table for these scripts have in common
 abbrev pub setup_with : Scripts → (limit : ℕ) → Setup
-setup_with w limit = setup_of w.callers (data_cells_of w) limit (scripts_meaning w)
+setup_with w limit = setup_of w.callers (scripts_data_cells w) limit (scripts_meaning w)
 
 -- the cells of a start stand for this store
 abbrev pub StandsAt : Scripts → TableStart → Store → Type 0
@@ -39,7 +39,7 @@ abbrev pub KeepScripts : Setup → View → Type 0
 KeepScripts S v = (n : ℕ) → n < S.callers → KeepsSo n RunsScripts v.kept
 
 -- the history has the calls of the kept caller as they have ended
-abbrev pub ExplainsKept : Setup → TableStart → List Entry → KnownCaller → Type 0
+abbrev pub ExplainsKept : Setup → TableStart → List HistoryEntry → KnownCaller → Type 0
 ExplainsKept S B h x =
     (ms : List Made) → AreMade x.ended ms
     → ExplainsAll h x.machine.caller (done_before S B x.machine.caller) ms
@@ -49,7 +49,7 @@ abbrev pub HasOpenScript : KnownCaller → List Instr → Type 0
 HasOpenScript x script = IsOpen x.machine.place × IsScript script × (x.machine.op ≡ map instr_word script)
 
 -- and of its calls the history has no others
-abbrev pub HasOnlyKept : Setup → TableStart → List Entry → KnownCaller → Type 0
+abbrev pub HasOnlyKept : Setup → TableStart → List HistoryEntry → KnownCaller → Type 0
 HasOnlyKept S B h x =
     (ms : List Made) → AreMade x.ended ms
     → HasOnly h x.machine.caller (done_before S B x.machine.caller) ms (HasOpenScript x)
@@ -60,24 +60,24 @@ HoldsReplyAt C n response = HoldsResponse (reply_in MOST_INSTRS (memory_of (map 
 
 -- The last call of caller n that the cells at C hold: none since the start B, or one of the history, with
 -- its reply.
-abbrev pub TellsLast : Setup → (B C : TableStart) → List Entry → (n : ℕ) → Type 0
+abbrev pub TellsLast : Setup → (B C : TableStart) → List HistoryEntry → (n : ℕ) → Type 0
 TellsLast S B C h n =
     (done_before S C n ≡ done_before S B n)
-    ⊎ ((e : Entry) × Has h e × (e.caller ≡ n) × (e.ticket ≡ done_before S C n) × HoldsReplyAt C n e.reply)
+    ⊎ ((e : HistoryEntry) × HasEntry h e × (e.caller ≡ n) × (e.ticket ≡ done_before S C n) × HoldsReplyAt C n e.reply)
 
 -- a serial history leads from the store to the one that the row stands for
-pub record Leads (w : Scripts) (limit : ℕ) (B : TableStart) (v : View) (s : Store) (row : List ℕ)
-    (h : List Entry) : Type 0 where
+pub record HistoryLeads (w : Scripts) (limit : ℕ) (B : TableStart) (v : View) (s : Store) (row : List ℕ)
+    (h : List HistoryEntry) : Type 0 where
   pub serial : IsSerial s h
-  pub ends : StandsAt w (start_from_durable w.callers (data_cells_of w) row) (store_after s h)
+  pub ends : StandsAt w (start_from_durable w.callers (scripts_data_cells w) row) (store_after s h)
   pub order : StandsInOrder h
   pub calls : Each (ExplainsKept (setup_with w limit) B h) v.kept
   pub only : Each (HasOnlyKept (setup_with w limit) B h) v.kept
-  pub callers : All (λ (e : Entry). e.caller < w.callers) h
+  pub callers : All (λ (e : HistoryEntry). e.caller < w.callers) h
   pub last : (n : ℕ) → n < w.callers
-      → TellsLast (setup_with w limit) B (start_from_durable w.callers (data_cells_of w) row) h n
+      → TellsLast (setup_with w limit) B (start_from_durable w.callers (scripts_data_cells w) row) h n
   pub upto : (n : ℕ) → n < w.callers
-      → IsUpTo h n (done_before (setup_with w limit) (start_from_durable w.callers (data_cells_of w) row) n)
+      → IsUpTo h n (done_before (setup_with w limit) (start_from_durable w.callers (scripts_data_cells w) row) n)
 
 -- Where words and a view meet the rule of a row of these scripts, and the view keeps each caller,
 -- recovery of the durable words finds a row from which a table may start, and a serial history leads
@@ -87,6 +87,6 @@ HoldsHistory w limit =
     let S : Setup = setup_with w limit in
     (B : TableStart) (ws : List ℕ) (v : View) → ViewMeetsRule S (LawfulCells w) B ws v → v.spent ≡ false
     → KeepScripts S v → (row : List ℕ) → IsDurable S ws row
-    → IsStartRow S (LawfulCells w) (recovered_words w.callers (data_cells_of w) row)
+    → IsStartRow S (LawfulCells w) (recovered_words w.callers (scripts_data_cells w) row)
     × ((s : Store) → StandsAt w B s
-    → (h : List Entry) × Leads w limit B v s (recovered_words w.callers (data_cells_of w) row) h)
+    → (h : List HistoryEntry) × HistoryLeads w limit B v s (recovered_words w.callers (scripts_data_cells w) row) h)

@@ -19,12 +19,12 @@ use Rattle.of_memory.specs.declared.error.OpenErr.TheVariants.{OutOfMemory as No
 use Rattle.of_memory.specs.declared.memory.Memory.{Memory}
 use Rattle.of_memory.specs.declared.handle.Handle.{Handle}
 use Rattle.of_memory.specs.declared.saved.Saved.{Saved}
-use Rattle.of_memory.specs.History.{Entry, Made, IsSerial, store_after, StandsInOrder, ExplainsAll, HasOnly, Has, IsUpTo}
+use Rattle.of_memory.specs.History.{HistoryEntry, Made, IsSerial, store_after, StandsInOrder, ExplainsAll, HasOnly, HasEntry, IsUpTo}
 use Rattle.of_memory.specs.Calls.{AreMade}
 use Rattle.of_memory.specs.Called.{IsOpenAt}
 use Rattle.of_memory.specs.Laws.{StandsAt}
 use Rattle.of_memory.specs.Serving.{IsScriptsRow, ServeAll, ended_of, start_of_row, made_before}
-use Rattle.of_memory.specs.Saving.{Holds, HoldsReply, ticket_in}
+use Rattle.of_memory.specs.Saving.{SavedHolds, HoldsReply, saved_ticket}
 use Rattle.of_memory.specs.Handles.{home_of}
 
 abbrev pub row_of : Memory → Row Scripts
@@ -80,28 +80,28 @@ OthersStayOpen n m k = (i : ℕ) (script : List Instr) → i ≢ n → HasOpenOf
 
 -- What is saved of the last call of caller n: there was none since the memory was opened, or it is one of
 -- the history, with its reply.
-abbrev pub TellsLastOf : Memory → Saved → List Entry → ℕ → Type 0
+abbrev pub TellsLastOf : Memory → Saved → List HistoryEntry → ℕ → Type 0
 TellsLastOf m d h n =
-    (ticket_in d n ≡ tickets_before m n)
-    ⊎ ((e : Entry) × Has h e × (e.caller ≡ n) × (e.ticket ≡ ticket_in d n) × HoldsReply d n e.reply)
+    (saved_ticket d n ≡ tickets_before m n)
+    ⊎ ((e : HistoryEntry) × HasEntry h e × (e.caller ≡ n) × (e.ticket ≡ saved_ticket d n) × HoldsReply d n e.reply)
 
 -- The history leads from the store with which the memory was opened to the saved one. It is serial, and
 -- the calls of each caller stand in it in the order in which they were made, each once at most. It has
 -- each call that was answered, with its reply, and no call that was spent; beside these it has open
 -- calls alone. What is saved tells the last call of each caller, and no call that may write is later.
-pub record LeadsTo (m : Memory) (s : Store) (d : Saved) (h : List Entry) : Type 0 where
+pub record LeadsTo (m : Memory) (s : Store) (d : Saved) (h : List HistoryEntry) : Type 0 where
   pub serial : IsSerial s h
-  pub ends : Holds d (store_after s h)
+  pub ends : SavedHolds d (store_after s h)
   pub order : StandsInOrder h
   pub made : (n : ℕ) (ms : List Made) → HasMadeOf m n ms → ExplainsAll h n (tickets_before m n) ms
   pub only : (n : ℕ) (ms : List Made) → HasMadeOf m n ms → HasOnly h n (tickets_before m n) ms (HasOpenOf m n)
-  pub callers : All (λ (e : Entry). e.caller < callers_of m) h
+  pub callers : All (λ (e : HistoryEntry). e.caller < callers_of m) h
   pub last : (n : ℕ) → n < callers_of m → TellsLastOf m d h n
-  pub upto : (n : ℕ) → n < callers_of m → IsUpTo h n (ticket_in d n)
+  pub upto : (n : ℕ) → n < callers_of m → IsUpTo h n (saved_ticket d n)
 
 -- so it is of the store with which it was opened
 abbrev pub HasHistory : Memory → Saved → Type 0
-HasHistory m d = (s : Store) → StartsWith m s → (h : List Entry) × LeadsTo m s d h
+HasHistory m d = (s : Store) → StartsWith m s → (h : List HistoryEntry) × LeadsTo m s d h
 
 -- why there is no handle
 abbrev pub IsEnrolCause : Memory → ℕ → EnrolErr → Type 0

@@ -2,7 +2,7 @@
 use Rattle.std.specs.Prelude.{ℕ, ◌≤◌}
 use Rattle.of_plan.specs.declared.plan.TheConstants.{GREATEST_LIMIT}
 use Rattle.of_store.specs.State.{Store, Reply}
-use Rattle.of_eval.specs.Scripts.{data_cells_of, LawfulCells}
+use Rattle.of_eval.specs.Scripts.{scripts_data_cells, LawfulCells}
 use Rattle.of_core.specs.World.{TableStart}
 use Rattle.of_core.specs.Starts.{IsStartRow, start_from_durable}
 use Rattle.of_row.specs.Rule.{done_before}
@@ -11,7 +11,7 @@ use Rattle.of_memory.specs.Laws.{setup_with, StandsAt, HoldsReplyAt}
 
 -- where a memory starts that goes on from it
 abbrev pub start_in : Saved → TableStart
-start_in d = start_from_durable d.scripts.callers (data_cells_of d.scripts) d.row.items
+start_in d = start_from_durable d.scripts.callers (scripts_data_cells d.scripts) d.row.items
 
 -- a memory may go on from it
 pub record IsSaved (d : Saved) : Type 0 where
@@ -20,12 +20,12 @@ pub record IsSaved (d : Saved) : Type 0 where
   pub few_limit : d.limit ≤ GREATEST_LIMIT
 
 -- it holds this store
-abbrev pub Holds : Saved → Store → Type 0
-Holds d s = StandsAt d.scripts (start_in d) s
+abbrev pub SavedHolds : Saved → Store → Type 0
+SavedHolds d s = StandsAt d.scripts (start_in d) s
 
 -- how many calls of a caller it holds
-abbrev pub ticket_in : Saved → ℕ → ℕ
-ticket_in d n = done_before (setup_with d.scripts d.limit) (start_in d) n
+abbrev pub saved_ticket : Saved → ℕ → ℕ
+saved_ticket d n = done_before (setup_with d.scripts d.limit) (start_in d) n
 
 -- it holds this reply to the last of them
 abbrev pub HoldsReply : Saved → ℕ → Reply → Type 0

@@ -4,22 +4,22 @@ use Rattle.std.proofs.Common.{get_or}
 use Rattle.of_store.specs.State.{Store}
 use Rattle.of_plan.specs.declared.plan.TheConstants.{GREATEST_LIMIT}
 use Rattle.of_eval.specs.declared.scripts.Scripts.{Scripts}
-use Rattle.of_eval.specs.Scripts.{data_cells_of, scripts_meaning}
+use Rattle.of_eval.specs.Scripts.{scripts_data_cells, scripts_meaning}
 use Rattle.of_core.specs.Machine.{IsOpen}
 use Rattle.of_core.specs.World.{TableStart}
 use Rattle.of_row.specs.declared.row.Row.{Row}
 use Rattle.of_row.specs.declared.member.Pass.{Pass}
-use Rattle.of_row.specs.Rows.{key_of, setup_at, start_at, IsSeatOf}
+use Rattle.of_row.specs.Rows.{key_of, setup_at, row_start, IsSeatOf}
 use Rattle.of_row.specs.Rule.{IsAsked, done_before}
 use Rattle.of_row.specs.Views.{KnownCaller, EndedCall, last_caller}
 use Rattle.of_caller.specs.declared.caller.Caller.{Caller}
 use Rattle.of_caller.specs.Callers.{IsCaller, caller_call, sight_of}
-use Rattle.of_memory.specs.Calls.{IsOperation, RunsScripts}
+use Rattle.of_memory.specs.Calls.{IsScriptOperation, RunsScripts}
 use Rattle.of_memory.specs.Laws.{StandsAt, KeepsSo}
 
 -- where the row started
 abbrev pub start_of_row : Row Scripts → TableStart
-start_of_row r = start_at scripts_meaning r
+start_of_row r = row_start scripts_meaning r
 
 -- how many calls a caller had made before that
 abbrev pub made_before : Row Scripts → ℕ → ℕ
@@ -28,10 +28,10 @@ made_before r n = done_before (setup_at scripts_meaning r) (start_of_row r) n
 -- the row has the sizes of its scripts, and its start stands for some store
 pub record IsScriptsRow (r : Row Scripts) : Type 0 where
   pub callers : (key_of r).callers ≡ (key_of r).work.callers
-  pub cells : (key_of r).cells ≡ data_cells_of (key_of r).work
+  pub cells : (key_of r).cells ≡ scripts_data_cells (key_of r).work
   pub some_limit : 1 ≤ (key_of r).limit
   pub few_limit : (key_of r).limit ≤ GREATEST_LIMIT
-  pub size : length (start_of_row r).cells ≡ data_cells_of (key_of r).work
+  pub size : length (start_of_row r).cells ≡ scripts_data_cells (key_of r).work
   pub store : Store
   pub stands : StandsAt (key_of r).work (start_of_row r) store
 
@@ -44,7 +44,7 @@ pub record Serves (r : Row Scripts) (n : ℕ) (c : Caller Scripts) : Type 0 wher
   pub caller : IsCaller scripts_meaning r c
   pub number : (caller_call c).caller ≡ n
   pub runs : RunsScripts (last_caller (sight_of c).kept)
-  pub begun : IsOpen (caller_call c).place → IsOperation (caller_call c).op
+  pub begun : IsOpen (caller_call c).place → IsScriptOperation (caller_call c).op
 
 -- it has made no call on this row
 pub record IsNew (r : Row Scripts) (n : ℕ) (c : Caller Scripts) : Type 0 where

@@ -30,7 +30,7 @@ impl Memory {
     ghost use Rattle.of_memory.specs.History.{Made};
     ghost use Rattle.of_memory.specs.Calls.{AreMade};
     ghost use Rattle.of_memory.specs.Serving.{IsScriptsRow, Serves, AllHere, ended_of};
-    ghost use Rattle.of_memory.specs.Saving.{IsSaved, Holds, ticket_in};
+    ghost use Rattle.of_memory.specs.Saving.{IsSaved, SavedHolds, saved_ticket};
     ghost use Rattle.of_memory.specs.Handles.{IsHandle, HasMade, HasOpen};
     ghost use Rattle.of_memory.specs.Memories.{IsMemory, row_of, callers_of, StartsWith, tickets_before};
     ghost use Rattle.of_memory.specs.Memories.{HasMadeOf, IsFrom, IsStill, KnowsOthers, HasHistory};
@@ -85,9 +85,9 @@ impl Memory {
         requires { IsSaved saved.now }
         ensures memory { IfOk result IsMemory }
         ensures callers { IfOk result (λ m. callers_of m ≡ saved.now.scripts.callers) }
-        ensures goes_on { IfOk result (λ m. (s : Store) → Holds saved.now s → StartsWith m s) }
+        ensures goes_on { IfOk result (λ m. (s : Store) → SavedHolds saved.now s → StartsWith m s) }
         ensures tickets { IfOk result (λ m. (n : ℕ) → n < saved.now.scripts.callers
-            → tickets_before m n ≡ ticket_in saved.now n) }
+            → tickets_before m n ≡ saved_ticket saved.now n) }
         ensures none { IfOk result (λ m.
             (n : ℕ) → n < saved.now.scripts.callers → HasMadeOf m n []) }
     {

@@ -7,7 +7,7 @@ ghost use Rattle.of_cell.specs.Cells.{data_cell, durable_cells};
 ghost use Rattle.of_mem.specs.declared.work.TheConstants.{MOST_INSTRS};
 ghost use Rattle.of_recover.specs.Row.{IsDurableRow};
 ghost use Rattle.of_recover.specs.Recovered.{recovered_words};
-ghost use Rattle.of_eval.specs.Scripts.{data_cells_of};
+ghost use Rattle.of_eval.specs.Scripts.{scripts_data_cells};
 
 use crate::error::StoreErr;
 use crate::laws::history_is_held;
@@ -25,7 +25,7 @@ use std::alloc::{AllocError, Global};
 pub(crate) fn shape_of(scripts: Scripts) -> Shape
     ensures callers { result.callers ≡ scripts.callers }
     ensures instrs { result.instrs ≡ MOST_INSTRS }
-    ensures cells { result.cells ≡ data_cells_of scripts }
+    ensures cells { result.cells ≡ scripts_data_cells scripts }
 {
     let plot = scripts.plot();
     Shape {
@@ -86,11 +86,11 @@ impl Saved {
     ghost use Rattle.of_eval.specs.Lawful.{reply_in};
     ghost use Rattle.of_store.specs.State.{Store, Reply};
     ghost use Rattle.of_store.specs.Replies.{reply_value_of};
-    ghost use Rattle.of_memory.specs.History.{Entry};
-    ghost use Rattle.of_memory.specs.Laws.{Leads, KeepScripts, StandsAt};
+    ghost use Rattle.of_memory.specs.History.{HistoryEntry};
+    ghost use Rattle.of_memory.specs.Laws.{HistoryLeads, KeepScripts, StandsAt};
     ghost use Rattle.of_eval.specs.Scripts.{scripts_meaning};
     ghost use Rattle.of_memory.specs.Serving.{IsScriptsRow, start_of_row};
-    ghost use Rattle.of_memory.specs.Saving.{IsSaved, Holds, HoldsReply, start_in, ticket_in};
+    ghost use Rattle.of_memory.specs.Saving.{IsSaved, SavedHolds, HoldsReply, start_in, saved_ticket};
 
     // Closes a row, takes its durable words alone, as a crash does, and recovers them.
     pub(crate) fn close(row: Row<Scripts>, pass: Pass) -> Saved
@@ -101,7 +101,7 @@ impl Saved {
         ensures limit { result.limit ≡ (key_of row).limit }
         ensures saved { IsSaved result }
         ensures leads { (s : Store) → StandsAt (key_of row).work (start_of_row row) s
-            → (h : List Entry) × Leads (key_of row).work (key_of row).limit (start_of_row row)
+            → (h : List HistoryEntry) × HistoryLeads (key_of row).work (key_of row).limit (start_of_row row)
             pass.seat.me.0 s result.row.items h }
     {
         let scripts = row.work();
@@ -134,7 +134,7 @@ impl Saved {
     /// The store that it holds.
     pub fn store(&self, alloc: Global) -> Result<Store, StoreErr>
         requires { IsSaved self.now }
-        ensures { IfOk result (Holds self.now) }
+        ensures { IfOk result (SavedHolds self.now) }
     {
         let words = data_words(alloc, &shape_of(self.scripts), &self.row)?;
         let cells = numbers(alloc, &words)?;
@@ -146,7 +146,7 @@ impl Saved {
     pub fn ticket(&self, number: u32) -> u32
         requires saved { IsSaved self.now }
         requires number { number < self.now.scripts.callers }
-        ensures { result ≡ ticket_in self.now number }
+        ensures { result ≡ saved_ticket self.now number }
     {
         let ticket = self.scripts.plot().ticket(number);
         let cell = shape_of(self.scripts).data_cell(ticket);
@@ -155,7 +155,7 @@ impl Saved {
     // The number of a data cell.
     fn number(&self, cell: u32) -> u32
         requires saved { IsSaved self.now }
-        requires cell { cell < data_cells_of self.now.scripts }
+        requires cell { cell < scripts_data_cells self.now.scripts }
         ensures { result ≡ payload_of (slice_index_or (start_in self.now).cells cell 0) }
     {
         let place = shape_of(self.scripts).data_cell(cell);
@@ -184,10 +184,10 @@ impl Saved {
     pub fn last_reply(&self, number: u32) -> Option<(u32, Reply)>
         requires saved { IsSaved self.now }
         requires number { number < self.now.scripts.callers }
-        ensures ticket { IfSome result (λ r. r.0 ≡ ticket_in self.now number) }
+        ensures ticket { IfSome result (λ r. r.0 ≡ saved_ticket self.now number) }
         ensures reply { IfSome result (λ r. HoldsReply self.now number (reply_value_of r.1)) }
         ensures some { (r : Reply) → HoldsReply self.now number r
-            → 0 < ticket_in self.now number → IsSome result }
+            → 0 < saved_ticket self.now number → IsSome result }
     {
         let ticket = self.ticket(number);
         if ticket == 0 {

@@ -10,7 +10,7 @@ use Rattle.of_mem.specs.Calls.{RunsProgram, HasStore}
 use Rattle.of_mem.proofs.Runs.{run_read, run_unknown, run_ended, part_wrote}
 use Rattle.of_alloc.specs.Blocks.{HasOut}
 use Rattle.of_alloc.specs.BlockPrograms.{give, give_program}
-use Rattle.of_order.specs.OrderPrograms.{after_give, drop_key, drop_link, drop_or, drop_pointer, drop_walk, drop_in, drop_in_program, drop_buckets, count_program}
+use Rattle.of_order.specs.OrderPrograms.{after_give, drop_key, drop_link, drop_or, drop_pointer, drop_walk, drop_in, drop_in_program, drop_buckets, count_gone_program}
 use Rattle.of_order.specs.Dropping.{IsBetweenBuckets, IsInsideBucket, IsDropping, IsDropped}
 use Rattle.of_order.proofs.Walking.{is_suc}
 use Rattle.of_order.proofs.Dropping.{at_block, block_below, stays, leaves, leaves_inside, list_left, block_out}
@@ -160,14 +160,14 @@ one_more : (o blocks low j i gone : ℕ) → drop_buckets o blocks low (suc j) i
 unfolding drop_buckets
 one_more o blocks low j i gone = refl
 
-no_more : (o blocks low i gone : ℕ) → drop_buckets o blocks low 0 i gone ≡ count_program o gone
+no_more : (o blocks low i gone : ℕ) → drop_buckets o blocks low 0 i gone ≡ count_gone_program o gone
 unfolding drop_buckets
 no_more o blocks low i gone = refl
 
 pub drop_bucket : (o blocks low n i gone : ℕ) → i < n → drop_buckets o blocks low (n - i) i gone ≡ then_do (drop_in_program o blocks i low gone) (drop_buckets o blocks low (n - (i + 1)) (i + 1))
 drop_bucket o blocks low n i gone l = ap (λ (j : ℕ). drop_buckets o blocks low j i gone) (turn n i l) ∙ one_more o blocks low (n - (i + 1)) i gone
 
-pub no_bucket : (o blocks low n i gone : ℕ) → n ≤ i → drop_buckets o blocks low (n - i) i gone ≡ count_program o gone
+pub no_bucket : (o blocks low n i gone : ℕ) → n ≤ i → drop_buckets o blocks low (n - i) i gone ≡ count_gone_program o gone
 no_bucket o blocks low n i gone l = ap (λ (j : ℕ). drop_buckets o blocks low j i gone) (none_left n i l) ∙ no_more o blocks low i gone
 
 -- where dropping begins, after a bucket, and behind the last

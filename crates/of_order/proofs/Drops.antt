@@ -21,7 +21,7 @@ use Rattle.of_mem.proofs.Heaps.{front_bucket}
 use Rattle.of_mem.proofs.Runs.{answer_then, after_then, inside_then, stays_then}
 use Rattle.of_alloc.specs.BlockPrograms.{give_program}
 use Rattle.of_order.specs.Means.{keys_from, after_drop, dropped_count}
-use Rattle.of_order.specs.OrderPrograms.{after_give, drop_or, drop_pointer, drop_walk, drop_in_program, count_program, drop_buckets, drop_program, drop_below}
+use Rattle.of_order.specs.OrderPrograms.{after_give, drop_or, drop_pointer, drop_walk, drop_in_program, count_gone_program, drop_buckets, drop_program, drop_below}
 use Rattle.of_order.specs.Dropping.{IsBetweenBuckets, IsInsideBucket}
 use Rattle.of_order.proofs.Dropping.{at_end, at_block, bucket_done, block_below, stays, leaves, leaves_inside}
 
@@ -104,7 +104,7 @@ module _ (o blocks low : ℕ) (few : blocks ≤ MOST_BLOCKS) (first : CellStore)
     gone_is : gone ≡ dropped_count low first
     gone_is = omega (arith, s.fewer.count, ap fin.len map_is)
 
-    counted_stands : (g : ℕ) → gone ≡ g → StaysBetween o (cells_at o blocks) (count_program o g) m × (program_answer (count_program o g) m ≡ dropped_count low first) × StandsForStore o blocks (memory_after (count_program o g) m) (after_drop low first)
+    counted_stands : (g : ℕ) → gone ≡ g → StaysBetween o (cells_at o blocks) (count_gone_program o g) m × (program_answer (count_gone_program o g) m ≡ dropped_count low first) × StandsForStore o blocks (memory_after (count_gone_program o g) m) (after_drop low first)
     counted_stands zero e = (tt, sym e ∙ gone_is, subst (λ (t : CellStore). StandsForStore o blocks m t) store_is (subst (λ (x : ℕ → ℕ). StandsForStore o blocks x s.store) (changed_is m (keys_at o) (fin.len s.store.map) (omega (arith, s.counted, s.fewer.count, e))) s.stands))
     counted_stands (suc g) e =
         let same : fin.len s.store.map ≡ m (keys_at o) - suc g = omega (arith, s.counted, s.fewer.count, e) in
@@ -163,7 +163,7 @@ module _ (o low : ℕ) where
   walk_stays zero cell p gone l = tt
   walk_stays (suc n) cell p gone l = at_stays n (λ c q g k. walk_stays n c q g k) cell gone p l
 
-  count_stays : (gone : ℕ) → StaysFrom o (count_program o gone)
+  count_stays : (gone : ℕ) → StaysFrom o (count_gone_program o gone)
   count_stays zero = tt
   count_stays (suc g) = (omega arith, λ n. (omega arith, tt))
 

@@ -15,7 +15,7 @@ use Rattle.of_mem.proofs.Counts.{blocks_below}
 use Rattle.of_mem.proofs.Heaps.{front_bucket}
 use Rattle.of_mem.proofs.Runs.{run_read, run_unknown}
 use Rattle.of_order.specs.Means.{better_of}
-use Rattle.of_order.specs.OrderPrograms.{least_walk, at_pointer, with_key, with_link, least_in_program, least_buckets}
+use Rattle.of_order.specs.OrderPrograms.{least_walk, at_pointer, weigh_key, weigh_link, least_in_program, least_buckets}
 
 -- this pointer leads through a chain of blocks of the plot
 pub record Points (plot : Plot) (p : Part) (pointer : ℕ) : Type 0 where
@@ -77,21 +77,21 @@ module _ (o low n : ℕ) (p : Part) (best : Option ℕ) where
   pub least_end : (f : ℕ) → f ≡ 0 → run_program (least_walk o low (suc n) f best) p ≡ Ends best p
   least_end f z = ap (λ x. run_program (at_pointer o low (least_walk o low n) best x) p) z
 
-  least_block : (f : ℕ) → f ≢ 0 → run_program (least_walk o low (suc n) f best) p ≡ run_program (Read (first_at o (f - 1)) (with_key o low (least_walk o low n) (f - 1) best)) p
+  least_block : (f : ℕ) → f ≢ 0 → run_program (least_walk o low (suc n) f best) p ≡ run_program (Read (first_at o (f - 1)) (weigh_key o low (least_walk o low n) (f - 1) best)) p
   least_block f z = ap (λ x. run_program (at_pointer o low (least_walk o low n) best x) p) (is_suc f z)
 
   pub least_needs_key : (f a b : ℕ) → f ≢ 0 → a ≡ first_at o (f - 1) → (newest_at p a ≡ None) × (b ≡ a) → run_program (least_walk o low (suc n) f best) p ≡ Lacks b
-  least_needs_key f a b z is k = rw (k.1, is) (least_block f z ∙ run_unknown (first_at o (f - 1)) (with_key o low (least_walk o low n) (f - 1) best) p (rw is at k.0))
+  least_needs_key f a b z is k = rw (k.1, is) (least_block f z ∙ run_unknown (first_at o (f - 1)) (weigh_key o low (least_walk o low n) (f - 1) best) p (rw is at k.0))
 
-  least_key : (f a k : ℕ) → f ≢ 0 → a ≡ first_at o (f - 1) → newest_at p a ≡ Some k → run_program (least_walk o low (suc n) f best) p ≡ run_program (Read (link_at o (f - 1)) (with_link low (least_walk o low n) best k)) p
-  least_key f a k z is h = least_block f z ∙ run_read (first_at o (f - 1)) (with_key o low (least_walk o low n) (f - 1) best) p k (rw is at h)
+  least_key : (f a k : ℕ) → f ≢ 0 → a ≡ first_at o (f - 1) → newest_at p a ≡ Some k → run_program (least_walk o low (suc n) f best) p ≡ run_program (Read (link_at o (f - 1)) (weigh_link low (least_walk o low n) best k)) p
+  least_key f a k z is h = least_block f z ∙ run_read (first_at o (f - 1)) (weigh_key o low (least_walk o low n) (f - 1) best) p k (rw is at h)
 
   pub least_needs_link : (f a k c b : ℕ) → f ≢ 0 → a ≡ first_at o (f - 1) → newest_at p a ≡ Some k → c ≡ link_at o (f - 1) → (newest_at p c ≡ None) × (b ≡ c) → run_program (least_walk o low (suc n) f best) p ≡ Lacks b
-  least_needs_link f a k c b z is h too g = rw (g.1, too) (least_key f a k z is h ∙ run_unknown (link_at o (f - 1)) (with_link low (least_walk o low n) best k) p (rw too at g.0))
+  least_needs_link f a k c b z is h too g = rw (g.1, too) (least_key f a k z is h ∙ run_unknown (link_at o (f - 1)) (weigh_link low (least_walk o low n) best k) p (rw too at g.0))
 
   pub least_on : (f a k c g : ℕ) (r : Option ℕ) → f ≢ 0 → a ≡ first_at o (f - 1) → newest_at p a ≡ Some k → c ≡ link_at o (f - 1) → newest_at p c ≡ Some g → r ≡ better_of low k best → run_program (least_walk o low (suc n) f best) p ≡ run_program (least_walk o low n g r) p
   least_on f a k c g r z is h too e same =
-      least_key f a k z is h ∙ run_read (link_at o (f - 1)) (with_link low (least_walk o low n) best k) p g (rw too at e)
+      least_key f a k z is h ∙ run_read (link_at o (f - 1)) (weigh_link low (least_walk o low n) best k) p g (rw too at e)
       ∙ ap (λ (x : Option ℕ). run_program (least_walk o low n g x) p) (sym same)
 
 -- one bucket of so many

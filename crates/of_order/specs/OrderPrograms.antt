@@ -11,16 +11,16 @@ use Rattle.of_order.specs.Means.{better_of}
 
 -- The least key from one on: the front of each bucket, and of each block its key and its link.
 
-abbrev pub with_link : ℕ → (ℕ → Option ℕ → Program (Option ℕ)) → Option ℕ → ℕ → ℕ → Program (Option ℕ)
-with_link low further best k link = further link (better_of low k best)
+abbrev pub weigh_link : ℕ → (ℕ → Option ℕ → Program (Option ℕ)) → Option ℕ → ℕ → ℕ → Program (Option ℕ)
+weigh_link low further best k link = further link (better_of low k best)
 
-abbrev pub with_key : ℕ → ℕ → (ℕ → Option ℕ → Program (Option ℕ)) → ℕ → Option ℕ → ℕ → Program (Option ℕ)
-with_key o low further b best k = Read (link_at o b) (with_link low further best k)
+abbrev pub weigh_key : ℕ → ℕ → (ℕ → Option ℕ → Program (Option ℕ)) → ℕ → Option ℕ → ℕ → Program (Option ℕ)
+weigh_key o low further b best k = Read (link_at o b) (weigh_link low further best k)
 
 -- by the pointer in hand
 abbrev pub at_pointer : ℕ → ℕ → (ℕ → Option ℕ → Program (Option ℕ)) → Option ℕ → ℕ → Program (Option ℕ)
 at_pointer o low further best zero = Done best
-at_pointer o low further best (suc b) = Read (first_at o b) (with_key o low further b best)
+at_pointer o low further best (suc b) = Read (first_at o b) (weigh_key o low further b best)
 
 -- from this pointer on, past at most so many blocks
 abbrev pub least_walk : ℕ → ℕ → ℕ → ℕ → Option ℕ → Program (Option ℕ)
@@ -73,15 +73,15 @@ abbrev pub drop_in_program : ℕ → ℕ → ℕ → ℕ → ℕ → Program ℕ
 drop_in_program o blocks i low gone = Read (bucket_at o i) (drop_front o blocks i low gone)
 
 -- the keys are counted at the end, where one has left
-abbrev pub less_keys : ℕ → ℕ → ℕ → Program ℕ
-less_keys o gone n = Write (keys_at o) (n - gone) (Done gone)
+abbrev pub less_gone : ℕ → ℕ → ℕ → Program ℕ
+less_gone o gone n = Write (keys_at o) (n - gone) (Done gone)
 
-abbrev pub count_program : ℕ → ℕ → Program ℕ
-count_program o zero = Done zero
-count_program o (suc g) = Read (keys_at o) (less_keys o (suc g))
+abbrev pub count_gone_program : ℕ → ℕ → Program ℕ
+count_gone_program o zero = Done zero
+count_gone_program o (suc g) = Read (keys_at o) (less_gone o (suc g))
 
 unfoldable pub drop_buckets : ℕ → ℕ → ℕ → ℕ → ℕ → ℕ → Program ℕ
-drop_buckets o blocks low zero i gone = count_program o gone
+drop_buckets o blocks low zero i gone = count_gone_program o gone
 drop_buckets o blocks low (suc j) i gone = then_do (drop_in_program o blocks i low gone) (drop_buckets o blocks low j (i + 1))
 
 abbrev pub drop_program : ℕ → ℕ → ℕ → Program ℕ
@@ -92,8 +92,8 @@ drop_program o blocks low = drop_buckets o blocks low BUCKETS 0 0
 abbrev pub least : Plot → ℕ → Program (Option ℕ)
 least plot low = least_program (base plot) plot.blocks low
 
-abbrev pub first : Plot → Program (Option ℕ)
-first plot = least plot 0
+abbrev pub first_program : Plot → Program (Option ℕ)
+first_program plot = least plot 0
 
 abbrev pub next : Plot → ℕ → Program (Option ℕ)
 next plot key = least plot (key + 1)
@@ -107,5 +107,5 @@ drop_below plot low = drop_program (base plot) plot.blocks low
 abbrev pub drop_in : Plot → ℕ → ℕ → ℕ → Program ℕ
 drop_in plot i low gone = drop_in_program (base plot) plot.blocks i low gone
 
-abbrev pub count_down : Plot → ℕ → Program ℕ
-count_down plot gone = count_program (base plot) gone
+abbrev pub count_gone : Plot → ℕ → Program ℕ
+count_gone plot gone = count_gone_program (base plot) gone

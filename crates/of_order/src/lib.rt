@@ -14,7 +14,7 @@ use of_mem::{BUCKETS, Need, Part, Plot};
 /// The least key, None where there is none. The error names a cell that is read and isn't known.
 pub fn first(plot: &Plot, part: &Part) -> Result<Option<u32>, Need>
     requires { HasStore plot.now part.now }
-    ensures runs { RunsProgram (program.first plot.now) part.now part.now result }
+    ensures runs { RunsProgram (program.first_program plot.now) part.now part.now result }
     ensures answers { AnswersOfStore plot.now part.now result (λ s. least_from s.map 0) }
 {
     least(plot, part, 0)
@@ -126,7 +126,7 @@ fn drop_in(plot: &Plot, part: &mut Part, bucket: u32, key: u32, gone: u32) -> Re
 /// Counts so many keys less, and answers how many they are.
 fn count_down(plot: &Plot, part: &mut Part, gone: u32) -> Result<u32, Need>
     requires { IsDropped plot.now part.old gone }
-    ensures { RunsProgram (program.count_down plot.now gone) part.old part.new result }
+    ensures { RunsProgram (program.count_gone plot.now gone) part.old part.new result }
 {
     if gone != 0 {
         let keys = part.read(plot.keys())?;

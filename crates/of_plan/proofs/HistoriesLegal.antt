@@ -5,13 +5,13 @@ use Rattle.std.specs.List.{range_with_len}
 use Rattle.std.proofs.lemmas.List.Elements.{All-from_recursion, All-from_get_or}
 use Rattle.of_plan.specs.Plan.{Plan}
 use Rattle.of_plan.specs.Report.{Entry, Line, done, Start, finished_of}
-use Rattle.of_plan.specs.Legal.{StandInOrder, HasOpenCall, CountOpenCalls, HasSequence, StandsBefore, StandBySequence, IsWithinBound, IsLegal}
-use Rattle.of_plan.specs.Histories.{IsIn, History, HasPlace, IsHistory, reads_at, history_entries, history_report, FitsLine, LinesFit, HistoriesAreLegal}
+use Rattle.of_plan.specs.Legal.{StandInOrder, HasOpenCall, CountOpenCalls, HasSequence, StandsBefore, StandBySequence, LineIsWithinBound, IsLegal}
+use Rattle.of_plan.specs.Histories.{IsIn, History, EntryHasPlace, IsHistory, reads_at, history_entries, history_report, FitsLine, LinesFit, HistoriesAreLegal}
 use Rattle.of_plan.proofs.HistoriesLists.{each_at, each_weaker, in_left, any_in, pairs_in_line}
 use Rattle.of_plan.proofs.HistoriesOrder.{IsKnown, entries_in_line, entries_known, own_entry, in_part, caller_entries}
 use Rattle.of_plan.proofs.HistoriesReplay.{entries_lead}
 
-has_sequence : (p : Plan) (s : Start) (h : History) (e : Entry) (a : Bool) → e.announced ≡ a → s.seq ≤ e.seq → HasPlace p s h e a → HasSequence p s e
+has_sequence : (p : Plan) (s : Start) (h : History) (e : Entry) (a : Bool) → e.announced ≡ a → s.seq ≤ e.seq → EntryHasPlace p s h e a → HasSequence p s e
 has_sequence p s h e true is low place = rw is place.0
 has_sequence p s h e false is low place = rw is (low, place.0)
 
@@ -68,7 +68,7 @@ module _ (p : Plan) (s : Start) (h : History) (lines : List Line) (history : IsH
     replies = (entries_lead p s h history).told;
     final_store = sym (entries_lead p s h history).store;
     endings = λ c lt. (fit.each c lt).ending;
-    within_bound = each_line (IsWithinBound p) (λ c l fits. fits.within);
+    within_bound = each_line (LineIsWithinBound p) (λ c l fits. fits.within);
   }
 
 pub histories_legal : (p : Plan) (s : Start) → HistoriesAreLegal p s

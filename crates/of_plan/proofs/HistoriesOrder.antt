@@ -8,7 +8,7 @@ use Rattle.std.proofs.lemmas.Bool.Decides.{eqb_tells}
 use Rattle.of_plan.specs.Plan.{Plan}
 use Rattle.of_plan.specs.Report.{Entry, Start}
 use Rattle.of_plan.specs.Legal.{StandsBefore, StandsBeforeWithin}
-use Rattle.of_plan.specs.Histories.{IsIn, History, IsBatch, HasPlace, IsHistory, reads_at, history_entries}
+use Rattle.of_plan.specs.Histories.{IsIn, History, IsBatch, EntryHasPlace, IsHistory, reads_at, history_entries}
 use Rattle.of_plan.proofs.HistoriesLists.{each_at, each_from_in, each_weaker, each_append, each_filter, each_over, in_left, in_right, in_filter, in_over, InLine, in_line_pairs, in_line_weaker, in_line_append, in_line_filter, in_line_over, same_in_line}
 
 -- ---- which of two entries stands before the other
@@ -91,7 +91,7 @@ IsRun p h k e = (e.seq ≡ k) × (e.announced ≡ true) × (e.caller < p.callers
 
 -- what a history says of each entry of a caller
 abbrev pub OwnEntry : Plan → Start → History → ℕ → Entry → Type 0
-OwnEntry p s h c e = (e.caller ≡ c) × (s.seq ≤ e.seq) × (e.seq ≤ h.last) × HasPlace p s h e e.announced
+OwnEntry p s h c e = (e.caller ≡ c) × (s.seq ≤ e.seq) × (e.seq ≤ h.last) × EntryHasPlace p s h e e.announced
 
 -- one of its caller's entries
 abbrev pub IsKnown : Plan → History → Entry → Type 0
@@ -181,7 +181,7 @@ module _ (p : Plan) (s : Start) (h : History) (history : IsHistory p s h) where
   in_part e low high here =
       in_right e (reads_at p h s.seq) (flat_map (part p h) (range_with_len (s.seq + 1) (h.last - s.seq))) (in_over e (part p h) (s.seq + 1) (h.last - s.seq) e.seq (omega arith) (omega (arith, history.from)) here)
 
-  placed : (a : Bool) (e : Entry) → e.announced ≡ a → s.seq ≤ e.seq → e.seq ≤ h.last → e.caller < p.callers → IsIn e (h.own e.caller) → HasPlace p s h e a → IsIn e (history_entries p s h)
+  placed : (a : Bool) (e : Entry) → e.announced ≡ a → s.seq ≤ e.seq → e.seq ≤ h.last → e.caller < p.callers → IsIn e (h.own e.caller) → EntryHasPlace p s h e a → IsIn e (history_entries p s h)
   placed true e is low high known own place = in_part e place.0 high (in_left e (h.runs e.seq) (reads_at p h e.seq) place.1)
   placed false e is low high known own place =
       let here : IsIn e (reads_at p h e.seq) =

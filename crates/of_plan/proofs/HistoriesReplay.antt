@@ -9,7 +9,7 @@ use Rattle.of_store.proofs.Replays.{replies-append, last_store-append, run-reads
 use Rattle.of_plan.specs.Plan.{Plan}
 use Rattle.of_plan.specs.Report.{Entry, Start}
 use Rattle.of_plan.specs.Legal.{script_of_entry}
-use Rattle.of_plan.specs.Histories.{History, IsBatch, HasPlace, IsHistory, reads_at, history_entries}
+use Rattle.of_plan.specs.Histories.{History, IsBatch, EntryHasPlace, IsHistory, reads_at, history_entries}
 use Rattle.of_plan.proofs.HistoriesLists.{each_weaker}
 use Rattle.of_plan.proofs.HistoriesOrder.{IsAt, part, reads_are, batch_at, own_entry}
 
@@ -60,7 +60,7 @@ module _ (p : Plan) (s : Start) (h : History) (history : IsHistory p s h) where
   reads_lead : (k : ℕ) → Leads p (h.stores k) (reads_at p h k) (h.stores k)
   reads_lead k =
       leads_reads p (h.stores k) (reads_at p h k) (each_weaker (λ e. IsAt p h k e × (e.announced ≡ false)) (Reads p (h.stores k)) (λ e at.
-      let place = subst (HasPlace p s h e) at.1 (own_entry p s h history e (at.0.known, at.0.own)).3 in
+      let place = subst (EntryHasPlace p s h e) at.1 (own_entry p s h history e (at.0.known, at.0.own)).3 in
       (place.0, place.1 ∙ ap (λ (m : ℕ). (run (h.stores m) (script_of_entry p e)).1) at.0.seq))
       (reads_at p h k) (reads_are p s h history k))
 

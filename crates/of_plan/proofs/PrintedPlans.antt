@@ -11,7 +11,7 @@ use Rattle.of_plan.specs.declared.plan.Item.{Item}
 use Rattle.of_plan.specs.declared.plan.Item.TheVariants.{Turns as TurnsItem, Evict as EvictItem}
 use Rattle.of_plan.specs.declared.line.Entry.{Entry}
 use Rattle.of_plan.specs.declared.line.Entry.TheVariants.{Script, Stop, Turns, Evict}
-use Rattle.of_plan.specs.Plan.{Plan, IsPlan, IsItem, turns_of}
+use Rattle.of_plan.specs.Plan.{Plan, IsPlan, IsScheduleItem, turns_of}
 use Rattle.of_plan.specs.Grammar.{Heading, IsHeading, IsEntryInRange, AreEntries, SpellsPlan, plan_lines, plan_of, script_in_entry, stop_at, item_of, is_script, head_of, scripts_in, stop_in}
 use Rattle.of_plan.specs.PlanText.{caller_entries, script_entries, stop_entries, item_entry, printed_heading, printed_entries, plan_text}
 use Rattle.of_plan.proofs.Lists.{all-both}
@@ -139,7 +139,7 @@ stops_in_range h k [] le r = tt
 stops_in_range h k (None ∷ xs) le r = stops_in_range h (k + 1) xs (omega arith) r.1
 stops_in_range h k (Some x ∷ xs) le r = ((omega arith, r.0), stops_in_range h (k + 1) xs (omega arith) r.1)
 
-items_in_range : (p : Plan) (items : List Item) → AllByRecursion (IsItem p) items → AllByRecursion (IsEntryInRange (printed_heading p)) (map item_entry items)
+items_in_range : (p : Plan) (items : List Item) → AllByRecursion (IsScheduleItem p) items → AllByRecursion (IsEntryInRange (printed_heading p)) (map item_entry items)
 items_in_range p [] r = tt
 items_in_range p (TurnsItem c x ∷ items) r = (r.0, items_in_range p items r.1)
 items_in_range p (EvictItem a ∷ items) r = (r.0, items_in_range p items r.1)

@@ -9,7 +9,7 @@ use Rattle.of_script.specs.declared.instr.Instr.{Instr}
 use Rattle.of_script.specs.Language.{IsScript}
 use Rattle.of_plan.specs.declared.line.Entry.{Entry}
 use Rattle.of_plan.specs.declared.line.Entry.TheVariants.{Script, Stop, Turns, Evict}
-use Rattle.of_plan.specs.Plan.{Plan, IsPlan, IsItem}
+use Rattle.of_plan.specs.Plan.{Plan, IsPlan, IsScheduleItem}
 use Rattle.of_plan.specs.Grammar.{Heading, IsHeading, IsEntryInRange, AreEntries, SpellsPlan, plan_of, item_of, is_script, scripts_in, stop_in}
 use Rattle.of_plan.proofs.Lists.{all_below}
 
@@ -31,7 +31,7 @@ stop_fits h c (Stop d x ∷ es) r = elim (eqb_tells d c) [ inl p ↦ rw p.0 r.0.
 stop_fits h c (Turns d x ∷ es) r = stop_fits h c es r.1
 stop_fits h c (Evict a ∷ es) r = stop_fits h c es r.1
 
-items_fit : (h : Heading) (all es : List Entry) → AllByRecursion (IsEntryInRange h) es → AllByRecursion (IsItem (plan_of h all)) (filter_map item_of es)
+items_fit : (h : Heading) (all es : List Entry) → AllByRecursion (IsEntryInRange h) es → AllByRecursion (IsScheduleItem (plan_of h all)) (filter_map item_of es)
 items_fit h all [] r = tt
 items_fit h all (Script d s ∷ es) r = items_fit h all es r.1
 items_fit h all (Stop d x ∷ es) r = items_fit h all es r.1

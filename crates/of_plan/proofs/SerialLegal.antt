@@ -10,7 +10,7 @@ use Rattle.std.proofs.lemmas.Bool.Decides.{eqb_tells}
 use Rattle.of_store.specs.State.{Reply, empty_store, replies_in_order, last_store}
 use Rattle.of_plan.specs.Plan.{Plan, scripts_of}
 use Rattle.of_plan.specs.Report.{Entry, done, spent, Line, empty_start, caller_line, entries_of, finished_of}
-use Rattle.of_plan.specs.Legal.{scripts_left, StandInOrder, HasOpenCall, CountOpenCalls, HasSequence, StandBySequence, HasEndState, IsWithinBound, IsLegal}
+use Rattle.of_plan.specs.Legal.{scripts_left, StandInOrder, HasOpenCall, CountOpenCalls, HasSequence, StandBySequence, HasEndState, LineIsWithinBound, IsLegal}
 use Rattle.of_plan.specs.Serial.{CallId, called_script, serial_calls, serial_scripts, serial_line, serial_report}
 use Rattle.of_plan.proofs.SerialCalls.{of_caller, few_calls, indices_of_caller, limit_reached, callers_known}
 use Rattle.of_plan.proofs.SerialEntries.{length-replies, replies_in, scripts_in, indices_in, count_in, callers_in, sequences_in, order_in, each_in}
@@ -98,5 +98,5 @@ serial_legal p =
       replies = replies_in 1 (serial_calls p) (serial_replies p) (reply_each p) ∙ ap (replies_in_order (empty_store p.blocks)) (sym scripts);
       final_store = ap (last_store (empty_store p.blocks)) (sym scripts);
       endings = endings p;
-      within_bound = All-from_recursion (IsWithinBound p) (serial_report p).callers (lines_are (IsWithinBound p) (the_line p) (λ c. (omega arith, λ none. refl)) (range_with_len 0 p.callers));
+      within_bound = All-from_recursion (LineIsWithinBound p) (serial_report p).callers (lines_are (LineIsWithinBound p) (the_line p) (λ c. (omega arith, λ none. refl)) (range_with_len 0 p.callers));
     }

@@ -9,8 +9,8 @@ use Rattle.of_plan.specs.declared.flaw.Flaw.TheVariants.{ByteOrderMark, Carriage
 use Rattle.of_plan.specs.Numerals.{IsNumeral}
 
 -- the number that a piece of a line is
-abbrev pub IsNumber : List ℕ → ℕ → Type 0
-IsNumber piece n = parsed_number GREATEST_CELL piece ≡ Some n
+abbrev pub PieceIsNumber : List ℕ → ℕ → Type 0
+PieceIsNumber piece n = parsed_number GREATEST_CELL piece ≡ Some n
 
 -- nothing is there, or a semicolon
 abbrev pub IsNoWord : List ℕ → Type 0
@@ -24,7 +24,7 @@ HasFlaw Tab above piece = piece ≡ 9 ∷ []
 HasFlaw NumberMissing above piece = IsNoWord piece
 HasFlaw NoNumber above piece = IsNumeral piece → ⊥
 HasFlaw (TooGreat most) above piece = IsNumeral piece × (parsed_number most piece ≡ None)
-HasFlaw Zero above piece = IsNumber piece 0
+HasFlaw Zero above piece = PieceIsNumber piece 0
 HasFlaw WordTooMany above piece = piece ≡ [] → ⊥
 
 -- a piece of a line, and a flaw that it has

@@ -5,7 +5,7 @@ use Rattle.of_script.specs.Language.{reads_only}
 use Rattle.of_store.specs.State.{Store, replies_in_order, last_store, run}
 use Rattle.of_plan.specs.Plan.{Plan}
 use Rattle.of_plan.specs.Report.{Entry, Line, no_line, Report, Start, entries_of, finished_of}
-use Rattle.of_plan.specs.Legal.{script_of_entry, scripts_left, StandsBefore, HasOpenCall, HasEndState, IsWithinBound, IsLegal}
+use Rattle.of_plan.specs.Legal.{script_of_entry, scripts_left, StandsBefore, HasOpenCall, HasEndState, LineIsWithinBound, IsLegal}
 
 -- it is one of them
 abbrev pub IsIn : {A : Type 0} → A → List A → Type 0
@@ -28,13 +28,13 @@ pub record IsBatch (p : Plan) (h : History) (k : ℕ) : Type 0 where
   pub leads : last_store (h.stores (k - 1)) (map (script_of_entry p) (h.runs k)) ≡ h.stores k
 
 -- an entry is among the announced ones of its sequence, or it is a read of the store after its sequence
-abbrev pub HasPlace : Plan → Start → History → Entry → (announced : Bool) → Type 0
-HasPlace p s h e true = (s.seq < e.seq) × IsIn e (h.runs e.seq)
-HasPlace p s h e false = All (λ i. IsTrue (reads_only i)) (script_of_entry p e) × (e.reply ≡ (run (h.stores e.seq) (script_of_entry p e)).1)
+abbrev pub EntryHasPlace : Plan → Start → History → Entry → (announced : Bool) → Type 0
+EntryHasPlace p s h e true = (s.seq < e.seq) × IsIn e (h.runs e.seq)
+EntryHasPlace p s h e false = All (λ i. IsTrue (reads_only i)) (script_of_entry p e) × (e.reply ≡ (run (h.stores e.seq) (script_of_entry p e)).1)
 
 -- the entries of a caller are its scripts from the first that isn't done, in their order, each at its place
 pub record IsOwn (p : Plan) (s : Start) (h : History) (c : ℕ) : Type 0 where
-  pub each : Each (λ e. (e.caller ≡ c) × (s.seq ≤ e.seq) × (e.seq ≤ h.last) × HasPlace p s h e e.announced) (h.own c)
+  pub each : Each (λ e. (e.caller ≡ c) × (s.seq ≤ e.seq) × (e.seq ≤ h.last) × EntryHasPlace p s h e e.announced) (h.own c)
   pub indices : map (λ e. e.index) (h.own c) ≡ range_with_len (finished_of s c) (length (h.own c))
   pub few : length (h.own c) ≤ scripts_left p s c
   pub order : AllPairs StandsBefore (h.own c)
@@ -63,7 +63,7 @@ pub record FitsLine (p : Plan) (s : Start) (h : History) (c : ℕ) (l : Line) : 
   pub entries : l.entries ≡ length (h.own c)
   pub open_call : HasOpenCall l.state l.answered l.entries
   pub ending : HasEndState l.state l.answered (scripts_left p s c) h.last p.limit
-  pub within : IsWithinBound p l
+  pub within : LineIsWithinBound p l
 
 -- each caller has a line, which fits the history
 pub record LinesFit (p : Plan) (s : Start) (h : History) (lines : List Line) : Type 0 where

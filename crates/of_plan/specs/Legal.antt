@@ -57,8 +57,8 @@ pub record StandBySequence (p : Plan) (s : Start) (r : Report) : Type 0 where
   pub none_left_out : (seq : ℕ) → s.seq < seq → seq ≤ r.seq → Any (λ e. IsTrue e.announced × (e.seq ≡ seq)) r.entries
 
 -- the replies are those of serial replay in the order of the list
-abbrev pub HaveReplies : Plan → Start → Report → Type 0
-HaveReplies p s r = map (λ e. e.reply) r.entries ≡ replies_in_order s.store (map (script_of_entry p) r.entries)
+abbrev pub RepliesAreSerial : Plan → Start → Report → Type 0
+RepliesAreSerial p s r = map (λ e. e.reply) r.entries ≡ replies_in_order s.store (map (script_of_entry p) r.entries)
 
 -- the store is the last one of that replay
 abbrev pub IsFinalStore : Plan → Start → Report → Type 0
@@ -71,15 +71,15 @@ HasEndState stopped answered scripts_left seq limit = answered < scripts_left
 HasEndState spent answered scripts_left seq limit = (answered < scripts_left) × (seq ≡ limit)
 
 -- the longest answered call is within the step bound, and is 0 where none was answered
-abbrev pub IsWithinBound : Plan → Line → Type 0
-IsWithinBound p l = (l.longest ≤ bound_of p) × (l.answered ≡ 0 → l.longest ≡ 0)
+abbrev pub LineIsWithinBound : Plan → Line → Type 0
+LineIsWithinBound p l = (l.longest ≤ bound_of p) × (l.answered ≡ 0 → l.longest ≡ 0)
 
 -- one history of the plan's scripts from the start, as the report tells it
 pub record IsLegal (p : Plan) (s : Start) (r : Report) : Type 0 where
   pub in_order : StandInOrder p s r
   pub open_calls : CountOpenCalls p r
   pub by_sequence : StandBySequence p s r
-  pub replies : HaveReplies p s r
+  pub replies : RepliesAreSerial p s r
   pub final_store : IsFinalStore p s r
   pub endings : (c : ℕ) → c < p.callers → HasEndState (caller_line r c).state (caller_line r c).answered (scripts_left p s c) r.seq p.limit
-  pub within_bound : All (IsWithinBound p) r.callers
+  pub within_bound : All (LineIsWithinBound p) r.callers

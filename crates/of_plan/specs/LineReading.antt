@@ -34,15 +34,15 @@ abbrev pub plan_language : Language
 plan_language = record { Line = Line; words_of = line_words; InRange = IsLineInRange }
 
 -- the line that was read
-abbrev pub caller_line : Plain → Line
-caller_line PlainTitle = Title
-caller_line (PlainCallers n) = Callers n
-caller_line (PlainBlocks n) = Blocks n
-caller_line (PlainLimit x) = Limit x
-caller_line (PlainStop c x) = Body (Stop c x)
-caller_line (PlainTurns c x) = Body (Turns c x)
-caller_line (PlainEvict a) = Body (Evict a)
-caller_line PlainEnd = End
+abbrev pub line_of_plain : Plain → Line
+line_of_plain PlainTitle = Title
+line_of_plain (PlainCallers n) = Callers n
+line_of_plain (PlainBlocks n) = Blocks n
+line_of_plain (PlainLimit x) = Limit x
+line_of_plain (PlainStop c x) = Body (Stop c x)
+line_of_plain (PlainTurns c x) = Body (Turns c x)
+line_of_plain (PlainEvict a) = Body (Evict a)
+line_of_plain PlainEnd = End
 
 -- how the title is read
 abbrev pub title_line : List (List ℕ) → Option Line

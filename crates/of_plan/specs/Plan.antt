@@ -47,9 +47,9 @@ turns_of (Turns c x) = x
 turns_of (Evict a) = 0
 
 -- turns are of a caller, and evictions of a cell that has a durable word
-abbrev pub IsItem : Plan → Item → Type 0
-IsItem p (Turns c x) = (c < p.callers) × (1 ≤ x)
-IsItem p (Evict a) = a < durable_cells_of p
+abbrev pub IsScheduleItem : Plan → Item → Type 0
+IsScheduleItem p (Turns c x) = (c < p.callers) × (1 ≤ x)
+IsScheduleItem p (Evict a) = a < durable_cells_of p
 
 -- the ranges of a plan
 pub record IsPlan (p : Plan) : Type 0 where
@@ -63,5 +63,5 @@ pub record IsPlan (p : Plan) : Type 0 where
   pub few_scripts : sum_by length p.scripts ≤ MOST_SCRIPTS
   pub each_stop : length p.stops ≡ p.callers
   pub stop_range : AllByRecursion (λ o. IfSome o (λ x. x ≤ LATEST_STOP)) p.stops
-  pub each_item : AllByRecursion (IsItem p) p.schedule
+  pub each_item : AllByRecursion (IsScheduleItem p) p.schedule
   pub few_turns : sum_by turns_of p.schedule ≤ MOST_TURNS

@@ -6,12 +6,12 @@ abbrev pub sign : ℕ → ℕ
 sign b = if nat_lt b 32 then 63 else if nat_lt 126 b then 63 else b
 
 -- the first byte of a line that is shown, at most 60 before the piece
-abbrev pub first : ℕ → ℕ
-first start = start - 60
+abbrev pub first_shown_byte : ℕ → ℕ
+first_shown_byte start = start - 60
 
 -- and the end of what is shown, at most 100 bytes on
 abbrev pub last : (start size : ℕ) → ℕ
-last start size = min size (first start + 100)
+last start size = min size (first_shown_byte start + 100)
 
 -- how many carets there are, at least one
 abbrev pub width : (start end size : ℕ) → ℕ
@@ -21,5 +21,5 @@ width start end size = max (min end (last start size) - start) 1
 abbrev pub message : (number : ℕ) (line : List ℕ) (start end : ℕ) (reason : List ℕ) → List ℕ
 message number line start end reason =
     ((((((codes "line " ++ (decimal number ++ (codes ", column " ++ (decimal (start + 1) ++ (codes ": " ++ (reason ++ codes "\n    "))))))
-    ++ map sign (slice_range line (first start) (last start (length line))))
-    ++ codes "\n    ") ++ replicate (start - first start) 32) ++ replicate (width start end (length line)) 94) ++ codes "\n")
+    ++ map sign (slice_range line (first_shown_byte start) (last start (length line))))
+    ++ codes "\n    ") ++ replicate (start - first_shown_byte start) 32) ++ replicate (width start end (length line)) 94) ++ codes "\n")

@@ -11,12 +11,12 @@ use Rattle.of_plan.specs.declared.reason.Reason.{Reason}
 use Rattle.of_plan.specs.declared.reason.Reason.TheVariants.{Flawed, TitleExpected, CallersExpected, BlocksExpected, AfterEnd, UnknownLine, UnknownInstruction, NoCaller, NoCell, InstructionMissing, TooManyInstructions, SecondStop, HeadingOver, EndMissing, NotHere}
 use Rattle.of_plan.specs.Plan.{data_cells}
 use Rattle.of_plan.specs.Lines.{text_lines}
-use Rattle.of_plan.specs.LineTable.{form_named}
+use Rattle.of_plan.specs.LineTable.{line_form_named}
 use Rattle.of_plan.specs.BadLine.{HasBadLine}
 use Rattle.of_plan.specs.Grammar.{IsPlanText}
 use Rattle.of_plan.specs.Above.{line_at, Says, NoneSays}
 use Rattle.of_plan.specs.Numerals.{mosts}
-use Rattle.of_plan.specs.Flaws.{IsNumber, IsNoWord, HasFlaw}
+use Rattle.of_plan.specs.Flaws.{PieceIsNumber, IsNoWord, HasFlaw}
 
 -- a line above says it
 abbrev pub SaidAbove : List (List ℕ) → ℕ → Wanted → ℕ → Type 0
@@ -24,13 +24,13 @@ SaidAbove ls above wanted number = (at : ℕ) × Says ls above wanted at number
 
 -- the caller that the piece names is none of the plan's
 pub record IsNoCaller (ls : List (List ℕ)) (above : ℕ) (piece : List ℕ) (caller callers : ℕ) : Type 0 where
-  pub named : IsNumber piece caller
+  pub named : PieceIsNumber piece caller
   pub said : SaidAbove ls above Callers callers
   pub past : callers ≤ caller
 
 -- the cell that the piece names is none of the plan's
 pub record IsNoCell (ls : List (List ℕ)) (above : ℕ) (piece : List ℕ) (cell cells : ℕ) : Type 0 where
-  pub named : IsNumber piece cell
+  pub named : PieceIsNumber piece cell
   pub callers : ℕ
   pub blocks : ℕ
   pub said_callers : SaidAbove ls above Callers callers
@@ -41,7 +41,7 @@ pub record IsNoCell (ls : List (List ℕ)) (above : ℕ) (piece : List ℕ) (cel
 -- the caller that the piece names has a stop in a line above, whose number is this
 pub record HasStop (ls : List (List ℕ)) (above : ℕ) (piece : List ℕ) (line : ℕ) : Type 0 where
   pub caller : ℕ
-  pub named : IsNumber piece caller
+  pub named : PieceIsNumber piece caller
   pub at : ℕ
   pub says : Says ls above (Stop caller) at caller
   pub number : line ≡ at + 1
@@ -58,7 +58,7 @@ IsTrueOf TitleExpected ls above piece = NoneSays ls above Kept
 IsTrueOf CallersExpected ls above piece = NoneSays ls above Callers × (piece ≡ codes "callers" → ⊥)
 IsTrueOf BlocksExpected ls above piece = NoneSays ls above Blocks × (piece ≡ codes "blocks" → ⊥)
 IsTrueOf AfterEnd ls above piece = (number : ℕ) × SaidAbove ls above End number
-IsTrueOf UnknownLine ls above piece = form_named piece ≡ None
+IsTrueOf UnknownLine ls above piece = line_form_named piece ≡ None
 IsTrueOf UnknownInstruction ls above piece = mosts piece ≡ None
 IsTrueOf (NoCaller caller callers) ls above piece = IsNoCaller ls above piece caller callers
 IsTrueOf (NoCell cell cells) ls above piece = IsNoCell ls above piece cell cells

@@ -8,13 +8,13 @@ use Rattle.of_eval.specs.Record.{end_state_of}
 use Rattle.of_plan.specs.declared.answer.Answer.{Answer}
 use Rattle.of_plan.specs.declared.answer.Ending.TheVariants.{Done}
 use Rattle.of_plan.specs.declared.plan.Item.{Item}
-use Rattle.of_plan.specs.Plan.{Plan, IsItem, scripts_of}
+use Rattle.of_plan.specs.Plan.{Plan, IsScheduleItem, scripts_of}
 use Rattle.of_plan.specs.Report.{done, stopped, spent}
 use Rattle.of_plan.specs.Ended.{Ended, answers_of, ending_of}
 use Rattle.of_core.specs.declared.place.Place.TheVariants.{Idle}
 use Rattle.of_core.specs.declared.place.Outcome.{Outcome}
 use Rattle.of_core.specs.declared.place.Outcome.TheVariants.{Answered, Spent}
-use Rattle.of_core.specs.Machine.{CallState, IsOpen, is_idle, no_machine, begin, first_place}
+use Rattle.of_core.specs.Machine.{CallState, IsOpen, is_idle, no_machine, begin_call, first_place}
 use Rattle.of_core.specs.World.{Moment}
 use Rattle.of_core.specs.Events.{Event, Begins, Turns, Loads, Evicts, Raises, machine_in, after_event, after_events, zero_start}
 use Rattle.of_core.specs.Calls.{TurnsFindOpenCalls, operations_begun, outcomes, no_outcome, last_outcome, HasCalls}
@@ -108,7 +108,7 @@ module _ (p : Plan) (plan : IsPlayable p) (c : ℕ) (h : c < p.callers) where
       go false e = at_place (is_idle (machine_in (moment_after p es) c).place) refl e
       go true e =
           let op = operation_of (get_or (scripts_of p c) (machine_in (moment_after p es) c).made []) in
-          let now : machine_in (after_event (plan_setup p) (moment_after p es) (Begins c op)) c ≡ begin (plan_setup p) (machine_in (moment_after p es) c) op = get_or-set_same (moment_after p es).machines c _ no_machine (here p plan (moment_after p es) (good_at p plan es f.schedule) c h) in
+          let now : machine_in (after_event (plan_setup p) (moment_after p es) (Begins c op)) c ≡ begin_call (plan_setup p) (machine_in (moment_after p es) c) op = get_or-set_same (moment_after p es).machines c _ no_machine (here p plan (moment_after p es) (good_at p plan es f.schedule) c h) in
           inl (never_idle_append (plan_setup p) (opening_for p) es _ c k
           (subst (λ (gs : List Event). TurnsFindOpenCalls (plan_setup p) (moment_after p es) (gs ++ Turns c ∷ []) c) (sym (next_one p c (machine_in (moment_after p es) c) e))
           (tt, ((λ q. subst (λ (m : CallState). IsOpen m.place) (sym now) (opens ((plan_setup p).meaning.reads_only op))), tt))))
@@ -125,7 +125,7 @@ module _ (p : Plan) (plan : IsPlayable p) (c : ℕ) (h : c < p.callers) where
       go (inl e) = subst (λ (k : ℕ). Busy (es ++ (next_begin p k (machine_in (moment_after p es) k) ++ Turns k ∷ []))) e (own_turn es f b)
       go (inr n) = other_turn es d n b
 
-  items_busy : (xs : List Item) → Each (IsItem p) xs → Busy (events_of p xs)
+  items_busy : (xs : List Item) → Each (IsScheduleItem p) xs → Busy (events_of p xs)
   items_busy xs items = by_items p plan Busy busy_step xs items (inl tt)
 
   -- ---- a caller that rests at the end is not stopped
@@ -151,7 +151,7 @@ module _ (p : Plan) (plan : IsPlayable p) (c : ℕ) (h : c < p.callers) where
       go true z = cc
       go false z = let y : spent ≡ stopped = sym (ap (λ (o : Option Outcome). end_state_of (ending_if_left o m.steps)) e) ∙ z in cc
 
-  rest_ends : (xs : List Item) → Each (IsItem p) xs → Rests (moment_after p (events_of p xs)) → (answers : List Answer) → AreAnswers (outcomes (plan_setup p) (opening_for p) (events_of p xs) c) answers
+  rest_ends : (xs : List Item) → Each (IsScheduleItem p) xs → Rests (moment_after p (events_of p xs)) → (answers : List Answer) → AreAnswers (outcomes (plan_setup p) (opening_for p) (events_of p xs) c) answers
       → end_state_of (ending_at (machine_in (moment_after p (events_of p xs)) c) (length (scripts_of p c)) (length answers)) ≡ stopped → ⊥
   rest_ends xs items r answers told = by_last (last_outcome outs) refl
     where
@@ -185,7 +185,7 @@ module _ (p : Plan) (plan : IsPlayable p) (c : ℕ) (h : c < p.callers) where
       by_last (Some (Spent s)) is = spent_state m (length (scripts_of p c)) (length answers) s (calls.last r.0 ∙ is)
 
 -- a caller that a schedule leaves stopped had a call open at each of its turns
-pub stopped_never_idle : (p : Plan) → IsPlayable p → (xs : List Item) → Each (IsItem p) xs → (e : Ended) → IsLeftBy p (events_of p xs) e → (c : ℕ) → c < p.callers → end_state_of (ending_of e c) ≡ stopped → TurnsFindOpenCalls (plan_setup p) (opening_for p) (events_of p xs) c
+pub stopped_never_idle : (p : Plan) → IsPlayable p → (xs : List Item) → Each (IsScheduleItem p) xs → (e : Ended) → IsLeftBy p (events_of p xs) e → (c : ℕ) → c < p.callers → end_state_of (ending_of e c) ≡ stopped → TurnsFindOpenCalls (plan_setup p) (opening_for p) (events_of p xs) c
 stopped_never_idle p plan xs items e played c h state = elim (items_busy p plan c h xs items) [
   | inl k ↦ k
   | inr r ↦ absurd (rest_ends p plan c h xs items r (answers_of e c) (played.told c h) (ap end_state_of (sym (played.ended c h)) ∙ state))

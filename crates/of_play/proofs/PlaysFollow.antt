@@ -12,7 +12,7 @@ use Rattle.of_plan.specs.Plan.{Plan, scripts_of}
 use Rattle.of_plan.proofs.Lists.{all_at}
 use Rattle.of_core.specs.declared.place.Place.TheVariants.{Idle}
 use Rattle.of_core.specs.Table.{Setup, cell_count}
-use Rattle.of_core.specs.Machine.{CallState, is_idle, no_machine, begin}
+use Rattle.of_core.specs.Machine.{CallState, is_idle, no_machine, begin_call}
 use Rattle.of_core.specs.World.{Moment}
 use Rattle.of_core.specs.Events.{Event, Begins, Turns, Loads, Evicts, Raises, machine_in, after_event, MayHappen}
 use Rattle.of_core.specs.Calls.{operation_begun, if_so}
@@ -124,7 +124,7 @@ module _ (p : Plan) (plan : IsPlayable p) where
           let many : length (operation_of script) ≡ length script = length-map script instr_word in
           (h, begins_idle, omega (arith, s.some, many), omega (arith, s.few, many), omega (arith, begins_left, few_scripts c h))
 
-      opens : machine_in (after_event S w e) c ≡ begin S (machine_in w c) (operation_of script)
+      opens : machine_in (after_event S w e) c ≡ begin_call S (machine_in w c) (operation_of script)
       opens = get_or-set_same w.machines c _ no_machine (here p plan w good c h)
 
       pub begin_follows : EventsMayFollow p (es ++ e ∷ [])

@@ -15,7 +15,7 @@ use Rattle.of_core.specs.Facts.{IsStep}
 use Rattle.of_core.specs.Invariant.{MeetsInvariant}
 use Rattle.of_core.specs.Claim.{IsSound}
 use Rattle.of_core.specs.Seen.{ended_outcome, ended_outcome_at}
-use Rattle.of_core.specs.Turn.{end_from_own_cells, turn_at, turn_of}
+use Rattle.of_core.specs.Turn.{turn_of_outcome, turn_at, turn_of}
 use Rattle.of_core.specs.Events.{Event, Turns, machine_in, after_event, IsSchedule, zero_start}
 use Rattle.of_caller.specs.Tables.{plan_setup, IsLawfulFor, opening_for}
 use Rattle.of_caller.specs.Left.{moment_after}
@@ -23,7 +23,7 @@ use Rattle.of_play.specs.Playing.{standing_of, standing_after, spent_at}
 use Rattle.of_play.proofs.PlaysMoments.{IsPlayable, idle_is, good_moment}
 
 -- what a turn says of a machine that wasn't idle
-pub turn_open : (p : Place) (d : CallState) → is_idle p ≡ false → turn_at p d ≡ end_from_own_cells (ended_outcome d)
+pub turn_open : (p : Place) (d : CallState) → is_idle p ≡ false → turn_at p d ≡ turn_of_outcome (ended_outcome d)
 turn_open Idle d e = cc
 turn_open p d e = refl
 
@@ -89,16 +89,16 @@ module _ (p : Plan) (play : IsPlayable p) where
     pub stands_turned : standing_of (machine_in v c) ≡ standing_after (turn_of m (machine_in v c)) (standing_of m)
     stands_turned = ap standing_of turned ∙ by_place (is_idle m.place) refl ∙ sym (ap (λ (x : CallState). standing_after (turn_of m x) (standing_of m)) turned)
       where
-        by_end : (b : Bool) → IsOpen m.place → is_idle d.place ≡ b → standing_of d ≡ standing_after (end_from_own_cells (ended_outcome d)) (standing_of m)
+        by_end : (b : Bool) → IsOpen m.place → is_idle d.place ≡ b → standing_of d ≡ standing_after (turn_of_outcome (ended_outcome d)) (standing_of m)
         by_end true o e =
             let q = idle_is d.place e in
             let t = (taken o).ends q in
             let now : ended_outcome d ≡ Some t.0 = ap (λ (x : Place). ended_outcome_at x d) q ∙ t.1 in
             let none = no_steps q in
-            (λ i. record { spent = spent_at (t.1 i); steps = none i }) ∙ ap (λ (x : Option Outcome). standing_after (end_from_own_cells x) (standing_of m)) (sym now)
+            (λ i. record { spent = spent_at (t.1 i); steps = none i }) ∙ ap (λ (x : Option Outcome). standing_after (turn_of_outcome x) (standing_of m)) (sym now)
         by_end false o e =
             let t = (taken o).goes_on e in
-            (λ i. record { spent = spent_at (t.1 i); steps = t.0 i }) ∙ ap (λ (x : Option Outcome). standing_after (end_from_own_cells x) (standing_of m)) (sym (none_ended d d.place e))
+            (λ i. record { spent = spent_at (t.1 i); steps = t.0 i }) ∙ ap (λ (x : Option Outcome). standing_after (turn_of_outcome x) (standing_of m)) (sym (none_ended d d.place e))
 
         by_place : (b : Bool) → is_idle m.place ≡ b → standing_of d ≡ standing_after (turn_of m d) (standing_of m)
         by_place true e =

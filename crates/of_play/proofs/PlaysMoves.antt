@@ -5,7 +5,7 @@ use Rattle.of_eval.specs.declared.scripts.Scripts.{Scripts}
 use Rattle.of_eval.specs.Scripts.{scripts_meaning}
 use Rattle.of_plan.specs.declared.plan.Item.{Item}
 use Rattle.of_plan.specs.declared.plan.Item.TheVariants.{Evict}
-use Rattle.of_plan.specs.Plan.{Plan, IsItem, durable_cells_of}
+use Rattle.of_plan.specs.Plan.{Plan, IsScheduleItem, durable_cells_of}
 use Rattle.of_core.specs.Moment.{Bank, bank_after}
 use Rattle.of_core.specs.Events.{Event, Turns, Raises}
 use Rattle.of_caller.specs.Tables.{plan_setup, opening_for}
@@ -47,7 +47,7 @@ pub one_turn_more : (p : Plan) (c n : ℕ) (r s t : Playing) → MakesMoves p (r
 one_turn_more p c n r s t f g = subst (λ (ms : List Event). MakesMoves p ms r t) (replicate_more n (Turns c)) (goes_further p (replicate n (Turns c)) (Turns c ∷ []) r s t f g)
 
 -- an eviction
-pub evict_goes_on : (p : Plan) → IsPlayable p → (item : Item) (a : ℕ) → item ≡ Evict a → IsItem p item → (s : Playing) (x : Bank Scripts) → x ≡ bank_after scripts_meaning (Raises a ∷ []) s.bank → MakesMoves p (item_events item) s (record s { bank = x })
+pub evict_goes_on : (p : Plan) → IsPlayable p → (item : Item) (a : ℕ) → item ≡ Evict a → IsScheduleItem p item → (s : Playing) (x : Bank Scripts) → x ≡ bank_after scripts_meaning (Raises a ∷ []) s.bank → MakesMoves p (item_events item) s (record s { bank = x })
 evict_goes_on p plan item a is within s x leaves =
-    let h : a < durable_cells_of p = subst (IsItem p) is within in
+    let h : a < durable_cells_of p = subst (IsScheduleItem p) is within in
     subst (λ (y : Item). MakesMoves p (item_events y) s (record s { bank = x })) (sym is) (λ es st. raise_stands p plan es s st a h x leaves)

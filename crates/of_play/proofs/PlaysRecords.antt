@@ -19,7 +19,7 @@ use Rattle.of_caller.specs.Ends.{is_spent, AnswersStandBeforeSpent, NoneAnswered
 use Rattle.of_caller.specs.InTime.{RespectsTime, marks_in, SchedulesRespectTime}
 use Rattle.of_caller.specs.Left.{IsLeftBy, IsOfPlan, moment_after}
 use Rattle.of_eval.specs.Reported.{ReportsRun}
-use Rattle.of_caller.specs.Runs.{ending_of_calls, TellsCalls, IsRunOf, RunsAreLawful, RunsAreReported, RunsKeepAllowances}
+use Rattle.of_caller.specs.Runs.{ending_of_calls, TellsCalls, IsRunOfPlan, RunsAreLawful, RunsAreReported, RunsKeepAllowances}
 use Rattle.of_play.specs.Play.{IsPlayed, play_events}
 use Rattle.of_play.proofs.PlaysMoments.{IsPlayable, idle_or_open, calls_here, turns_here, open_unspent, idle_steps, words_left}
 use Rattle.of_play.proofs.PlaysStart.{none_finished, moment_here}
@@ -84,7 +84,7 @@ module _ (p : Plan) (play : IsPlayable p) (es : List Event) (schedule : IsSchedu
     tells = record { answers_first = first_answers outs (λ x s among is. omega (arith, spent c lt x s among is, few_ended, among)); told = left.told c lt; ended = ended }
 
   -- a schedule of the plan's scripts leaves what a run does
-  pub run_here : IsRunOf p (empty_start p) (zero_start (plan_setup p)) (moment_after p es) e
+  pub run_here : IsRunOfPlan p (empty_start p) (zero_start (plan_setup p)) (moment_after p es) e
   run_here = record {
     operations = operations_begun es;
     outcomes = outcomes (plan_setup p) (opening_for p) es;

@@ -7,7 +7,7 @@ use Rattle.std.proofs.lemmas.List.{append_assoc, append-nil}
 use Rattle.std.proofs.lemmas.List.Sums.{sum_by-cons}
 use Rattle.of_plan.specs.declared.plan.Item.{Item}
 use Rattle.of_plan.specs.declared.plan.Item.TheVariants.{Turns as Turns_of, Evict}
-use Rattle.of_plan.specs.Plan.{Plan, IsItem, scripts_of}
+use Rattle.of_plan.specs.Plan.{Plan, IsScheduleItem, scripts_of}
 use Rattle.of_plan.specs.Allowance.{turns_in, turns_for}
 use Rattle.of_plan.proofs.HistoriesLists.{each_append}
 use Rattle.of_core.specs.World.{Moment}
@@ -29,11 +29,11 @@ turns_are : (p : Plan) (c n : ℕ) → c < p.callers → Each (IsMove p) (replic
 turns_are p c zero h = tt
 turns_are p c (suc n) h = (h, turns_are p c n h)
 
-item_moves : (p : Plan) (x : Item) → IsItem p x → Each (IsMove p) (item_events x)
+item_moves : (p : Plan) (x : Item) → IsScheduleItem p x → Each (IsMove p) (item_events x)
 item_moves p (Turns_of c n) h = turns_are p c n h.0
 item_moves p (Evict a) h = (h, tt)
 
-all_moves : (p : Plan) (xs : List Item) → Each (IsItem p) xs → Each (IsMove p) (flat_map item_events xs)
+all_moves : (p : Plan) (xs : List Item) → Each (IsScheduleItem p) xs → Each (IsMove p) (flat_map item_events xs)
 all_moves p [] h = tt
 all_moves p (x ∷ xs) h = each_append (IsMove p) (item_events x) (flat_map item_events xs) (item_moves p x h.0) (all_moves p xs h.1)
 
@@ -64,18 +64,18 @@ module _ (p : Plan) (plan : IsPlayable p) where
         subst P (append_assoc es fs _ ∙ ap (λ (w : Moment). es ++ (fs ++ events_from p w ms)) (run_append (plan_setup p) (opening_for p) es fs))
         (by_moves ms (es ++ fs) moves.1 (move_follows es f m moves.0) (step es f h m moves.0))
 
-    pub by_items : (xs : List Item) → Each (IsItem p) xs → P [] → P (events_of p xs)
+    pub by_items : (xs : List Item) → Each (IsScheduleItem p) xs → P [] → P (events_of p xs)
     by_items xs items h = by_moves (flat_map item_events xs) [] (all_moves p xs items) (starts p) h
 
-  items_follow : (xs : List Item) → Each (IsItem p) xs → EventsMayFollow p (events_of p xs)
+  items_follow : (xs : List Item) → Each (IsScheduleItem p) xs → EventsMayFollow p (events_of p xs)
   items_follow xs items = by_items (EventsMayFollow p) (λ es f h m is. move_follows es f m is) xs items (starts p)
 
 -- the events of such a schedule may happen
-pub items_are_schedule : (p : Plan) → IsPlayable p → (xs : List Item) → Each (IsItem p) xs → IsSchedule (plan_setup p) (opening_for p) (events_of p xs)
+pub items_are_schedule : (p : Plan) → IsPlayable p → (xs : List Item) → Each (IsScheduleItem p) xs → IsSchedule (plan_setup p) (opening_for p) (events_of p xs)
 items_are_schedule p plan xs items = (items_follow p plan xs items).schedule
 
 -- and each caller begins its first scripts
-pub items_of_plan : (p : Plan) → IsPlayable p → (xs : List Item) → Each (IsItem p) xs → IsOfPlan p (events_of p xs)
+pub items_of_plan : (p : Plan) → IsPlayable p → (xs : List Item) → Each (IsScheduleItem p) xs → IsOfPlan p (events_of p xs)
 items_of_plan p plan xs items = of_plan p (events_of p xs) (items_follow p plan xs items)
 
 -- so it is with the plan's own

@@ -17,7 +17,7 @@ use Rattle.of_core.specs.declared.place.Outcome.{Outcome}
 use Rattle.of_core.specs.declared.place.Outcome.TheVariants.{Answered, Spent}
 use Rattle.of_core.specs.Table.{Setup, cell_count}
 use Rattle.of_core.specs.declared.place.Place.TheVariants.{Idle}
-use Rattle.of_core.specs.Machine.{CallState, is_idle, no_machine, begin}
+use Rattle.of_core.specs.Machine.{CallState, is_idle, no_machine, begin_call}
 use Rattle.of_core.specs.World.{Moment}
 use Rattle.of_core.specs.Turn.{turn_of}
 use Rattle.of_core.specs.Moment.{Bank, bank_setup, bank_after, machine_of}
@@ -132,13 +132,13 @@ module _ (p : Plan) (plan : IsPlayable p) (es : List Event) (s : Playing) (st : 
       → StandsAfter p (es ++ Begins c (operation_of (get_or (scripts_of p c) (machine_in w c).made [])) ∷ []) (record s { bank = x })
   begin_stands c h begins x leaves =
       quiet (Begins c op) tt x leaves (begin_follows p plan es st.follows c h begins)
-      (ap (map standing_of) (sym (set-get_or w.machines c no_machine)) ∙ map-set standing_of w.machines c (machine_in w c) ∙ ap (set (map standing_of w.machines) c) same ∙ sym (map-set standing_of w.machines c (begin S (machine_in w c) op)))
+      (ap (map standing_of) (sym (set-get_or w.machines c no_machine)) ∙ map-set standing_of w.machines c (machine_in w c) ∙ ap (set (map standing_of w.machines) c) same ∙ sym (map-set standing_of w.machines c (begin_call S (machine_in w c) op)))
       (λ i. refl)
     where
       op : List ℕ
       op = operation_of (get_or (scripts_of p c) (machine_in w c).made [])
 
-      same : standing_of (machine_in w c) ≡ standing_of (begin S (machine_in w c) (operation_of (get_or (scripts_of p c) (machine_in w c).made [])))
+      same : standing_of (machine_in w c) ≡ standing_of (begin_call S (machine_in w c) (operation_of (get_or (scripts_of p c) (machine_in w c).made [])))
       same =
           let spent = unspent_at (machine_in w c).answer (begins_unspent p plan es st.follows c h begins) in
           let steps = idle_steps p plan w good c h (begins_idle p plan es st.follows c h begins) in

@@ -21,9 +21,9 @@ use Rattle.of_core.specs.Events.{Event, Turns, after_events}
 use Rattle.of_caller.specs.Tables.{plan_setup, opening_for}
 use Rattle.of_caller.specs.Left.{moment_after}
 use Rattle.of_play.specs.Play.{item_events, plan_events, with_begin, events_from, play_events}
-use Rattle.of_play.specs.Trace.{line_at, lines_from}
+use Rattle.of_play.specs.Trace.{event_line_at, lines_from}
 use Rattle.of_play.specs.TraceLaws.{IsShown, world_after}
-use Rattle.of_play.specs.TraceParts.{reply_in, cause_at}
+use Rattle.of_play.specs.TraceParts.{shown_reply, cause_at}
 use Rattle.of_play.proofs.PlaysEvents.{run_append}
 
 -- ---- the events of a schedule
@@ -55,19 +55,19 @@ pub ends_as_play : (p : Plan) → world_after p (opening_for p) (plan_events p) 
 ends_as_play p = world_is p (opening_for p) (plan_events p)
 
 line_is : (p : Plan) (j k : ℕ) (w : Moment) (ms : List Event) (e : Event) → k < length ms
-    → get_or (lines_from (line_at p) p j w ms) k [] ≡ line_at p (j + k) (world_after p w (take k ms)) (get_or ms k e)
+    → get_or (lines_from (event_line_at p) p j w ms) k [] ≡ event_line_at p (j + k) (world_after p w (take k ms)) (get_or ms k e)
 line_is p j k w [] e l = absurd (omega (arith, l))
-line_is p j zero w (m ∷ ms) e l = ap (λ (n : ℕ). line_at p n w m) (omega arith)
+line_is p j zero w (m ∷ ms) e l = ap (λ (n : ℕ). event_line_at p n w m) (omega arith)
 line_is p j (suc k) w (m ∷ ms) e l =
     let v = after_events (plan_setup p) w (with_begin p w m) in
     line_is p (j + 1) k v ms e (omega (arith, l))
-    ∙ ap (λ (n : ℕ). line_at p n (world_after p v (take k ms)) (get_or ms k e)) (omega arith)
+    ∙ ap (λ (n : ℕ). event_line_at p n (world_after p v (take k ms)) (get_or ms k e)) (omega arith)
 
 pub lines_are : (p : Plan) (k : ℕ) (e : Event) → k < length (plan_events p)
-    → get_or (lines_from (line_at p) p 0 (opening_for p) (plan_events p)) k [] ≡ line_at p k (world_after p (opening_for p) (take k (plan_events p))) (get_or (plan_events p) k e)
+    → get_or (lines_from (event_line_at p) p 0 (opening_for p) (plan_events p)) k [] ≡ event_line_at p k (world_after p (opening_for p) (take k (plan_events p))) (get_or (plan_events p) k e)
 lines_are p k e l =
     line_is p 0 k (opening_for p) (plan_events p) e l
-    ∙ ap (λ (n : ℕ). line_at p n (world_after p (opening_for p) (take k (plan_events p))) (get_or (plan_events p) k e)) (omega arith)
+    ∙ ap (λ (n : ℕ). event_line_at p n (world_after p (opening_for p) (take k (plan_events p))) (get_or (plan_events p) k e)) (omega arith)
 
 -- ---- replies
 
@@ -82,10 +82,10 @@ abbrev responded : Option RustReply → Reply
 responded None = Answered []
 responded (Some r) = reply_value_of r
 
-pub reply_read : (raw : RawReply) (r : RustReply) → length raw.values ≡ MOST_INSTRS → IsHeldBy raw r → reply_in raw ≡ reply_value_of r
+pub reply_read : (raw : RawReply) (r : RustReply) → length raw.values ≡ MOST_INSTRS → IsHeldBy raw r → shown_reply raw ≡ reply_value_of r
 reply_read raw r wide h = go (nat_lt raw.shape (2 ^ 21)) refl
   where
-    go : (b : Bool) → nat_lt raw.shape (2 ^ 21) ≡ b → reply_in raw ≡ reply_value_of r
+    go : (b : Bool) → nat_lt raw.shape (2 ^ 21) ≡ b → shown_reply raw ≡ reply_value_of r
     go true e =
         let small : raw.shape < 2 ^ 21 = grind (arith, nat_tests) in
         rw e (ap responded (answered_is raw r h wide small _ refl _ refl))

@@ -12,10 +12,10 @@ use Rattle.of_core.specs.declared.place.Op.{Op}
 use Rattle.of_core.specs.declared.place.Outcome.{Outcome}
 use Rattle.of_cell.specs.Words.{pack, seq_of}
 use Rattle.of_core.specs.Table.{Setup, durable_at, committed_seq}
-use Rattle.of_core.specs.Machine.{Call, CallState, is_idle, no_machine, begin, first_place}
+use Rattle.of_core.specs.Machine.{Call, CallState, is_idle, no_machine, begin_call, first_place}
 use Rattle.of_core.specs.Seen.{ended_outcome}
-use Rattle.of_core.specs.Helping.{steps_left_after_help}
-use Rattle.of_core.specs.Turn.{end_from_own_cells, turn_of}
+use Rattle.of_core.specs.Helping.{helped_owner}
+use Rattle.of_core.specs.Turn.{turn_of_outcome, turn_of}
 use Rattle.of_core.specs.Steps.{want, want_at, word_of, word_found}
 use Rattle.of_core.specs.World.{Moment, step_batches, one_batch, step_batches_at}
 use Rattle.of_core.specs.Moment.{bank_after, bank_setup, machine_of}
@@ -27,7 +27,7 @@ use Rattle.of_caller.specs.Runs.{RepliesAreHeld}
 use Rattle.of_play.specs.Play.{begins_call, next_begin}
 use Rattle.of_play.specs.Playing.{StandsAfter, MakesMoves, BeginsNext, IsReplied}
 use Rattle.of_play.specs.TraceLine.{step_line, rest_line, evict_line}
-use Rattle.of_play.specs.Trace.{turn_line, moment_of_event, line_at, committed_at, batch_line}
+use Rattle.of_play.specs.Trace.{turn_line, moment_of_event, event_line_at, committed_at, batch_line}
 use Rattle.of_play.specs.Committing.{commits_by_step, commit_line}
 use Rattle.of_play.specs.declared.playing.Playing.{Playing}
 use Rattle.of_play.specs.declared.trace_line.Step.{Step}
@@ -53,14 +53,14 @@ read c T m d ws vs = record {
   index = m.made - 1;
   place = m.place;
   op = want T m;
-  helps = steps_left_after_help m;
+  helps = helped_owner m;
   change = record { word = word_of (want T m); found = get_or ws (word_of (want T m)) 0; left = get_or vs (word_of (want T m)) 0 };
   outcome = ended_outcome d;
 }
 
 -- it has been read part by part
 pub read_is : (c : ℕ) (T : Setup) (m d : CallState) (ws vs : List ℕ) (index : ℕ) (place : Place) (op : Op) (helps : Option ℕ) (pack found left : ℕ) (outcome : Option Outcome)
-    → index ≡ m.made - 1 → place ≡ m.place → op ≡ want T m → helps ≡ steps_left_after_help m → pack ≡ word_of op → found ≡ get_or ws pack 0 → left ≡ get_or vs pack 0 → outcome ≡ ended_outcome d
+    → index ≡ m.made - 1 → place ≡ m.place → op ≡ want T m → helps ≡ helped_owner m → pack ≡ word_of op → found ≡ get_or ws pack 0 → left ≡ get_or vs pack 0 → outcome ≡ ended_outcome d
     → ◌≡◌ {A = Step} (record { caller = c; index = index; place = place; op = op; helps = helps; change = record { word = pack; found = found; left = left }; outcome = outcome }) (read c T m d ws vs)
 read_is c T m d ws vs index place op helps pack found left outcome is_index is_place is_op is_helps is_word is_found is_left is_outcome =
     let w : pack ≡ word_of (want T m) = is_word ∙ ap word_of is_op in
@@ -93,7 +93,7 @@ unfolding want step_batches
 step_commits S ws m k c = commits_from S ws m k c m.place
 
 -- how a call has ended that a turn has ended
-told_holds : (o : Option Outcome) → IsReplied (end_from_own_cells o) → IfSome o OutcomeHoldsReply
+told_holds : (o : Option Outcome) → IsReplied (turn_of_outcome o) → IfSome o OutcomeHoldsReply
 told_holds None h = tt
 told_holds (Some o) h = h
 
@@ -122,7 +122,7 @@ module _ (p : Plan) (plan : IsPlayable p) where
         go true e =
             let op : List ℕ = operation_of (get_or (scripts_of p c) (machine_in w c).made []) in
             let same : v ≡ after_event S w (Begins c op) = ap (λ (gs : List Event). moment_after p (es ++ gs)) (next_one p c (machine_in w c) e) ∙ run_append S (opening_for p) es (Begins c op ∷ []) in
-            let opens : machine_in v c ≡ begin S (machine_in w c) op = ap (λ (u : Moment). machine_in u c) same ∙ get_or-set_same w.machines c _ no_machine (here p plan w (good_at p plan es st.follows.schedule) c h) in
+            let opens : machine_in v c ≡ begin_call S (machine_in w c) op = ap (λ (u : Moment). machine_in u c) same ∙ get_or-set_same w.machines c _ no_machine (here p plan w (good_at p plan es st.follows.schedule) c h) in
             next_none p c (machine_in v c) (begins_busy (machine_in v c) (length (scripts_of p c)) (λ idle. begun_open (S.meaning.reads_only op) (ap (λ (d : CallState). d.place) (sym opens) ∙ idle)))
 
   -- a call is begun, where one is to be, and a turn is made
@@ -163,14 +163,14 @@ module _ (p : Plan) (plan : IsPlayable p) where
       words_after = (turned es st).words ∙ ap (λ (w : Moment). w.words) is_after
 
       -- where no call is open it does nothing
-      pub rests : (machine_of t.bank c).place ≡ Idle → rest_line k c ≡ line_at p k (moment_after p es) (Turns c)
+      pub rests : (machine_of t.bank c).place ≡ Idle → rest_line k c ≡ event_line_at p k (moment_after p es) (Turns c)
       rests idle =
           let e : (machine_in at c).place ≡ Idle = ap (λ (d : CallState). d.place) (sym machine_at) ∙ idle in
           sym (ap (λ q. turn_line p k c (is_idle q) at (after_event S at (Turns c))) e)
 
       -- else its step is what is read off the bank
       pub steps : ((machine_of t.bank c).place ≡ Idle → ⊥)
-          → step_line p.callers (data_cells p.callers p.blocks) k (read c (bank_setup scripts_meaning t.bank) (machine_of t.bank c) (machine_of u.bank c) t.bank.words u.bank.words) ≡ line_at p k (moment_after p es) (Turns c)
+          → step_line p.callers (data_cells p.callers p.blocks) k (read c (bank_setup scripts_meaning t.bank) (machine_of t.bank c) (machine_of u.bank c) t.bank.words u.bank.words) ≡ event_line_at p k (moment_after p es) (Turns c)
       steps busy =
           let e : is_idle (machine_in at c).place ≡ false = open_is (machine_in at c).place (λ i. busy (ap (λ (d : CallState). d.place) machine_at ∙ i)) in
           (λ i. step_line p.callers (data_cells p.callers p.blocks) k (read c ((begins es st).table i) (machine_at i) (machine_after i) (words_at i) (words_after i)))
@@ -187,7 +187,7 @@ module _ (p : Plan) (plan : IsPlayable p) where
           let is : r ≡ turn_of (machine_in w c) (machine_in (after_event S w (Turns c)) c) = turn_says p plan gs t (begins es st) c h x refl r refl in
           let before : machine_in w c ≡ machine_of t.bank c = ap (λ (v : Moment). machine_in v c) is_ready ∙ sym machine_at in
           let now : machine_in (after_event S w (Turns c)) c ≡ machine_of u.bank c = ap (λ (v : Moment). machine_in (after_event S v (Turns c)) c) is_ready ∙ sym machine_after in
-          let all : r ≡ end_from_own_cells (ended_outcome (machine_of u.bank c)) = is ∙ (λ i. turn_of (before i) (now i)) ∙ turn_open (machine_of t.bank c).place (machine_of u.bank c) (open_is (machine_of t.bank c).place busy) in
+          let all : r ≡ turn_of_outcome (ended_outcome (machine_of u.bank c)) = is ∙ (λ i. turn_of (before i) (now i)) ∙ turn_open (machine_of t.bank c).place (machine_of u.bank c) (open_is (machine_of t.bank c).place busy) in
           told_holds (ended_outcome (machine_of u.bank c)) (subst IsReplied all said)
 
       -- what the turn has committed
@@ -216,7 +216,7 @@ module _ (p : Plan) (plan : IsPlayable p) where
   -- an eviction is made
   module _ (a : ℕ) (s u : Playing) (goes : MakesMoves p (Raises a ∷ []) s u) where
     pub evicts : (es : List Event) → StandsAfter p es s → (k : ℕ)
-        → evict_line p.callers (data_cells p.callers p.blocks) k (record { word = durable_at S a; found = get_or s.bank.words (durable_at S a) 0; left = get_or u.bank.words (durable_at S a) 0 }) ≡ line_at p k (moment_after p es) (Raises a)
+        → evict_line p.callers (data_cells p.callers p.blocks) k (record { word = durable_at S a; found = get_or s.bank.words (durable_at S a) 0; left = get_or u.bank.words (durable_at S a) 0 }) ≡ event_line_at p k (moment_after p es) (Raises a)
     evicts es st k =
         let bank_after = run_append S (opening_for p) es (Raises a ∷ []) in
         let now = (goes es st).words ∙ ap (λ (w : Moment). w.words) bank_after in
@@ -224,7 +224,7 @@ module _ (p : Plan) (plan : IsPlayable p) where
 
     -- and its line is what is read off the bank
     pub evict_read : (es : List Event) → StandsAfter p es s → (k pack found left : ℕ) → pack ≡ durable_at S a → found ≡ get_or s.bank.words pack 0 → left ≡ get_or u.bank.words pack 0
-        → evict_line p.callers (data_cells p.callers p.blocks) k (record { word = pack; found = found; left = left }) ≡ line_at p k (moment_after p es) (Raises a)
+        → evict_line p.callers (data_cells p.callers p.blocks) k (record { word = pack; found = found; left = left }) ≡ event_line_at p k (moment_after p es) (Raises a)
     evict_read es st k pack found left is_word is_found is_left =
         (λ i. evict_line p.callers (data_cells p.callers p.blocks) k (record { word = is_word i; found = (is_found ∙ ap (λ (x : ℕ). get_or s.bank.words x 0) is_word) i; left = (is_left ∙ ap (λ (x : ℕ). get_or u.bank.words x 0) is_word) i }))
         ∙ evicts es st k

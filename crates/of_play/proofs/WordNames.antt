@@ -9,7 +9,7 @@ use Rattle.of_mem.specs.Places.{base_of, fresh_at, free_at, keys_at, head_at, le
 use Rattle.of_play.specs.declared.names.Holding.{Holding}
 use Rattle.of_play.specs.declared.names.Cell.{Cell}
 use Rattle.of_play.specs.declared.names.Word.{Word}
-use Rattle.of_play.specs.Names.{address_of, cell_number, word_place, own_cell, queue_cell, store_cell, row_word, HoldingsAreNamed, CellsAreNamed, WordsAreNamed}
+use Rattle.of_play.specs.Names.{address_of, shown_cell_number, shown_word_place, own_cell, queue_cell, store_cell, row_word, HoldingsAreNamed, CellsAreNamed, WordsAreNamed}
 
 -- what holds of either case holds of the choice
 either : {A : Type 0} (P : A → Type 0) (b : Bool) (x y : A) → (b ≡ true → P x) → (b ≡ false → P y) → P (if b then x else y)
@@ -75,10 +75,10 @@ cells_named n m c = either P (c == 0) _ _ (λ e. sym (is_eq c 0 e))
     (λ g. let x = c - data_cell n m in omega (arith, div-add-mod' x (2 * m + 1), not_less c (data_cell n m) g))))
   where
     P : Cell → Type 0
-    P x = cell_number n m x ≡ c
+    P x = shown_cell_number n m x ≡ c
 
-row_named : (n m i x : ℕ) → word_place n m (row_word i x) ≡ script_place n MOST_INSTRS m 0 0 + (i * (MOST_INSTRS + 1) + x)
-row_named n m i x = either (λ w. word_place n m w ≡ script_place n MOST_INSTRS m 0 0 + (i * (MOST_INSTRS + 1) + x)) (x == MOST_INSTRS) _ _
+row_named : (n m i x : ℕ) → shown_word_place n m (row_word i x) ≡ script_place n MOST_INSTRS m 0 0 + (i * (MOST_INSTRS + 1) + x)
+row_named n m i x = either (λ w. shown_word_place n m w ≡ script_place n MOST_INSTRS m 0 0 + (i * (MOST_INSTRS + 1) + x)) (x == MOST_INSTRS) _ _
     (λ e. omega (arith, is_eq x MOST_INSTRS e))
     (λ e. omega arith)
 
@@ -86,7 +86,7 @@ pub words_named : WordsAreNamed
 words_named n m w h =
     let d = durable_cells n m in
     let r = script_place n MOST_INSTRS m 0 0 in
-    let P : Word → Type 0 = λ x. word_place n m x ≡ w in
+    let P : Word → Type 0 = λ x. shown_word_place n m x ≡ w in
     either P (nat_lt w d) _ _ (λ e. cells_named n m w)
     (λ e. either P (nat_lt w r) _ _ (λ f. omega (arith, cells_named n m (w - d), not_less w d e))
     (λ f. either P (nat_lt w (members_place n MOST_INSTRS m)) _ _

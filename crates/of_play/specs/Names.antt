@@ -26,19 +26,19 @@ address_of n (Length q) = length_at (base_of n MOST_INSTRS) q
 address_of n (Block b f) = block_at (base_of n MOST_INSTRS) b f
 
 -- the number of a cell, where there are n callers and m data cells
-abbrev pub cell_number : (n m : ℕ) → Cell → ℕ
-cell_number n m Current = 0
-cell_number n m (Request i) = request_cell i
-cell_number n m (Data a) = data_cell n a
-cell_number n m (Log i x) = log_cell n m i x
+abbrev pub shown_cell_number : (n m : ℕ) → Cell → ℕ
+shown_cell_number n m Current = 0
+shown_cell_number n m (Request i) = request_cell i
+shown_cell_number n m (Data a) = data_cell n a
+shown_cell_number n m (Log i x) = log_cell n m i x
 
 -- the place of a word in the table
-abbrev pub word_place : (n m : ℕ) → Word → ℕ
-word_place n m (Now c) = cell_number n m c
-word_place n m (Durable c) = durable_place n m (cell_number n m c)
-word_place n m (Script i x) = script_place n MOST_INSTRS m i x
-word_place n m (Announcement i) = announce_place n MOST_INSTRS m i
-word_place n m Members = members_place n MOST_INSTRS m
+abbrev pub shown_word_place : (n m : ℕ) → Word → ℕ
+shown_word_place n m (Now c) = shown_cell_number n m c
+shown_word_place n m (Durable c) = durable_place n m (shown_cell_number n m c)
+shown_word_place n m (Script i x) = script_place n MOST_INSTRS m i x
+shown_word_place n m (Announcement i) = announce_place n MOST_INSTRS m i
+shown_word_place n m Members = members_place n MOST_INSTRS m
 
 -- What a caller's own data cell j holds.
 abbrev pub own_cell : (i j : ℕ) → Holding
@@ -91,7 +91,7 @@ abbrev pub HoldingsAreNamed : Type 0
 HoldingsAreNamed = (n a : ℕ) → address_of n (holding_at n a) ≡ a
 
 abbrev pub CellsAreNamed : Type 0
-CellsAreNamed = (n m c : ℕ) → cell_number n m (cell_at n m c) ≡ c
+CellsAreNamed = (n m c : ℕ) → shown_cell_number n m (cell_at n m c) ≡ c
 
 abbrev pub WordsAreNamed : Type 0
-WordsAreNamed = (n m w : ℕ) → w < table_words n MOST_INSTRS m → word_place n m (word_at_place n m w) ≡ w
+WordsAreNamed = (n m w : ℕ) → w < table_words n MOST_INSTRS m → shown_word_place n m (word_at_place n m w) ≡ w

@@ -5,7 +5,7 @@ use Rattle.of_plan.specs.Plan.{Plan, data_cells}
 use Rattle.of_core.specs.Table.{durable_at, committed_seq}
 use Rattle.of_core.specs.Machine.{Call, is_idle}
 use Rattle.of_core.specs.Seen.{ended_outcome}
-use Rattle.of_core.specs.Helping.{steps_left_after_help}
+use Rattle.of_core.specs.Helping.{helped_owner}
 use Rattle.of_core.specs.Steps.{want, word_of}
 use Rattle.of_core.specs.World.{Moment, Batch}
 use Rattle.of_core.specs.Events.{Event, Turns, Raises, machine_in, after_event, after_events}
@@ -16,8 +16,8 @@ use Rattle.of_play.specs.Play.{plan_events, next_begin, with_begin}
 use Rattle.of_play.specs.TraceLine.{step_line, rest_line, evict_line}
 
 -- what a word holds at one moment and at another
-abbrev pub change_of : (word : ℕ) → (w v : Moment) → Change
-change_of c w v = record { word = c; found = get_or w.words c 0; left = get_or v.words c 0 }
+abbrev pub word_change : (word : ℕ) → (w v : Moment) → Change
+word_change c w v = record { word = c; found = get_or w.words c 0; left = get_or v.words c 0 }
 
 -- the step of caller i that leads from w to v
 abbrev pub step_of : Plan → (i : ℕ) → (w v : Moment) → Step
@@ -26,8 +26,8 @@ step_of p i w v = record {
   index = (machine_in w i).made - 1;
   place = (machine_in w i).place;
   op = want (plan_setup p) (machine_in w i);
-  helps = steps_left_after_help (machine_in w i);
-  change = change_of (word_of (want (plan_setup p) (machine_in w i))) w v;
+  helps = helped_owner (machine_in w i);
+  change = word_change (word_of (want (plan_setup p) (machine_in w i))) w v;
   outcome = ended_outcome (machine_in v i);
 }
 
@@ -39,7 +39,7 @@ turn_line p k i false w v = step_line p.callers (data_cells p.callers p.blocks) 
 -- the line of event k, which leads from w to v
 abbrev pub event_line : Plan → (k : ℕ) → (w v : Moment) → Event → List ℕ
 event_line p k w v (Turns i) = turn_line p k i (is_idle (machine_in w i).place) w v
-event_line p k w v (Raises c) = evict_line p.callers (data_cells p.callers p.blocks) k (change_of (durable_at (plan_setup p) c) w v)
+event_line p k w v (Raises c) = evict_line p.callers (data_cells p.callers p.blocks) k (word_change (durable_at (plan_setup p) c) w v)
 event_line p k w v e = []
 
 -- the world in which an event happens: where a turn begins a call that has begun
@@ -48,8 +48,8 @@ moment_of_event p w (Turns i) = after_events (plan_setup p) w (next_begin p i (m
 moment_of_event p w e = w
 
 -- the line of event k, where w is what the events before it leave
-abbrev pub line_at : Plan → (k : ℕ) → Moment → Event → List ℕ
-line_at p k w e = event_line p k (moment_of_event p w e) (after_event (plan_setup p) (moment_of_event p w e) e) e
+abbrev pub event_line_at : Plan → (k : ℕ) → Moment → Event → List ℕ
+event_line_at p k w e = event_line p k (moment_of_event p w e) (after_event (plan_setup p) (moment_of_event p w e) e) e
 
 -- a line for each event, from number k on
 abbrev pub lines_from : (line : ℕ → Moment → Event → List ℕ) → Plan → (k : ℕ) → Moment → List Event → List (List ℕ)
@@ -59,7 +59,7 @@ lines_from line p k w (e ∷ es) =
 
 -- of all events of a plan's schedule
 abbrev pub trace_lines : Plan → List (List ℕ)
-trace_lines p = lines_from (line_at p) p 0 (opening_for p) (plan_events p)
+trace_lines p = lines_from (event_line_at p) p 0 (opening_for p) (plan_events p)
 
 -- from event f on, of the next c of them
 abbrev pub trace_text : Plan → (f c : ℕ) → List ℕ

@@ -12,8 +12,8 @@ use Rattle.of_core.specs.Events.{Event, Begins, Turns, Loads, Evicts, Raises, af
 use Rattle.of_caller.specs.Tables.{plan_setup, opening_for}
 use Rattle.of_caller.specs.Left.{moment_after}
 use Rattle.of_play.specs.Play.{with_begin, plan_events, play_events}
-use Rattle.of_play.specs.Trace.{line_at, trace_lines}
-use Rattle.of_play.specs.TraceParts.{reply_in}
+use Rattle.of_play.specs.Trace.{event_line_at, trace_lines}
+use Rattle.of_play.specs.TraceParts.{shown_reply}
 
 -- it is a turn or an eviction, of which a trace has a line
 abbrev pub IsShown : Event → Type 0
@@ -36,7 +36,7 @@ world_after p w (e ∷ es) = world_after p (after_events (plan_setup p) w (with_
 abbrev pub LinesAreOfMoves : Type 0
 LinesAreOfMoves = (p : Plan) (k : ℕ) (e : Event) → k < length (plan_events p)
     → get_or (trace_lines p) k []
-    ≡ line_at p k (world_after p (opening_for p) (take k (plan_events p))) (get_or (plan_events p) k e)
+    ≡ event_line_at p k (world_after p (opening_for p) (take k (plan_events p))) (get_or (plan_events p) k e)
 
 -- and the world after the last one is what `play` ends in
 abbrev pub TracesEndAsPlays : Type 0
@@ -46,4 +46,4 @@ TracesEndAsPlays =
 -- the reply that a trace prints is the one that the cells hold
 abbrev pub RepliesAreRead : Type 0
 RepliesAreRead = (raw : RawReply) (r : Reply) → length raw.values ≡ MOST_INSTRS → IsHeldBy raw r
-    → reply_in raw ≡ reply_value_of r
+    → shown_reply raw ≡ reply_value_of r

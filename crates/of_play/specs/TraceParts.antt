@@ -117,15 +117,15 @@ cause_at c =
     else if c == 4 then Differs else BadOp
 
 -- the reply that these cells hold
-abbrev pub reply_in : RawReply → Reply
-reply_in raw =
+abbrev pub shown_reply : RawReply → Reply
+shown_reply raw =
     if nat_lt raw.shape (2 ^ 21)
     then Values (take (raw.shape / 2 ^ 16 % 32) (marked_in (raw.shape % 2 ^ 16) raw.values))
     else Aborted (raw.shape / 2 ^ 21 % 32) (cause_at (raw.shape / 2 ^ 26))
 
 -- as a report has it
 abbrev pub held_part : RawReply → List ℕ
-held_part raw = codes "; reply" ++ reply_text (reply_in raw)
+held_part raw = codes "; reply" ++ reply_text (shown_reply raw)
 
 -- a spent call has none
 abbrev pub reply_part : Option Outcome → List ℕ

@@ -8,7 +8,7 @@ use Rattle.of_caller.specs.Tables.{plan_setup, opening_for}
 use Rattle.of_caller.specs.Left.{moment_after}
 use Rattle.of_play.specs.Play.{events_from}
 use Rattle.of_play.specs.Playing.{StandsAfter}
-use Rattle.of_play.specs.Trace.{line_at, committed_at, lines_from}
+use Rattle.of_play.specs.Trace.{event_line_at, committed_at, lines_from}
 use Rattle.of_play.specs.declared.playing.Playing.{Playing}
 use Rattle.of_play.specs.declared.playing.tracing.Event.{Event as CodeEvent}
 use Rattle.of_play.specs.declared.playing.tracing.Event.TheVariants.{Turn, Evict}
@@ -28,7 +28,7 @@ IsEvent p (Evict a) = a < cell_count (plan_setup p)
 
 -- what a form writes of event k
 abbrev pub line_as : Form → Plan → (k : ℕ) → Moment → Event → List ℕ
-line_as Events p = line_at p
+line_as Events p = event_line_at p
 line_as Commits p = committed_at p
 
 -- behind a text this was written of an event, with which the run went on from there

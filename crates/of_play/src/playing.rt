@@ -35,7 +35,7 @@ struct Playing {
 
 impl Playing {
     ghost use Rattle.std.specs.Prelude.{◌≡◌, ◌+◌, ◌<◌, [], ◌∷◌, length, replicate, slice_index_or, IfOk, OnOk, IsTrue, if◌then◌else◌};
-    ghost use Rattle.of_plan.specs.Plan.{IsPlan, IsItem, scripts_of};
+    ghost use Rattle.of_plan.specs.Plan.{IsPlan, IsScheduleItem, scripts_of};
     ghost use Rattle.of_plan.specs.Ended.{ended_value};
     ghost use Rattle.of_core.specs.Events.{Turns};
     ghost use Rattle.of_play.specs.Play.{item_events};
@@ -202,7 +202,7 @@ impl Playing {
 
     /// Makes the moves of an item of the schedule.
     fn item(&mut self, plan: &Plan, item: Item) -> Result<(), AllocError>
-        requires item { IsItem plan.now item }
+        requires item { IsScheduleItem plan.now item }
         requires playing { IsPlaying plan.now self.old }
         ensures { OnOk result (MakesMoves plan.now (item_events item) self.old self.new) }
     {

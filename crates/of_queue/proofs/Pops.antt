@@ -18,7 +18,7 @@ use Rattle.of_mem.proofs.Runs.{part_wrote}
 use Rattle.of_alloc.specs.Blocks.{IsFreeList, IsOut}
 use Rattle.of_alloc.proofs.Heaped.{give_heap, heap_free_list, heap_out}
 use Rattle.of_alloc.proofs.Takings.{free_small}
-use Rattle.of_queue.specs.QueuePrograms.{drop_block, new_end, front_program}
+use Rattle.of_queue.specs.QueuePrograms.{give_item_block, new_end, front_program}
 use Rattle.of_queue.specs.Means.{front_of, after_pop}
 
 -- the memory after the head was moved, with the tail set to 0 where nothing is left
@@ -153,9 +153,9 @@ module _ (o blocks : ℕ) (m : ℕ → ℕ) (s : CellStore) (h : StandsForStore 
 
   -- The program's writes are these.
 
-  by_link : (n : ℕ → ℕ) (l : List ℕ) (link : ℕ) → link ≡ pointer_to l → (memory_after (new_end o q b (m (first_at o b)) link) n ≡ memory_after (drop_block o q b (m (first_at o b))) (ended o q n l)) × (program_answer (new_end o q b (m (first_at o b)) link) n ≡ Some (m (first_at o b)))
-  by_link n [] link e = subst (λ (x : ℕ). (memory_after (new_end o q b (m (first_at o b)) x) n ≡ memory_after (drop_block o q b (m (first_at o b))) (with_value n (tail_at o q) 0)) × (program_answer (new_end o q b (m (first_at o b)) x) n ≡ Some (m (first_at o b)))) (sym e) (refl, refl)
-  by_link n (x ∷ l) link e = subst (λ (y : ℕ). (memory_after (new_end o q b (m (first_at o b)) y) n ≡ memory_after (drop_block o q b (m (first_at o b))) n) × (program_answer (new_end o q b (m (first_at o b)) y) n ≡ Some (m (first_at o b)))) (sym e) (refl, refl)
+  by_link : (n : ℕ → ℕ) (l : List ℕ) (link : ℕ) → link ≡ pointer_to l → (memory_after (new_end o q b (m (first_at o b)) link) n ≡ memory_after (give_item_block o q b (m (first_at o b))) (ended o q n l)) × (program_answer (new_end o q b (m (first_at o b)) link) n ≡ Some (m (first_at o b)))
+  by_link n [] link e = subst (λ (x : ℕ). (memory_after (new_end o q b (m (first_at o b)) x) n ≡ memory_after (give_item_block o q b (m (first_at o b))) (with_value n (tail_at o q) 0)) × (program_answer (new_end o q b (m (first_at o b)) x) n ≡ Some (m (first_at o b)))) (sym e) (refl, refl)
+  by_link n (x ∷ l) link e = subst (λ (y : ℕ). (memory_after (new_end o q b (m (first_at o b)) y) n ≡ memory_after (give_item_block o q b (m (first_at o b))) n) × (program_answer (new_end o q b (m (first_at o b)) y) n ≡ Some (m (first_at o b)))) (sym e) (refl, refl)
 
   chain_is : IsChain o m (front_at o (33 + q)) (b ∷ rest)
   chain_is = subst (λ (l : List ℕ). IsChain o m (front_at o (33 + q)) l) is (h.heap.linked (33 + q) (omega (arith, q_in)))
@@ -206,7 +206,7 @@ module _ (o blocks : ℕ) (m : ℕ → ℕ) (s : CellStore) (h : StandsForStore 
       length_same : (n : ℕ → ℕ) → n (length_at o q) ≡ m (length_at o q) → with_value (with_value n (link_at o b) (n (free_at o))) (free_at o) (b + 1) (length_at o q) ≡ m (length_at o q)
       length_same n e = changed_other (with_value n (link_at o b) (n (free_at o))) (free_at o) (b + 1) (length_at o q) (λ e. omega arith) ∙ changed_other n (link_at o b) (n (free_at o)) (length_at o q) (λ e. omega (arith, q_in)) ∙ e
 
-      drop_inside : (n : ℕ → ℕ) → n (free_at o) < 4294967296 → n (length_at o q) ≡ m (length_at o q) → StaysBetween o (cells_at o blocks) (drop_block o q b (m (first_at o b))) n
+      drop_inside : (n : ℕ → ℕ) → n (free_at o) < 4294967296 → n (length_at o q) ≡ m (length_at o q) → StaysBetween o (cells_at o blocks) (give_item_block o q b (m (first_at o b))) n
       drop_inside n f e = (
         omega arith,
         omega arith,

@@ -4,7 +4,7 @@ use Rattle.of_mem.specs.Programs.{StaysFrom, OnlyReads}
 use Rattle.of_mem.proofs.Runs.{stays_then}
 use Rattle.of_alloc.specs.BlockPrograms.{take_program}
 use Rattle.of_alloc.proofs.Staying.{take_stays}
-use Rattle.of_queue.specs.QueuePrograms.{with_tail, push_new, push_program, drop_block, new_end, with_head, pop_program, len_program}
+use Rattle.of_queue.specs.QueuePrograms.{with_tail, push_new, push_program, give_item_block, new_end, with_head, pop_program, len_program}
 
 module _ (o q : ℕ) where
   tail_stays : (b tail : ℕ) → StaysFrom o (with_tail o q b tail)
@@ -18,7 +18,7 @@ module _ (o q : ℕ) where
   pub push_stays : (blocks v : ℕ) → StaysFrom o (push_program o blocks q v)
   push_stays blocks v = stays_then o (take_program o blocks) (push_new o q v) (take_stays o blocks) (new_stays v)
 
-  drop_stays : (b v : ℕ) → StaysFrom o (drop_block o q b v)
+  drop_stays : (b v : ℕ) → StaysFrom o (give_item_block o q b v)
   drop_stays b v = (omega arith, λ f. (omega arith, (omega arith, (omega arith, λ n. (omega arith, tt)))))
 
   end_stays : (b v link : ℕ) → StaysFrom o (new_end o q b v link)

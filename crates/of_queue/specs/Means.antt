@@ -13,15 +13,15 @@ use Rattle.of_mem.specs.Calls.{ActsOnStore}
 abbrev pub IsItem : ℕ → ℕ → Type 0
 IsItem q v = (q < QUEUES) × IsNumber v
 
-abbrev pub with_queue : CellStore → ℕ → List ℕ → CellStore
-with_queue s q items = record s { queues = with_value s.queues q items }
+abbrev pub with_items : CellStore → ℕ → List ℕ → CellStore
+with_items s q items = record s { queues = with_value s.queues q items }
 
 -- whether there is a block for one thing more
 abbrev pub has_room : ℕ → CellStore → Bool
 has_room blocks s = ltb (thing_count s) blocks
 
 abbrev pub push_store : CellStore → ℕ → ℕ → Bool → CellStore
-push_store s q v true = with_queue s q (s.queues q ++ v ∷ [])
+push_store s q v true = with_items s q (s.queues q ++ v ∷ [])
 push_store s q v false = s
 
 -- the store after a push: the item stands behind the queue, where there is room
@@ -43,7 +43,7 @@ front_item q s = front_of (s.queues q)
 
 abbrev pub pop_store : CellStore → ℕ → List ℕ → CellStore
 pop_store s q [] = s
-pop_store s q (v ∷ items) = with_queue s q items
+pop_store s q (v ∷ items) = with_items s q items
 
 -- the store after a pop: the front item is gone, where there was one
 abbrev pub after_pop : ℕ → CellStore → CellStore

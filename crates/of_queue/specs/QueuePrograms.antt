@@ -39,19 +39,19 @@ abbrev pub item_after_give : ℕ → ℕ → ℕ → Unit {0} → Program (Optio
 item_after_give o q v u = Read (length_at o q) (count_down_program o q v)
 
 -- the block goes back, and one item less is counted
-abbrev pub drop_block : ℕ → ℕ → ℕ → ℕ → Program (Option ℕ)
-drop_block o q b v = then_do (give_program o b) (item_after_give o q v)
+abbrev pub give_item_block : ℕ → ℕ → ℕ → ℕ → Program (Option ℕ)
+give_item_block o q b v = then_do (give_program o b) (item_after_give o q v)
 
 -- by the link of the block that leaves: where it is 0 nothing is left
 abbrev pub new_end : ℕ → ℕ → ℕ → ℕ → ℕ → Program (Option ℕ)
-new_end o q b v zero = Write (tail_at o q) 0 (drop_block o q b v)
-new_end o q b v (suc t) = drop_block o q b v
+new_end o q b v zero = Write (tail_at o q) 0 (give_item_block o q b v)
+new_end o q b v (suc t) = give_item_block o q b v
 
-abbrev pub with_link : ℕ → ℕ → ℕ → ℕ → ℕ → Program (Option ℕ)
-with_link o q b v link = Write (head_at o q) link (new_end o q b v link)
+abbrev pub with_head_link : ℕ → ℕ → ℕ → ℕ → ℕ → Program (Option ℕ)
+with_head_link o q b v link = Write (head_at o q) link (new_end o q b v link)
 
 abbrev pub with_first : ℕ → ℕ → ℕ → ℕ → Program (Option ℕ)
-with_first o q b v = Read (link_at o b) (with_link o q b v)
+with_first o q b v = Read (link_at o b) (with_head_link o q b v)
 
 abbrev pub front_program : ℕ → ℕ → ℕ → Program (Option ℕ)
 front_program o q b = Read (first_at o b) (with_first o q b)
@@ -86,11 +86,11 @@ pop_front plot q b = front_program (base plot) q b
 abbrev pub close : Plot → ℕ → ℕ → ℕ → ℕ → Program (Option ℕ)
 close plot q b v link = new_end (base plot) q b v link
 
-abbrev pub give_back : Plot → ℕ → ℕ → ℕ → Program (Option ℕ)
-give_back plot q b v = drop_block (base plot) q b v
+abbrev pub give_item_back : Plot → ℕ → ℕ → ℕ → Program (Option ℕ)
+give_item_back plot q b v = give_item_block (base plot) q b v
 
-abbrev pub count_down : Plot → ℕ → ℕ → Program (Option ℕ)
-count_down plot q v = item_after_give (base plot) q v tt
+abbrev pub count_item_down : Plot → ℕ → ℕ → Program (Option ℕ)
+count_item_down plot q v = item_after_give (base plot) q v tt
 
 abbrev pub len : Plot → ℕ → Program ℕ
 len plot q = len_program (base plot) q

@@ -7,7 +7,7 @@ ghost use Rattle.of_mem.specs.Plots.{base, data_cell_count};
 ghost use Rattle.of_mem.specs.Places.{length_at};
 ghost use Rattle.of_mem.specs.Pad.{newest_at};
 ghost use Rattle.of_mem.specs.Calls.{RunsProgram, HasStore, AnswersOfStore, ActsOnStore};
-ghost use Rattle.of_queue.specs.QueuePrograms.{last_cell as last_cell_of, push, append, pop, pop_front, close, give_back, count_down, len};
+ghost use Rattle.of_queue.specs.QueuePrograms.{last_cell as last_cell_of, push, append, pop, pop_front, close, give_item_back, count_item_down, len};
 ghost use Rattle.of_queue.specs.Fronts.{CanAppend, CanCount, IsFront, IsPopped};
 ghost use Rattle.of_queue.specs.Means.{IsItem, PushesItem, front_item, after_pop};
 
@@ -113,7 +113,7 @@ fn give_back(
     item: u32,
 ) -> Result<Option<u32>, Need>
     requires { IsPopped plot.now part.old queue block }
-    ensures { RunsProgram (give_back plot.now queue block item) part.old part.new result }
+    ensures { RunsProgram (give_item_back plot.now queue block item) part.old part.new result }
 {
     of_alloc::give(plot, part, block)?;
     count_down(plot, part, queue, item)
@@ -122,7 +122,7 @@ fn give_back(
 /// Counts one item less.
 fn count_down(plot: &Plot, part: &mut Part, queue: u32, item: u32) -> Result<Option<u32>, Need>
     requires { CanCount plot.now part.old queue }
-    ensures { RunsProgram (count_down plot.now queue item) part.old part.new result }
+    ensures { RunsProgram (count_item_down plot.now queue item) part.old part.new result }
 {
     let items = part.read(plot.length(queue))?;
     part.write(plot.length(queue), items - 1);

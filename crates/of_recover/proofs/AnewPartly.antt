@@ -12,7 +12,7 @@ use Rattle.of_cell.proofs.Order.{seq_word, pay_word, pay_small, seq_zero}
 use Rattle.of_recover.specs.Row.{IsDurableRow, is_open}
 use Rattle.of_recover.specs.Recovered.{is_data}
 use Rattle.of_recover.specs.Renumbered.{renumbered_word, renumbered_words, renumbering_writes, BeginsAnewPartly}
-use Rattle.of_recover.specs.Writes.{row_after}
+use Rattle.of_recover.specs.Writes.{words_after_writes}
 use Rattle.of_recover.proofs.Rows.{left_alone, inside}
 use Rattle.of_recover.proofs.Kept.{on_data, not_data}
 use Rattle.of_recover.proofs.Anew.{length-renumbered, renumbered_at, same_renumbered}
@@ -29,42 +29,42 @@ module _ (N M : ℕ) (ws : List ℕ) where
   length-writes = length-map-range_with_len (λ j. (length ws - 1 - j, renumbered_word N M (λ c. get_or ws c 0) (length ws - 1 - j))) 0 (length ws)
 
   -- one write more
-  pub write_more : (k : ℕ) → k < length ws → row_after (take (k + 1) (renumbering_writes N M ws)) ws
-      ≡ set (row_after (take k (renumbering_writes N M ws)) ws) (length ws - 1 - k) (renumbered_word N M (λ c. get_or ws c 0) (length ws - 1 - k))
+  pub write_more : (k : ℕ) → k < length ws → words_after_writes (take (k + 1) (renumbering_writes N M ws)) ws
+      ≡ set (words_after_writes (take k (renumbering_writes N M ws)) ws) (length ws - 1 - k) (renumbered_word N M (λ c. get_or ws c 0) (length ws - 1 - k))
   unfolding renumbering_writes
   write_more k l =
-      ap (λ (x : List (ℕ × ℕ)). row_after x ws) (take-map-range_with_len (λ j. (length ws - 1 - j, renumbered_word N M (λ c. get_or ws c 0) (length ws - 1 - j))) 0 (length ws) (k + 1) (omega arith)
+      ap (λ (x : List (ℕ × ℕ)). words_after_writes x ws) (take-map-range_with_len (λ j. (length ws - 1 - j, renumbered_word N M (λ c. get_or ws c 0) (length ws - 1 - j))) 0 (length ws) (k + 1) (omega arith)
       ∙ map-range_with_len_more (λ j. (length ws - 1 - j, renumbered_word N M (λ c. get_or ws c 0) (length ws - 1 - j))) 0 k k (omega arith)
       ∙ ap (λ (x : List (ℕ × ℕ)). x ++ (length ws - 1 - k, renumbered_word N M (λ c. get_or ws c 0) (length ws - 1 - k)) ∷ []) (sym (take-map-range_with_len (λ j. (length ws - 1 - j, renumbered_word N M (λ c. get_or ws c 0) (length ws - 1 - j))) 0 (length ws) k (omega arith))))
       ∙ fold-append (λ ws w. set ws w.0 w.1) ws (take k (map (λ j. (length ws - 1 - j, renumbered_word N M (λ c. get_or ws c 0) (length ws - 1 - j))) (range_with_len 0 (length ws)))) ((length ws - 1 - k, renumbered_word N M (λ c. get_or ws c 0) (length ws - 1 - k)) ∷ [])
 
-  pub last_anew : (k : ℕ) → k ≤ length ws → LastAnew N M ws k (row_after (take k (renumbering_writes N M ws)) ws)
+  pub last_anew : (k : ℕ) → k ≤ length ws → LastAnew N M ws k (words_after_writes (take k (renumbering_writes N M ws)) ws)
   last_anew zero l = record { size = refl; left = λ c m. refl; done = λ c m n. absurd (omega arith) }
   last_anew (suc k) l = subst (LastAnew N M ws (suc k)) (sym (rw add-one at (write_more k (omega arith)))) (go (last_anew k (omega arith)))
     where
-      go : LastAnew N M ws k (row_after (take k (renumbering_writes N M ws)) ws)
-          → LastAnew N M ws (suc k) (set (row_after (take k (renumbering_writes N M ws)) ws) (length ws - 1 - k) (renumbered_word N M (λ c. get_or ws c 0) (length ws - 1 - k)))
+      go : LastAnew N M ws k (words_after_writes (take k (renumbering_writes N M ws)) ws)
+          → LastAnew N M ws (suc k) (set (words_after_writes (take k (renumbering_writes N M ws)) ws) (length ws - 1 - k) (renumbered_word N M (λ c. get_or ws c 0) (length ws - 1 - k)))
       go h = record {
         size = rw length-set h.size;
-        left = λ c m. get_or-set_other (row_after (take k (renumbering_writes N M ws)) ws) (length ws - 1 - k) c (renumbered_word N M (λ c. get_or ws c 0) (length ws - 1 - k)) 0 (λ e. omega arith) ∙ h.left c (omega arith);
+        left = λ c m. get_or-set_other (words_after_writes (take k (renumbering_writes N M ws)) ws) (length ws - 1 - k) c (renumbered_word N M (λ c. get_or ws c 0) (length ws - 1 - k)) 0 (λ e. omega arith) ∙ h.left c (omega arith);
         done = λ c m n. here c m n (cases_eq c (length ws - 1 - k));
       }
         where
           here : (c : ℕ) → c < length ws → length ws ≤ c + suc k → (c ≡ length ws - 1 - k) ⊎ (c ≡ length ws - 1 - k → ⊥)
-              → get_or (set (row_after (take k (renumbering_writes N M ws)) ws) (length ws - 1 - k) (renumbered_word N M (λ c. get_or ws c 0) (length ws - 1 - k))) c 0 ≡ renumbered_word N M (λ c. get_or ws c 0) c
-          here c m n (inl e) = subst (λ (x : ℕ). get_or (set (row_after (take k (renumbering_writes N M ws)) ws) (length ws - 1 - k) (renumbered_word N M (λ c. get_or ws c 0) (length ws - 1 - k))) x 0 ≡ renumbered_word N M (λ c. get_or ws c 0) x) (sym e)
-              (get_or-set_same (row_after (take k (renumbering_writes N M ws)) ws) (length ws - 1 - k) (renumbered_word N M (λ c. get_or ws c 0) (length ws - 1 - k)) 0 (omega (arith, h.size)))
-          here c m n (inr d) = get_or-set_other (row_after (take k (renumbering_writes N M ws)) ws) (length ws - 1 - k) c (renumbered_word N M (λ c. get_or ws c 0) (length ws - 1 - k)) 0 d ∙ h.done c m (omega arith)
+              → get_or (set (words_after_writes (take k (renumbering_writes N M ws)) ws) (length ws - 1 - k) (renumbered_word N M (λ c. get_or ws c 0) (length ws - 1 - k))) c 0 ≡ renumbered_word N M (λ c. get_or ws c 0) c
+          here c m n (inl e) = subst (λ (x : ℕ). get_or (set (words_after_writes (take k (renumbering_writes N M ws)) ws) (length ws - 1 - k) (renumbered_word N M (λ c. get_or ws c 0) (length ws - 1 - k))) x 0 ≡ renumbered_word N M (λ c. get_or ws c 0) x) (sym e)
+              (get_or-set_same (words_after_writes (take k (renumbering_writes N M ws)) ws) (length ws - 1 - k) (renumbered_word N M (λ c. get_or ws c 0) (length ws - 1 - k)) 0 (omega (arith, h.size)))
+          here c m n (inr d) = get_or-set_other (words_after_writes (take k (renumbering_writes N M ws)) ws) (length ws - 1 - k) c (renumbered_word N M (λ c. get_or ws c 0) (length ws - 1 - k)) 0 d ∙ h.done c m (omega arith)
 
   pub all_taken : take (length ws) (renumbering_writes N M ws) ≡ renumbering_writes N M ws
   all_taken = take_all (length ws) (renumbering_writes N M ws) (omega (arith, length-writes))
 
   -- the writes of all cells
-  pub all_anew : row_after (renumbering_writes N M ws) ws ≡ renumbered_words N M ws
-  all_anew = ap (λ (x : List (ℕ × ℕ)). row_after x ws) (sym all_taken) ∙ go (last_anew (length ws) (omega arith))
+  pub all_anew : words_after_writes (renumbering_writes N M ws) ws ≡ renumbered_words N M ws
+  all_anew = ap (λ (x : List (ℕ × ℕ)). words_after_writes x ws) (sym all_taken) ∙ go (last_anew (length ws) (omega arith))
     where
-      go : LastAnew N M ws (length ws) (row_after (take (length ws) (renumbering_writes N M ws)) ws) → row_after (take (length ws) (renumbering_writes N M ws)) ws ≡ renumbered_words N M ws
-      go h = same_renumbered N M ws (row_after (take (length ws) (renumbering_writes N M ws)) ws) h.size (λ c l. h.done c l (omega arith))
+      go : LastAnew N M ws (length ws) (words_after_writes (take (length ws) (renumbering_writes N M ws)) ws) → words_after_writes (take (length ws) (renumbering_writes N M ws)) ws ≡ renumbered_words N M ws
+      go h = same_renumbered N M ws (words_after_writes (take (length ws) (renumbering_writes N M ws)) ws) h.size (λ c l. h.done c l (omega arith))
 
   -- as many writes as there are, or fewer
   pub at_most : (most n : ℕ) → n ≡ min most (length ws) → take n (renumbering_writes N M ws) ≡ take most (renumbering_writes N M ws)
@@ -74,11 +74,11 @@ module _ (N M : ℕ) (ws : List ℕ) where
   ]
 
   -- the loop's next write
-  pub next_anew : (k : ℕ) (vs : List ℕ) (x : ℕ) → k < length ws → vs ≡ row_after (take k (renumbering_writes N M ws)) ws
+  pub next_anew : (k : ℕ) (vs : List ℕ) (x : ℕ) → k < length ws → vs ≡ words_after_writes (take k (renumbering_writes N M ws)) ws
       → x ≡ renumbered_word N M (λ c. get_or vs (length ws - 1 - k) 0) (length ws - 1 - k)
-      → set vs (length ws - 1 - k) x ≡ row_after (take (k + 1) (renumbering_writes N M ws)) ws
+      → set vs (length ws - 1 - k) x ≡ words_after_writes (take (k + 1) (renumbering_writes N M ws)) ws
   next_anew k vs x l e f =
-      let h : LastAnew N M ws k (row_after (take k (renumbering_writes N M ws)) ws) = last_anew k (omega arith) in
+      let h : LastAnew N M ws k (words_after_writes (take k (renumbering_writes N M ws)) ws) = last_anew k (omega arith) in
       let old : get_or vs (length ws - 1 - k) 0 ≡ get_or ws (length ws - 1 - k) 0 = ap (λ (y : List ℕ). get_or y (length ws - 1 - k) 0) e ∙ h.left (length ws - 1 - k) (omega arith) in
       ap (λ (y : ℕ). set vs (length ws - 1 - k) y) (f ∙ ap (λ (w : ℕ). if is_data N M (length ws - 1 - k) then pack 0 (payload_of w) else 0) old)
       ∙ ap (λ (y : List ℕ). set y (length ws - 1 - k) (renumbered_word N M (λ c. get_or ws c 0) (length ws - 1 - k))) e
@@ -156,7 +156,7 @@ module _ (N M : ℕ) (ws vs : List ℕ) (k : ℕ) (size : IsDurableRow N M ws) (
   }
 
 -- each front of the writes
-pub fronts_begin : (N M : ℕ) (ws : List ℕ) → IsDurableRow N M ws → is_open N (λ c. get_or ws c 0) ≡ false → (k : ℕ) → BeginsAnewPartly N M ws (row_after (take k (renumbering_writes N M ws)) ws)
+pub fronts_begin : (N M : ℕ) (ws : List ℕ) → IsDurableRow N M ws → is_open N (λ c. get_or ws c 0) ≡ false → (k : ℕ) → BeginsAnewPartly N M ws (words_after_writes (take k (renumbering_writes N M ws)) ws)
 fronts_begin N M ws size closed k =
-    subst (λ (x : List (ℕ × ℕ)). BeginsAnewPartly N M ws (row_after x ws)) (at_most N M ws k (min k (length ws)) refl)
-    (begins_partly N M ws (row_after (take (min k (length ws)) (renumbering_writes N M ws)) ws) (min k (length ws)) size closed (omega arith) (last_anew N M ws (min k (length ws)) (omega arith)))
+    subst (λ (x : List (ℕ × ℕ)). BeginsAnewPartly N M ws (words_after_writes x ws)) (at_most N M ws k (min k (length ws)) refl)
+    (begins_partly N M ws (words_after_writes (take (min k (length ws)) (renumbering_writes N M ws)) ws) (min k (length ws)) size closed (omega arith) (last_anew N M ws (min k (length ws)) (omega arith)))

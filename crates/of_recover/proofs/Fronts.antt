@@ -12,10 +12,10 @@ use Rattle.of_cell.specs.Words.{pack, seq_of, payload_of}
 use Rattle.of_cell.specs.Cells.{data_cell, request_cell, log_cell}
 use Rattle.of_cell.proofs.Order.{seq_word, pay_small}
 use Rattle.of_recover.specs.Row.{IsDurableRow, current_seq, current_owner, is_open}
-use Rattle.of_recover.specs.Log.{owner_log_word, entry_count, entry_addr, entry_value, entry_counts, entry_names, first_naming}
+use Rattle.of_recover.specs.Log.{owner_log_word, entry_count, entry_addr, log_entry_value, entry_counts, entry_names, first_naming}
 use Rattle.of_recover.specs.Recovered.{replayed_data, recovered_data, is_data, recovered_word, recovered_words}
 use Rattle.of_recover.specs.Walk.{after_entry, HasReplayed}
-use Rattle.of_recover.specs.Writes.{row_after, entry_writes, log_writes, recovery_writes, IsUnderway}
+use Rattle.of_recover.specs.Writes.{words_after_writes, entry_writes, log_writes, recovery_writes, IsUnderway}
 use Rattle.of_recover.proofs.Entries.{picked, first_more, range_push, replays_none, replays_more, same_entry, entry_within}
 use Rattle.of_recover.proofs.Rows.{length-recovered, recovered_at, left_alone, brought_to_end, inside, outside}
 use Rattle.of_recover.proofs.Kept.{recovered_twice}
@@ -63,13 +63,13 @@ module _ (N M : ℕ) (r q : ℕ → ℕ) (others : (c : ℕ) → (c ≤ N) ⊎ (
       ∙ ap (λ (w : ℕ). ((seq_of (owner_log_word N M r (2 * j + 1)) == seq_of (q 0)) && (nat_lt (payload_of (owner_log_word N M r (2 * j + 1))) M && (seq_of w == seq_of (q 0)))) && (payload_of (owner_log_word N M r (2 * j + 1)) == a)) (log_same (2 * j + 2))
       ∙ ap (λ (w : ℕ). ((seq_of (owner_log_word N M r (2 * j + 1)) == seq_of w) && (nat_lt (payload_of (owner_log_word N M r (2 * j + 1))) M && (seq_of (owner_log_word N M r (2 * j + 2)) == seq_of w))) && (payload_of (owner_log_word N M r (2 * j + 1)) == a)) first
 
-  value_same : (j : ℕ) → pack (current_seq q) (entry_value N M q j) ≡ pack (current_seq r) (entry_value N M r j)
-  value_same j = ap (λ (w : ℕ). pack (seq_of w) (entry_value N M q j)) first ∙ ap (λ (w : ℕ). pack (current_seq r) (payload_of w)) (log_same (2 * j + 2))
+  value_same : (j : ℕ) → pack (current_seq q) (log_entry_value N M q j) ≡ pack (current_seq r) (log_entry_value N M r j)
+  value_same j = ap (λ (w : ℕ). pack (seq_of w) (log_entry_value N M q j)) first ∙ ap (λ (w : ℕ). pack (current_seq r) (payload_of w)) (log_same (2 * j + 2))
 
-  logged_same : (a : ℕ) → option_map (λ j. pack (current_seq q) (entry_value N M q j)) (first_naming N M q (entry_count N M q) a) ≡ option_map (λ j. pack (current_seq r) (entry_value N M r j)) (first_naming N M r (entry_count N M r) a)
+  logged_same : (a : ℕ) → option_map (λ j. pack (current_seq q) (log_entry_value N M q j)) (first_naming N M q (entry_count N M q) a) ≡ option_map (λ j. pack (current_seq r) (log_entry_value N M r j)) (first_naming N M r (entry_count N M r) a)
   logged_same a =
-      map_ext (λ j. pack (current_seq q) (entry_value N M q j)) (λ j. pack (current_seq r) (entry_value N M r j)) value_same (first_naming N M q (entry_count N M q) a)
-      ∙ ap (option_map (λ j. pack (current_seq r) (entry_value N M r j)))
+      map_ext (λ j. pack (current_seq q) (log_entry_value N M q j)) (λ j. pack (current_seq r) (log_entry_value N M r j)) value_same (first_naming N M q (entry_count N M q) a)
+      ∙ ap (option_map (λ j. pack (current_seq r) (log_entry_value N M r j)))
       (find_ext (entry_names N M q a) (entry_names N M r a) (names_same a) (range_with_len 0 (entry_count N M q)) ∙ ap (first_naming_of a) count_same)
     where
       first_naming_of : (a n : ℕ) → Option ℕ
@@ -88,10 +88,10 @@ module _ (N M : ℕ) (r q : ℕ → ℕ) (others : (c : ℕ) → (c ≤ N) ⊎ (
           ∙ ap (λ (w : ℕ). nat_le 1 (seq_of (r 0)) && (nat_lt (payload_of (r 0)) N && (w == pack (seq_of (r 0)) 0))) (others (request_cell (payload_of (r 0))) (inl (omega (arith, below (payload_of (r 0)) N e))))
 
   replayed_same : (a : ℕ) → replayed_data N M q (entry_count N M q) a
-      ≡ picked (nat_lt (seq_of (q (data_cell N a))) (current_seq r)) (first_naming N M r (entry_count N M r) a) (λ j. pack (current_seq r) (entry_value N M r j)) (q (data_cell N a))
+      ≡ picked (nat_lt (seq_of (q (data_cell N a))) (current_seq r)) (first_naming N M r (entry_count N M r) a) (λ j. pack (current_seq r) (log_entry_value N M r j)) (q (data_cell N a))
   replayed_same a =
       ap (λ (o : Option ℕ). if nat_lt (seq_of (q (data_cell N a))) (seq_of (q 0)) then unwrap_or o (q (data_cell N a)) else q (data_cell N a)) (logged_same a)
-      ∙ ap (λ (w : ℕ). picked (nat_lt (seq_of (q (data_cell N a))) (seq_of w)) (first_naming N M r (entry_count N M r) a) (λ j. pack (current_seq r) (entry_value N M r j)) (q (data_cell N a))) first
+      ∙ ap (λ (w : ℕ). picked (nat_lt (seq_of (q (data_cell N a))) (seq_of w)) (first_naming N M r (entry_count N M r) a) (λ j. pack (current_seq r) (log_entry_value N M r j)) (q (data_cell N a))) first
 
   data_same : (a : ℕ) → a < M → recovered_data N M q a ≡ recovered_data N M r a
   data_same a l = go (is_open N r) refl (on_data a l)
@@ -99,13 +99,13 @@ module _ (N M : ℕ) (r q : ℕ → ℕ) (others : (c : ℕ) → (c ≤ N) ⊎ (
       go : (b : Bool) → is_open N r ≡ b → (q (data_cell N a) ≡ r (data_cell N a)) ⊎ (q (data_cell N a) ≡ recovered_data N M r a) → recovered_data N M q a ≡ recovered_data N M r a
       go false e (inl o) = rw (open_same ∙ e, e) o
       go false e (inr o) = rw (open_same ∙ e) o
-      go true e (inl o) = rw (open_same ∙ e, e) (replayed_same a ∙ ap (λ (w : ℕ). picked (nat_lt (seq_of w) (current_seq r)) (first_naming N M r (entry_count N M r) a) (λ j. pack (current_seq r) (entry_value N M r j)) w) o)
+      go true e (inl o) = rw (open_same ∙ e, e) (replayed_same a ∙ ap (λ (w : ℕ). picked (nat_lt (seq_of w) (current_seq r)) (first_naming N M r (entry_count N M r) a) (λ j. pack (current_seq r) (log_entry_value N M r j)) w) o)
       go true e (inr o) =
           let p : q (data_cell N a) ≡ replayed_data N M r (entry_count N M r) a = o ∙ rw e refl in
           rw (open_same ∙ e, e) (replayed_same a
-          ∙ ap (λ (w : ℕ). picked (nat_lt (seq_of w) (current_seq r)) (first_naming N M r (entry_count N M r) a) (λ j. pack (current_seq r) (entry_value N M r j)) w) p
-          ∙ picked_again (nat_lt (seq_of (r (data_cell N a))) (current_seq r)) (first_naming N M r (entry_count N M r) a) (λ j. pack (current_seq r) (entry_value N M r j)) (r (data_cell N a)) (current_seq r) refl
-          (λ j. seq_word (current_seq r) (entry_value N M r j) (pay_small (owner_log_word N M r (2 * j + 2)))))
+          ∙ ap (λ (w : ℕ). picked (nat_lt (seq_of w) (current_seq r)) (first_naming N M r (entry_count N M r) a) (λ j. pack (current_seq r) (log_entry_value N M r j)) w) p
+          ∙ picked_again (nat_lt (seq_of (r (data_cell N a))) (current_seq r)) (first_naming N M r (entry_count N M r) a) (λ j. pack (current_seq r) (log_entry_value N M r j)) (r (data_cell N a)) (current_seq r) refl
+          (λ j. seq_word (current_seq r) (log_entry_value N M r j) (pay_small (owner_log_word N M r (2 * j + 2)))))
 
   word_same : (c : ℕ) → recovered_word N M q c ≡ recovered_word N M r c
   word_same c = go (is_data N M c) refl
@@ -147,41 +147,41 @@ module _ (N M : ℕ) (row : ℕ → ℕ) where
   pub one_at_most : (j : ℕ) → length (entry_writes N M row j) ≤ 1
   one_at_most j = go (entry_counts N M row j && (is_none (first_naming N M row j (entry_addr N M row j)) && nat_lt (seq_of (row (data_cell N (entry_addr N M row j)))) (current_seq row)))
     where
-      go : (b : Bool) → length {A = ℕ × ℕ} (if b then (data_cell N (entry_addr N M row j), pack (current_seq row) (entry_value N M row j)) ∷ [] else []) ≤ 1
+      go : (b : Bool) → length {A = ℕ × ℕ} (if b then (data_cell N (entry_addr N M row j), pack (current_seq row) (log_entry_value N M row j)) ∷ [] else []) ≤ 1
       go true = omega arith
       go false = omega arith
 
   -- entry n does what its write says
-  pub entry_step : (n : ℕ) (ws : List ℕ) → HasReplayed N M row n ws → after_entry N M ws n ≡ row_after (entry_writes N M row n) ws
+  pub entry_step : (n : ℕ) (ws : List ℕ) → HasReplayed N M row n ws → after_entry N M ws n ≡ words_after_writes (entry_writes N M row n) ws
   entry_step n ws h = same_entry N M row n ws h ∙ go (entry_counts N M row n) refl
     where
-      done : (t : Bool) → (if t then set ws (data_cell N (entry_addr N M row n)) (pack (current_seq row) (entry_value N M row n)) else ws)
-          ≡ row_after (if t then (data_cell N (entry_addr N M row n), pack (current_seq row) (entry_value N M row n)) ∷ [] else []) ws
+      done : (t : Bool) → (if t then set ws (data_cell N (entry_addr N M row n)) (pack (current_seq row) (log_entry_value N M row n)) else ws)
+          ≡ words_after_writes (if t then (data_cell N (entry_addr N M row n), pack (current_seq row) (log_entry_value N M row n)) ∷ [] else []) ws
       done true = refl
       done false = refl
 
       go : (b : Bool) → entry_counts N M row n ≡ b
-          → (if b && nat_lt (seq_of (get_or ws (data_cell N (entry_addr N M row n)) 0)) (current_seq row) then set ws (data_cell N (entry_addr N M row n)) (pack (current_seq row) (entry_value N M row n)) else ws)
-          ≡ row_after (if b && (is_none (first_naming N M row n (entry_addr N M row n)) && nat_lt (seq_of (row (data_cell N (entry_addr N M row n)))) (current_seq row)) then (data_cell N (entry_addr N M row n), pack (current_seq row) (entry_value N M row n)) ∷ [] else []) ws
+          → (if b && nat_lt (seq_of (get_or ws (data_cell N (entry_addr N M row n)) 0)) (current_seq row) then set ws (data_cell N (entry_addr N M row n)) (pack (current_seq row) (log_entry_value N M row n)) else ws)
+          ≡ words_after_writes (if b && (is_none (first_naming N M row n (entry_addr N M row n)) && nat_lt (seq_of (row (data_cell N (entry_addr N M row n)))) (current_seq row)) then (data_cell N (entry_addr N M row n), pack (current_seq row) (log_entry_value N M row n)) ∷ [] else []) ws
       go false e = refl
       go true e =
-          ap (λ (t : Bool). if t then set ws (data_cell N (entry_addr N M row n)) (pack (current_seq row) (entry_value N M row n)) else ws)
+          ap (λ (t : Bool). if t then set ws (data_cell N (entry_addr N M row n)) (pack (current_seq row) (log_entry_value N M row n)) else ws)
           (ap (λ (w : ℕ). nat_lt (seq_of w) (current_seq row)) (h.on_data (entry_addr N M row n) (entry_within N M row n ws h e))
-          ∙ still_older (nat_lt (seq_of (row (data_cell N (entry_addr N M row n)))) (current_seq row)) (first_naming N M row n (entry_addr N M row n)) (λ j. pack (current_seq row) (entry_value N M row j)) (row (data_cell N (entry_addr N M row n))) (current_seq row) refl
-          (λ j. seq_word (current_seq row) (entry_value N M row j) (pay_small (owner_log_word N M row (2 * j + 2)))))
+          ∙ still_older (nat_lt (seq_of (row (data_cell N (entry_addr N M row n)))) (current_seq row)) (first_naming N M row n (entry_addr N M row n)) (λ j. pack (current_seq row) (log_entry_value N M row j)) (row (data_cell N (entry_addr N M row n))) (current_seq row) refl
+          (λ j. seq_word (current_seq row) (log_entry_value N M row j) (pay_small (owner_log_word N M row (2 * j + 2)))))
           ∙ done (is_none (first_naming N M row n (entry_addr N M row n)) && nat_lt (seq_of (row (data_cell N (entry_addr N M row n)))) (current_seq row))
 
   -- so after n entries the words are those with the writes of n entries
-  pub log_written : (n : ℕ) (old : List ℕ) → IsDurableRow N M old → ((c : ℕ) → get_or old c 0 ≡ row c) → HasReplayed N M row n (row_after (log_writes N M row n) old)
+  pub log_written : (n : ℕ) (old : List ℕ) → IsDurableRow N M old → ((c : ℕ) → get_or old c 0 ≡ row c) → HasReplayed N M row n (words_after_writes (log_writes N M row n) old)
   unfolding log_writes
   log_written zero old size same = replays_none N M row old size same
   log_written (suc n) old size same =
       let h = log_written n old size same in
-      let e : row_after (log_writes N M row (suc n)) old ≡ after_entry N M (row_after (log_writes N M row n) old) n =
-      ap (λ (x : List (ℕ × ℕ)). row_after x old) (log_writes_more n)
+      let e : words_after_writes (log_writes N M row (suc n)) old ≡ after_entry N M (words_after_writes (log_writes N M row n) old) n =
+      ap (λ (x : List (ℕ × ℕ)). words_after_writes x old) (log_writes_more n)
       ∙ fold-append (λ ws w. set ws w.0 w.1) old (log_writes N M row n) (entry_writes N M row n)
-      ∙ sym (entry_step n (row_after (log_writes N M row n) old) h) in
-      subst (λ (x : List ℕ). HasReplayed N M row (suc n) x) (sym e) (rw add-one at (replays_more N M row n (row_after (log_writes N M row n) old) h))
+      ∙ sym (entry_step n (words_after_writes (log_writes N M row n) old) h) in
+      subst (λ (x : List ℕ). HasReplayed N M row (suc n) x) (sym e) (rw add-one at (replays_more N M row n (words_after_writes (log_writes N M row n) old) h))
 
   -- a front of the log's writes is the writes of its first entries
   pub front_of_log : (k n : ℕ) → (m : ℕ) × ((m ≤ n) × (take k (log_writes N M row n) ≡ log_writes N M row m))
@@ -216,8 +216,8 @@ module _ (N M : ℕ) (row : ℕ → ℕ) where
   fewer a m n l = go (found_already (entry_names N M row a) m n l) (nat_lt (seq_of (row (data_cell N a))) (current_seq row))
     where
       go : (first_naming N M row m a ≡ None) ⊎ (first_naming N M row n a ≡ first_naming N M row m a) → (older : Bool)
-          → (picked older (first_naming N M row m a) (λ j. pack (current_seq row) (entry_value N M row j)) (row (data_cell N a)) ≡ row (data_cell N a))
-          ⊎ (picked older (first_naming N M row m a) (λ j. pack (current_seq row) (entry_value N M row j)) (row (data_cell N a)) ≡ picked older (first_naming N M row n a) (λ j. pack (current_seq row) (entry_value N M row j)) (row (data_cell N a)))
+          → (picked older (first_naming N M row m a) (λ j. pack (current_seq row) (log_entry_value N M row j)) (row (data_cell N a)) ≡ row (data_cell N a))
+          ⊎ (picked older (first_naming N M row m a) (λ j. pack (current_seq row) (log_entry_value N M row j)) (row (data_cell N a)) ≡ picked older (first_naming N M row n a) (λ j. pack (current_seq row) (log_entry_value N M row j)) (row (data_cell N a)))
       go h false = inl refl
       go (inl e) true = inl (rw e refl)
       go (inr e) true = inr (rw e refl)
@@ -238,34 +238,34 @@ module _ (N M : ℕ) (old : List ℕ) (size : IsDurableRow N M old) where
   }
 
   open_written : is_open N (λ c. get_or old c 0) ≡ true
-      → row_after (log_writes N M (λ c. get_or old c 0) (entry_count N M (λ c. get_or old c 0)) ++ (request_cell (current_owner (λ c. get_or old c 0)), pack (current_seq (λ c. get_or old c 0)) 1) ∷ []) old ≡ recovered_words N M old
+      → words_after_writes (log_writes N M (λ c. get_or old c 0) (entry_count N M (λ c. get_or old c 0)) ++ (request_cell (current_owner (λ c. get_or old c 0)), pack (current_seq (λ c. get_or old c 0)) 1) ∷ []) old ≡ recovered_words N M old
   open_written e =
       fold-append (λ ws w. set ws w.0 w.1) old (log_writes N M (λ c. get_or old c 0) (entry_count N M (λ c. get_or old c 0))) ((request_cell (current_owner (λ c. get_or old c 0)), pack (current_seq (λ c. get_or old c 0)) 1) ∷ [])
-      ∙ brought_to_end N M old size (row_after (log_writes N M (λ c. get_or old c 0) (entry_count N M (λ c. get_or old c 0))) old) e (log_written N M (λ c. get_or old c 0) (entry_count N M (λ c. get_or old c 0)) old size (λ c. refl))
+      ∙ brought_to_end N M old size (words_after_writes (log_writes N M (λ c. get_or old c 0) (entry_count N M (λ c. get_or old c 0))) old) e (log_written N M (λ c. get_or old c 0) (entry_count N M (λ c. get_or old c 0)) old size (λ c. refl))
 
   -- all writes leave the recovered list
-  pub all_written : row_after (recovery_writes N M (λ c. get_or old c 0)) old ≡ recovered_words N M old
+  pub all_written : words_after_writes (recovery_writes N M (λ c. get_or old c 0)) old ≡ recovered_words N M old
   all_written = go (is_open N (λ c. get_or old c 0)) refl
     where
-      go : (b : Bool) → is_open N (λ c. get_or old c 0) ≡ b → row_after (recovery_writes N M (λ c. get_or old c 0)) old ≡ recovered_words N M old
+      go : (b : Bool) → is_open N (λ c. get_or old c 0) ≡ b → words_after_writes (recovery_writes N M (λ c. get_or old c 0)) old ≡ recovered_words N M old
       go false e = rw e (left_alone N M old size e)
       go true e = rw e (open_written e)
 
   -- and each front of them leaves a row that recovers to it
-  pub fronts_recover : (k : ℕ) → recovered_words N M (row_after (take k (recovery_writes N M (λ c. get_or old c 0))) old) ≡ recovered_words N M old
+  pub fronts_recover : (k : ℕ) → recovered_words N M (words_after_writes (take k (recovery_writes N M (λ c. get_or old c 0))) old) ≡ recovered_words N M old
   fronts_recover k = go (is_open N (λ c. get_or old c 0)) refl
     where
-      go : (b : Bool) → is_open N (λ c. get_or old c 0) ≡ b → recovered_words N M (row_after (take k (recovery_writes N M (λ c. get_or old c 0))) old) ≡ recovered_words N M old
+      go : (b : Bool) → is_open N (λ c. get_or old c 0) ≡ b → recovered_words N M (words_after_writes (take k (recovery_writes N M (λ c. get_or old c 0))) old) ≡ recovered_words N M old
       go false e = rw (e, take-nil k) refl
       go true e = rw e (on (cases_lt (length (log_writes N M (λ c. get_or old c 0) (entry_count N M (λ c. get_or old c 0)))) k))
         where
           on : (length (log_writes N M (λ c. get_or old c 0) (entry_count N M (λ c. get_or old c 0))) < k) ⊎ (k ≤ length (log_writes N M (λ c. get_or old c 0) (entry_count N M (λ c. get_or old c 0))))
-              → recovered_words N M (row_after (take k (log_writes N M (λ c. get_or old c 0) (entry_count N M (λ c. get_or old c 0)) ++ (request_cell (current_owner (λ c. get_or old c 0)), pack (current_seq (λ c. get_or old c 0)) 1) ∷ [])) old) ≡ recovered_words N M old
-          on (inl l) = ap (recovered_words N M) (ap (λ (x : List (ℕ × ℕ)). row_after x old) (all_of (log_writes N M (λ c. get_or old c 0) (entry_count N M (λ c. get_or old c 0))) (request_cell (current_owner (λ c. get_or old c 0)), pack (current_seq (λ c. get_or old c 0)) 1) k l) ∙ open_written e) ∙ recovered_twice N M old size
+              → recovered_words N M (words_after_writes (take k (log_writes N M (λ c. get_or old c 0) (entry_count N M (λ c. get_or old c 0)) ++ (request_cell (current_owner (λ c. get_or old c 0)), pack (current_seq (λ c. get_or old c 0)) 1) ∷ [])) old) ≡ recovered_words N M old
+          on (inl l) = ap (recovered_words N M) (ap (λ (x : List (ℕ × ℕ)). words_after_writes x old) (all_of (log_writes N M (λ c. get_or old c 0) (entry_count N M (λ c. get_or old c 0))) (request_cell (current_owner (λ c. get_or old c 0)), pack (current_seq (λ c. get_or old c 0)) 1) k l) ∙ open_written e) ∙ recovered_twice N M old size
           on (inr l) = front (front_of_log N M (λ c. get_or old c 0) k (entry_count N M (λ c. get_or old c 0)))
             where
               front : (m : ℕ) × ((m ≤ entry_count N M (λ c. get_or old c 0)) × (take k (log_writes N M (λ c. get_or old c 0) (entry_count N M (λ c. get_or old c 0))) ≡ log_writes N M (λ c. get_or old c 0) m))
-                  → recovered_words N M (row_after (take k (log_writes N M (λ c. get_or old c 0) (entry_count N M (λ c. get_or old c 0)) ++ (request_cell (current_owner (λ c. get_or old c 0)), pack (current_seq (λ c. get_or old c 0)) 1) ∷ [])) old) ≡ recovered_words N M old
+                  → recovered_words N M (words_after_writes (take k (log_writes N M (λ c. get_or old c 0) (entry_count N M (λ c. get_or old c 0)) ++ (request_cell (current_owner (λ c. get_or old c 0)), pack (current_seq (λ c. get_or old c 0)) 1) ∷ [])) old) ≡ recovered_words N M old
               front (m, (le, q)) =
-                  ap (λ (x : List (ℕ × ℕ)). recovered_words N M (row_after x old)) (take-append-le k (log_writes N M (λ c. get_or old c 0) (entry_count N M (λ c. get_or old c 0))) _ l ∙ q)
-                  ∙ underway_recovers N M old (row_after (log_writes N M (λ c. get_or old c 0) m) old) size (front_underway m (row_after (log_writes N M (λ c. get_or old c 0) m) old) e le (log_written N M (λ c. get_or old c 0) m old size (λ c. refl)))
+                  ap (λ (x : List (ℕ × ℕ)). recovered_words N M (words_after_writes x old)) (take-append-le k (log_writes N M (λ c. get_or old c 0) (entry_count N M (λ c. get_or old c 0))) _ l ∙ q)
+                  ∙ underway_recovers N M old (words_after_writes (log_writes N M (λ c. get_or old c 0) m) old) size (front_underway m (words_after_writes (log_writes N M (λ c. get_or old c 0) m) old) e le (log_written N M (λ c. get_or old c 0) m old size (λ c. refl)))

@@ -9,16 +9,16 @@ use Rattle.of_cell.specs.Words.{pack, seq_of, payload_of}
 use Rattle.of_cell.specs.Cells.{data_cell, request_cell}
 use Rattle.of_cell.proofs.Order.{seq_word, pay_small}
 use Rattle.of_recover.specs.Row.{IsDurableRow, current_seq, current_owner, is_open}
-use Rattle.of_recover.specs.Log.{owner_log_word, entry_count, entry_addr, entry_value, entry_counts, first_naming}
+use Rattle.of_recover.specs.Log.{owner_log_word, entry_count, entry_addr, log_entry_value, entry_counts, first_naming}
 use Rattle.of_recover.specs.Walk.{after_entry, lands, HasReplayed}
-use Rattle.of_recover.specs.Writes.{row_after, entry_writes, log_writes, recovery_writes}
+use Rattle.of_recover.specs.Writes.{words_after_writes, entry_writes, log_writes, recovery_writes}
 use Rattle.of_recover.proofs.Entries.{same_zero, same_log, entry_within, replays_none, replays_more}
 use Rattle.of_recover.proofs.Fronts.{still_older, log_writes_more, one_at_most, entry_step, log_written, all_of}
 
 -- n entries have made the row `words` of `old` by as many of their writes as may be made, of which
 -- `left` are left; while more may be made these are all of their writes
 pub record IsPartlyReplayed (callers cells : ℕ) (old : List ℕ) (most n left : ℕ) (words : List ℕ) : Type 0 where
-  pub row : words ≡ row_after (take most (log_writes callers cells (λ c. get_or old c 0) n)) old
+  pub row : words ≡ words_after_writes (take most (log_writes callers cells (λ c. get_or old c 0) n)) old
   pub more : left ≡ most - length (log_writes callers cells (λ c. get_or old c 0) n)
   pub replays : 0 < left → HasReplayed callers cells (λ c. get_or old c 0) n words
 
@@ -45,19 +45,19 @@ module _ (N M : ℕ) (row : ℕ → ℕ) where
           ∙ ap (λ (w : ℕ). landing N M ws (row 0) w (owner_log_word N M (λ c. get_or ws c 0) (2 * n + 2))) (same_log N M row n ws h (2 * n + 1))
           ∙ ap (λ (w : ℕ). landing N M ws (row 0) (owner_log_word N M row (2 * n + 1)) w) (same_log N M row n ws h (2 * n + 2))
 
-      many : (t : Bool) → (if t then 1 else 0) ≡ length {A = ℕ × ℕ} (if t then (data_cell N (entry_addr N M row n), pack (current_seq row) (entry_value N M row n)) ∷ [] else [])
+      many : (t : Bool) → (if t then 1 else 0) ≡ length {A = ℕ × ℕ} (if t then (data_cell N (entry_addr N M row n), pack (current_seq row) (log_entry_value N M row n)) ∷ [] else [])
       many true = refl
       many false = refl
 
       go : (b : Bool) → entry_counts N M row n ≡ b
           → (if b && nat_lt (seq_of (get_or ws (data_cell N (entry_addr N M row n)) 0)) (current_seq row) then 1 else 0)
-          ≡ length {A = ℕ × ℕ} (if b && (is_none (first_naming N M row n (entry_addr N M row n)) && nat_lt (seq_of (row (data_cell N (entry_addr N M row n)))) (current_seq row)) then (data_cell N (entry_addr N M row n), pack (current_seq row) (entry_value N M row n)) ∷ [] else [])
+          ≡ length {A = ℕ × ℕ} (if b && (is_none (first_naming N M row n (entry_addr N M row n)) && nat_lt (seq_of (row (data_cell N (entry_addr N M row n)))) (current_seq row)) then (data_cell N (entry_addr N M row n), pack (current_seq row) (log_entry_value N M row n)) ∷ [] else [])
       go false e = refl
       go true e =
           ap (λ (t : Bool). if t then 1 else 0)
           (ap (λ (w : ℕ). nat_lt (seq_of w) (current_seq row)) (h.on_data (entry_addr N M row n) (entry_within N M row n ws h e))
-          ∙ still_older (nat_lt (seq_of (row (data_cell N (entry_addr N M row n)))) (current_seq row)) (first_naming N M row n (entry_addr N M row n)) (λ j. pack (current_seq row) (entry_value N M row j)) (row (data_cell N (entry_addr N M row n))) (current_seq row) refl
-          (λ j. seq_word (current_seq row) (entry_value N M row j) (pay_small (owner_log_word N M row (2 * j + 2)))))
+          ∙ still_older (nat_lt (seq_of (row (data_cell N (entry_addr N M row n)))) (current_seq row)) (first_naming N M row n (entry_addr N M row n)) (λ j. pack (current_seq row) (log_entry_value N M row j)) (row (data_cell N (entry_addr N M row n))) (current_seq row) refl
+          (λ j. seq_word (current_seq row) (log_entry_value N M row j) (pay_small (owner_log_word N M row (2 * j + 2)))))
           ∙ many (is_none (first_naming N M row n (entry_addr N M row n)) && nat_lt (seq_of (row (data_cell N (entry_addr N M row n)))) (current_seq row))
 
   -- where none may be made any more, the next entry makes none
@@ -69,15 +69,15 @@ module _ (N M : ℕ) (row : ℕ → ℕ) where
 
   -- where one may be made, the next entry's is
   pub made : (most n : ℕ) (ws old : List ℕ) → IsDurableRow N M old → ((c : ℕ) → get_or old c 0 ≡ row c) → length (log_writes N M row n) < most
-      → ws ≡ row_after (take most (log_writes N M row n)) old → after_entry N M ws n ≡ row_after (take most (log_writes N M row (n + 1))) old
+      → ws ≡ words_after_writes (take most (log_writes N M row n)) old → after_entry N M ws n ≡ words_after_writes (take most (log_writes N M row (n + 1))) old
   made most n ws old size same l e =
       let all : take most (log_writes N M row (n + 1)) ≡ log_writes N M row n ++ entry_writes N M row n =
       take_all most (log_writes N M row (n + 1)) (rw (add-one n, log_writes_more N M row n) (omega (arith, length-append (log_writes N M row n) (entry_writes N M row n), one_at_most N M row n)))
       ∙ rw add-one (log_writes_more N M row n) in
-      ap (λ (x : List ℕ). after_entry N M x n) (e ∙ ap (λ (x : List (ℕ × ℕ)). row_after x old) (take_all most (log_writes N M row n) (omega arith)))
-      ∙ entry_step N M row n (row_after (log_writes N M row n) old) (log_written N M row n old size same)
+      ap (λ (x : List ℕ). after_entry N M x n) (e ∙ ap (λ (x : List (ℕ × ℕ)). words_after_writes x old) (take_all most (log_writes N M row n) (omega arith)))
+      ∙ entry_step N M row n (words_after_writes (log_writes N M row n) old) (log_written N M row n old size same)
       ∙ sym (fold-append (λ ws w. set ws w.0 w.1) old (log_writes N M row n) (entry_writes N M row n))
-      ∙ ap (λ (x : List (ℕ × ℕ)). row_after x old) (sym all)
+      ∙ ap (λ (x : List (ℕ × ℕ)). words_after_writes x old) (sym all)
 
   -- an entry makes one write at most, so n entries make n at most
   pub few_writes : (n : ℕ) → length (log_writes N M row n) ≤ n
@@ -112,7 +112,7 @@ module _ (N M : ℕ) (old : List ℕ) (size : IsDurableRow N M old) where
     -- or no more may be made
     pub stays : (left' : ℕ) (ws' : List ℕ) → left ≤ 0 → ws' ≡ ws → left' ≡ left → IsPartlyReplayed N M old most (n + 1) left' ws'
     stays left' ws' l e f = record {
-      row = e ∙ h.row ∙ ap (λ (x : List (ℕ × ℕ)). row_after x old) (sym (spent N M (λ c. get_or old c 0) most n (omega (arith, h.more))));
+      row = e ∙ h.row ∙ ap (λ (x : List (ℕ × ℕ)). words_after_writes x old) (sym (spent N M (λ c. get_or old c 0) most n (omega (arith, h.more))));
       more = omega (arith, spent_length N M (λ c. get_or old c 0) most n (omega (arith, h.more)));
       replays = λ m. absurd (omega arith);
     }
@@ -125,23 +125,23 @@ few false k n b e = omega arith
 -- what a replay of at most so many writes leaves, and the closing behind it where one more may be made
 module _ (N M : ℕ) (old : List ℕ) where
   -- where nothing is open
-  pub nothing_open : (most : ℕ) → is_open N (λ c. get_or old c 0) ≡ false → old ≡ row_after (take most (recovery_writes N M (λ c. get_or old c 0))) old
+  pub nothing_open : (most : ℕ) → is_open N (λ c. get_or old c 0) ≡ false → old ≡ words_after_writes (take most (recovery_writes N M (λ c. get_or old c 0))) old
   nothing_open most e = rw (e, take-nil most) refl
 
   -- where no more may be made behind the log's writes
   pub left_open : (most : ℕ) (ws : List ℕ) → is_open N (λ c. get_or old c 0) ≡ true → most ≤ length (log_writes N M (λ c. get_or old c 0) (entry_count N M (λ c. get_or old c 0)))
-      → ws ≡ row_after (take most (log_writes N M (λ c. get_or old c 0) (entry_count N M (λ c. get_or old c 0)))) old → ws ≡ row_after (take most (recovery_writes N M (λ c. get_or old c 0))) old
-  left_open most ws e l h = h ∙ rw e (ap (λ (x : List (ℕ × ℕ)). row_after x old) (sym (take-append-le most (log_writes N M (λ c. get_or old c 0) (entry_count N M (λ c. get_or old c 0))) _ l)))
+      → ws ≡ words_after_writes (take most (log_writes N M (λ c. get_or old c 0) (entry_count N M (λ c. get_or old c 0)))) old → ws ≡ words_after_writes (take most (recovery_writes N M (λ c. get_or old c 0))) old
+  left_open most ws e l h = h ∙ rw e (ap (λ (x : List (ℕ × ℕ)). words_after_writes x old) (sym (take-append-le most (log_writes N M (λ c. get_or old c 0) (entry_count N M (λ c. get_or old c 0))) _ l)))
 
   -- where one more may be made
   pub closed : (most : ℕ) (ws : List ℕ) → is_open N (λ c. get_or old c 0) ≡ true → length (log_writes N M (λ c. get_or old c 0) (entry_count N M (λ c. get_or old c 0))) < most
-      → ws ≡ row_after (take most (log_writes N M (λ c. get_or old c 0) (entry_count N M (λ c. get_or old c 0)))) old
-      → set ws (request_cell (current_owner (λ c. get_or old c 0))) (pack (current_seq (λ c. get_or old c 0)) 1) ≡ row_after (take most (recovery_writes N M (λ c. get_or old c 0))) old
+      → ws ≡ words_after_writes (take most (log_writes N M (λ c. get_or old c 0) (entry_count N M (λ c. get_or old c 0)))) old
+      → set ws (request_cell (current_owner (λ c. get_or old c 0))) (pack (current_seq (λ c. get_or old c 0)) 1) ≡ words_after_writes (take most (recovery_writes N M (λ c. get_or old c 0))) old
   closed most ws e l h =
       rw e (ap (λ (x : List ℕ). set x (request_cell (current_owner (λ c. get_or old c 0))) (pack (current_seq (λ c. get_or old c 0)) 1))
-      (h ∙ ap (λ (x : List (ℕ × ℕ)). row_after x old) (take_all most (log_writes N M (λ c. get_or old c 0) (entry_count N M (λ c. get_or old c 0))) (omega arith)))
+      (h ∙ ap (λ (x : List (ℕ × ℕ)). words_after_writes x old) (take_all most (log_writes N M (λ c. get_or old c 0) (entry_count N M (λ c. get_or old c 0))) (omega arith)))
       ∙ sym (fold-append (λ ws w. set ws w.0 w.1) old (log_writes N M (λ c. get_or old c 0) (entry_count N M (λ c. get_or old c 0))) ((request_cell (current_owner (λ c. get_or old c 0)), pack (current_seq (λ c. get_or old c 0)) 1) ∷ []))
-      ∙ ap (λ (x : List (ℕ × ℕ)). row_after x old) (sym (all_of (log_writes N M (λ c. get_or old c 0) (entry_count N M (λ c. get_or old c 0))) (request_cell (current_owner (λ c. get_or old c 0)), pack (current_seq (λ c. get_or old c 0)) 1) most l)))
+      ∙ ap (λ (x : List (ℕ × ℕ)). words_after_writes x old) (sym (all_of (log_writes N M (λ c. get_or old c 0) (entry_count N M (λ c. get_or old c 0))) (request_cell (current_owner (λ c. get_or old c 0)), pack (current_seq (λ c. get_or old c 0)) 1) most l)))
 
   few_entries : entry_count N M (λ c. get_or old c 0) ≤ M
   few_entries = few (seq_of (owner_log_word N M (λ c. get_or old c 0) 0) == current_seq (λ c. get_or old c 0)) (payload_of (owner_log_word N M (λ c. get_or old c 0) 0)) M (nat_le (payload_of (owner_log_word N M (λ c. get_or old c 0) 0)) M) refl

@@ -6,12 +6,12 @@ use Rattle.std.specs.List.{fold, flat_map, range_with_len}
 use Rattle.of_cell.specs.Words.{pack, seq_of}
 use Rattle.of_cell.specs.Cells.{request_cell, data_cell}
 use Rattle.of_recover.specs.Row.{IsDurableRow, current_seq, current_owner, is_open}
-use Rattle.of_recover.specs.Log.{entry_count, entry_addr, entry_value, entry_counts, first_naming}
+use Rattle.of_recover.specs.Log.{entry_count, entry_addr, log_entry_value, entry_counts, first_naming}
 use Rattle.of_recover.specs.Recovered.{recovered_data}
 
 -- the row after these writes, each a cell and its new word
-abbrev pub row_after : (writes : List (ℕ × ℕ)) → List ℕ → List ℕ
-row_after writes words = fold (λ ws w. slice_set ws w.0 w.1) words writes
+abbrev pub words_after_writes : (writes : List (ℕ × ℕ)) → List ℕ → List ℕ
+words_after_writes writes words = fold (λ ws w. slice_set ws w.0 w.1) words writes
 
 -- the write of entry j, if it makes one: its value goes to its data cell if the entry counts, is
 -- the first that names the cell, and the cell is older
@@ -21,7 +21,7 @@ entry_writes callers cells row j =
     let cell = data_cell callers addr in
     if entry_counts callers cells row j
     && (is_none (first_naming callers cells row j addr) && nat_lt (seq_of (row cell)) (current_seq row))
-    then (cell, pack (current_seq row) (entry_value callers cells row j)) ∷ [] else []
+    then (cell, pack (current_seq row) (log_entry_value callers cells row j)) ∷ [] else []
 
 -- the writes of the first n entries, in the log's order
 unfoldable pub log_writes : (callers cells : ℕ) → (ℕ → ℕ) → (n : ℕ) → List (ℕ × ℕ)

@@ -6,7 +6,7 @@ ghost use Rattle.std.proofs.Common.{take};
 ghost use Rattle.of_recover.specs.Row.{IsDurableRow, is_open};
 ghost use Rattle.of_recover.specs.Recovered.{recovered_words, RecoversData, ClosesRequest, KeepsOthers, KeepsUnnamed};
 ghost use Rattle.of_recover.specs.Renumbered.{renumbered_words, renumbering_writes, BeginsAnew, BeginsAnewPartly};
-ghost use Rattle.of_recover.specs.Writes.{row_after, recovery_writes, IsUnderway};
+ghost use Rattle.of_recover.specs.Writes.{words_after_writes, recovery_writes, IsUnderway};
 
 use of_cell::Shape;
 
@@ -22,9 +22,9 @@ pub fn recovered_twice(shape: &Shape, durable: &[u64])
 pub fn recovered_midway(shape: &Shape, durable: &[u64], made: usize)
     requires { IsDurableRow shape.now.callers shape.now.cells durable.now }
     ensures all { let writes = recovery_writes shape.now.callers shape.now.cells (slice_index durable.now) in
-        row_after writes durable.now ≡ recovered_words shape.now.callers shape.now.cells durable.now }
+        words_after_writes writes durable.now ≡ recovered_words shape.now.callers shape.now.cells durable.now }
     ensures midway { let writes = recovery_writes shape.now.callers shape.now.cells (slice_index durable.now) in
-        recovered_words shape.now.callers shape.now.cells (row_after (take made writes) durable.now)
+        recovered_words shape.now.callers shape.now.cells (words_after_writes (take made writes) durable.now)
         ≡ recovered_words shape.now.callers shape.now.cells durable.now }
 {}
 
@@ -61,8 +61,8 @@ pub fn renumbered_midway(shape: &Shape, durable: &[u64], made: usize)
     requires row { IsDurableRow shape.now.callers shape.now.cells durable.now }
     requires closed { is_open shape.now.callers (slice_index durable.now) ≡ false }
     ensures all { let writes = renumbering_writes shape.now.callers shape.now.cells durable.now in
-        row_after writes durable.now ≡ renumbered_words shape.now.callers shape.now.cells durable.now }
+        words_after_writes writes durable.now ≡ renumbered_words shape.now.callers shape.now.cells durable.now }
     ensures midway { let writes = renumbering_writes shape.now.callers shape.now.cells durable.now in
         BeginsAnewPartly shape.now.callers shape.now.cells durable.now
-        (row_after (take made writes) durable.now) }
+        (words_after_writes (take made writes) durable.now) }
 {}

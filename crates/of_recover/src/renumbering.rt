@@ -6,7 +6,7 @@ ghost use Rattle.std.proofs.Common.{take};
 ghost use Rattle.of_recover.specs.Row.{IsDurableRow, is_open};
 ghost use Rattle.of_recover.specs.Recovered.{is_data};
 ghost use Rattle.of_recover.specs.Renumbered.{renumbered_words, renumbered_word, renumbering_writes};
-ghost use Rattle.of_recover.specs.Writes.{row_after};
+ghost use Rattle.of_recover.specs.Writes.{words_after_writes};
 
 use of_cell::{Shape, pack, payload_of};
 
@@ -47,7 +47,7 @@ pub fn renumber(shape: &Shape, durable: &mut [u64])
 pub fn renumber_partly(shape: &Shape, durable: &mut [u64], most: usize)
     requires { IsDurableRow shape.now.callers shape.now.cells durable.old }
     ensures { let writes = renumbering_writes shape.now.callers shape.now.cells durable.old in
-        durable.new ≡ row_after (take most writes) durable.old }
+        durable.new ≡ words_after_writes (take most writes) durable.old }
 {
     let cells = durable.len();
     for made in 0..most.min(cells) {

@@ -10,7 +10,7 @@ use Rattle.of_script.specs.declared.instr.Cause.TheVariants.{Overflow, Short, No
 use Rattle.of_store.specs.State.{Reply, Answered, Aborted}
 use Rattle.of_plan.specs.Report.{Entry, EndState, done, stopped, spent, Line, Report}
 use Rattle.of_report.specs.StoreText.{store_text}
-use Rattle.of_report.specs.ReportText.{reply_value_text, cause_text, reply_text, kind_text, entry_line, state_text, caller_line, seq_line, report_text}
+use Rattle.of_report.specs.ReportText.{reply_value_text, cause_text, reply_text, kind_text, entry_line, state_text, caller_line_text, seq_line, report_text}
 
 -- ---- a text up to the first byte that is this one
 
@@ -192,7 +192,7 @@ line_parts a c s n m l rest = simp append_assoc refl
 abbrev line_then : ℕ → Line → List ℕ → List ℕ
 line_then c l rest = codes "caller " ++ (decimal c ++ (32 ∷ (state_text l.state ++ (32 ∷ (decimal l.answered ++ (32 ∷ (decimal l.entries ++ (32 ∷ (decimal l.longest ++ (10 ∷ rest))))))))))
 
-line_is : (c : ℕ) (l : Line) (rest : List ℕ) → caller_line (c, l) ++ rest ≡ line_then c l rest
+line_is : (c : ℕ) (l : Line) (rest : List ℕ) → caller_line_text (c, l) ++ rest ≡ line_then c l rest
 line_is c l rest = line_parts (codes "caller ") (decimal c) (state_text l.state) (decimal l.answered) (decimal l.entries) (decimal l.longest) rest
 
 line_cut : (c : ℕ) (l m : Line) (x y : List ℕ) → IsSmallLine l → IsSmallLine m → line_then c l x ≡ line_then c m y → (l ≡ m) × (x ≡ y)
@@ -209,15 +209,15 @@ abbrev BeginsNoLine : List ℕ → Type 0
 BeginsNoLine x = get_or x 0 0 ≢ 99
 
 lines_cut : (n : ℕ) (ls ms : List Line) (x y : List ℕ) → Each IsSmallLine ls → Each IsSmallLine ms → BeginsNoLine x → BeginsNoLine y
-    → flat_map caller_line (enumerate_from n ls) ++ x ≡ flat_map caller_line (enumerate_from n ms) ++ y → (ls ≡ ms) × (x ≡ y)
+    → flat_map caller_line_text (enumerate_from n ls) ++ x ≡ flat_map caller_line_text (enumerate_from n ms) ++ y → (ls ≡ ms) × (x ≡ y)
 lines_cut n [] [] x y h k nx ny e = (refl, e)
 lines_cut n [] (m ∷ ms) x y h k nx ny e = absurd (nx (ap (λ (l : List ℕ). get_or l 0 0) e))
 lines_cut n (l ∷ ls) [] x y h k nx ny e = absurd (ny (ap (λ (t : List ℕ). get_or t 0 0) (sym e)))
 lines_cut n (l ∷ ls) (m ∷ ms) x y h k nx ny e =
-    let more = flat_map caller_line (enumerate_from (n + 1) ls) in
-    let other = flat_map caller_line (enumerate_from (n + 1) ms) in
+    let more = flat_map caller_line_text (enumerate_from (n + 1) ls) in
+    let other = flat_map caller_line_text (enumerate_from (n + 1) ms) in
     let first = line_cut n l m (more ++ x) (other ++ y) h.0 k.0
-    (sym (line_is n l (more ++ x)) ∙ sym (append_assoc (caller_line (n, l)) more x) ∙ e ∙ append_assoc (caller_line (n, m)) other y ∙ line_is n m (other ++ y)) in
+    (sym (line_is n l (more ++ x)) ∙ sym (append_assoc (caller_line_text (n, l)) more x) ∙ e ∙ append_assoc (caller_line_text (n, m)) other y ∙ line_is n m (other ++ y)) in
     let rest = lines_cut (n + 1) ls ms x y h.1 k.1 nx ny first.1 in
     ((λ i. first.0 i ∷ rest.0 i), rest.1)
 
@@ -229,7 +229,7 @@ seq_parts a n rest = simp append_assoc refl
 text_parts : (t e c s x n : List ℕ) → ((((t ++ e) ++ c) ++ s) ++ x) ++ n ≡ t ++ (e ++ (c ++ (s ++ (x ++ n))))
 text_parts t e c s x n = simp append_assoc refl
 
-lines_no_entry : (ls : List Line) (seq : ℕ) (x : List ℕ) → BeginsNoEntry (flat_map caller_line (enumerate_from 0 ls) ++ (seq_line seq ++ x))
+lines_no_entry : (ls : List Line) (seq : ℕ) (x : List ℕ) → BeginsNoEntry (flat_map caller_line_text (enumerate_from 0 ls) ++ (seq_line seq ++ x))
 lines_no_entry [] seq x = λ e. omega (arith, e)
 lines_no_entry (l ∷ ls) seq x = λ e. omega (arith, e)
 
@@ -247,8 +247,8 @@ pub record AreAlikeReports (r q : Report) : Type 0 where
 abbrev behind_lines : Report → List ℕ
 behind_lines r = seq_line r.seq ++ (store_text r.store ++ codes "end\n")
 
-text_is : (r : Report) → report_text r ≡ codes "onefile report 1\n" ++ (flat_map entry_line r.entries ++ (flat_map caller_line (enumerate_from 0 r.callers) ++ behind_lines r))
-text_is r = text_parts (codes "onefile report 1\n") (flat_map entry_line r.entries) (flat_map caller_line (enumerate_from 0 r.callers)) (seq_line r.seq) (store_text r.store) (codes "end\n")
+text_is : (r : Report) → report_text r ≡ codes "onefile report 1\n" ++ (flat_map entry_line r.entries ++ (flat_map caller_line_text (enumerate_from 0 r.callers) ++ behind_lines r))
+text_is r = text_parts (codes "onefile report 1\n") (flat_map entry_line r.entries) (flat_map caller_line_text (enumerate_from 0 r.callers)) (seq_line r.seq) (store_text r.store) (codes "end\n")
 
 pub alike_reports : (r q : Report) → IsSmallReport r → IsSmallReport q → report_text r ≡ report_text q → AreAlikeReports r q
 alike_reports r q h k same =

@@ -6,7 +6,7 @@ use Rattle.of_mem.specs.ProgramWork.{memory_of}
 use Rattle.of_recover.specs.Row.{current_seq, current_owner}
 use Rattle.of_store.specs.State.{Store}
 use Rattle.of_eval.specs.Lawful.{DataCellsStandFor}
-use Rattle.of_report.specs.ImageRow.{DurableRow, row_cell_count, numbers_in}
+use Rattle.of_report.specs.ImageRow.{DurableRow, row_cell_count, data_numbers_in}
 
 -- a caller owns the current transaction
 abbrev pub IsOwned : DurableRow → Type 0
@@ -20,4 +20,4 @@ NoneNewer callers words n = (a : ℕ) → a < n → seq_of (slice_index words (d
 pub record IsLawfulRow (instrs : ℕ) (r : DurableRow) (s : Store) : Type 0 where
   pub owned : IsOwned r
   pub none_newer : NoneNewer r.callers r.words (row_cell_count instrs r)
-  pub stands : DataCellsStandFor r.callers instrs r.blocks (memory_of (numbers_in instrs r)) s
+  pub stands : DataCellsStandFor r.callers instrs r.blocks (memory_of (data_numbers_in instrs r)) s

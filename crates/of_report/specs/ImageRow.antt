@@ -28,8 +28,8 @@ abbrev pub row_cell_count : (instrs : ℕ) → DurableRow → ℕ
 row_cell_count instrs r = data_cell_count_for instrs r.callers r.blocks
 
 -- the numbers of the data cells, in order
-abbrev pub numbers_in : (instrs : ℕ) → DurableRow → List ℕ
-numbers_in instrs r = map (λ a. payload_of (slice_index r.words (data_cell r.callers a))) (range_with_len 0 (row_cell_count instrs r))
+abbrev pub data_numbers_in : (instrs : ℕ) → DurableRow → List ℕ
+data_numbers_in instrs r = map (λ a. payload_of (slice_index r.words (data_cell r.callers a))) (range_with_len 0 (row_cell_count instrs r))
 
 -- the ranges of a row, where scripts have at most so many instructions: a word of 64 bits for each cell
 pub record IsRow (instrs : ℕ) (r : DurableRow) : Type 0 where

@@ -4,7 +4,7 @@ ghost use Rattle.std.specs.Prelude.{◌≡◌, ◌++◌, IfOk, OnOk, flat_map, m
 ghost use Rattle.std.specs.List.{enumerate_from};
 ghost use Rattle.of_store.specs.Replies.{reply_value_of};
 ghost use Rattle.of_report.specs.Report.{entry_value, line_value, report_value, end_state_value};
-ghost use Rattle.of_report.specs.ReportText.{reply_value_text, cause_text, reply_text, kind_text, entry_line, state_text, caller_line, seq_line, report_text};
+ghost use Rattle.of_report.specs.ReportText.{reply_value_text, cause_text, reply_text, kind_text, entry_line, state_text, caller_line_text, seq_line, report_text};
 
 use crate::report::{EndState, Entry, Line, Report};
 use crate::store::put_store;
@@ -93,7 +93,7 @@ fn state_name(state: EndState) -> &'static str
 
 // Writes the line of a caller.
 fn put_caller(out: &mut String, caller: usize, line: &Line) -> Result<(), AllocError>
-    ensures { OnOk result (string_bytes out.new ≡ string_bytes out.old ++ caller_line (caller, line_value line.now)) }
+    ensures { OnOk result (string_bytes out.new ≡ string_bytes out.old ++ caller_line_text (caller, line_value line.now)) }
 {
     let state = state_name(line.state);
     write!(out, "caller {caller} {state}")?;
@@ -120,7 +120,7 @@ fn put_entries(out: &mut String, entries: &[Entry]) -> Result<(), AllocError>
 
 // Writes the lines of the callers.
 fn put_callers(out: &mut String, callers: &[Line]) -> Result<(), AllocError>
-    ensures { OnOk result (string_bytes out.new ≡ string_bytes out.old ++ flat_map caller_line (enumerate_from 0 (map line_value callers.now))) }
+    ensures { OnOk result (string_bytes out.new ≡ string_bytes out.old ++ flat_map caller_line_text (enumerate_from 0 (map line_value callers.now))) }
 {
     for (caller, line) in callers.iter().enumerate() {
         put_caller(out, caller, line)?;

@@ -11,7 +11,7 @@ use Rattle.of_core.specs.declared.place.Place.TheVariants.{Idle, ExchangeCurrent
 use Rattle.of_core.specs.declared.place.Op.{Op}
 use Rattle.of_core.specs.declared.place.Op.TheVariants.{Load, Store, Exchange, Raise}
 use Rattle.of_core.specs.Table.{Setup, cell_count, words_before_members, durable_at, durable_word}
-use Rattle.of_core.specs.Machine.{CallState, IsOpen, no_machine, begin}
+use Rattle.of_core.specs.Machine.{CallState, IsOpen, no_machine, begin_call}
 use Rattle.of_core.specs.Steps.{want, take_word, word_of, word_left, words_after, word_found, IsFoundBy}
 use Rattle.of_core.specs.World.{Moment, TableStart, step_batches, step_reads, one_batch, step_batches_at, after_step}
 use Rattle.of_core.specs.Invariant.{MeetsInvariant}
@@ -261,7 +261,7 @@ module _ (S : Setup) (L : List ℕ → Type 0) (laws : RowLaws S L) (B : TableSt
     follows : (e : Event) → MayHappen S w e → Follows S w v (e ∷ []) (whole_of e)
     follows (Begins i op) may = record {
       schedule = (subst (λ (m : CallState). (i < S.callers) × (m.place ≡ Idle) × (1 ≤ length op) × (length op ≤ S.instrs) × (m.made + 1 < PAYLOADS)) (machine_same i) may, tt);
-      alike = record { words = same.words; machines = λ k. set (same.machines k) i (begin S (machine_same i k) op); batches = same.batches; reads = same.reads };
+      alike = record { words = same.words; machines = λ k. set (same.machines k) i (begin_call S (machine_same i k) op); batches = same.batches; reads = same.reads };
       ended = λ j. refl;
       busy = λ j b. (tt, tt);
     }

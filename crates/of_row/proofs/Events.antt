@@ -3,7 +3,7 @@ use Rattle.std.proofs.Common.{◌≡◌, ◌==◌, ℕ, ◌+◌, ◌<◌, get_or
 use Rattle.std.proofs.lemmas.List.{append-nil, get_or-set_other}
 use Rattle.of_core.specs.declared.place.Outcome.{Outcome}
 use Rattle.of_core.specs.Table.{Setup, words_before_members}
-use Rattle.of_core.specs.Machine.{CallState, no_machine, begin}
+use Rattle.of_core.specs.Machine.{CallState, no_machine, begin_call}
 use Rattle.of_core.specs.Steps.{take_word, word_found}
 use Rattle.of_core.specs.World.{Moment, TableStart}
 use Rattle.of_core.specs.Events.{Event, Begins, Turns, Loads, Evicts, Raises, machine_in, after_event, after_events, IsSchedule, turn_count, one_if}
@@ -89,7 +89,7 @@ module _ (S : Setup) (n : ℕ) where
   machine_stays w [] h = refl
   machine_stays w (Begins j op ∷ es) h =
       let b = not_begin j op (operations_begun es n) h.0 in
-      machine_stays (after_event S w (Begins j op)) es (b.1, omega (arith, h.1)) ∙ get_or-set_other w.machines j n (begin S (machine_in w j) op) no_machine (apart j b.0)
+      machine_stays (after_event S w (Begins j op)) es (b.1, omega (arith, h.1)) ∙ get_or-set_other w.machines j n (begin_call S (machine_in w j) op) no_machine (apart j b.0)
   machine_stays w (Turns j ∷ es) h =
       let t = not_turn j (turn_count n es) h.1 in
       machine_stays (after_event S w (Turns j)) es (h.0, t.1) ∙ get_or-set_other w.machines j n (take_word S (machine_in w j) (word_found S w.words (machine_in w j))) no_machine (apart j t.0)

@@ -15,13 +15,13 @@ use Rattle.of_core.specs.Grounds.{HasGrounds}
 use Rattle.of_core.specs.Events.{Event}
 use Rattle.of_core.specs.Calls.{operations_begun, outcomes, no_outcome}
 use Rattle.of_core.specs.Laws.{EveryOrder, RecoveredRowsMayStart}
-use Rattle.of_core.specs.Linear.{Explains, Linearizes, recovered_number, FindsCall, Detects, IsRecovered, IsDurablyLinearizable}
+use Rattle.of_core.specs.Linear.{ExplainsOutcome, Linearizes, recovered_number, FindsCall, Detects, IsRecovered, IsDurablyLinearizable}
 use Rattle.of_core.proofs.Logs.{room_for}
 use Rattle.of_row.specs.Views.{EndedCall, KnownCaller, View, no_ended, Each}
-use Rattle.of_row.specs.Rule.{members_of, ticket_at, operation_at, outcome_at, IsAtHome, ViewFits, MeetsRule, ViewMeetsRule}
+use Rattle.of_row.specs.Rule.{members_of, ticket_at, ended_operation_at, outcome_at, IsAtHome, ViewFits, MeetsRule, ViewMeetsRule}
 use Rattle.of_row.specs.Trail.{first_of, moment, IsToldBy, IsRunBy, EachView}
 use Rattle.of_row.specs.RowLaws.{RowLaws}
-use Rattle.of_row.specs.Moments.{IsReachedBy, ExplainsAll, words_alone, LosesNothing, HoldsCalls}
+use Rattle.of_row.specs.Moments.{IsReachedBy, ExplainsEndedCalls, words_alone, LosesNothing, HoldsCalls}
 use Rattle.of_row.proofs.RowLaws.{good_of, word_at}
 use Rattle.of_row.proofs.Fronts.{each_both}
 
@@ -88,23 +88,23 @@ module _ (S : Setup) (L : List ℕ → Type 0) (B : TableStart) (s : State (Unit
 
       -- ---- the calls of those whom a seat keeps
 
-      explained_by : Linearizes S B (first_of S B) es order → (x : KnownCaller) → x.machine.caller < S.callers → IsToldBy S B es x.machine.caller x → ExplainsAll S B order x
+      explained_by : Linearizes S B (first_of S B) es order → (x : KnownCaller) → x.machine.caller < S.callers → IsToldBy S B es x.machine.caller x → ExplainsEndedCalls S B order x
       explained_by h x below t y low =
           let i : ℕ = x.machine.caller in
           let ops : List (List ℕ) = map (λ (e : EndedCall). e.op) x.ended in
           let outs : outcomes S (first_of S B) es i ≡ map (λ (e : EndedCall). e.outcome) x.ended = sym t.ended in
           let many : y < length (outcomes S (first_of S B) es i) = omega (arith, low, ap length outs, length-map x.ended (λ (e : EndedCall). e.outcome)) in
-          let op : get_or (operations_begun es i) y [] ≡ operation_at x.ended y =
+          let op : get_or (operations_begun es i) y [] ≡ ended_operation_at x.ended y =
           ap (λ (z : List (List ℕ)). get_or z y []) (sym t.begun)
           ∙ (get_or_append_left ops _ [] y (omega (arith, low, length-map x.ended (λ (e : EndedCall). e.op))) ∙ get_or-map (λ (e : EndedCall). e.op) x.ended y no_ended [] low) in
           let out : get_or (outcomes S (first_of S B) es i) y no_outcome ≡ outcome_at x.ended y =
           ap (λ (z : List Outcome). get_or z y no_outcome) outs ∙ get_or-map (λ (e : EndedCall). e.outcome) x.ended y no_ended no_outcome low in
-          subst (λ (z : List ℕ × Outcome). Explains S order i (ticket_at S B x y) z.0 z.1) (λ k. (op k, out k)) (h.ended i y below many)
+          subst (λ (z : List ℕ × Outcome). ExplainsOutcome S order i (ticket_at S B x y) z.0 z.1) (λ k. (op k, out k)) (h.ended i y below many)
 
-      explained : Linearizes S B (first_of S B) es order → EachView (λ v. Each (ExplainsAll S B order) v.kept) s.views
+      explained : Linearizes S B (first_of S B) es order → EachView (λ v. Each (ExplainsEndedCalls S B order) v.kept) s.views
       explained h j v at live =
           let f : ViewFits S B s.words es r.home r.chief j v = r.each j v at live in
-          each_both (IsAtHome S r.home (members_of S s.words) j) (IsRunBy S B es) (ExplainsAll S B order) v.kept (λ x q t. explained_by h x q.in_range t.told) f.kept f.runs
+          each_both (IsAtHome S r.home (members_of S s.words) j) (IsRunBy S B es) (ExplainsEndedCalls S B order) v.kept (λ x q t. explained_by h x q.in_range t.told) f.kept f.runs
 
     pub loses_nothing : EveryOrder S L → RecoveredRowsMayStart S L → LosesNothing S L B s
     loses_nothing orders restarts =

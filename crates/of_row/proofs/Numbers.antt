@@ -5,7 +5,7 @@ use Rattle.of_core.specs.Table.{Setup}
 use Rattle.of_core.specs.Machine.{CallState}
 use Rattle.of_core.specs.World.{TableStart}
 use Rattle.of_row.specs.Views.{KnownCaller, View, Each}
-use Rattle.of_row.specs.Turned.{AsksForNumber, IsMember, MakesStep, after_enrol, head_of, rest_of}
+use Rattle.of_row.specs.Turned.{AsksForNumber, IsMember, MakesStep, after_enrol, head_as_list, rest_of}
 use Rattle.of_row.proofs.Members.{caller_is}
 
 module _ (n : ℕ) where
@@ -21,7 +21,7 @@ module _ (n : ℕ) where
       go false = (l, all)
 
   -- the caller that was kept last was given away
-  pub head_in : (xs : List KnownCaller) → Each IsBelow xs → Each IsBelow (head_of xs)
+  pub head_in : (xs : List KnownCaller) → Each IsBelow xs → Each IsBelow (head_as_list xs)
   head_in [] all = all
   head_in (x ∷ xs) all = (all.0, tt)
 

@@ -11,18 +11,18 @@ use Rattle.of_core.specs.Machine.{Call, no_call}
 use Rattle.of_cell.specs.Words.{payload_of}
 use Rattle.of_core.specs.World.{Moment, Batch, TableStart}
 use Rattle.of_core.specs.History.{batch_at, EachBatch, CallersRise}
-use Rattle.of_core.specs.Claim.{IsNewer, IsSound}
+use Rattle.of_core.specs.Claim.{IsNewerCall, IsSound}
 use Rattle.of_row.specs.Views.{SeenBatch, KnownCaller, View, IsSeenPrefix, KnowsBothJoined, batch_of_seen, seen_history, seen_seq}
 use Rattle.of_row.specs.Turned.{after_join}
-use Rattle.of_row.specs.Rule.{CallHasEnded, HasOwn, IsLegalFront, StandsOnceIfAnnounced, IsCallOf, HasOwnOnce, operation_at, outcome_at, ticket_at}
+use Rattle.of_row.specs.Rule.{CallHasEnded, HasOwn, IsLegalFront, StandsOnceIfAnnounced, IsCallOf, HasOwnOnce, ended_operation_at, outcome_at, ticket_at}
 use Rattle.of_row.proofs.Fronts.{seen_calls, seen_legal}
 
 -- of two calls of one caller in batches up to a sequence, the one in the later batch is the newer
 abbrev TicketsRise : TableStart → List Batch → (upto : ℕ) → Type 0
-TicketsRise B bs upto = (j k : ℕ) → B.seq < j → j < k → k ≤ upto → All (λ (c : Call). All (IsNewer c) (batch_at B bs k).calls) (batch_at B bs j).calls
+TicketsRise B bs upto = (j k : ℕ) → B.seq < j → j < k → k ≤ upto → All (λ (c : Call). All (IsNewerCall c) (batch_at B bs k).calls) (batch_at B bs j).calls
 
 tickets_rise : (B : TableStart) (cs : List SeenBatch) (bs : List Batch) → IsSeenPrefix cs bs → TicketsRise B bs (B.seq + length bs) → TicketsRise B (seen_history cs) (seen_seq B cs)
-tickets_rise B cs bs front rise j k l m u = subst (λ (z : List Call × List Call). All (λ (c : Call). All (IsNewer c) z.1) z.0) (λ i. (sym (seen_calls B cs bs j front l (omega (arith, m, u))) i, sym (seen_calls B cs bs k front (omega (arith, l, m)) u) i)) (rise j k l m (omega (arith, u, front.few)))
+tickets_rise B cs bs front rise j k l m u = subst (λ (z : List Call × List Call). All (λ (c : Call). All (IsNewerCall c) z.1) z.0) (λ i. (sym (seen_calls B cs bs j front l (omega (arith, m, u))) i, sym (seen_calls B cs bs k front (omega (arith, l, m)) u) i)) (rise j k l m (omega (arith, u, front.few)))
 
 module _ (S : Setup) (B : TableStart) (cs : List SeenBatch) (bs : List Batch) (x : KnownCaller) (front : IsSeenPrefix cs bs) (rise : TicketsRise B bs (B.seq + length bs)) (by_caller : EachBatch B bs CallersRise) (own : HasOwn S B cs x) where
   abbrev seen : List Batch
@@ -52,7 +52,7 @@ module _ (S : Setup) (B : TableStart) (cs : List SeenBatch) (bs : List Batch) (x
 
   pub own_once : HasOwnOnce S B cs x
   own_once = record {
-    once = λ y l. stands x.machine.caller (ticket_at S B x y) (operation_at x.ended y) (outcome_at x.ended y) (own.each y l);
+    once = λ y l. stands x.machine.caller (ticket_at S B x y) (ended_operation_at x.ended y) (outcome_at x.ended y) (own.each y l);
     begun = λ k l u p d q e. low (get_or (batch_at B seen k).calls p d) (own.own_calls k l u p d q e);
   }
     where

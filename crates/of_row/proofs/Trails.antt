@@ -4,7 +4,7 @@ use Rattle.std.proofs.lemmas.List.{append-nil, get_or-set_same, get_or-set_other
 use lib.Seq.{set-get_or}
 use Rattle.of_core.specs.declared.place.Outcome.{Outcome}
 use Rattle.of_core.specs.Table.{Setup}
-use Rattle.of_core.specs.Machine.{CallState, IsOpen, MayReplace, is_idle, no_machine, begin}
+use Rattle.of_core.specs.Machine.{CallState, IsOpen, MayReplace, is_idle, no_machine, begin_call}
 use Rattle.of_core.specs.Steps.{want, take_word, IsFoundBy}
 use Rattle.of_core.specs.World.{Moment, TableStart, after_step}
 use Rattle.of_core.specs.Events.{Event, Begins, Turns, machine_in, after_event, after_events, IsSchedule, turn_count, one_if}
@@ -22,9 +22,9 @@ use Rattle.of_row.proofs.Events.{schedule_append, turns_append, busy_append, ste
 use Rattle.of_row.proofs.Tellings.{begun_idle, begun_open, begun_after, outcomes_after}
 
 -- a call of either machine begins anew
-opened_anew : (S : Setup) (m d : CallState) (op : List ℕ) → MayReplace S m d → begin S d op ≡ begin S m op
-opened_anew S m d op (inl e) = ap (λ (z : CallState). begin S z op) e
-opened_anew S m d op (inr q) = ap (λ (z : CallState). begin S z op) q.1
+opened_anew : (S : Setup) (m d : CallState) (op : List ℕ) → MayReplace S m d → begin_call S d op ≡ begin_call S m op
+opened_anew S m d op (inl e) = ap (λ (z : CallState). begin_call S z op) e
+opened_anew S m d op (inr q) = ap (λ (z : CallState). begin_call S z op) q.1
 
 as_many : (S : Setup) (m d : CallState) → MayReplace S m d → d.made ≡ m.made
 as_many S m d (inl e) = ap (λ (z : CallState). z.made) e
@@ -79,7 +79,7 @@ module _ (S : Setup) (B : TableStart) (es : List Event) (schedule : IsSchedule S
         steps = tt;
       }
   opens d (inr q) o =
-      let is : d ≡ begin S (machine_in W i) q.op = q.is ∙ (opened_anew S x.machine q.begins q.op q.takes ∙ ap (λ (m : CallState). begin S m q.op) (sym run_by.machine_is)) in
+      let is : d ≡ begin_call S (machine_in W i) q.op = q.is ∙ (opened_anew S x.machine q.begins q.op q.takes ∙ ap (λ (m : CallState). begin_call S m q.op) (sym run_by.machine_is)) in
       record {
         before = Begins i q.op ∷ [];
         may = ((below, ap (λ (m : CallState). m.place) run_by.machine_is ∙ q.at_rest, q.some, q.few, omega (arith, q.ticket, as_many S x.machine q.begins q.takes, ap (λ (m : CallState). m.made) run_by.machine_is)), tt);

@@ -4,7 +4,7 @@ use Rattle.of_cell.specs.declared.word.TheConstants.{PAYLOADS}
 use Rattle.of_mem.specs.Meaning.{Meaning}
 use Rattle.of_core.specs.Table.{Setup}
 use Rattle.of_core.specs.World.{TableStart}
-use Rattle.of_core.specs.Machine.{CallState, idle_machine, begin}
+use Rattle.of_core.specs.Machine.{CallState, idle_machine, begin_call}
 use Rattle.of_core.specs.declared.place.Place.TheVariants.{Idle}
 use Rattle.of_core.specs.Seen.{Machine, machine_setup}
 use Rattle.of_row.specs.declared.member.Member.{Member}
@@ -71,7 +71,7 @@ abbrev pub BegunMembersStand : {X : Type 0} → (X → Meaning) → X → Type 0
 BegunMembersStand {X} meaning work =
     (member : Member) (m now : Machine X) (op : List ℕ) → IsMemberOf meaning member m → m.call.place ≡ Idle
     → 1 ≤ length op → length op ≤ (machine_setup meaning m).instrs → m.call.made + 1 < PAYLOADS
-    → now ≡ record m { call = begin (machine_setup meaning m) m.call op } → IsMemberOf meaning member now
+    → now ≡ record m { call = begin_call (machine_setup meaning m) m.call op } → IsMemberOf meaning member now
 
 -- a machine with the row's work and sizes runs on the row
 abbrev pub NewMachinesRun : {X : Type 0} → X → Type 0

@@ -9,9 +9,9 @@ use Rattle.of_core.specs.Machine.{Call}
 use Rattle.of_core.specs.World.{Moment, TableStart}
 use Rattle.of_core.specs.Starts.{IsDurable, IsStartRow}
 use Rattle.of_core.specs.Events.{Event, IsSchedule}
-use Rattle.of_core.specs.Linear.{Explains, Linearizes, IsRecovered}
+use Rattle.of_core.specs.Linear.{ExplainsOutcome, Linearizes, IsRecovered}
 use Rattle.of_row.specs.Views.{KnownCaller, View, IsSeenPrefix, Each}
-use Rattle.of_row.specs.Rule.{IsRaised, MeetsRule, ViewMeetsRule, ticket_at, operation_at, outcome_at}
+use Rattle.of_row.specs.Rule.{IsRaised, MeetsRule, ViewMeetsRule, ticket_at, ended_operation_at, outcome_at}
 use Rattle.of_row.specs.Trail.{first_of, moment, HasPast, IsRunBy, EachView}
 
 -- The events lead from the row's start to this moment. A step of a member is a turn of its caller; a
@@ -30,10 +30,10 @@ pub record IsReachedBy (S : Setup) (B : TableStart) (s : State (Unit {0}) View) 
   pub callers : EachView (λ v. Each (IsRunBy S B es) v.kept) s.views
 
 -- the order has each call of the caller that was answered, with its reply, and none that was spent
-abbrev pub ExplainsAll : Setup → TableStart → (order : List Call) → KnownCaller → Type 0
-ExplainsAll S B order x =
+abbrev pub ExplainsEndedCalls : Setup → TableStart → (order : List Call) → KnownCaller → Type 0
+ExplainsEndedCalls S B order x =
     (y : ℕ) → y < length x.ended
-    → Explains S order x.machine.caller (ticket_at S B x y) (operation_at x.ended y) (outcome_at x.ended y)
+    → ExplainsOutcome S order x.machine.caller (ticket_at S B x y) (ended_operation_at x.ended y) (outcome_at x.ended y)
 
 -- a world with these words, and nothing else
 abbrev pub words_alone : List ℕ → Moment
@@ -48,7 +48,7 @@ pub record LosesNothing (S : Setup) (Lawful : List ℕ → Type 0) (B : TableSta
   pub order : List Call
   pub linearizes : Linearizes S B (first_of S B) events order
   -- also those of each caller that a pass or a member keeps
-  pub explained : EachView (λ v. Each (ExplainsAll S B order) v.kept) s.views
+  pub explained : EachView (λ v. Each (ExplainsEndedCalls S B order) v.kept) s.views
   -- recovery finds that order's numbers, and each caller's last call in it
   pub recovered_so : IsRecovered S B (words_alone s.words) order
   -- and from the row that recovery makes a table may start
@@ -66,7 +66,7 @@ StopsLoseNothing Lawful S =
 pub record HoldsCalls (S : Setup) (Lawful : List ℕ → Type 0) (B : TableStart) (ws : List ℕ) (v : View)
     : Type 0 where
   pub order : List Call
-  pub explained : Each (ExplainsAll S B order) v.kept
+  pub explained : Each (ExplainsEndedCalls S B order) v.kept
   pub recovered_so : IsRecovered S B (words_alone ws) order
   pub restarts : (row : List ℕ) → IsDurable S ws row
       → IsStartRow S Lawful (recovered_words S.callers S.cells row)

@@ -16,11 +16,11 @@ use Rattle.of_row.specs.Keys.{FitsWork, key_setup, key_start}
 use Rattle.of_row.specs.Turned.{MakesStepOf}
 
 -- the number that a step gives which found n: a store gives what it stored
-abbrev pub told : Op → ℕ → ℕ
-told (Load c) n = n
-told (Store c v) n = v
-told (Exchange c a b) n = n
-told (Raise c v) n = n
+abbrev pub number_given : Op → ℕ → ℕ
+number_given (Load c) n = n
+number_given (Store c v) n = v
+number_given (Exchange c a b) n = n
+number_given (Raise c v) n = n
 
 -- the seat is at this table, the word is there, and the rule allows the step on it: whatever the
 -- words are, it keeps the rule with a view that is turned as the machine is
@@ -32,12 +32,12 @@ Takes many size meaning lawful B m key table seat op =
     × MeetsRule (key_setup meaning key) (lawful key.work) (key_start meaning key) s)
     table.slots seat.id seat.me (word_of op) (word_left op)
     (λ n after. (after.1 ≡ seat.me.1)
-    × MakesStepOf meaning lawful B m seat.me.0 (told op n) after.0)
+    × MakesStepOf meaning lawful B m seat.me.0 (number_given op n) after.0)
 
 -- after a step the seat is where it was, and its view was turned by what the step gave
-abbrev pub Makes : {W : Type 0} → (W → Meaning) → (W → List ℕ → Type 0)
+abbrev pub TurnsSeat : {W : Type 0} → (W → Meaning) → (W → List ℕ → Type 0)
     → TableStart → Option (Machine W) → (seat : Seat (Unit {0}) View) → (found : ℕ)
     → (after : Seat (Unit {0}) View) → Type 0
-Makes meaning lawful B m seat found after =
+TurnsSeat meaning lawful B m seat found after =
     (after.table_id ≡ seat.table_id) × (after.me.1 ≡ seat.me.1)
     × MakesStepOf meaning lawful B m seat.me.0 found after.me.0

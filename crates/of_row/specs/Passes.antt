@@ -9,12 +9,12 @@ use Rattle.of_row.specs.declared.row.Row.{Row}
 use Rattle.of_row.specs.Views.{KnownCaller, first_view, seen_seq}
 use Rattle.of_row.specs.Rule.{HasOwn, IsLegalFront, IsAsked, ViewMeetsRule, done_before}
 use Rattle.of_row.specs.Turned.{after_ask, after_number_given, new_known_caller, last_alone, after_fetch, after_evict}
-use Rattle.of_row.specs.Rows.{key_of, setup_at, start_at, IsSeatOf}
+use Rattle.of_row.specs.Rows.{key_of, setup_at, row_start, IsSeatOf}
 
 -- whoever has the number n now has made no call on this row, and has seen what this pass had
 abbrev pub enrolled_caller : {W : Type 0} → (W → Meaning) → Row W → ℕ → Pass → KnownCaller
 enrolled_caller meaning r n p =
-    new_known_caller (setup_at meaning r) (start_at meaning r) n (seen_seq (start_at meaning r) p.seat.me.0.seen)
+    new_known_caller (setup_at meaning r) (row_start meaning r) n (seen_seq (row_start meaning r) p.seat.me.0.seen)
 
 -- the pass is the row's first one, which has made no step
 abbrev pub IsFirst : {W : Type 0} → Row W → Pass → Type 0
@@ -32,14 +32,14 @@ NumberIsRefused r n before now taken =
 pub record HasEnrolled {W : Type 0} (meaning : W → Meaning) (r : Row W) (n : ℕ) (before : Pass) (member : Member) (now : Pass) : Type 0 where
   pub at_row : IsSeatOf r member.seat × IsSeatOf r now.seat
   pub number : member.number ≡ n
-  pub made : member.made ≡ done_before (setup_at meaning r) (start_at meaning r) n
+  pub made : member.made ≡ done_before (setup_at meaning r) (row_start meaning r) n
   pub found : ℕ
   pub free : bit_at found n ≡ 0
   pub member_is : member.seat.me.0
-      ≡ last_alone (after_number_given (setup_at meaning r) (start_at meaning r) n found before.seat.me.0)
+      ≡ last_alone (after_number_given (setup_at meaning r) (row_start meaning r) n found before.seat.me.0)
   pub pass_is : now.seat.me.0 ≡ after_ask n found before.seat.me.0
-  pub own : HasOwn (setup_at meaning r) (start_at meaning r) before.seat.me.0.seen (enrolled_caller meaning r n before)
-  pub legal : IsLegalFront (setup_at meaning r) (start_at meaning r) before.seat.me.0.seen
+  pub own : HasOwn (setup_at meaning r) (row_start meaning r) before.seat.me.0.seen (enrolled_caller meaning r n before)
+  pub legal : IsLegalFront (setup_at meaning r) (row_start meaning r) before.seat.me.0.seen
 
 -- the pass has evicted the cell: it loaded it, and raised its durable word to what it loaded
 abbrev pub HasEvicted : ℕ → (before now : Pass) → Type 0
@@ -48,4 +48,4 @@ HasEvicted cell before now = (n : ℕ) × (now.seat.me.0 ≡ after_evict (after_
 -- the words meet the row's rule, and so does what the pass knew
 abbrev pub ClosesWith : {W : Type 0} → (W → Meaning) → (W → List ℕ → Type 0) → Row W → Pass → List ℕ → Type 0
 ClosesWith meaning lawful r p ws =
-    ViewMeetsRule (setup_at meaning r) (lawful (key_of r).work) (start_at meaning r) ws p.seat.me.0
+    ViewMeetsRule (setup_at meaning r) (lawful (key_of r).work) (row_start meaning r) ws p.seat.me.0

@@ -1,6 +1,6 @@
 //! The steps of a machine on the shared table.
 
-ghost use Rattle.of_row.specs.OnTable.{Takes, Makes};
+ghost use Rattle.of_row.specs.OnTable.{Takes, TurnsSeat};
 
 use crate::plays::{Law, Told, Turn};
 use crate::view::{Key, View};
@@ -25,7 +25,7 @@ impl<'a, W: Work, O: Told<W>> Performer for OnTable<'a, W, O> {
         t.shared.now.key t.shared.now.table_id seat op };
 
     ghost made = { λ t seat op found after.
-        Makes W.meaning W.lawful O.start O.machine seat found after };
+        TurnsSeat W.meaning W.lawful O.start O.machine seat found after };
 
     #[inline(always)]
     fn load(&self, hand: &mut Seat<(), View>, word: u32) -> u64 {

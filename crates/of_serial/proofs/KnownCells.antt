@@ -22,7 +22,7 @@ use Rattle.of_eval.specs.declared.scripts.Scripts.{Scripts}
 use Rattle.of_eval.specs.Stored.{IsStored}
 use Rattle.of_eval.specs.Shapes.{IsHeldBy}
 use Rattle.of_eval.specs.Words.{run_words, reply_to}
-use Rattle.of_eval.specs.Scripts.{store_at, data_cells_of, LawfulCells, scripts_meaning}
+use Rattle.of_eval.specs.Scripts.{store_at, scripts_data_cells, LawfulCells, scripts_meaning}
 use Rattle.of_eval.specs.SoundScripts.{scripts_sound, empty_is_stored}
 use Rattle.of_eval.specs.Means.{DoesOperation}
 use Rattle.of_eval.specs.Lawful.{OwnCellsAreSound, DataCellsStandFor}
@@ -75,7 +75,7 @@ zero_at (suc n) zero = refl
 zero_at (suc n) (suc a) = zero_at n a
 
 -- cells that are all known to be 0 hold the empty store
-pub zeros_hold : (w : Scripts) (p : Part) (n : ℕ) → n ≡ data_cells_of w → length p.known ≡ data_cells_of w → take n p.known ≡ replicate n (Some 0) → p.batch ≡ [] → p.script ≡ [] → CellsHoldStore (record { scripts = w; part = p }) (empty_store w.blocks)
+pub zeros_hold : (w : Scripts) (p : Part) (n : ℕ) → n ≡ scripts_data_cells w → length p.known ≡ scripts_data_cells w → take n p.known ≡ replicate n (Some 0) → p.batch ≡ [] → p.script ≡ [] → CellsHoldStore (record { scripts = w; part = p }) (empty_store w.blocks)
 zeros_hold w p n all width zeros no_batch no_script = record {
   numbers = replicate n 0;
   size = length-replicate n 0 ∙ all;
@@ -101,32 +101,32 @@ module _ (c : Cells) (s : Store) (h : CellsHoldStore c s) where
   abbrev all : List (Option ℕ)
   all = overlaid c.part.known c.part.batch
 
-  pub width : length c.part.known ≡ data_cells_of c.scripts
+  pub width : length c.part.known ≡ scripts_data_cells c.scripts
   width = sym (over_length c.part.known c.part.batch) ∙ ap length h.known ∙ length-map h.numbers Some ∙ h.size
 
   -- what a cell holds
-  pub newest_is : (a : ℕ) → a < data_cells_of c.scripts → newest_at c.part a ≡ get_or (overlaid c.part.known c.part.batch) a None
+  pub newest_is : (a : ℕ) → a < scripts_data_cells c.scripts → newest_at c.part a ≡ get_or (overlaid c.part.known c.part.batch) a None
   unfolding newest_at
   newest_is a l =
       ap (λ (es : List (ℕ × ℕ)). newer_of (value_for es a) (newer_of (value_for c.part.batch a) (get_or c.part.known a None))) h.nothing_written
       ∙ sym (over_at c.part.known c.part.batch a (omega (arith, width, l)))
 
-  known_at : (a : ℕ) → a < data_cells_of w → get_or all a None ≡ Some (get_or h.numbers a 0)
+  known_at : (a : ℕ) → a < scripts_data_cells w → get_or all a None ≡ Some (get_or h.numbers a 0)
   known_at a l = ap (λ (l : List (Option ℕ)). get_or l a None) h.known ∙ is_known h.numbers a (omega (arith, h.size, l))
 
   -- each cell can be read
-  pub can_be_read : (a : ℕ) → a < data_cells_of c.scripts → newest_at c.part a ≡ None → ⊥
+  pub can_be_read : (a : ℕ) → a < scripts_data_cells c.scripts → newest_at c.part a ≡ None → ⊥
   can_be_read a l e = none-some _ (sym e ∙ newest_is a l ∙ known_at a l)
 
   -- one cell more is read
-  pub read_more : (n v : ℕ) (read later : List ℕ) → n < data_cells_of c.scripts → map Some read ≡ take n (overlaid c.part.known c.part.batch) → newest_at c.part n ≡ Some v → later ≡ read ++ v ∷ []
+  pub read_more : (n v : ℕ) (read later : List ℕ) → n < scripts_data_cells c.scripts → map Some read ≡ take n (overlaid c.part.known c.part.batch) → newest_at c.part n ≡ Some v → later ≡ read ++ v ∷ []
       → map Some later ≡ take (n + 1) (overlaid c.part.known c.part.batch)
   read_more n v read later l e is last =
       ap (map Some) last ∙ map-append Some read (v ∷ []) ∙ (λ i. e i ++ (sym is ∙ newest_is n l) i ∷ [])
       ∙ sym (take_more all n None (omega (arith, over_length c.part.known c.part.batch, width, l)))
 
   -- all cells are read
-  pub all_read : (n : ℕ) (read : List ℕ) → data_cells_of c.scripts ≤ n → map Some read ≡ take n (overlaid c.part.known c.part.batch) → read ≡ h.numbers
+  pub all_read : (n : ℕ) (read : List ℕ) → scripts_data_cells c.scripts ≤ n → map Some read ≡ take n (overlaid c.part.known c.part.batch) → read ≡ h.numbers
   all_read n read l e = same_numbers read h.numbers (e ∙ take_all n all (omega (arith, over_length c.part.known c.part.batch, width, l)) ∙ h.known)
 
   own : (a : ℕ) → a < w.callers → OwnCellsAreSound MOST_INSTRS (memory_of h.numbers) a
@@ -143,12 +143,12 @@ module _ (c : Cells) (s : Store) (h : CellsHoldStore c s) where
   agrees a v e = known_is h.numbers a v (sym (ap (λ (l : List (Option ℕ)). get_or l a None) h.known) ∙ e)
 
   -- what a run asks of its part of memory
-  pub asked : (xs : List ℕ) × (length xs ≡ data_cells_of c.scripts) × LawfulCells c.scripts xs × Agrees (overlaid c.part.known c.part.batch) xs
+  pub asked : (xs : List ℕ) × (length xs ≡ scripts_data_cells c.scripts) × LawfulCells c.scripts xs × Agrees (overlaid c.part.known c.part.batch) xs
   asked = (h.numbers, h.size, (s, h.stored), agrees)
 
   module _ (op : List ℕ) where
     abbrev FitsAs : WalkEnd → Type 0
-    FitsAs = WalkFits (scripts_meaning w) (w.callers * (MOST_INSTRS + 2)) (data_cells_of w) all h.numbers op
+    FitsAs = WalkFits (scripts_meaning w) (w.callers * (MOST_INSTRS + 2)) (scripts_data_cells w) all h.numbers op
 
     fits : FitsAs ((scripts_meaning w).walk all op)
     fits = (scripts_sound w).walks all h.numbers op h.size (s, h.stored) agrees
@@ -160,7 +160,7 @@ module _ (c : Cells) (s : Store) (h : CellsHoldStore c s) where
         none-some _ (sym f.2 ∙ known_at a f.1)
 
     module _ (script : List Instr) (is : IsScript script) (words : op ≡ map instr_word script) (es : List (ℕ × ℕ)) (r : RawReply) (gives : (scripts_meaning c.scripts).walk (overlaid c.part.known c.part.batch) op ≡ Gives es r) where
-      finishes : IsFinishedWalk (scripts_meaning w) (w.callers * (MOST_INSTRS + 2)) (data_cells_of w) h.numbers op es r
+      finishes : IsFinishedWalk (scripts_meaning w) (w.callers * (MOST_INSTRS + 2)) (scripts_data_cells w) h.numbers op es r
       finishes = subst FitsAs gives fits
 
       many : length op ≡ length script

@@ -6,7 +6,7 @@ use Rattle.of_mem.specs.ProgramWork.{memory_of}
 use Rattle.of_script.specs.declared.instr.Instr.{Instr}
 use Rattle.of_store.specs.State.{Store, run, empty_store, replies_in_order, last_store}
 use Rattle.of_eval.specs.Stored.{IsStored}
-use Rattle.of_eval.specs.Scripts.{store_at, data_cells_of}
+use Rattle.of_eval.specs.Scripts.{store_at, scripts_data_cells}
 use Rattle.of_plan.specs.Plan.{Plan}
 use Rattle.of_plan.specs.Report.{Entry}
 use Rattle.of_plan.specs.Serial.{CallId, called_script, serial_entry}
@@ -23,7 +23,7 @@ pub record SerialRun : Type 0 where
 -- All data cells are known, and the script has written none. Those of the callers are 0, and the others stand for this store.
 pub record CellsHoldStore (c : Cells) (s : Store) : Type 0 where
   pub numbers : List ℕ
-  pub size : length numbers ≡ data_cells_of c.scripts
+  pub size : length numbers ≡ scripts_data_cells c.scripts
   pub known : overlaid c.part.known c.part.batch ≡ map Some numbers
   pub nothing_written : c.part.script ≡ []
   pub not_called : (a : ℕ) → a < store_at c.scripts → memory_of numbers a ≡ 0

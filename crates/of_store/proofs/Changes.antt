@@ -20,7 +20,7 @@ use Rattle.of_store.specs.State.{Store, IsState, InstrEffect, ScriptOutcome, ins
 use Rattle.of_store.proofs.Keeps.{nat_same}
 use Rattle.of_store.specs.declared.change.Change.{Change}
 use Rattle.of_store.specs.declared.change.Change.TheVariants.{Nothing, Register, Key, Pushed}
-use Rattle.of_store.specs.Changes.{takes_out, may_fail, FailsFirst, change_of, with_at, without, undone, IsReplaced, IsChange, AreThere, Leads, HasFailed}
+use Rattle.of_store.specs.Changes.{takes_out, may_fail, FailsFirst, change_of, with_at, without, undone, IsReplaced, IsChange, AreThere, ChangesLead, HasFailed}
 
 -- ---- an instruction is taken back
 
@@ -200,7 +200,7 @@ undone_same cs (suc n) i c s le =
     let same = other_place cs n i c le in
     ap (λ (d : Change). undone (set cs i c) n (without d s)) same ∙ undone_same cs n i c (without (get_or cs n Nothing) s) (omega arith)
 
-leads_one : (cs : List Change) (n : ℕ) (c : Change) (first now after : Store) → n < length cs → TakesBack c now after → Leads cs n first now → Leads (set cs n c) (suc n) first after
+leads_one : (cs : List Change) (n : ℕ) (c : Change) (first now after : Store) → n < length cs → TakesBack c now after → ChangesLead cs n first now → ChangesLead (set cs n c) (suc n) first after
 leads_one cs n c first now after lt back h =
     let here : get_or (set cs n c) n Nothing ≡ c = get_or-set_same cs n c Nothing lt in
     let Then : Change → Type 0 = λ d. IsChange d after × AreThere (set cs n c) n (without d after) in
@@ -210,11 +210,11 @@ leads_one cs n c first now after lt back h =
     }
 
 -- one change more leads on
-pub leads_on : (cs : List Change) (n : ℕ) (c : Change) (first now after : Store) → n < length cs → TakesBack c now after → Leads cs n first now → Leads (set cs n c) (n + 1) first after
+pub leads_on : (cs : List Change) (n : ℕ) (c : Change) (first now after : Store) → n < length cs → TakesBack c now after → ChangesLead cs n first now → ChangesLead (set cs n c) (n + 1) first after
 leads_on cs n c first now after lt back h =
-    subst (λ (m : ℕ). Leads (set cs n c) m first after) (let e : suc n ≡ n + 1 = omega arith in e) (leads_one cs n c first now after lt back h)
+    subst (λ (m : ℕ). ChangesLead (set cs n c) m first after) (let e : suc n ≡ n + 1 = omega arith in e) (leads_one cs n c first now after lt back h)
 
-pub leads_none : (cs : List Change) (s : Store) → Leads cs 0 s s
+pub leads_none : (cs : List Change) (s : Store) → ChangesLead cs 0 s s
 leads_none cs s = record { there = tt; back = refl }
 
 -- one change fewer

@@ -107,7 +107,7 @@ AreThere changes (suc n) s = IsChange (slice_index_or changes n Nothing) s
     × AreThere changes n (without (slice_index_or changes n Nothing) s)
 
 -- the first n changes lead from the first store to this one
-pub record Leads (changes : List Change) (n : ℕ) (first now : Store) : Type 0 where
+pub record ChangesLead (changes : List Change) (n : ℕ) (first now : Store) : Type 0 where
   pub there : AreThere changes n now
   pub back : undone changes n now ≡ first
 
@@ -117,6 +117,6 @@ HasFailed (Ok r) = IsSome r.abort
 HasFailed (Err e) = Unit {0}
 
 -- all of it ran
-abbrev pub HasEnded : {E : Type 0} → Result Reply E → Type 0
-HasEnded (Ok r) = IsNone r.abort
-HasEnded (Err e) = ⊥
+abbrev pub HasRunToEnd : {E : Type 0} → Result Reply E → Type 0
+HasRunToEnd (Ok r) = IsNone r.abort
+HasRunToEnd (Err e) = ⊥

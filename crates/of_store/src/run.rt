@@ -5,7 +5,7 @@ ghost use Rattle.of_script.specs.declared.instr.TheConstants.{MOST_INSTRS};
 ghost use Rattle.of_script.specs.Language.{IsInstrInRange};
 ghost use Rattle.of_store.specs.State.{run, instr_effect, IsEffect};
 ghost use Rattle.of_store.specs.Replies.{reply_value_of, IsReplyOfScript};
-ghost use Rattle.of_store.specs.Changes.{takes_out, may_fail, FailsFirst, HasFailed, HasEnded, Leads};
+ghost use Rattle.of_store.specs.Changes.{takes_out, may_fail, FailsFirst, HasFailed, HasRunToEnd, ChangesLead};
 
 use crate::change::Changes;
 use crate::store::{Answer, Store};
@@ -54,7 +54,7 @@ fn may_fail(instr: Instr) -> bool
 // Whether a script has aborted, or memory was wanting.
 fn has_failed(ran: &Result<Reply, AllocError>) -> bool
     ensures yes { IsTrue result → HasFailed ran.now }
-    ensures no { IsFalse result → HasEnded ran.now }
+    ensures no { IsFalse result → HasRunToEnd ran.now }
 {
     match ran {
         Ok(reply) => reply.abort.is_some(),
@@ -121,7 +121,7 @@ impl Store {
         ensures shape { IfOk result (IsReplyOfScript (length script.now)) }
         ensures few { changes.new.count ≤ MOST_INSTRS }
         ensures back { FailsFirst script.now → HasFailed result
-            → Leads changes.new.list changes.new.count self.old self.new }
+            → ChangesLead changes.new.list changes.new.count self.old self.new }
     {
         // what holds of every store
         let _ = self.room();

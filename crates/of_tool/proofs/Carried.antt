@@ -19,7 +19,7 @@ use Rattle.of_caller.specs.Allowances.{KeepsStopAsAllowance, KeepAllowances}
 use Rattle.of_tool.specs.Ran.{AllBrakesTell, IsRunReport, IsSomeRuns}
 use Rattle.of_report.specs.LoadText.{load_text}
 use Rattle.of_row.specs.Views.{View}
-use Rattle.of_tool.specs.Seen.{Change, Seen, Holds, IsWritten, view_of}
+use Rattle.of_tool.specs.Seen.{Change, Seen, RecordHolds, IsWritten, view_of}
 use Rattle.of_tool.specs.Statuses.{IsAnswer, To, Done}
 use Rattle.of_tool.specs.Headline.{RunsPlan, LoadsPlan, ContinuesImage, RunsOnTable, LoadsOnTable, ContinuesOnTable, LeavesTable, AllDone, IsWholeLoad}
 use Rattle.of_tool.specs.Answer.{Found, HoldsRun, HoldsLoad, HoldsLife, CarriesRun, CarriesLoad, CarriesLife, Carries}
@@ -228,33 +228,33 @@ module _ {A : Type 0} (left : A → Option (Option ℕ)) (brakes : List A) (seen
 
   module _ (answer : Answer) where
     pub load_told : (n m : ℕ) (ran : Option (Ended × Pass)) → CarriesLoad left brakes n m (answer, ran) → IsWritten seen answer.text.items
-        → Holds ran (λ e w. LoadsPlan left brakes n m seen e)
+        → RecordHolds ran (λ e w. LoadsPlan left brakes n m seen e)
     load_told n m None h w = h
     load_told n m (Some r) h w = loads_plan n m answer.text.items (ended_value r.0) (view_of r.1) h.1 w
 
     pub run_told : (ran : Option (Ended × Pass)) → CarriesRun left brakes seen.source (answer, ran) → answer.status ≡ DONE → IsWritten seen answer.text.items
-        → Holds ran (λ e w. RunsPlan left brakes seen e)
+        → RecordHolds ran (λ e w. RunsPlan left brakes seen e)
     run_told None h done w = h done
     run_told (Some r) h done w = runs_plan answer.text.items (ended_value r.0) (view_of r.1) h.1 w
 
     pub life_told : (ran : Option (Ended × Pass)) → CarriesLife left brakes seen.source (answer, ran) → answer.status ≡ DONE → IsWritten seen answer.text.items
-        → Holds ran (λ e w. ContinuesImage left brakes seen e)
+        → RecordHolds ran (λ e w. ContinuesImage left brakes seen e)
     life_told None h done w = h done
     life_told (Some r) h done w = continues_image answer.text.items (ended_value r.0) (view_of r.1) h.1 w
 
     -- and what the table and the pass have
     run_table : (ran : Option (Ended × Pass)) → CarriesRun left brakes seen.source (answer, ran) → answer.status ≡ DONE → IsWritten seen answer.text.items
-        → Holds ran (λ e w. RunsOnTable left brakes seen e w)
+        → RecordHolds ran (λ e w. RunsOnTable left brakes seen e w)
     run_table None h done w = h done
     run_table (Some r) h done w = record { runs = runs_plan answer.text.items (ended_value r.0) (view_of r.1) h.1 w; table = h.1.run.table }
 
     load_table : (n m : ℕ) (ran : Option (Ended × Pass)) → CarriesLoad left brakes n m (answer, ran) → IsWritten seen answer.text.items
-        → Holds ran (λ e w. LoadsOnTable left brakes n m seen e w)
+        → RecordHolds ran (λ e w. LoadsOnTable left brakes n m seen e w)
     load_table n m None h w = h
     load_table n m (Some r) h w = record { loads = loads_plan n m answer.text.items (ended_value r.0) (view_of r.1) h.1 w; table = h.1.run.table }
 
     life_table : (ran : Option (Ended × Pass)) → CarriesLife left brakes seen.source (answer, ran) → answer.status ≡ DONE → IsWritten seen answer.text.items
-        → Holds ran (λ e w. ContinuesOnTable left brakes seen e w)
+        → RecordHolds ran (λ e w. ContinuesOnTable left brakes seen e w)
     life_table None h done w = h done
     life_table (Some r) h done w = record { continues = continues_image answer.text.items (ended_value r.0) (view_of r.1) h.1 w; table = h.1.writes.life.table }
 

@@ -6,7 +6,7 @@ use Rattle.of_recover.specs.Recovered.{recovered_words}
 use Rattle.of_plan.specs.Plan.{Plan}
 use Rattle.of_plan.specs.Ended.{Ended}
 use Rattle.of_plan.specs.Report.{Report, empty_start}
-use Rattle.of_eval.specs.Record.{data_cells_of, IsLawfulRecord}
+use Rattle.of_eval.specs.Record.{plan_data_cells, IsLawfulRecord}
 use Rattle.of_core.specs.Laws.{RecoveredRowsMayStart}
 use Rattle.of_core.specs.Starts.{IsDurable, IsStartRow}
 use Rattle.of_core.specs.Events.{zero_start}
@@ -36,7 +36,7 @@ module _ (p : Plan) (play : IsPlayable p) (restarts : RecoveredRowsMayStart (pla
     N = p.callers
 
     abbrev M : ℕ
-    M = data_cells_of p
+    M = plan_data_cells p
 
     abbrev ws : List ℕ
     ws = (durable_row p f).words

@@ -17,7 +17,7 @@ use Rattle.of_plan.specs.Report.{Entry, Start, Report, empty_start, finished_of}
 use Rattle.of_plan.specs.Ended.{Ended, answers_of, ending_of}
 use Rattle.of_plan.specs.Allowance.{KeepsAllowance, turns_in}
 use Rattle.of_eval.specs.Shapes.{IsHeldBy}
-use Rattle.of_eval.specs.Record.{IsLawfulRecord, data_cells_of, durable_of, recovered_data_word, recovered_number, OpenCall, BeyondAnswers}
+use Rattle.of_eval.specs.Record.{IsLawfulRecord, plan_data_cells, durable_of, recovered_data_word, record_number, OpenCall, BeyondAnswers}
 use Rattle.of_eval.specs.Reported.{ReportsRun}
 use Rattle.of_core.specs.Table.{words_before_members}
 use Rattle.of_core.specs.World.{TableStart}
@@ -29,7 +29,7 @@ use Rattle.of_caller.specs.Ends.{ending_at}
 use Rattle.of_caller.specs.Left.{IsLeftBy}
 use Rattle.of_caller.specs.PlanLaws.{KeepsLaws}
 use Rattle.of_caller.specs.Runs.{SchedulesAreMoments, RunsKeepAllowances}
-use Rattle.of_caller.specs.Scheduled.{unnumbered, IsScheduled}
+use Rattle.of_caller.specs.Scheduled.{without_members, IsScheduled}
 use Rattle.of_caller.specs.InTime.{RespectsTime, marks_in, course_of, SchedulesRespectTime, TeamsRespectTime}
 use Rattle.of_caller.specs.Stops.{KeepToStop, CallerKeepsStop, KeepStops}
 use Rattle.of_caller.specs.Allowances.{KeepsStopAsAllowance, KeepAllowances}
@@ -52,24 +52,24 @@ allowed_by p r e c keeps None h = tt
 allowed_by p r e c keeps (Some steps) h = keeps h
 
 -- a record's report is that of the record with no number taken: recovery reads no such word
-module _ (p : Plan) (s : Start) (plan : IsPlan p) (e : Ended) (long : length e.words ≡ table_words p.callers MOST_INSTRS (data_cells_of p)) where
+module _ (p : Plan) (s : Start) (plan : IsPlan p) (e : Ended) (long : length e.words ≡ table_words p.callers MOST_INSTRS (plan_data_cells p)) where
   abbrev d : Ended
-  d = unnumbered p e
+  d = without_members p e
 
-  durable_same : (c : ℕ) → c < durable_cells p.callers (data_cells_of p) → durable_of p d c ≡ durable_of p e c
-  durable_same c l = get_or-set_other e.words (words_before_members (plan_setup p)) (durable_place p.callers (data_cells_of p) c) 0 0 (λ q. omega (arith, q, l))
+  durable_same : (c : ℕ) → c < durable_cells p.callers (plan_data_cells p) → durable_of p d c ≡ durable_of p e c
+  durable_same c l = get_or-set_other e.words (words_before_members (plan_setup p)) (durable_place p.callers (plan_data_cells p) c) 0 0 (λ q. omega (arith, q, l))
 
-  found : (a : ℕ) → a < data_cells_of p → recovered_data_word p d a ≡ recovered_data_word p e a
-  found a l = recovered_data-same p.callers (data_cells_of p) (durable_of p d) (durable_of p e) durable_same a l (omega (arith, l, plan.few_callers, plan.few_blocks))
+  found : (a : ℕ) → a < plan_data_cells p → recovered_data_word p d a ≡ recovered_data_word p e a
+  found a l = recovered_data-same p.callers (plan_data_cells p) (durable_of p d) (durable_of p e) durable_same a l (omega (arith, l, plan.few_callers, plan.few_blocks))
 
-  number : (a : ℕ) → a < data_cells_of p → recovered_number p d a ≡ recovered_number p e a
+  number : (a : ℕ) → a < plan_data_cells p → record_number p d a ≡ record_number p e a
   number a l = ap payload_of (found a l)
 
   open_as : (c x : ℕ) → c < p.callers → (b : Bool) (extra : List Entry) → OpenCall p e c x b extra → OpenCall p d c x b extra
   open_as c x l false extra h = h
   open_as c x l true extra h = (
     h.0,
-    subst (λ (raw : RawReply). IsHeldBy raw h.0) (sym (reply_same p.callers p.blocks (recovered_number p d) (recovered_number p e) number c l)) h.1,
+    subst (λ (raw : RawReply). IsHeldBy raw h.0) (sym (reply_same p.callers p.blocks (record_number p d) (record_number p e) number c l)) h.1,
     h.2 ∙ (λ k. record { seq = seq_of (sym (found (ticket_cell_at MOST_INSTRS c) (omega (arith, l))) k); caller = c; index = x; announced = true; reply = reply_value_of h.0 } ∷ []),
   )
 
@@ -77,7 +77,7 @@ module _ (p : Plan) (s : Start) (plan : IsPlan p) (e : Ended) (long : length e.w
   beyond_as c x l Done extra h = h
   beyond_as c x l (RanOut q) extra h = h
   beyond_as c x l (Stopped asked) extra h =
-      subst (λ (n : ℕ). OpenCall p d c x (n == x + 1) extra) (sym (number (ticket_cell_at MOST_INSTRS c) (omega (arith, l)))) (open_as c x l (recovered_number p e (ticket_cell_at MOST_INSTRS c) == x + 1) extra h)
+      subst (λ (n : ℕ). OpenCall p d c x (n == x + 1) extra) (sym (number (ticket_cell_at MOST_INSTRS c) (omega (arith, l)))) (open_as c x l (record_number p e (ticket_cell_at MOST_INSTRS c) == x + 1) extra h)
 
   lawful_as : (r : Report) → IsLawfulRecord p s e r → IsLawfulRecord p s d r
   lawful_as r h = record {
@@ -90,7 +90,7 @@ module _ (p : Plan) (s : Start) (plan : IsPlan p) (e : Ended) (long : length e.w
       each_caller = h.report.each_caller;
       callers = h.report.callers;
       seq = h.report.seq ∙ sym (ap seq_of (durable_same 0 (omega arith)));
-      store = stands_for_same p.callers p.blocks (recovered_number p e) (recovered_number p d) (λ a l. sym (number a l)) r.store h.report.store;
+      store = stands_for_same p.callers p.blocks (record_number p e) (record_number p d) (λ a l. sym (number a l)) r.store h.report.store;
     };
     legal = h.legal;
   }
@@ -101,7 +101,7 @@ module _ (p : Plan) (s : Start) (plan : IsPlan p) (e : Ended) (long : length e.w
 -- the report is one that `play` makes of the plan with the turns and evictions of the run
 module _ (p : Plan) (play : IsPlayable p) (kept : RunsKeepAllowances) (time : SchedulesRespectTime p) (e : Ended) (r : Report) (items : List Item)
     (h : IsScheduled p (empty_start p) (zero_start (plan_setup p)) items e) (reports : ReportsRun p (empty_start p) e r) where
-  left_so : IsLeftBy p (events_of p items) (unnumbered p e)
+  left_so : IsLeftBy p (events_of p items) (without_members p e)
   left_so = record {
     answers = h.answers;
     endings = h.endings;
@@ -113,24 +113,24 @@ module _ (p : Plan) (play : IsPlayable p) (kept : RunsKeepAllowances) (time : Sc
   schedule : IsSchedule (plan_setup p) (opening_for p) (events_of p items)
   schedule = items_are_schedule p play items h.items_in
 
-  here : ReportsRun p (empty_start p) (unnumbered p e) r
+  here : ReportsRun p (empty_start p) (without_members p e) r
   here = reports_as p (empty_start p) play.plan e reports.lawful.words r reports
 
   -- each caller keeps to its turns, and each call comes after those that ended before it began
   keeps : (c : ℕ) → c < p.callers → KeepsAllowance p r c (Some (sum_by (turns_in c) items))
   keeps c lt =
       subst (λ (n : ℕ). KeepsAllowance p r c (Some n)) (items_are_turns p items c)
-      (left_keeps_allowance p play (events_of p items) schedule (items_of_plan p play items h.items_in) (items_spent_last p play items schedule) (unnumbered p e) left_so kept r here.lawful c lt
-      (stopped_never_idle p play items h.items_in (unnumbered p e) left_so c lt))
+      (left_keeps_allowance p play (events_of p items) schedule (items_of_plan p play items h.items_in) (items_spent_last p play items schedule) (without_members p e) left_so kept r here.lawful c lt
+      (stopped_never_idle p play items h.items_in (without_members p e) left_so c lt))
 
   in_time : RespectsTime (empty_start p) (marks_in (plan_setup p) (opening_for p) (events_of p items)) r
-  in_time = left_in_time p play (events_of p items) schedule (items_of_plan p play items h.items_in) (items_spent_last p play items schedule) (unnumbered p e) left_so time r here.lawful
+  in_time = left_in_time p play (events_of p items) schedule (items_of_plan p play items h.items_in) (items_spent_last p play items schedule) (without_members p e) left_so time r here.lawful
 
   as_played : IsPlayedReport (with_schedule p items) r
   as_played = record {
-    run = unnumbered p e;
-    played = left_is_played p items (unnumbered p e) left_so;
-    reports = reports_with p items (empty_start p) (unnumbered p e) r here;
+    run = without_members p e;
+    played = left_is_played p items (without_members p e) left_so;
+    reports = reports_with p items (empty_start p) (without_members p e) r here;
     allowance = λ c lt. keeps_with p items r c (Some (sum_by (turns_in c) items)) (keeps c lt);
     in_time = subst (λ (es : List Event). RespectsTime (empty_start p) (marks_in (plan_setup p) (opening_for p) es) r) (sym (events_are p items)) in_time;
   }

@@ -13,7 +13,7 @@ use Rattle.of_plan.specs.Report.{Entry, Start, Report, finished_of}
 use Rattle.of_plan.specs.Legal.{IsLegal}
 use Rattle.of_plan.specs.Ended.{Ended, answers_of, ending_of}
 use Rattle.of_plan.specs.Allowance.{KeepsAllowance}
-use Rattle.of_eval.specs.Record.{IsLawfulRecord, OpenCall, BeyondAnswers, recovered_number}
+use Rattle.of_eval.specs.Record.{IsLawfulRecord, OpenCall, BeyondAnswers, record_number}
 use Rattle.of_eval.specs.Reported.{MakeLeastSteps, ReportsRun}
 use Rattle.of_core.specs.World.{Moment}
 use Rattle.of_core.specs.Events.{Event, Begins, Turns, Loads, Evicts, Raises, after_event, after_events}
@@ -61,7 +61,7 @@ module _ (p : Plan) (items : List Item) where
   beyond_with : (e : Ended) (c x : ℕ) (o : Ending) (extra : List Entry) → BeyondAnswers p e c x o extra → BeyondAnswers q e c x o extra
   beyond_with e c x Done extra h = h
   beyond_with e c x (RanOut t) extra h = h
-  beyond_with e c x (Stopped asked) extra h = open_with e c x (recovered_number p e (ticket_cell_at MOST_INSTRS c) == x + 1) extra h
+  beyond_with e c x (Stopped asked) extra h = open_with e c x (record_number p e (ticket_cell_at MOST_INSTRS c) == x + 1) extra h
 
   legal_with : (s : Start) (r : Report) → IsLegal p s r → IsLegal q s r
   legal_with s r h = record {

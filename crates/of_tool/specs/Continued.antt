@@ -12,7 +12,7 @@ use Rattle.of_row.specs.Views.{View}
 use Rattle.of_caller.specs.InTime.{Mark}
 use Rattle.of_lives.specs.OneHistory.{IsBehind}
 use Rattle.of_lives.specs.Images.{PlanFitsImage}
-use Rattle.of_lives.specs.Restarts.{start_of_row}
+use Rattle.of_lives.specs.Restarts.{start_from_row}
 use Rattle.of_lives.specs.Continuing.{IsLifeOf, LeavesImage}
 use Rattle.of_tool.specs.Ran.{IsHistoryOf, KeepsPromises, IsRealRun}
 
@@ -38,7 +38,7 @@ pub record GoesOnFrom (i : Image) (p : Plan) (r : Report) (e : Ended) : Type 0 w
 
 -- the run of a life is real: it is a schedule from the image's row
 abbrev pub IsRealLife : Image → Plan → List Mark → Ended → Report → Type 0
-IsRealLife i p course e r = IsRealRun p (start_of_image i) (start_of_row p i.row.words) course e r
+IsRealLife i p course e r = IsRealRun p (start_of_image i) (start_from_row p i.row.words) course e r
 
 -- the report of a life that goes on from the image by the plan, with these brakes
 pub record IsLifeReport {A : Type 0} (left : A → Option (Option ℕ)) (brakes : List A) (i : Image)

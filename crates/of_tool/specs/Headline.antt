@@ -18,7 +18,7 @@ use Rattle.of_tool.specs.declared.command.Command.{Command}
 use Rattle.of_tool.specs.declared.command.Command.TheVariants.{Run, Load, Continue}
 use Rattle.of_tool.specs.Ran.{AllBrakesTell, KeepsPromises, IsAsPlayed, ShowsZeros}
 use Rattle.of_tool.specs.Continued.{GoesOnFrom, IsRealLife, life_text}
-use Rattle.of_tool.specs.Seen.{Seen, Holds, IsWritten}
+use Rattle.of_tool.specs.Seen.{Seen, RecordHolds, IsWritten}
 use Rattle.of_tool.specs.Inputs.{ReadsPlan, ReadsLife}
 
 -- ---- `run`
@@ -114,8 +114,8 @@ pub record ContinuesOnTable {A : Type 0} (left : A → Option (Option ℕ)) (bra
 -- of all three, by the command; no other runs callers at once
 abbrev pub LeavesTable : {A : Type 0} → (A → Option (Option ℕ)) → List A → Command → Seen
     → Option (Ended × Pass) → Type 0
-LeavesTable left brakes Run seen ran = Holds ran (λ e w. RunsOnTable left brakes seen e w)
+LeavesTable left brakes Run seen ran = RecordHolds ran (λ e w. RunsOnTable left brakes seen e w)
 LeavesTable left brakes (Load callers scripts) seen ran =
-    Holds ran (λ e w. LoadsOnTable left brakes callers scripts seen e w)
-LeavesTable left brakes Continue seen ran = Holds ran (λ e w. ContinuesOnTable left brakes seen e w)
+    RecordHolds ran (λ e w. LoadsOnTable left brakes callers scripts seen e w)
+LeavesTable left brakes Continue seen ran = RecordHolds ran (λ e w. ContinuesOnTable left brakes seen e w)
 LeavesTable left brakes command seen ran = ran ≡ None

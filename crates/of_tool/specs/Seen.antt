@@ -22,8 +22,8 @@ pub record Seen : Type 0 where
   pub finished : Bool
 
 -- of a source or a sink that tells its bytes and its faults so
-abbrev pub change_of : {S : Type 0} → (S → Option (List ℕ)) → (S → ℕ) → S → S → Change
-change_of bytes faults old new = record {
+abbrev pub bytes_change : {S : Type 0} → (S → Option (List ℕ)) → (S → ℕ) → S → S → Change
+bytes_change bytes faults old new = record {
   before = bytes old;
   after = bytes new;
   faults = faults old;
@@ -34,8 +34,8 @@ change_of bytes faults old new = record {
 abbrev pub seen_by : {S K : Type 0} → (S → Option (List ℕ)) → (S → ℕ) → S → S
     → (K → Option (List ℕ)) → (K → Bool) → (K → ℕ) → K → K → Seen
 seen_by left failed source source_after written finished faults sink sink_after = record {
-  source = change_of left failed source source_after;
-  sink = change_of written faults sink sink_after;
+  source = bytes_change left failed source source_after;
+  sink = bytes_change written faults sink sink_after;
   was_finished = finished sink;
   finished = finished sink_after;
 }
@@ -78,6 +78,6 @@ abbrev pub view_of : Pass → View
 view_of pass = pass.seat.me.0
 
 -- a run has left a record and a pass, and this holds of the record and of what the pass has seen
-abbrev pub Holds : Option (RustEnded × Pass) → (Ended → View → Type 0) → Type 0
-Holds None Is = ⊥
-Holds (Some ran) Is = Is (ended_value ran.0) (view_of ran.1)
+abbrev pub RecordHolds : Option (RustEnded × Pass) → (Ended → View → Type 0) → Type 0
+RecordHolds None Is = ⊥
+RecordHolds (Some ran) Is = Is (ended_value ran.0) (view_of ran.1)

@@ -7,7 +7,7 @@ ghost use Rattle.of_report.specs.Image.{IsImage, image_value};
 ghost use Rattle.of_lives.specs.Images.{PlanFitsImage};
 ghost use Rattle.of_tool.specs.declared.command.Command.TheVariants.{Continue};
 ghost use Rattle.of_tool.specs.Continued.{WritesLife};
-ghost use Rattle.of_tool.specs.Seen.{change_of, view_of};
+ghost use Rattle.of_tool.specs.Seen.{bytes_change, view_of};
 ghost use Rattle.of_tool.specs.Inputs.{ImageAndPlan, ReadsLife};
 ghost use Rattle.of_tool.specs.Answer.{IsOutputFor, Refuses, CarriesLife};
 
@@ -59,8 +59,8 @@ fn read_life<S: Source>(
     source: &mut S,
 ) -> Result<Result<(Image, Plan), Answer>, AllocError>
     ensures read { IfOk result (λ read. MatchResult read
-        (λ r. ReadsLife (change_of S.remaining S.faults source.old source.new) (image_value r.0) r.1)
-        (Refuses ImageAndPlan (change_of S.remaining S.faults source.old source.new))) }
+        (λ r. ReadsLife (bytes_change S.remaining S.faults source.old source.new) (image_value r.0) r.1)
+        (Refuses ImageAndPlan (bytes_change S.remaining S.faults source.old source.new))) }
     ensures image { IfOk result (λ read. IfOk read (λ r. IsImage MOST_INSTRS (image_value r.0))) }
     ensures fits { IfOk result (λ read. IfOk read (λ r. PlanFitsImage (image_value r.0) r.1)) }
 {
@@ -101,9 +101,9 @@ pub(crate) fn continue_answer<R: Threads + Sync, S: Source>(
 ) -> Result<(Answer, Ran), AllocError>
     requires { vec_len brakes ≡ 16 }
     ensures answered { IfOk result (λ found. IsOutputFor Continue
-        (change_of S.remaining S.faults source.old source.new) found.0) }
+        (bytes_change S.remaining S.faults source.old source.new) found.0) }
     ensures carries { IfOk result (CarriesLife (λ b. left b) brakes.items
-        (change_of S.remaining S.faults source.old source.new)) }
+        (bytes_change S.remaining S.faults source.old source.new)) }
 {
     let (image, plan) = match read_life(alloc, source)? {
         Ok(read) => read,

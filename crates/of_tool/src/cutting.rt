@@ -4,7 +4,7 @@ ghost use Rattle.std.specs.Prelude.{◌≡◌, ◌≤◌, IfOk};
 ghost use Rattle.of_tool.specs.declared.command.Command.TheVariants.{Part};
 ghost use Rattle.of_tool.specs.Commands.{IsPartNumber};
 ghost use Rattle.of_tool.specs.Cutting.{IsPart};
-ghost use Rattle.of_tool.specs.Seen.{change_of};
+ghost use Rattle.of_tool.specs.Seen.{bytes_change};
 ghost use Rattle.of_tool.specs.Answer.{IsOutputFor};
 
 use crate::status;
@@ -34,7 +34,7 @@ pub(crate) fn part_answer<S: Source>(
 ) -> Result<Answer, AllocError>
     requires { IsPartNumber number }
     ensures { IfOk result (IsOutputFor (Part number)
-        (change_of S.remaining S.faults source.old source.new)) }
+        (bytes_change S.remaining S.faults source.old source.new)) }
 {
     match read_input(alloc, source, MOST_WITH_REPORT)? {
         Ok(bytes) => Ok(Answer {

@@ -6,7 +6,7 @@ ghost use Rattle.of_report.specs.Image.{IsImage, image_value};
 ghost use Rattle.of_image.specs.declared.version.Version.TheVariants.{Two};
 ghost use Rattle.of_tool.specs.declared.command.Command.TheVariants.{Image as TheImage, Recover, Renumber, Migrate};
 ghost use Rattle.of_tool.specs.PlayedImage.{IsPlayedImage};
-ghost use Rattle.of_tool.specs.Seen.{change_of};
+ghost use Rattle.of_tool.specs.Seen.{bytes_change};
 ghost use Rattle.of_tool.specs.Inputs.{ImageAlone, ReadsImageOf};
 ghost use Rattle.of_tool.specs.Answer.{IsOutputFor, Refuses, TellsRefusal};
 
@@ -60,9 +60,9 @@ pub(crate) fn refused(alloc: Global, err: ImageErr) -> Result<Answer, AllocError
 // The image that the whole input has, or the answer that says why there is none.
 fn read_image<S: Source>(alloc: Global, source: &mut S) -> Result<Result<Image, Answer>, AllocError>
     ensures read { IfOk result (λ read. MatchResult read
-        (λ image. ReadsImageOf Two (change_of S.remaining S.faults source.old source.new)
+        (λ image. ReadsImageOf Two (bytes_change S.remaining S.faults source.old source.new)
         (image_value image))
-        (Refuses (ImageAlone Two) (change_of S.remaining S.faults source.old source.new))) }
+        (Refuses (ImageAlone Two) (bytes_change S.remaining S.faults source.old source.new))) }
     ensures image { IfOk result (λ read.
         IfOk read (λ image. IsImage MOST_INSTRS (image_value image))) }
 {
@@ -79,7 +79,7 @@ fn read_image<S: Source>(alloc: Global, source: &mut S) -> Result<Result<Image, 
 /// What `image` answers.
 pub(crate) fn image_answer<S: Source>(alloc: Global, source: &mut S) -> Result<Answer, AllocError>
     ensures { IfOk result (IsOutputFor TheImage
-        (change_of S.remaining S.faults source.old source.new)) }
+        (bytes_change S.remaining S.faults source.old source.new)) }
 {
     match read_plan(alloc, source)? {
         Ok(plan) => Ok(Answer {
@@ -93,7 +93,7 @@ pub(crate) fn image_answer<S: Source>(alloc: Global, source: &mut S) -> Result<A
 /// What `recover` answers.
 pub(crate) fn recover_answer<S: Source>(alloc: Global, source: &mut S) -> Result<Answer, AllocError>
     ensures { IfOk result (IsOutputFor Recover
-        (change_of S.remaining S.faults source.old source.new)) }
+        (bytes_change S.remaining S.faults source.old source.new)) }
 {
     match read_image(alloc, source)? {
         Ok(image) => Ok(Answer {
@@ -110,7 +110,7 @@ pub(crate) fn renumber_answer<S: Source>(
     source: &mut S,
 ) -> Result<Answer, AllocError>
     ensures { IfOk result (IsOutputFor Renumber
-        (change_of S.remaining S.faults source.old source.new)) }
+        (bytes_change S.remaining S.faults source.old source.new)) }
 {
     match read_image(alloc, source)? {
         Ok(image) => Ok(Answer {
@@ -124,7 +124,7 @@ pub(crate) fn renumber_answer<S: Source>(
 /// What `migrate` answers.
 pub(crate) fn migrate_answer<S: Source>(alloc: Global, source: &mut S) -> Result<Answer, AllocError>
     ensures { IfOk result (IsOutputFor Migrate
-        (change_of S.remaining S.faults source.old source.new)) }
+        (bytes_change S.remaining S.faults source.old source.new)) }
 {
     let bytes = match read_input(alloc, source, MOST_IMAGE)? {
         Ok(bytes) => bytes,

@@ -2,7 +2,7 @@
 
 ghost use Rattle.std.specs.Prelude.{IfOk};
 ghost use Rattle.of_tool.specs.declared.command.Command.TheVariants.{CheckLife};
-ghost use Rattle.of_tool.specs.Seen.{change_of};
+ghost use Rattle.of_tool.specs.Seen.{bytes_change};
 ghost use Rattle.of_tool.specs.Answer.{IsOutputFor, JudgesLife};
 
 use crate::images::refused;
@@ -35,7 +35,7 @@ fn judged(alloc: Global, verdict: Verdict) -> Result<Answer, AllocError>
 /// What `check-life` answers.
 pub(crate) fn life_answer<S: Source>(alloc: Global, source: &mut S) -> Result<Answer, AllocError>
     ensures { IfOk result (IsOutputFor CheckLife
-        (change_of S.remaining S.faults source.old source.new)) }
+        (bytes_change S.remaining S.faults source.old source.new)) }
 {
     let bytes = match read_input(alloc, source, MOST_WITH_REPORT)? {
         Ok(bytes) => bytes,

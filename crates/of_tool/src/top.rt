@@ -6,7 +6,7 @@ ghost use Rattle.of_tool.specs.declared.command.Command.{Command};
 ghost use Rattle.of_tool.specs.declared.command.Command.TheVariants.{Serial, Play, Trace, Commits, Run, Load, Check, Continue};
 ghost use Rattle.of_tool.specs.declared.status.TheConstants.{DONE};
 ghost use Rattle.of_tool.specs.Commands.{word_bytes, command_words, IsTrace, IsLoad, IsInRange, IsPlain, AreWordsOf, AreWordsOfTeam};
-ghost use Rattle.of_tool.specs.Seen.{change_of, seen_by, Holds, ReadsAll};
+ghost use Rattle.of_tool.specs.Seen.{bytes_change, seen_by, RecordHolds, ReadsAll};
 ghost use Rattle.of_tool.specs.Inputs.{PlanAlone, input_of, AskForInput, ReadsPlan, IsValidInput};
 ghost use Rattle.of_tool.specs.Refusals.{FindsWrong};
 ghost use Rattle.of_tool.specs.Makes.{Did};
@@ -73,8 +73,8 @@ pub(crate) fn read_input<S: Source>(
 ) -> Result<Result<Vec<u8>, Answer>, AllocError>
     requires { most ≤ MOST_WITH_REPORT }
     ensures { IfOk result (λ read. MatchResult read
-        (λ bytes. ReadsAll most (change_of S.remaining S.faults source.old source.new) bytes.items)
-        (RefusesUpTo most (change_of S.remaining S.faults source.old source.new))) }
+        (λ bytes. ReadsAll most (bytes_change S.remaining S.faults source.old source.new) bytes.items)
+        (RefusesUpTo most (bytes_change S.remaining S.faults source.old source.new))) }
 {
     match read_all(alloc, source, most) {
         Ok(bytes) => Ok(Ok(bytes)),
@@ -96,8 +96,8 @@ pub(crate) fn read_plan<S: Source>(
     source: &mut S,
 ) -> Result<Result<Plan, Answer>, AllocError>
     ensures { IfOk result (λ read. MatchResult read
-        (ReadsPlan (change_of S.remaining S.faults source.old source.new))
-        (Refuses PlanAlone (change_of S.remaining S.faults source.old source.new))) }
+        (ReadsPlan (bytes_change S.remaining S.faults source.old source.new))
+        (Refuses PlanAlone (bytes_change S.remaining S.faults source.old source.new))) }
 {
     let bytes = match read_input(alloc, source, MOST_INPUT)? {
         Ok(bytes) => bytes,
@@ -116,7 +116,7 @@ pub(crate) fn read_plan<S: Source>(
 // What `serial` answers.
 fn serial_answer<S: Source>(alloc: Global, source: &mut S) -> Result<Answer, AllocError>
     ensures { IfOk result (IsOutputFor Serial
-        (change_of S.remaining S.faults source.old source.new)) }
+        (bytes_change S.remaining S.faults source.old source.new)) }
 {
     match read_plan(alloc, source)? {
         Ok(plan) => Ok(Answer {
@@ -130,7 +130,7 @@ fn serial_answer<S: Source>(alloc: Global, source: &mut S) -> Result<Answer, All
 // What `play` answers.
 fn play_answer<S: Source>(alloc: Global, source: &mut S) -> Result<Answer, AllocError>
     ensures { IfOk result (IsOutputFor Play
-        (change_of S.remaining S.faults source.old source.new)) }
+        (bytes_change S.remaining S.faults source.old source.new)) }
 {
     match read_plan(alloc, source)? {
         Ok(plan) => Ok(Answer {
@@ -150,9 +150,9 @@ fn run_answer<R: Threads + Sync, S: Source>(
 ) -> Result<(Answer, Ran), AllocError>
     requires { vec_len brakes ≡ 16 }
     ensures answered { IfOk result (λ found. IsOutputFor Run
-        (change_of S.remaining S.faults source.old source.new) found.0) }
+        (bytes_change S.remaining S.faults source.old source.new) found.0) }
     ensures carries { IfOk result (CarriesRun (λ b. left b) brakes.items
-        (change_of S.remaining S.faults source.old source.new)) }
+        (bytes_change S.remaining S.faults source.old source.new)) }
 {
     let plan = match read_plan(alloc, source)? {
         Ok(plan) => plan,
@@ -196,7 +196,7 @@ fn trace_answer<S: Source>(
 ) -> Result<Answer, AllocError>
     requires { IsTrace first count }
     ensures { IfOk result (IsOutputFor (Trace first count)
-        (change_of S.remaining S.faults source.old source.new)) }
+        (bytes_change S.remaining S.faults source.old source.new)) }
 {
     match read_plan(alloc, source)? {
         Ok(plan) => Ok(Answer {
@@ -210,7 +210,7 @@ fn trace_answer<S: Source>(
 // What `commits` answers.
 fn commits_answer<S: Source>(alloc: Global, source: &mut S) -> Result<Answer, AllocError>
     ensures { IfOk result (IsOutputFor Commits
-        (change_of S.remaining S.faults source.old source.new)) }
+        (bytes_change S.remaining S.faults source.old source.new)) }
 {
     match read_plan(alloc, source)? {
         Ok(plan) => Ok(Answer {
@@ -240,7 +240,7 @@ fn judged(alloc: Global, verdict: Verdict) -> Result<Answer, AllocError>
 // What `check` answers.
 fn check_answer<S: Source>(alloc: Global, source: &mut S) -> Result<Answer, AllocError>
     ensures { IfOk result (IsOutputFor Check
-        (change_of S.remaining S.faults source.old source.new)) }
+        (bytes_change S.remaining S.faults source.old source.new)) }
 {
     let bytes = match read_input(alloc, source, MOST_WITH_REPORT)? {
         Ok(bytes) => bytes,
@@ -267,7 +267,7 @@ fn plain_answer<S: Source>(
     requires range { IsInRange command }
     ensures plain { IsPlain command }
     ensures answered { IfOk result (IsOutputFor command
-        (change_of S.remaining S.faults source.old source.new)) }
+        (bytes_change S.remaining S.faults source.old source.new)) }
     ensures unread { input_of command ≡ None → source.new ≡ source.old }
 {
     match command {
@@ -304,10 +304,10 @@ fn decide<R: Threads + Sync, S: Source>(
 ) -> Result<(Answer, Ran), AllocError>
     requires { vec_len brakes ≡ 16 }
     ensures answered { IfOk result (λ found. IsAnswer (word_bytes words.now)
-        (change_of S.remaining S.faults source.old source.new)
+        (bytes_change S.remaining S.faults source.old source.new)
         found.0.status found.0.text.items) }
     ensures carries { IfOk result (Carries (λ b. left b) brakes.items (word_bytes words.now)
-        (change_of S.remaining S.faults source.old source.new)) }
+        (bytes_change S.remaining S.faults source.old source.new)) }
     ensures unread { ¬ (AskForInput (word_bytes words.now)) → source.new ≡ source.old }
 {
     match Command::from_words(words) {
@@ -346,7 +346,7 @@ pub fn tool<R: Threads + Sync, S: Source, K: Sink>(
     // once, was written: one legal history, in real time, in which callers keep to their brakes. It
     // comes of a real run, event by event, and the record of that run is in `ran`.
     ensures run { word_bytes words.now ≡ command_words Run → result ≡ DONE
-        → Holds ran.new (λ left_by view. RunsPlan (λ b. left b) brakes.items
+        → RecordHolds ran.new (λ left_by view. RunsPlan (λ b. left b) brakes.items
         (seen_by S.remaining S.faults source.old source.new
         K.written K.finished K.faults sink.old sink.new)
         left_by) }
@@ -355,7 +355,7 @@ pub fn tool<R: Threads + Sync, S: Source, K: Sink>(
     // the report was written.
     ensures load { (callers scripts : ℕ) → AreWordsOf (word_bytes words.now) (Load callers scripts)
         → result ≡ DONE
-        → Holds ran.new (λ left_by view. LoadsPlan (λ b. left b) brakes.items callers scripts
+        → RecordHolds ran.new (λ left_by view. LoadsPlan (λ b. left b) brakes.items callers scripts
         (seen_by S.remaining S.faults source.old source.new
         K.written K.finished K.faults sink.old sink.new)
         left_by) }
@@ -364,7 +364,7 @@ pub fn tool<R: Threads + Sync, S: Source, K: Sink>(
     // After the report the image of their durable words was written: the next life can go on from
     // it.
     ensures continued { word_bytes words.now ≡ command_words Continue → result ≡ DONE
-        → Holds ran.new (λ left_by view. ContinuesImage (λ b. left b) brakes.items
+        → RecordHolds ran.new (λ left_by view. ContinuesImage (λ b. left b) brakes.items
         (seen_by S.remaining S.faults source.old source.new
         K.written K.finished K.faults sink.old sink.new)
         left_by) }
@@ -397,7 +397,7 @@ pub fn tool<R: Threads + Sync, S: Source, K: Sink>(
     // legal. With status 9 the plan that `continue` or `check-life` reads does not fit the image.
     ensures judged { (command : Command) → AreWordsOf (word_bytes words.now) command
         → FindsWrong (input_of command)
-        (change_of S.remaining S.faults source.old source.new) result }
+        (bytes_change S.remaining S.faults source.old source.new) result }
 
     // Only a command that reads a plan, a report or an image reads.
     ensures unread { ¬ (AskForInput (word_bytes words.now)) → source.new ≡ source.old }

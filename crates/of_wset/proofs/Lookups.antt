@@ -8,7 +8,7 @@ use Rattle.std.proofs.lemmas.Bool.{cases_eq, cases_lt, cases_order}
 use Rattle.std.proofs.lemmas.List.{get_or-map, length-map, get_or_past}
 use Rattle.of_wset.specs.declared.table.Entry.{Entry}
 use Rattle.of_wset.specs.Walk.{hash_place, next_place, walk_steps}
-use Rattle.of_wset.specs.Table.{entry_at, slot_at, no_entry, IsTaken, IsTable, IsUnwritten, IsFree, PassesOnlyOthers}
+use Rattle.of_wset.specs.Table.{entry_at, slot_at, no_entry, IsPlaceTaken, IsTable, IsUnwritten, IsFree, PassesOnlyOthers}
 use Rattle.of_wset.proofs.Walks.{steps_below, steps_none, steps_same, steps_next, before_next, before_round}
 
 equals : (a b : ℕ) → a ≡ b → eqb a b ≡ true
@@ -24,7 +24,7 @@ taken_below t p k e = go (cases_lt p (length t))
 
 module _ (es : List Entry) (t : List (Option ℕ)) (h : IsTable es t) where
   -- each taken place is that of an entry, and there are fewer entries than places
-  pub not_full : ((q : ℕ) → q < length t → IsTaken t q) → ⊥
+  pub not_full : ((q : ℕ) → q < length t → IsPlaceTaken t q) → ⊥
   not_full taken = omega (arith, le-length_from_below places (length t) each, length-map es (λ (e : Entry). e.place), h.some_free)
     where
       places : List ℕ
@@ -45,10 +45,10 @@ module _ (es : List Entry) (t : List (Option ℕ)) (h : IsTable es t) where
     goes_on : next_place (length t) p ≢ hash_place (length t) a
     goes_on e = not_full taken
       where
-        taken : (q : ℕ) → q < length t → IsTaken t q
+        taken : (q : ℕ) → q < length t → IsPlaceTaken t q
         taken q m = go (cases_eq q p)
           where
-            go : (q ≡ p) ⊎ (q ≡ p → ⊥) → IsTaken t q
+            go : (q ≡ p) ⊎ (q ≡ p → ⊥) → IsPlaceTaken t q
             go (inl s) = (k, rw s here)
             go (inr d) = let f = passes q m (before_round (length t) (hash_place (length t) a) p q start l m d e) in (f.0, f.1)
 
@@ -82,5 +82,5 @@ module _ (es : List Entry) (t : List (Option ℕ)) (h : IsTable es t) where
               let o : k ≡ f.0 = cc (f.1, here) in
               f.2 (rw (← o) e)
           go (inr (inr s)) =
-              let f : IsTaken t p = h.reached k m p l (rw e s) in
+              let f : IsPlaceTaken t p = h.reached k m p l (rw e s) in
               cc (f.1)

@@ -5,7 +5,7 @@ use Rattle.std.proofs.lemmas.Bool.{cases_eq}
 use Rattle.std.proofs.lemmas.Nat.{pow_pos}
 use Rattle.std.proofs.lemmas.List.{get_or-set_same, get_or-set_other, get_or_append_left, get_or_push, get_or_default, get_or-replicate, length-replicate}
 use Rattle.of_wset.specs.declared.table.Entry.{Entry}
-use Rattle.of_wset.specs.Table.{entry_at, slot_at, no_entry, IsTaken, ReachesPlace, IsFree, IsWriteSet}
+use Rattle.of_wset.specs.Table.{entry_at, slot_at, no_entry, IsPlaceTaken, ReachesPlace, IsFree, IsWriteSet}
 use Rattle.of_wset.proofs.Lookups.{taken_below}
 use Rattle.of_wset.proofs.Maps.{few}
 
@@ -30,7 +30,7 @@ none_written room t capacity fits spare size free = record {
 }
 
 -- what more places are taken reach, the walks that were there reach
-reaches_more : (t u : List (Option ℕ)) → length u ≡ length t → ((q : ℕ) → IsTaken t q → IsTaken u q) → (a p : ℕ) → ReachesPlace t a p → ReachesPlace u a p
+reaches_more : (t u : List (Option ℕ)) → length u ≡ length t → ((q : ℕ) → IsPlaceTaken t q → IsPlaceTaken u q) → (a p : ℕ) → ReachesPlace t a p → ReachesPlace u a p
 reaches_more t u e more a p r q l s = more q (r q (rw e at l) (rw e at s))
 
 -- entry k has another value
@@ -99,10 +99,10 @@ module _ (room : ℕ) (es : List Entry) (t : List (Option ℕ)) (capacity : ℕ)
   held_old : (q : ℕ) → (q ≡ f.place → ⊥) → slot_at (set t f.place (Some (length es))) q ≡ slot_at t q
   held_old q d = get_or-set_other t f.place q (Some (length es)) None d
 
-  taken_more : (q : ℕ) → IsTaken t q → IsTaken (set t f.place (Some (length es))) q
+  taken_more : (q : ℕ) → IsPlaceTaken t q → IsPlaceTaken (set t f.place (Some (length es))) q
   taken_more q i = go (cases_eq q f.place)
     where
-      go : (q ≡ f.place) ⊎ (q ≡ f.place → ⊥) → IsTaken (set t f.place (Some (length es))) q
+      go : (q ≡ f.place) ⊎ (q ≡ f.place → ⊥) → IsPlaceTaken (set t f.place (Some (length es))) q
       go (inl e) = (length es, rw e held_new)
       go (inr d) = (i.0, held_old q d ∙ i.1)
 

@@ -27,12 +27,12 @@ abbrev pub slot_at : List (Option ℕ) → ℕ → Option ℕ
 slot_at t p = slice_index_or t p None
 
 -- some entry has the place
-abbrev pub IsTaken : List (Option ℕ) → ℕ → Type 0
-IsTaken t p = (k : ℕ) × (slot_at t p ≡ Some k)
+abbrev pub IsPlaceTaken : List (Option ℕ) → ℕ → Type 0
+IsPlaceTaken t p = (k : ℕ) × (slot_at t p ≡ Some k)
 
 -- every place on the walk for an address, up to the place p, is taken
 abbrev pub ReachesPlace : List (Option ℕ) → (addr p : ℕ) → Type 0
-ReachesPlace t a p = (q : ℕ) → q < length t → walk_steps (length t) (hash_place (length t) a) q < walk_steps (length t) (hash_place (length t) a) p → IsTaken t q
+ReachesPlace t a p = (q : ℕ) → q < length t → walk_steps (length t) (hash_place (length t) a) q < walk_steps (length t) (hash_place (length t) a) p → IsPlaceTaken t q
 
 -- a taken place is that of an entry, and each entry stands at its place, which the walk for its address reaches
 pub record IsTable (es : List Entry) (t : List (Option ℕ)) : Type 0 where

@@ -16,7 +16,7 @@ use Rattle.of_plan.specs.Report.{Start}
 use Rattle.of_eval.specs.Shapes.{IsHeldBy}
 use Rattle.of_eval.specs.Lawful.{reply_in, OwnCellsAreSound, DataCellsStandFor}
 use Rattle.of_eval.specs.Record.{IsLawfulRecord}
-use Rattle.of_report.specs.ImageRow.{DurableRow, IsRow, numbers_in}
+use Rattle.of_report.specs.ImageRow.{DurableRow, IsRow, data_numbers_in}
 use Rattle.of_report.specs.Image.{Image, IsRestored, start_of_image}
 use Rattle.of_image.specs.declared.version.Version.TheVariants.{Two}
 use Rattle.of_image.specs.Parsed.{ReadsImage}
@@ -72,7 +72,7 @@ first_none_newer a l =
     at_most_one (seq_of (get_or first_words (data_cell 1 a) 0))
     (subst (λ (n : ℕ). n < 2) (sym (each_of 81 (λ (a : ℕ). seq_of (get_or first_words (data_cell 1 a) 0)) seqs refl a l)) (all_below 2 seqs (lit< tt) refl a))
 
-first_numbers : numbers_in MOST_INSTRS first_row ≡ cells_with 1 65536 0 7
+first_numbers : data_numbers_in MOST_INSTRS first_row ≡ cells_with 1 65536 0 7
 unfolding pack payload_of
 first_numbers = refl
 

@@ -6,7 +6,7 @@ use Rattle.of_cell.specs.Words.{pack}
 use Rattle.of_core.specs.Table.{setup_of}
 use Rattle.of_core.specs.Starts.{IsStartRow}
 use Rattle.of_eval.specs.declared.scripts.Scripts.{Scripts}
-use Rattle.of_eval.specs.Scripts.{data_cells_of, scripts_meaning, LawfulCells}
+use Rattle.of_eval.specs.Scripts.{scripts_data_cells, scripts_meaning, LawfulCells}
 
 -- one caller without blocks
 abbrev pub alone : Scripts
@@ -19,4 +19,4 @@ stored_row s request = pack s 0 ∷ request ∷ pack s 1 ∷ pack s 65536 ∷ pa
 -- a table of these scripts may start from the row
 abbrev pub MayStartFrom : Scripts → (limit : ℕ) → List ℕ → Type 0
 MayStartFrom scripts limit row =
-    IsStartRow (setup_of scripts.callers (data_cells_of scripts) limit (scripts_meaning scripts)) (LawfulCells scripts) row
+    IsStartRow (setup_of scripts.callers (scripts_data_cells scripts) limit (scripts_meaning scripts)) (LawfulCells scripts) row

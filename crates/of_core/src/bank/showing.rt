@@ -6,7 +6,7 @@ ghost use Rattle.std.proofs.Common.{get_or};
 ghost use Rattle.of_core.specs.declared.place.Place.TheVariants.{Idle};
 ghost use Rattle.of_core.specs.Table.{words_before_members};
 ghost use Rattle.of_core.specs.Seen.{ended_outcome};
-ghost use Rattle.of_core.specs.Helping.{steps_left_after_help};
+ghost use Rattle.of_core.specs.Helping.{helped_owner};
 ghost use Rattle.of_core.specs.Inside.{call_value};
 ghost use Rattle.of_core.specs.Steps.{want, word_of};
 ghost use Rattle.of_core.specs.Moment.{machine_of, bank_setup, table_word_count};
@@ -46,7 +46,7 @@ impl<W: Work> Bank<W> {
     /// Whose log a caller's call copies or applies, where it helps another caller.
     pub fn helped(&self, caller: u32) -> Option<u32>
         requires { caller < self.now.callers }
-        ensures { result ≡ steps_left_after_help (machine_of self.now caller) }
+        ensures { result ≡ helped_owner (machine_of self.now caller) }
     {
         self.machines[caller as usize].helped()
     }

@@ -6,7 +6,7 @@ ghost use Rattle.std.proofs.Common.{take, drop};
 ghost use Rattle.of_cell.specs.declared.shape.TheConstants.{MOST_DATA_CELLS};
 ghost use Rattle.of_mem.specs.declared.work.TheConstants.{MOST_INSTRS};
 ghost use Rattle.of_mem.specs.Pairs.{put_all};
-ghost use Rattle.of_core.specs.Machine.{log_of, log_words, own_cells, reply_cells, rotated};
+ghost use Rattle.of_core.specs.Machine.{log_of, log_words, own_cells, reply_cell_pairs, entries_going_round};
 ghost use Rattle.of_core.specs.Steps.{first_marked_place};
 
 use of_mem::{Keeps, LEAST_ABORT, MOST_INSTRS, RawReply, Workspace};
@@ -30,7 +30,7 @@ fn put_reply<W: Keeps>(part: &mut Workspace<W>, row: u32, count: u32, raw: &RawR
     requires room { row + 2 + MOST_INSTRS ≤ length part.old.known }
     requires small { length part.old.known ≤ MOST_DATA_CELLS }
     requires count { count ≤ MOST_INSTRS }
-    ensures script { part.new.script ≡ put_all part.old.script (reply_cells row count raw.now) }
+    ensures script { part.new.script ≡ put_all part.old.script (reply_cell_pairs row count raw.now) }
     ensures known { part.new.known ≡ part.old.known }
     ensures batch { part.new.batch ≡ part.old.batch }
 {
@@ -72,7 +72,7 @@ fn put_some(log: &mut WriteSet, copy: &[u32], from: u32, to: u32)
 /// entries.
 pub fn put_copy(log: &mut WriteSet, copy: &[u32], helper: u32)
     requires { (es : List (ℕ × ℕ)) × (copy.now ≡ log_words es) × All (λ (e : ℕ × ℕ). e.0 < log.old.room) es }
-    ensures { log.new ≡ record log.old { entries = put_all log.old.entries (rotated (helper % length (log_of copy.now)) (log_of copy.now)) } }
+    ensures { log.new ≡ record log.old { entries = put_all log.old.entries (entries_going_round (helper % length (log_of copy.now)) (log_of copy.now)) } }
 {
     let count = copy[0];
     if count > 0 {

@@ -1,7 +1,7 @@
 //! What a machine shows of the step that it makes next, and of the batch that it would commit.
 
 ghost use Rattle.std.specs.Prelude.{◌≡◌, map};
-ghost use Rattle.of_core.specs.Helping.{steps_left_after_help};
+ghost use Rattle.of_core.specs.Helping.{helped_owner};
 ghost use Rattle.of_core.specs.Inside.{call_value};
 
 use crate::machine::Machine;
@@ -20,7 +20,7 @@ impl<W: Work> Machine<W> {
 
     /// Whose log the call copies or applies, where it helps another caller.
     pub fn helped(&self) -> Option<u32>
-        ensures { result ≡ steps_left_after_help self.now.call }
+        ensures { result ≡ helped_owner self.now.call }
     {
         if self.helps { Some(self.owner) } else { None }
     }

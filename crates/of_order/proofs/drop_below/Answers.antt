@@ -4,7 +4,7 @@ use Rattle.of_mem.specs.declared.plot.TheConstants.{BUCKETS}
 use Rattle.of_mem.specs.Plots.{base}
 use Rattle.of_mem.specs.Programs.{Program, run_program}
 use Rattle.of_mem.proofs.Runs.{run_then_gives, run_then_needs}
-use Rattle.of_order.specs.OrderPrograms.{drop_below, drop_in, drop_buckets, count_down}
+use Rattle.of_order.specs.OrderPrograms.{drop_below, drop_in, drop_buckets, count_gone}
 use Rattle.of_order.proofs.Walking.{comes_to}
 use Rattle.of_order.proofs.DropWalks.{begins, next_bucket, all_dropped, drop_bucket, no_bucket}
 use Rattle.of_order.proofs.Drops.{drop_acts}
@@ -44,7 +44,7 @@ count_down-requires c = all_dropped c.args.plot.now c.loop-bucket.part c.args.ke
 
 pub returns-clause-runs : goal.returns-clause-runs
 returns-clause-runs c =
-    comes_to (drop_below c.args.plot.now c.args.key) (count_down c.args.plot.now c.loop-bucket.gone) c.args.part.now c.loop-bucket.part c.count_down.new.part c.count_down.result
+    comes_to (drop_below c.args.plot.now c.args.key) (count_gone c.args.plot.now c.loop-bucket.gone) c.args.part.now c.loop-bucket.part c.count_down.new.part c.count_down.result
     (c.loop-bucket.invariant.ran ∙ ap (λ (f : Program ℕ). run_program f c.loop-bucket.part) (no_bucket (base c.args.plot.now) c.args.plot.now.blocks c.args.key BUCKETS c.loop-bucket.bucket c.loop-bucket.gone (omega (arith, c.loop-bucket-test.false))))
     c.loop-bucket.invariant.known c.loop-bucket.invariant.batch c.count_down.ensures
 

@@ -242,7 +242,7 @@ struct Tracing {
 
 impl Tracing {
     ghost use Rattle.std.specs.Prelude.{◌≡◌, ◌<◌, ◌≤◌, [], ◌∷◌, IfOk, OnOk, replicate};
-    ghost use Rattle.of_plan.specs.Plan.{IsItem};
+    ghost use Rattle.of_plan.specs.Plan.{IsScheduleItem};
     ghost use Rattle.of_core.specs.Events.{Turns};
     ghost use Rattle.of_play.specs.Play.{item_events};
     ghost use Rattle.of_play.specs.Tracing.{event_of, IsEvent, IsTracing, TracesOn};
@@ -303,7 +303,7 @@ impl Tracing {
 
     /// Makes the events of an item of the schedule.
     fn item(&mut self, plan: &Plan, item: Item) -> Result<(), AllocError>
-        requires item { IsItem plan.now item }
+        requires item { IsScheduleItem plan.now item }
         requires tracing { IsTracing plan.now self.old }
         ensures { OnOk result (TracesOn plan.now (item_events item) self.old self.new) }
     {

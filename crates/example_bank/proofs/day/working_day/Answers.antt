@@ -1,6 +1,6 @@
 use Rattle.std.proofs.Common.{ℕ, refl, List, [], ◌∷◌, map, arith, ◌∙◌, ap}
 use Rattle.of_cell.specs.Words.{payload_of}
-use Rattle.of_eval.specs.Scripts.{data_cells_of}
+use Rattle.of_eval.specs.Scripts.{scripts_data_cells}
 use Rattle.example_bank.specs.declared.books.TheConstants.{LIMIT}
 use Rattle.example_bank.specs.declared.day.Day.{Day}
 use Rattle.example_bank.specs.Books.{start_in}
@@ -41,7 +41,7 @@ returns-clause-money g c =
     let scripts = c.in_ok-closed.ensures.scripts in
     let h = c.in_ok-closed.ensures.ledger in
     ap (λ w. money_of_numbers w (map payload_of (start_in closed).cells)) scripts
-    ∙ money_kept b.scripts (start_in b) (start_in closed) c.requires.may_start.start.size (c.in_ok-closed.ensures.books.may_start.start.size ∙ ap data_cells_of scripts) transfers_keep
+    ∙ money_kept b.scripts (start_in b) (start_in closed) c.requires.may_start.start.size (c.in_ok-closed.ensures.books.may_start.start.size ∙ ap scripts_data_cells scripts) transfers_keep
     c.requires.may_start.lawful h.entries h.ledger (λ i. to_do_of (job_of c.args.jobs i)) h.origin (λ i l. are_balanced (job_of c.args.jobs i).to_do.items)
 
 pub told-requires-clause-counts : goal.told-requires-clause-counts

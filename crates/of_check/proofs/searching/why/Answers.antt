@@ -2,7 +2,7 @@ use Rattle.std.proofs.Common.{◌≡◌, replicate, ◌∙◌, subst}
 use Rattle.of_store.specs.State.{empty_store}
 use Rattle.of_plan.specs.Report.{Start, empty_start}
 use Rattle.of_report.specs.Report.{report_value}
-use Rattle.of_check.specs.Starts.{start_at, start_of}
+use Rattle.of_check.specs.Starts.{start_where_done, start_of}
 use Rattle.of_check.specs.Verdict.{IsTextOf}
 use Rattle.of_check.specs.Causes.{IsCauseFrom}
 use Rattle.of_check.proofs.Verdicts.{to_empty}
@@ -12,7 +12,7 @@ pub returns-in-Ok : goal.returns-in-Ok
 returns-in-Ok c =
     let p = c.args.plan.now in
     let text = c.args.text.now in
-    let start : start_of c.in_ok-start.start ≡ empty_start p = c.in_ok-start.ensures ∙ (λ i. start_at 0 (replicate (c.callers.ensures.value i) 0) (empty_store (c.blocks-2.ensures.value i))) in
+    let start : start_of c.in_ok-start.start ≡ empty_start p = c.in_ok-start.ensures ∙ (λ i. start_where_done 0 (replicate (c.callers.ensures.value i) 0) (empty_store (c.blocks-2.ensures.value i))) in
     let report = report_value c.in-Ok.field-0 in
     to_empty p text (record { report = report; of_it = subst (λ (s : Start). IsTextOf p s text report) start (rw c.in-Ok.is at c.in_ok-report_or_cause.ensures) })
 
@@ -20,5 +20,5 @@ pub returns : goal.returns
 returns c =
     let p = c.args.plan.now in
     let text = c.args.text.now in
-    let start : start_of c.in_ok-start.start ≡ empty_start p = c.in_ok-start.ensures ∙ (λ i. start_at 0 (replicate (c.callers.ensures.value i) 0) (empty_store (c.blocks-2.ensures.value i))) in
+    let start : start_of c.in_ok-start.start ≡ empty_start p = c.in_ok-start.ensures ∙ (λ i. start_where_done 0 (replicate (c.callers.ensures.value i) 0) (empty_store (c.blocks-2.ensures.value i))) in
     subst (λ (s : Start). IsCauseFrom p s text c.in-Err.cause) start (rw c.in-Err.is at c.in_ok-report_or_cause.ensures)

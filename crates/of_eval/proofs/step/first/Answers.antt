@@ -1,8 +1,8 @@
 use Rattle.std.proofs.Common.{rules, refl, Ok}
 use Rattle.of_mem.proofs.Calls.{goes_on}
-use Rattle.of_order.specs.OrderPrograms.{first}
+use Rattle.of_order.specs.OrderPrograms.{first_program}
 use Rattle.of_eval.specs.ScriptPrograms.{answer_program}
 use Rattle.of_eval.proofs.step.first.Goals as goal
 
 pub returns : goal.returns
-returns c = goes_on (first c.args.plot.now) answer_program _ _ _ _ c.in_ok-key.key (Ok (Ok c.in_ok-key.key)) c.in_ok-key.ensures.runs refl (search rules)
+returns c = goes_on (first_program c.args.plot.now) answer_program _ _ _ _ c.in_ok-key.key (Ok (Ok c.in_ok-key.key)) c.in_ok-key.ensures.runs refl (search rules)

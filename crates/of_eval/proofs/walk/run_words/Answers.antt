@@ -4,7 +4,7 @@ use Rattle.of_mem.specs.Pad.{Part}
 use Rattle.of_mem.specs.Plots.{base}
 use Rattle.of_mem.specs.Programs.{Ends, run_program}
 use Rattle.of_mem.specs.Calls.{RunsProgram}
-use Rattle.of_mem.specs.Remains.{IsRunOf, begin}
+use Rattle.of_mem.specs.Remains.{IsSuspensionOf, begin_run}
 use Rattle.of_script.specs.declared.instr.TheConstants.{MOST_INSTRS}
 use Rattle.of_store.proofs.Values.{small_values, none_left}
 use Rattle.of_eval.specs.ScriptPrograms.{InstrResult}
@@ -18,8 +18,8 @@ use Rattle.of_eval.proofs.walk.run_words.Goals.{then-not-is_of, else-not-is_of}
 pub loop-i-init : goal.loop-i-init
 loop-i-init c = elim c.if-not-is_of.branch [
   | then-not-is_of w ↦ (
-      let new : c.if-not-is_of.kept ≡ begin c.args.kept.now.room c.args.plot.now.callers c.args.plot.now.blocks c.args.op.now = w.kept-is ∙ w.begin.ensures in
-      let of : IsRunOf c.if-not-is_of.kept c.args.plot.now.callers c.args.plot.now.blocks c.args.op.now = rw new (record { callers = refl; blocks = refl; words = refl }) in
+      let new : c.if-not-is_of.kept ≡ begin_run c.args.kept.now.room c.args.plot.now.callers c.args.plot.now.blocks c.args.op.now = w.kept-is ∙ w.begin.ensures in
+      let of : IsSuspensionOf c.if-not-is_of.kept c.args.plot.now.callers c.args.plot.now.blocks c.args.op.now = rw new (record { callers = refl; blocks = refl; words = refl }) in
       let goes : MayResume (base c.args.plot.now) c.args.plot.now.blocks c.if-not-is_of.kept c.args.part.now = rw new (begun_goes (base c.args.plot.now) c.args.plot.now.blocks c.args.kept.now.room c.args.plot.now.callers c.args.plot.now.blocks c.args.op.now c.args.part.now c.requires.words.some) in
       record {
         of = of;
@@ -31,7 +31,7 @@ loop-i-init c = elim c.if-not-is_of.branch [
       })
   | else-not-is_of w ↦ (
       let was = c.is_of.ensures.0 w.if-not-is_of.false in
-      let of : IsRunOf c.if-not-is_of.kept c.args.plot.now.callers c.args.plot.now.blocks c.args.op.now = rw w.kept-is was in
+      let of : IsSuspensionOf c.if-not-is_of.kept c.args.plot.now.callers c.args.plot.now.blocks c.args.op.now = rw w.kept-is was in
       let goes : MayResume (base c.args.plot.now) c.args.plot.now.blocks c.if-not-is_of.kept c.args.part.now = rw w.kept-is (goes_there c.args.plot.now c.args.kept.now c.args.part.now c.args.op.now was c.requires.instrs c.requires.words.some c.requires.holds) in
       record {
         of = of;

@@ -1,12 +1,12 @@
 use Rattle.std.proofs.Common.{◌≡◌, ◌<◌, length}
 use Rattle.of_mem.specs.Plots.{base}
-use Rattle.of_mem.specs.Remains.{IsRunOf}
+use Rattle.of_mem.specs.Remains.{IsSuspensionOf}
 use Rattle.of_eval.specs.Stopped.{part_with, MayResume}
 use Rattle.of_eval.proofs.walk.run_words.Given as goal
 
 abbrev pub invariant-loop-i : goal.invariant-loop-i
 invariant-loop-i l = record {
-  of : IsRunOf l.kept l.fn.plot.callers l.fn.plot.blocks l.fn.op;
+  of : IsSuspensionOf l.kept l.fn.plot.callers l.fn.plot.blocks l.fn.op;
   done : l.kept.done ≡ l.i;
   below : l.i < length l.fn.op;
   goes : MayResume (base l.fn.plot) l.fn.plot.blocks l.kept l.fn.part;

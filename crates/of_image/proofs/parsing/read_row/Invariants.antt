@@ -1,12 +1,12 @@
 use Rattle.std.proofs.Common.{◌+◌, ◌≤◌, length}
 use Rattle.of_plan.specs.Lines.{text_lines}
-use Rattle.of_image.specs.ImageReading.{reading_value, nothing_read, image_language, image_reader}
+use Rattle.of_image.specs.ImageReading.{row_reading_value, no_row_read, image_language, image_reader}
 use Rattle.of_plan.proofs.Readings.{IsReading}
 use Rattle.of_image.proofs.parsing.read_row.Given as goal
 
 abbrev pub invariant-loop-reading : goal.invariant-loop-reading
 invariant-loop-reading l = record {
-  read : IsReading image_language (image_reader l.version) nothing_read l.text (text_lines l.rest) l.number (reading_value l.reading);
+  read : IsReading image_language (image_reader l.version) no_row_read l.text (text_lines l.rest) l.number (row_reading_value l.reading);
   count : l.number + length l.rest ≤ length l.text;
 }
 

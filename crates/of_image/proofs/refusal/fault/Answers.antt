@@ -1,7 +1,7 @@
 use Rattle.std.proofs.Common.{◌≡◌}
 use Rattle.of_report.specs.ImageRow.{row_in}
 use Rattle.of_image.specs.declared.law.RowErr.TheVariants.{Unlawful}
-use Rattle.of_image.specs.ImageReading.{reading_value, row_read}
+use Rattle.of_image.specs.ImageReading.{row_reading_value, row_read}
 use Rattle.of_image.proofs.ImageFacts.{plot_faulty, plot_read}
 use Rattle.of_image.proofs.refusal.fault.Goals as goal
 use Rattle.of_image.proofs.refusal.fault.Goals.{in-Ok-restore, in-Err-Unlawful, in-Err-Memory}
@@ -9,7 +9,7 @@ use Rattle.of_image.proofs.refusal.fault.Goals.{in-Ok-restore, in-Err-Unlawful, 
 pub returns : goal.returns
 returns c =
     let v = c.args.version in
-    let r = row_read (reading_value c.in-Ok.reading) in
+    let r = row_read (row_reading_value c.in-Ok.reading) in
     let p = c.plot_of-plot.result in
     let is : row_in p r.words ≡ r = λ i. record { callers = c.plot_of-plot.ensures.callers i; blocks = c.plot_of-plot.ensures.blocks i; words = r.words } in
     elim c.match-restore.branch [

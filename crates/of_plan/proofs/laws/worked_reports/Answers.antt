@@ -5,7 +5,7 @@ use Rattle.std.proofs.lemmas.List.Folds.{list_any-from_Any}
 use Rattle.of_store.specs.State.{Store, Reply, Answered, register}
 use Rattle.of_plan.specs.Plan.{bound_of}
 use Rattle.of_plan.specs.Report.{Entry}
-use Rattle.of_plan.specs.Legal.{IsWithinBound}
+use Rattle.of_plan.specs.Legal.{LineIsWithinBound}
 use Rattle.of_plan.specs.Worked.{two_callers, both_done, sequence_left_out}
 use Rattle.of_plan.proofs.HistoriesWorked.{worked_is_legal}
 use Rattle.of_plan.proofs.laws.worked_reports.Goals as goal
@@ -39,4 +39,4 @@ pub returns-clause-endings : goal.returns-clause-endings
 returns-clause-endings c l = let e = l.endings 1 (omega arith) in absurd (omega (arith, e))
 
 pub returns-clause-within_bound : goal.returns-clause-within_bound
-returns-clause-within_bound c l = let w = All-head (IsWithinBound two_callers) (record both_done { longest = bound_of two_callers + 1 }) [] (All-tail (IsWithinBound two_callers) both_done (record both_done { longest = bound_of two_callers + 1 } ∷ []) l.within_bound) in absurd (omega (arith, w.0))
+returns-clause-within_bound c l = let w = All-head (LineIsWithinBound two_callers) (record both_done { longest = bound_of two_callers + 1 }) [] (All-tail (LineIsWithinBound two_callers) both_done (record both_done { longest = bound_of two_callers + 1 } ∷ []) l.within_bound) in absurd (omega (arith, w.0))

@@ -1,15 +1,15 @@
 use Rattle.std.proofs.Common.{◌≡◌, ℕ, List, [], true, false, Some, None, refl, sym, ap, subst, ◌∙◌, arith}
 use Rattle.std.proofs.lemmas.List.{nil_from_length}
 use Rattle.std.proofs.lemmas.Slice.Eq.{bytes_eq-Decides}
-use Rattle.of_plan.specs.LineTable.{form_name, form_named}
+use Rattle.of_plan.specs.LineTable.{form_name, line_form_named}
 use Rattle.of_plan.proofs.LineLaws.{name_is, none_named}
 use Rattle.of_plan.proofs.line.form_named.Goals as goal
 
 pub returns-then-is_empty : goal.returns-then-is_empty
-unfolding form_named
+unfolding line_form_named
 returns-then-is_empty c =
     let none : c.args.name.now ≡ [] = nil_from_length _ (grind arith) in
-    subst (λ (name : List ℕ). None ≡ form_named name) (sym none) refl
+    subst (λ (name : List ℕ). None ≡ line_form_named name) (sym none) refl
 
 pub returns-in_err-form : goal.returns-in_err-form
 returns-in_err-form c =

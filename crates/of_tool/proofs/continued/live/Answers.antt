@@ -10,7 +10,7 @@ use Rattle.of_report.specs.ImageRow.{row_in}
 use Rattle.of_image.specs.declared.version.Version.TheVariants.{Two}
 use Rattle.of_image.specs.ImageText.{image_text, SpellsImage}
 use Rattle.of_caller.specs.InTime.{course_of}
-use Rattle.of_lives.specs.Restarts.{start_of_row}
+use Rattle.of_lives.specs.Restarts.{start_from_row}
 use Rattle.of_tool.proofs.Promises.{history_of}
 use Rattle.of_tool.proofs.continued.live.Goals as goal
 
@@ -38,16 +38,16 @@ returns g c =
     let told = c.in_ok-report.ensures in
     let i = image_value c.args.image.now in
     let handed = told.team.handed in
-    let run = c.reports_respect_time.ensures.teams (start_of_image i) (start_of_row p i.row.words) e handed.sight handed.team in
+    let run = c.reports_respect_time.ensures.teams (start_of_image i) (start_from_row p i.row.words) e handed.sight handed.team in
     let leaves = told.leaves in
     let left : c.in_ok-left.left.items ≡ image_text Two (durable_row p e) = c.in_ok-left.ensures.text ∙ ap (image_text Two) row in
     let again : SpellsImage Two (image_text Two (durable_row p e)) (durable_row p e) = subst (λ (t : List ℕ). SpellsImage Two t (durable_row p e)) left (subst (SpellsImage Two c.in_ok-left.left.items) row c.in_ok-left.ensures.again) in
     record {
       report = report_value c.in_ok-report.field-0.report;
       life = record {
-        course = course_of p (start_of_row p i.row.words) run.0;
+        course = course_of p (start_from_row p i.row.words) run.0;
         promises = record {
-          history = history_of p (start_of_image i) e (report_value c.in_ok-report.field-0.report) told.report (course_of p (start_of_row p i.row.words) run.0) (run.2 (report_value c.in_ok-report.field-0.report) told.report.lawful);
+          history = history_of p (start_of_image i) e (report_value c.in_ok-report.field-0.report) told.report (course_of p (start_from_row p i.row.words) run.0) (run.2 (report_value c.in_ok-report.field-0.report) told.report.lawful);
           stops = told.stops;
           allowances = told.allowances;
         };

@@ -2,7 +2,7 @@ use Rattle.std.proofs.Common.{sym, subst}
 use Rattle.std.specs.FinMap as fin
 use Rattle.of_mem.specs.Meaning.{HasDistinctCells}
 use Rattle.of_mem.proofs.Writes.{once_none}
-use Rattle.of_map.specs.MapPrograms.{put, del}
+use Rattle.of_map.specs.MapPrograms.{put_in_map, del}
 use Rattle.of_map.specs.Means.{answer_of_put, after_put, after_del}
 use Rattle.of_order.specs.OrderPrograms.{drop_below}
 use Rattle.of_order.specs.Means.{dropped_count, after_drop}
@@ -13,22 +13,22 @@ use Rattle.test_cells.proofs.Keeps.{once_run}
 use Rattle.test_cells.proofs.structures.answer.Goals as goal
 
 pub returns-in-Full-clause-stands : goal.returns-in-Full-clause-stands
-returns-in-Full-clause-stands c = acted c.args.plot.now (put c.args.plot.now c.in-Put.key c.in-Put.value) c.args.part.now c.put.new.part c.in_ok-put-in-Put.field-0 (answer_of_put c.args.plot.now.blocks c.in-Put.key) (after_put c.args.plot.now.blocks c.in-Put.key c.in-Put.value) c.requires.stands c.in_ok-put-in-Put.ensures.runs c.in_ok-put-in-Put.ensures.puts.acts
+returns-in-Full-clause-stands c = acted c.args.plot.now (put_in_map c.args.plot.now c.in-Put.key c.in-Put.value) c.args.part.now c.put.new.part c.in_ok-put-in-Put.field-0 (answer_of_put c.args.plot.now.blocks c.in-Put.key) (after_put c.args.plot.now.blocks c.in-Put.key c.in-Put.value) c.requires.stands c.in_ok-put-in-Put.ensures.runs c.in_ok-put-in-Put.ensures.puts.acts
 
 pub returns-in-Full-clause-once : goal.returns-in-Full-clause-once
-returns-in-Full-clause-once c = once_run (put c.args.plot.now c.in-Put.key c.in-Put.value) c.args.part.now c.put.new.part c.in_ok-put-in-Put.field-0 (subst HasDistinctCells (sym c.requires.empty) once_none) c.in_ok-put-in-Put.ensures.runs.walk
+returns-in-Full-clause-once c = once_run (put_in_map c.args.plot.now c.in-Put.key c.in-Put.value) c.args.part.now c.put.new.part c.in_ok-put-in-Put.field-0 (subst HasDistinctCells (sym c.requires.empty) once_none) c.in_ok-put-in-Put.ensures.runs.walk
 
 pub returns-in-New-clause-stands : goal.returns-in-New-clause-stands
-returns-in-New-clause-stands c = acted c.args.plot.now (put c.args.plot.now c.in-Put.key c.in-Put.value) c.args.part.now c.put.new.part c.in_ok-put-in-Put.field-0 (answer_of_put c.args.plot.now.blocks c.in-Put.key) (after_put c.args.plot.now.blocks c.in-Put.key c.in-Put.value) c.requires.stands c.in_ok-put-in-Put.ensures.runs c.in_ok-put-in-Put.ensures.puts.acts
+returns-in-New-clause-stands c = acted c.args.plot.now (put_in_map c.args.plot.now c.in-Put.key c.in-Put.value) c.args.part.now c.put.new.part c.in_ok-put-in-Put.field-0 (answer_of_put c.args.plot.now.blocks c.in-Put.key) (after_put c.args.plot.now.blocks c.in-Put.key c.in-Put.value) c.requires.stands c.in_ok-put-in-Put.ensures.runs c.in_ok-put-in-Put.ensures.puts.acts
 
 pub returns-in-New-clause-once : goal.returns-in-New-clause-once
-returns-in-New-clause-once c = once_run (put c.args.plot.now c.in-Put.key c.in-Put.value) c.args.part.now c.put.new.part c.in_ok-put-in-Put.field-0 (subst HasDistinctCells (sym c.requires.empty) once_none) c.in_ok-put-in-Put.ensures.runs.walk
+returns-in-New-clause-once c = once_run (put_in_map c.args.plot.now c.in-Put.key c.in-Put.value) c.args.part.now c.put.new.part c.in_ok-put-in-Put.field-0 (subst HasDistinctCells (sym c.requires.empty) once_none) c.in_ok-put-in-Put.ensures.runs.walk
 
 pub returns-in-Over-clause-stands : goal.returns-in-Over-clause-stands
-returns-in-Over-clause-stands c = acted c.args.plot.now (put c.args.plot.now c.in-Put.key c.in-Put.value) c.args.part.now c.put.new.part c.in_ok-put-in-Put.field-0 (answer_of_put c.args.plot.now.blocks c.in-Put.key) (after_put c.args.plot.now.blocks c.in-Put.key c.in-Put.value) c.requires.stands c.in_ok-put-in-Put.ensures.runs c.in_ok-put-in-Put.ensures.puts.acts
+returns-in-Over-clause-stands c = acted c.args.plot.now (put_in_map c.args.plot.now c.in-Put.key c.in-Put.value) c.args.part.now c.put.new.part c.in_ok-put-in-Put.field-0 (answer_of_put c.args.plot.now.blocks c.in-Put.key) (after_put c.args.plot.now.blocks c.in-Put.key c.in-Put.value) c.requires.stands c.in_ok-put-in-Put.ensures.runs c.in_ok-put-in-Put.ensures.puts.acts
 
 pub returns-in-Over-clause-once : goal.returns-in-Over-clause-once
-returns-in-Over-clause-once c = once_run (put c.args.plot.now c.in-Put.key c.in-Put.value) c.args.part.now c.put.new.part c.in_ok-put-in-Put.field-0 (subst HasDistinctCells (sym c.requires.empty) once_none) c.in_ok-put-in-Put.ensures.runs.walk
+returns-in-Over-clause-once c = once_run (put_in_map c.args.plot.now c.in-Put.key c.in-Put.value) c.args.part.now c.put.new.part c.in_ok-put-in-Put.field-0 (subst HasDistinctCells (sym c.requires.empty) once_none) c.in_ok-put-in-Put.ensures.runs.walk
 
 pub returns-in_ok-del-in-Del-clause-stands : goal.returns-in_ok-del-in-Del-clause-stands
 returns-in_ok-del-in-Del-clause-stands c = acted c.args.plot.now (del c.args.plot.now c.in-Del.key) c.args.part.now c.del.new.part c.in_ok-del-in-Del.field-0 (λ s. fin.get s.map c.in-Del.key) (after_del c.in-Del.key) c.requires.stands c.in_ok-del-in-Del.ensures.runs c.in_ok-del-in-Del.ensures.acts

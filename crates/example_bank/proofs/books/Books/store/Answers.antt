@@ -3,7 +3,7 @@ use Rattle.std.specs.Prelude.{slice_range}
 use Rattle.of_cell.specs.Words.{payload_of}
 use Rattle.std.proofs.lemmas.List.{length-take-le, length-drop}
 use Rattle.of_cell.specs.Cells.{data_cell}
-use Rattle.of_eval.specs.Scripts.{data_cells_of}
+use Rattle.of_eval.specs.Scripts.{scripts_data_cells}
 use Rattle.example_bank.specs.Books.{start_in}
 use Rattle.example_bank.proofs.Accounts.{held, store_stands}
 use Rattle.example_bank.proofs.books.Books.store.Goals as goal
@@ -24,7 +24,7 @@ pub returns-clause-money : goal.returns-clause-money
 returns-clause-money c =
     let b = c.args.self.now in
     let first = data_cell b.scripts.callers 0 in
-    let same : first + data_cells_of b.scripts - first ≡ data_cells_of b.scripts = omega arith in
-    let long : length (start_in b).cells ≡ data_cells_of b.scripts =
-    length-take-le (first + data_cells_of b.scripts - first) (drop first b.row.items) (omega (arith, length-drop first b.row.items, c.requires.long)) ∙ same in
+    let same : first + scripts_data_cells b.scripts - first ≡ scripts_data_cells b.scripts = omega arith in
+    let long : length (start_in b).cells ≡ scripts_data_cells b.scripts =
+    length-take-le (first + scripts_data_cells b.scripts - first) (drop first b.row.items) (omega (arith, length-drop first b.row.items, c.requires.long)) ∙ same in
     sym (held b.scripts (start_in b) c.in_ok-store.store long (returns-clause-store c))

@@ -1,6 +1,6 @@
 use Rattle.std.proofs.Common.{◌≡◌, ◌+◌, ◌≤◌}
 use Rattle.of_core.specs.Seen.{machine_setup}
-use Rattle.of_row.specs.Rows.{key_of, setup_at, start_at}
+use Rattle.of_row.specs.Rows.{key_of, setup_at, row_start}
 use Rattle.of_caller.specs.Callers.{IsCaller, caller_call, sight_of}
 use Rattle.of_caller.specs.Brakes.{TakesSteps, AskedFor}
 use Rattle.of_caller.proofs.CallSteps.{Progress, left_of}
@@ -12,7 +12,7 @@ decreases-loop-asked g l = left_of (machine_setup g.W.Work.meaning l.self.machin
 abbrev pub invariant-loop-asked : goal.invariant-loop-asked
 invariant-loop-asked g l = record {
   caller : IsCaller g.W.Work.meaning l.row l.self;
-  progress : Progress (setup_at g.W.Work.meaning l.row) (g.W.Work.lawful (key_of l.row).work) (start_at g.W.Work.meaning l.row) (caller_call l.initial.self) (sight_of l.initial.self) l.asked (caller_call l.self) (sight_of l.self);
+  progress : Progress (setup_at g.W.Work.meaning l.row) (g.W.Work.lawful (key_of l.row).work) (row_start g.W.Work.meaning l.row) (caller_call l.initial.self) (sight_of l.initial.self) l.asked (caller_call l.self) (sight_of l.self);
   steps : l.steps ≡ l.initial.steps + l.asked;
   denials : (goal.Brake-dyn g (l.initial.brake.vtable, l.initial.brake.value)).denials l.initial.brake.value ≤ (goal.Brake-dyn g (l.brake.vtable, l.brake.value)).denials l.brake.value;
   uses : TakesSteps ((goal.Brake-dyn g (l.initial.brake.vtable, l.initial.brake.value)).left l.initial.brake.value) ((goal.Brake-dyn g (l.brake.vtable, l.brake.value)).left l.brake.value) l.asked;

@@ -2,7 +2,7 @@ use Rattle.std.proofs.Common.{◌≡◌, ℕ, ◌+◌, ◌<◌, [], ◌∷◌, l
 use Rattle.of_cell.specs.declared.word.TheConstants.{PAYLOADS}
 use Rattle.of_core.specs.Table.{Setup, setup_of}
 use Rattle.of_core.specs.Seen.{Machine, machine_setup}
-use Rattle.of_core.specs.Machine.{CallState, begin}
+use Rattle.of_core.specs.Machine.{CallState, begin_call}
 use Rattle.of_core.specs.Bank.{bank_value}
 use Rattle.of_core.specs.Moment.{Bank, call_states}
 use Rattle.of_core.specs.Events.{Begins}
@@ -23,8 +23,8 @@ invariant_of-self g c =
     let seen = seen_at b.work b.shape.callers b.shape.cells b.limit b.machines.items i s inv.alike here c.index_mut-machine.ensures.value in
     let same : machine_setup M s ≡ S = ap (machine_setup M) seen.0 in
     let t = c.begin.new.self in
-    let d : CallState = begin S s.call c.args.op.now in
-    let put : t ≡ record s { call = d } = c.begin.ensures ∙ ap (λ (T : Setup). record s { call = begin T s.call c.args.op.now }) same in
+    let d : CallState = begin_call S s.call c.args.op.now in
+    let put : t ≡ record s { call = d } = c.begin.ensures ∙ ap (λ (T : Setup). record s { call = begin_call T s.call c.args.op.now }) same in
     let machines : call_states (set b.machines.items i t) ≡ set (call_states b.machines.items) i d = held_put b.work b.shape.callers b.shape.cells b.limit b.machines.items i t d (ap (λ (x : Machine _). x.call) put) in
     let is_idle : s.call.place ≡ Idle = rw (← seen.1) (rw (← c.self.view_is) at c.requires.idle) in
     let made : s.call.made + 1 < PAYLOADS = rw (← seen.1) (rw (← c.self.view_is) at c.requires.made) in
@@ -52,8 +52,8 @@ returns g c =
     let seen = seen_at b.work b.shape.callers b.shape.cells b.limit b.machines.items i s inv.alike here c.index_mut-machine.ensures.value in
     let same : machine_setup M s ≡ S = ap (machine_setup M) seen.0 in
     let t = c.begin.new.self in
-    let d : CallState = begin S s.call c.args.op.now in
-    let put : t ≡ record s { call = d } = c.begin.ensures ∙ ap (λ (T : Setup). record s { call = begin T s.call c.args.op.now }) same in
+    let d : CallState = begin_call S s.call c.args.op.now in
+    let put : t ≡ record s { call = d } = c.begin.ensures ∙ ap (λ (T : Setup). record s { call = begin_call T s.call c.args.op.now }) same in
     let machines : call_states (set b.machines.items i t) ≡ set (call_states b.machines.items) i d = held_put b.work b.shape.callers b.shape.cells b.limit b.machines.items i t d (ap (λ (x : Machine _). x.call) put) in
     let old : Bank _ = bank_value b in
     carry M _ old _ (Begins i c.args.op.now ∷ []) c.self.view_is (begun_after M old i s.call seen.1 c.args.op.now _ machines)

@@ -6,8 +6,8 @@ use Rattle.of_eval.specs.declared.scripts.Scripts.{Scripts}
 use Rattle.of_eval.specs.Scripts.{LawfulCells}
 use Rattle.of_core.specs.Starts.{IsStartRow}
 use Rattle.of_row.specs.Rows.{key_of}
-use Rattle.of_memory.specs.History.{Entry}
-use Rattle.of_memory.specs.Laws.{setup_with, StandsAt, HoldsHistory, Leads}
+use Rattle.of_memory.specs.History.{HistoryEntry}
+use Rattle.of_memory.specs.Laws.{setup_with, StandsAt, HoldsHistory, HistoryLeads}
 use Rattle.of_memory.specs.Serving.{start_of_row}
 use Rattle.of_memory.proofs.Closing.{closed}
 use Rattle.of_memory.proofs.saved.Saved.close.Goals as goal
@@ -37,5 +37,5 @@ returns-clause-leads c =
     let shape = c.shape-shape in
     let part = c.keep_durable.ensures ∙ ap (λ (n : ℕ). slice_range c.close-words.result.0.items n (n + n)) c.durable_cells.ensures in
     let found = closed r c.requires.row c.args.pass _ c.close-words.ensures.words c.close-words.ensures.size shape.result.callers shape.result.cells c.keep_durable.new.words.items shape.ensures.callers shape.ensures.cells part law c.requires.pass c.requires.keeps in
-    subst (λ (xs : List ℕ). (s : Store) → StandsAt (key_of r).work (start_of_row r) s → (h : List Entry) × Leads (key_of r).work (key_of r).limit (start_of_row r) c.args.pass.seat.me.0 s xs h)
+    subst (λ (xs : List ℕ). (s : Store) → StandsAt (key_of r).work (start_of_row r) s → (h : List HistoryEntry) × HistoryLeads (key_of r).work (key_of r).limit (start_of_row r) c.args.pass.seat.me.0 s xs h)
     (sym c.recover_words.ensures) found.1

@@ -1,6 +1,6 @@
 use Rattle.std.proofs.Common.{inl, Some, None, List, ℕ, sym, subst}
 use Rattle.of_plan.specs.Reader.{SpellsLine, SpellsNoLine}
-use Rattle.of_plan.specs.LineReading.{plan_language, caller_line}
+use Rattle.of_plan.specs.LineReading.{plan_language, line_of_plain}
 use Rattle.of_plan.proofs.LineLaws.{plain_is}
 use Rattle.of_plan.proofs.LinesLead.{fed_plain}
 use Rattle.of_plan.proofs.reading.Reading.feed.Goals as goal
@@ -8,13 +8,13 @@ use Rattle.of_plan.proofs.reading.Reading.feed.Goals as goal
 -- the line that was read is the one that the words spell
 pub take-requires : goal.take-requires
 take-requires c =
-    (plain_is (Some (caller_line c.in-Some-read_plain.line)) _ _ _ _ c.in-Some-read_plain.ensures c.if-first-eq35.false c.as_slice.ensures c.eq.ensures c.if-eq.false).range
+    (plain_is (Some (line_of_plain c.in-Some-read_plain.line)) _ _ _ _ c.in-Some-read_plain.ensures c.if-first-eq35.false c.as_slice.ensures c.eq.ensures c.if-eq.false).range
 
 pub returns-in-Some-read_plain : goal.returns-in-Some-read_plain
 returns-in-Some-read_plain c =
-    fed_plain c.take.result _ (caller_line c.in-Some-read_plain.line) _ _
-    (subst (λ (ws : List (List ℕ)). SpellsLine plan_language ws (caller_line c.in-Some-read_plain.line)) (sym c.in-Some.ensures.words)
-    (plain_is (Some (caller_line c.in-Some-read_plain.line)) _ _ _ _ c.in-Some-read_plain.ensures c.if-first-eq35.false c.as_slice.ensures c.eq.ensures c.if-eq.false))
+    fed_plain c.take.result _ (line_of_plain c.in-Some-read_plain.line) _ _
+    (subst (λ (ws : List (List ℕ)). SpellsLine plan_language ws (line_of_plain c.in-Some-read_plain.line)) (sym c.in-Some.ensures.words)
+    (plain_is (Some (line_of_plain c.in-Some-read_plain.line)) _ _ _ _ c.in-Some-read_plain.ensures c.if-first-eq35.false c.as_slice.ensures c.eq.ensures c.if-eq.false))
     c.take.ensures
 
 pub returns-in-None : goal.returns-in-None

@@ -1,7 +1,7 @@
 use Rattle.std.proofs.Common.{◌∙◌, ap}
 use Rattle.of_core.specs.Machine.{CallState}
 use Rattle.of_core.specs.Seen.{Machine, machine_setup}
-use Rattle.of_row.specs.Rows.{key_of, start_at}
+use Rattle.of_row.specs.Rows.{key_of, row_start}
 use Rattle.of_row.proofs.Members.{stepped_member, sole_of}
 use Rattle.of_row.proofs.Numbers.{turned_in}
 use Rattle.of_row.proofs.Turns.{goes_on}
@@ -13,7 +13,7 @@ invariant_of-member g c =
     let t = c.turn-found in
     let d : Machine _ = c.args.machine.now in
     let took = c.take_at.ensures ∙ ap (λ (it : CallState). record d { call = it }) (goes_on (machine_setup g.W.Work.meaning d) d.call t.result c.place-place.result c.place-place.ensures) in
-    let m = stepped_member g.W.Work.meaning g.W.Work.lawful (start_at g.W.Work.meaning c.args.self.now) d c.take_at.new.self c.args.member.now.seat.me.0 t.new.seat.me.0 t.result c.args.member.now.number c.made-member.result h.0 h.1 h.2 h.3 t.ensures.step took c.made-member.ensures in
+    let m = stepped_member g.W.Work.meaning g.W.Work.lawful (row_start g.W.Work.meaning c.args.self.now) d c.take_at.new.self c.args.member.now.seat.me.0 t.new.seat.me.0 t.result c.args.member.now.number c.made-member.result h.0 h.1 h.2 h.3 t.ensures.step took c.made-member.ensures in
     record { keeps = sole_of t.new.seat.me.0.kept c.args.member.now.number c.made-member.result m.0 m.1 m.3 m.4 }
 
 pub returns-clause-row : goal.returns-clause-row
@@ -32,7 +32,7 @@ returns-clause-member g c =
     let t = c.turn-found in
     let d : Machine _ = c.args.machine.now in
     let took = c.take_at.ensures ∙ ap (λ (it : CallState). record d { call = it }) (goes_on (machine_setup g.W.Work.meaning d) d.call t.result c.place-place.result c.place-place.ensures) in
-    stepped_member g.W.Work.meaning g.W.Work.lawful (start_at g.W.Work.meaning c.args.self.now) d c.take_at.new.self c.args.member.now.seat.me.0 t.new.seat.me.0 t.result c.args.member.now.number c.made-member.result h.0 h.1 h.2 h.3 t.ensures.step took c.made-member.ensures
+    stepped_member g.W.Work.meaning g.W.Work.lawful (row_start g.W.Work.meaning c.args.self.now) d c.take_at.new.self c.args.member.now.seat.me.0 t.new.seat.me.0 t.result c.args.member.now.number c.made-member.result h.0 h.1 h.2 h.3 t.ensures.step took c.made-member.ensures
 
 pub returns-clause-step : goal.returns-clause-step
 returns-clause-step g c =

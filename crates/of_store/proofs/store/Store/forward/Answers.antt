@@ -2,7 +2,7 @@ use Rattle.std.proofs.Common.{◌≡◌, ◌+◌, ◌<◌, ℕ, List, Option, ta
 use Rattle.std.proofs.lemmas.List.{take_more_set, length-set}
 use Rattle.of_store.specs.State.{ScriptOutcome, Answered, run_result}
 use Rattle.of_store.specs.Replies.{IsSmall}
-use Rattle.of_store.specs.Changes.{Leads}
+use Rattle.of_store.specs.Changes.{ChangesLead}
 use Rattle.of_store.proofs.Keeps.{effect_keeps}
 use Rattle.of_store.proofs.Runs.{GoesOn, goes_on, ends, aborts}
 use Rattle.of_store.proofs.Values.{effect_small, value_of, small_values, none_left}
@@ -20,15 +20,15 @@ returns-in-Err-clause-back c = λ fails failed.
     let told = rw c.in-Err.is at c.in_ok-value.ensures in
     let may = aborts_may_fail c.loop-i.self c.at-instr.result c.in-Err.cause told.effect in
     let none = none_taken c.args.script.now c.loop-i.i c.at-instr.result fails c.at-instr.ensures.value may in
-    subst (λ (n : ℕ). Leads c.loop-i.changes.list n c.args.self.now c.step.new.self) (sym c.loop-i.invariant.count)
-    (subst (Leads c.loop-i.changes.list c.loop-i.i c.args.self.now) (sym told.aborted) (c.loop-i.invariant.leads none))
+    subst (λ (n : ℕ). ChangesLead c.loop-i.changes.list n c.args.self.now c.step.new.self) (sym c.loop-i.invariant.count)
+    (subst (ChangesLead c.loop-i.changes.list c.loop-i.i c.args.self.now) (sym told.aborted) (c.loop-i.invariant.leads none))
 
 pub returns-in_err-value-clause-back : goal.returns-in_err-value-clause-back
 returns-in_err-value-clause-back c = λ fails failed.
     let told = c.in_err-value.ensures in
     let none = none_taken c.args.script.now c.loop-i.i c.at-instr.result fails c.at-instr.ensures.value told.err.1 in
-    subst (λ (n : ℕ). Leads c.loop-i.changes.list n c.args.self.now c.step.new.self) (sym c.loop-i.invariant.count)
-    (subst (Leads c.loop-i.changes.list c.loop-i.i c.args.self.now) (sym told.err.0) (c.loop-i.invariant.leads none))
+    subst (λ (n : ℕ). ChangesLead c.loop-i.changes.list n c.args.self.now c.step.new.self) (sym c.loop-i.invariant.count)
+    (subst (ChangesLead c.loop-i.changes.list c.loop-i.i c.args.self.now) (sym told.err.0) (c.loop-i.invariant.leads none))
 
 pub loop-i-preserved : goal.loop-i-preserved
 loop-i-preserved c =
