@@ -7,7 +7,7 @@ use Rattle.std.proofs.lemmas.Bool.{ltb-false, true≢false}
 use Rattle.std.proofs.lemmas.List.Sums.{sum_by-set, sum_by-cons}
 use Rattle.of_script.specs.declared.instr.Cause.{Cause}
 use Rattle.of_script.specs.declared.instr.Instr.{Instr}
-use Rattle.of_script.specs.declared.instr.Instr.TheVariants.{Load, Store as RustStore, Add, Sub, Get, Put, Del, Need, Push, Pop, Len, Count, First, Next, DropBelow}
+use Rattle.of_script.specs.declared.instr.Instr.TheVariants.{Load, Store as StoreInstr, Add, Sub, Get, Put, Del, Need, Push, Pop, Len, Count, First, Next, DropBelow}
 use Rattle.of_script.specs.declared.instr.TheConstants.{REGISTERS}
 use Rattle.of_script.specs.Language.{IsScript, IsInstrInRange, greatest}
 use Rattle.of_store.specs.State.{Store, InstrEffect, ScriptOutcome, register, instr_effect, with_register, pop_effect, queue, stored_count, is_there, with_answer_first, then_outcome, outcome_of_script, run_result, run}
@@ -57,7 +57,7 @@ sub_moves s r v l k e = (
 
 effect_moves : (s : Store) (i : Instr) → length s.registers ≡ REGISTERS → IsInstrInRange i → sets_none i ≡ true → EffectMoves (paid_in i) (paid_out i) s (instr_effect s i)
 effect_moves s (Load r) l h n = (l, refl)
-effect_moves s (RustStore r v) l h n = absurd (true≢false (sym n))
+effect_moves s (StoreInstr r v) l h n = absurd (true≢false (sym n))
 effect_moves s (Add r v) l h n = maybe v 0 s (nat_lt greatest (register s r + v)) _ _ (λ e. add_moves s r v l h.0)
 effect_moves s (Sub r v) l h n = maybe 0 v s (nat_lt (register s r) v) _ _ (λ e. sub_moves s r v l h.0 e)
 effect_moves s (Get k) l h n = (l, refl)

@@ -2,7 +2,7 @@
 use Rattle.std.specs.Prelude.{◌≡◌, ℕ, List, [], ◌∷◌, length, map, drop, take, sum, sum_by, Bool, true, false, ◌&&◌, ◌||◌, not}
 use Rattle.of_cell.specs.Words.{payload_of}
 use Rattle.of_script.specs.declared.instr.Instr.{Instr}
-use Rattle.of_script.specs.declared.instr.Instr.TheVariants.{Store as RustStore, Add, Sub}
+use Rattle.of_script.specs.declared.instr.Instr.TheVariants.{Store as StoreInstr, Add, Sub}
 use Rattle.of_script.specs.declared.instr.TheConstants.{REGISTERS}
 use Rattle.of_script.specs.Language.{IsScript, reads_only}
 use Rattle.of_store.specs.State.{Store, run}
@@ -30,7 +30,7 @@ paid_out i = 0
 
 -- whether it sets no account to a number, whatever that held
 abbrev pub sets_none : Instr → Bool
-sets_none (RustStore r v) = false
+sets_none (StoreInstr r v) = false
 sets_none i = true
 
 -- the same of each instruction

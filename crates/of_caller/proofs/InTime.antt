@@ -20,7 +20,7 @@ use Rattle.of_plan.specs.Report.{Entry, Start, Report, finished_of, entries_of}
 use Rattle.of_plan.specs.Ended.{Ended, answers_of, ending_of}
 use Rattle.of_plan.proofs.HistoriesLists.{each_append}
 use Rattle.of_core.specs.declared.bank.Turn.{Turn}
-use Rattle.of_core.specs.declared.bank.Turn.TheVariants.{Idle as NoCall, Open, Ended as RustEnded}
+use Rattle.of_core.specs.declared.bank.Turn.TheVariants.{Idle as NoCall, Open, Ended as EndedTurn}
 use Rattle.of_core.specs.declared.place.Outcome.{Outcome}
 use Rattle.of_core.specs.declared.place.Outcome.TheVariants.{Answered, Spent}
 use Rattle.of_core.specs.Table.{Setup}
@@ -61,7 +61,7 @@ few_marks S w (Turns i) = go (turn_of (machine_in w i) (machine_in (after_event 
     go : (t : Turn) → (map (λ (o : Outcome). EndsCall i) (outcome_of_turn t) ≡ []) ⊎ ((m : Mark) × (map (λ (o : Outcome). EndsCall i) (outcome_of_turn t) ≡ m ∷ []))
     go NoCall = inl refl
     go Open = inl refl
-    go (RustEnded o) = inr (EndsCall i, refl)
+    go (EndedTurn o) = inr (EndsCall i, refl)
 
 -- so the first marks are those of a front of the events
 cut : (S : Setup) (es : List Event) (w : Moment) (k : ℕ) → (j : ℕ) × (take k (marks_in S w es) ≡ marks_in S w (take j es))

@@ -13,7 +13,7 @@ use Rattle.of_check.specs.declared.cause.EntryRule.TheVariants.{NoCaller, NoScri
 use Rattle.of_check.specs.declared.cause.EndRule.{EndRule}
 use Rattle.of_check.specs.declared.cause.EndRule.TheVariants.{Answered, Ending, Steps}
 use Rattle.of_check.specs.declared.cause.Cause.{Cause}
-use Rattle.of_check.specs.declared.cause.Cause.TheVariants.{Callers, Entry, Caller, Line as RustLine}
+use Rattle.of_check.specs.declared.cause.Cause.TheVariants.{Callers, Entry, Caller, Line as LineCause}
 use Rattle.of_check.specs.Claims.{call_claims_of_text, end_claims_of_text}
 use Rattle.of_check.specs.Course.{Replay, replay_at_start, index_for, script_for, course_end, MayFollowWithin, AllFollow}
 use Rattle.of_check.specs.Endings.{left_of, IsEnding, claimed_line_at}
@@ -70,7 +70,7 @@ abbrev pub IsCauseFrom : Plan → Start → (text : List ℕ) → Cause → Type
 IsCauseFrom p s text (Callers count) = (length (end_claims_of_text text) ≡ count) × (count ≢ p.callers)
 IsCauseFrom p s text (Entry index rule) = BreaksAt p s (call_claims_of_text text) index rule
 IsCauseFrom p s text (Caller caller rule) = BreaksCaller p s (call_claims_of_text text) (end_claims_of_text text) caller rule
-IsCauseFrom p s text (RustLine above wanted) = DiffersAt p s text wanted.items above
+IsCauseFrom p s text (LineCause above wanted) = DiffersAt p s text wanted.items above
 
 -- and from the empty start
 abbrev pub IsCause : Plan → (text : List ℕ) → Cause → Type 0

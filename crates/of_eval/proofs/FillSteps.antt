@@ -9,7 +9,7 @@ use Rattle.of_mem.specs.Places.{register_at}
 use Rattle.of_mem.specs.Plots.{base}
 use Rattle.of_mem.specs.ProgramWork.{memory_of}
 use Rattle.of_script.specs.declared.instr.Instr.{Instr}
-use Rattle.of_script.specs.declared.instr.Instr.TheVariants.{Store as RustStore, Put, Push}
+use Rattle.of_script.specs.declared.instr.Instr.TheVariants.{Store as StoreInstr, Put, Push}
 use Rattle.of_script.specs.Language.{IsScript, IsInstrInRange, greatest}
 use Rattle.of_store.specs.State.{Store, InstrEffect, instr_effect, then_outcome, run_result, run, stored_count, queue, with_key, with_queue, with_register, empty_store}
 use Rattle.of_store.proofs.Effects.{put_new}
@@ -32,7 +32,7 @@ push_run s q v room =
     let not_full : leb s.room (stored_count s) ≡ false = elim (leb_tells s.room (stored_count s)) [ inl p ↦ absurd (let h = p.1 in omega arith) | inr p ↦ p.0 ] in
     one_run s (with_queue s q (queue s q ++ v ∷ [])) (Push q v) None (rw not_full refl)
 
-pub store_run : (s : Store) (r v : ℕ) → (run s (RustStore r v ∷ [])).0 ≡ with_register s r v
+pub store_run : (s : Store) (r v : ℕ) → (run s (StoreInstr r v ∷ [])).0 ≡ with_register s r v
 store_run s r v = refl
 
 nil_at : (n q : ℕ) → get_or {A = List ℕ} (replicate n []) q [] ≡ []

@@ -21,7 +21,7 @@ use Rattle.of_report.proofs.Recovery.{part_at, part_long}
 use Rattle.of_report.specs.ImageRow.{DurableRow, row_in, data_numbers_in}
 use Rattle.of_report.specs.ImageLaw.{NoneNewer, IsLawfulRow}
 use Rattle.of_image.specs.declared.law.Law.{Law}
-use Rattle.of_image.specs.declared.law.Law.TheVariants.{Owner, Newest, Store as RustStore}
+use Rattle.of_image.specs.declared.law.Law.TheVariants.{Owner, Newest, Store as StoreLaw}
 use Rattle.of_image.specs.RowFault.{Breaks, IsRowFault}
 
 get_or_map_at : (f : ℕ → ℕ) (xs : List ℕ) (i : ℕ) → i < length xs → get_or (map f xs) i 0 ≡ f (get_or xs i 0)
@@ -44,7 +44,7 @@ fault_excludes instrs r s cell h f = go f.law f.breaks
     go : (law : Law) → Breaks law instrs r cell → ⊥
     go Owner b = omega (arith, b.unowned, h.owned)
     go Newest b = omega (arith, b.first.newer, h.none_newer b.at b.within)
-    go RustStore b = first_excludes _ _ _ _ s b.at h.stands b.first
+    go StoreLaw b = first_excludes _ _ _ _ s b.at h.stands b.first
 
 -- a row is lawful with one store
 pub one_lawful : (instrs : ℕ) (r : DurableRow) (s t : Store) → IsLawfulRow instrs r s → IsLawfulRow instrs r t → s ≡ t
@@ -57,7 +57,7 @@ one_row_fault instrs r x y f g = go f.law g.law f.breaks g.breaks
     go : (l k : Law) → Breaks l instrs r x → Breaks k instrs r y → x ≡ y
     go Owner Owner b c = b.is ∙ sym c.is
     go Owner Newest b c = absurd (omega (arith, b.unowned, c.owned))
-    go Owner RustStore b c = absurd (omega (arith, b.unowned, c.owned))
+    go Owner StoreLaw b c = absurd (omega (arith, b.unowned, c.owned))
     go Newest Owner b c = absurd (omega (arith, c.unowned, b.owned))
     go Newest Newest b c = elim (cases_lt b.at c.at) [
       | inl i ↦ absurd (omega (arith, b.first.newer, c.first.before b.at i))
@@ -66,10 +66,10 @@ one_row_fault instrs r x y f g = go f.law g.law f.breaks g.breaks
         | inr j ↦ (let s : b.at ≡ c.at = omega arith in b.is ∙ ap (data_cell r.callers) s ∙ sym c.is)
       ]
     ]
-    go Newest RustStore b c = absurd (omega (arith, b.first.newer, c.none_newer b.at b.within))
-    go RustStore Owner b c = absurd (omega (arith, c.unowned, b.owned))
-    go RustStore Newest b c = absurd (omega (arith, c.first.newer, b.none_newer c.at c.within))
-    go RustStore RustStore b c = b.is ∙ ap (data_cell r.callers) (one_fault _ _ _ _ b.at c.at b.first c.first) ∙ sym c.is
+    go Newest StoreLaw b c = absurd (omega (arith, b.first.newer, c.none_newer b.at b.within))
+    go StoreLaw Owner b c = absurd (omega (arith, c.unowned, b.owned))
+    go StoreLaw Newest b c = absurd (omega (arith, c.first.newer, b.none_newer c.at c.within))
+    go StoreLaw StoreLaw b c = b.is ∙ ap (data_cell r.callers) (one_fault _ _ _ _ b.at c.at b.first c.first) ∙ sym c.is
 
 -- the same where callers and data cells are a plot's
 pub law_numbers : (callers cells : ℕ) (p : Plot) (words numbers : List ℕ) → callers ≡ p.callers → cells ≡ data_cell_count p → IsDurableRow p.callers (data_cell_count p) words → numbers ≡ map payload_of (slice_range words (data_cell callers 0) (data_cell callers 0 + cells)) → numbers ≡ data_numbers_in p.instrs (row_in p words)

@@ -3,7 +3,7 @@ use Rattle.std.specs.Prelude.{◌≡◌, ℕ, List, [], ◌∷◌, map}
 use Rattle.std.specs.List.{All}
 use Rattle.of_mem.specs.declared.work.RawReply.{RawReply}
 use Rattle.of_script.specs.declared.instr.Instr.{Instr}
-use Rattle.of_script.specs.declared.instr.Reply.{Reply as TheReply}
+use Rattle.of_script.specs.declared.instr.Reply.{Reply as RustReply}
 use Rattle.of_script.specs.Language.{IsScript, instr_word}
 use Rattle.of_store.specs.State.{Reply}
 use Rattle.of_store.specs.Replies.{reply_value_of}
@@ -20,7 +20,7 @@ IsScriptOperation op = (script : List Instr) × IsScript script × (op ≡ map i
 
 -- the cells hold a reply that is this response
 abbrev pub HoldsResponse : RawReply → Reply → Type 0
-HoldsResponse raw response = (r : TheReply) × IsHeldBy raw r × (reply_value_of r ≡ response)
+HoldsResponse raw response = (r : RustReply) × IsHeldBy raw r × (reply_value_of r ≡ response)
 
 -- the outcome is this end
 abbrev pub EndsAs : Outcome → End → Type 0

@@ -2,7 +2,7 @@
 use Rattle.std.proofs.Common.{◌≡◌, ℕ, zero, suc, ◌<◌, ◌≤◌, inl, inr, List, [], ◌∷◌, get_or, refl, subst, arith}
 use Rattle.std.specs.Prelude.{IsTrue, All}
 use Rattle.std.proofs.lemmas.List.Elements.{All-nil, All-cons}
-use Rattle.of_script.specs.declared.instr.Instr.TheVariants.{Load, Store as RustStore, Add}
+use Rattle.of_script.specs.declared.instr.Instr.TheVariants.{Load, Store as StoreInstr, Add}
 use Rattle.of_script.specs.Language.{reads_only}
 use Rattle.of_store.specs.State.{Store, empty_store, last_store}
 use Rattle.of_plan.specs.Report.{Entry, Line, empty_start, no_line}
@@ -22,7 +22,7 @@ own (suc c) = loads_nothing ∷ adds_one ∷ []
 
 abbrev stores : ℕ → Store
 stores zero = empty_store 0
-stores (suc k) = last_store (empty_store 0) ((RustStore 0 5 ∷ []) ∷ (Add 0 1 ∷ []) ∷ [])
+stores (suc k) = last_store (empty_store 0) ((StoreInstr 0 5 ∷ []) ∷ (Add 0 1 ∷ []) ∷ [])
 
 abbrev history : History
 history = record { last = 1; runs = batches; own = own; stores = stores }

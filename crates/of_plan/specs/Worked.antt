@@ -1,6 +1,6 @@
 -- A worked legal report, and seven that are no legal ones, each one field away from it.
 use Rattle.std.specs.Prelude.{ℕ, ◌+◌, Bool, true, false, Option, Some, None, [], ◌∷◌}
-use Rattle.of_script.specs.declared.instr.Instr.TheVariants.{Load, Store as RustStore, Add}
+use Rattle.of_script.specs.declared.instr.Instr.TheVariants.{Load, Store as StoreInstr, Add}
 use Rattle.of_store.specs.State.{Store, Answered, empty_store, with_register}
 use Rattle.of_plan.specs.Plan.{Plan, bound_of}
 use Rattle.of_plan.specs.Report.{Entry, Line, done, stopped, Report}
@@ -11,7 +11,7 @@ two_callers = record {
   callers = 2;
   blocks = 0;
   limit = 9;
-  scripts = ((RustStore 0 5 ∷ []) ∷ (Load 0 ∷ []) ∷ []) ∷ ((Load 0 ∷ []) ∷ (Add 0 1 ∷ []) ∷ []) ∷ [];
+  scripts = ((StoreInstr 0 5 ∷ []) ∷ (Load 0 ∷ []) ∷ []) ∷ ((Load 0 ∷ []) ∷ (Add 0 1 ∷ []) ∷ []) ∷ [];
   stops = None ∷ None ∷ [];
   schedule = [];
 }

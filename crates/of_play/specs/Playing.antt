@@ -6,7 +6,7 @@ use Rattle.of_plan.specs.declared.answer.Ending.{Ending}
 use Rattle.of_plan.specs.Plan.{Plan, IsPlan, scripts_of}
 use Rattle.of_plan.specs.Ended.{Ended}
 use Rattle.of_core.specs.declared.bank.Turn.{Turn}
-use Rattle.of_core.specs.declared.bank.Turn.TheVariants.{Idle, Open, Ended as RustEnded}
+use Rattle.of_core.specs.declared.bank.Turn.TheVariants.{Idle, Open, Ended as EndedTurn}
 use Rattle.of_core.specs.declared.place.Outcome.{Outcome}
 use Rattle.of_core.specs.declared.place.Outcome.TheVariants.{Spent}
 use Rattle.of_core.specs.Machine.{CallState}
@@ -68,7 +68,7 @@ BeginsNext p c before now = (es : List Event) → StandsAfter p es before → St
 abbrev pub standing_after : Turn → Standing → Standing
 standing_after Idle s = s
 standing_after Open s = record s { steps = s.steps + 1 }
-standing_after (RustEnded o) s = record { spent = spent_at (Some o); steps = 0 }
+standing_after (EndedTurn o) s = record { spent = spent_at (Some o); steps = 0 }
 
 -- before its first call
 abbrev pub idle_standing : Standing
@@ -83,7 +83,7 @@ HasStepToCount r s = Unit {0}
 abbrev pub IsReplied : Turn → Type 0
 IsReplied Idle = Unit {0}
 IsReplied Open = Unit {0}
-IsReplied (RustEnded o) = OutcomeHoldsReply o
+IsReplied (EndedTurn o) = OutcomeHoldsReply o
 
 -- what a turn has said of a caller is noted
 pub record NotesTurn (c : ℕ) (turn : Turn) (before now : Playing) : Type 0 where
@@ -95,7 +95,7 @@ pub record NotesTurn (c : ℕ) (turn : Turn) (before now : Playing) : Type 0 whe
 
 -- how the caller's call has ended is noted
 abbrev pub NotesEnd : ℕ → Outcome → (before now : Playing) → Type 0
-NotesEnd c outcome before now = NotesTurn c (RustEnded outcome) before now
+NotesEnd c outcome before now = NotesTurn c (EndedTurn outcome) before now
 
 -- this is how the caller ends
 abbrev pub CallerEndsAs : Plan → ℕ → Playing → Ending → Type 0

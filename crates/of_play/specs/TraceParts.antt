@@ -15,7 +15,7 @@ use Rattle.of_core.specs.declared.place.Op.TheVariants.{Load, Store, Exchange, R
 use Rattle.of_core.specs.declared.place.Outcome.{Outcome}
 use Rattle.of_core.specs.declared.place.Outcome.TheVariants.{Answered, Spent}
 use Rattle.of_play.specs.declared.names.Holding.{Holding}
-use Rattle.of_play.specs.declared.names.Holding.TheVariants.{Ticket, Shape, Reply as RustReply, Register, Taken, Free, Keys, Bucket, Front, Back, Length, Block}
+use Rattle.of_play.specs.declared.names.Holding.TheVariants.{Ticket, Shape, Reply as ReplyHeld, Register, Taken, Free, Keys, Bucket, Front, Back, Length, Block}
 use Rattle.of_play.specs.declared.names.Cell.{Cell}
 use Rattle.of_play.specs.declared.names.Cell.TheVariants.{Current, Request, Data, Log}
 use Rattle.of_play.specs.declared.names.Word.{Word}
@@ -74,7 +74,7 @@ field_part f x = if f == 2 then pointer_part x else []
 abbrev pub holding_part : Holding → ℕ → List ℕ
 holding_part (Ticket i) x = []
 holding_part (Shape i) x = shape_part x
-holding_part (RustReply i j) x = []
+holding_part (ReplyHeld i j) x = []
 holding_part (Register r) x = []
 holding_part Taken x = []
 holding_part Free x = pointer_part x

@@ -9,7 +9,7 @@ use Rattle.std.specs.Cmp.{nat_cmp_total, eq_by_cmp_equiv}
 use Rattle.std.proofs.lemmas.List.{set-get_or, get_or-set_same, get_or-set_other, length-append}
 use Rattle.std.proofs.Math.Seq.{take-append_seam}
 use Rattle.of_script.specs.declared.instr.Instr.{Instr}
-use Rattle.of_script.specs.declared.instr.Instr.TheVariants.{Load, Store as RustStore, Add, Sub, Get, Put, Del, Need, Push, Pop, Len, Count, First, Next, DropBelow}
+use Rattle.of_script.specs.declared.instr.Instr.TheVariants.{Load, Store as StoreInstr, Add, Sub, Get, Put, Del, Need, Push, Pop, Len, Count, First, Next, DropBelow}
 use Rattle.of_script.specs.declared.instr.Cause.{Cause}
 use Rattle.of_script.specs.declared.instr.TheConstants.{QUEUES}
 use Rattle.of_script.specs.Language.{IsInstrInRange, greatest}
@@ -116,7 +116,7 @@ push_takes_back s q v h lt =
 -- an instruction that takes nothing out is taken back by its change
 pub takes_back : (s t : Store) (i : Instr) (o : Option ℕ) → IsState s → IsInstrInRange i → takes_out i ≡ false → instr_effect s i ≡ Ok (t, o) → TakesBack (change_of s i) s t
 takes_back s t (Load r) o h k f e = no_change s t (ap (left_by s) e)
-takes_back s t (RustStore r v) o h k f e = same_back _ s _ t (ap (left_by s) e) (register_takes_back s r v h k.0)
+takes_back s t (StoreInstr r v) o h k f e = same_back _ s _ t (ap (left_by s) e) (register_takes_back s r v h k.0)
 takes_back s t (Add r v) o h k f e = same_back _ s _ t (behind_test _ _ _ t _ o e) (register_takes_back s r _ h k.0)
 takes_back s t (Sub r v) o h k f e = same_back _ s _ t (behind_test _ _ _ t _ o e) (register_takes_back s r _ h k.0)
 takes_back s t (Get n) o h k f e = no_change s t (ap (left_by s) e)
@@ -140,7 +140,7 @@ not_popped s q (x ∷ items) cause e = cc
 -- an instruction that aborts is one that may fail
 pub aborts_may_fail : (s : Store) (i : Instr) (cause : Cause) → instr_effect s i ≡ Err cause → may_fail i ≡ true
 aborts_may_fail s (Load r) cause e = absurd cc
-aborts_may_fail s (RustStore r v) cause e = absurd cc
+aborts_may_fail s (StoreInstr r v) cause e = absurd cc
 aborts_may_fail s (Add r v) cause e = refl
 aborts_may_fail s (Sub r v) cause e = refl
 aborts_may_fail s (Get k) cause e = absurd cc

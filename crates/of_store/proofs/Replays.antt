@@ -3,7 +3,7 @@ use Rattle.std.proofs.Common.{◌≡◌, ℕ, Bool, true, false, cond, List, [],
 use Rattle.std.specs.List.{AllByRecursion}
 use Rattle.std.proofs.lemmas.List.Elements.{recursion_from_All}
 use Rattle.of_script.specs.declared.instr.Instr.{Instr}
-use Rattle.of_script.specs.declared.instr.Instr.TheVariants.{Load, Store as RustStore, Add, Sub, Get, Put, Del, Need, Push, Pop, Len, Count, First, Next, DropBelow}
+use Rattle.of_script.specs.declared.instr.Instr.TheVariants.{Load, Store as StoreInstr, Add, Sub, Get, Put, Del, Need, Push, Pop, Len, Count, First, Next, DropBelow}
 use Rattle.of_script.specs.declared.instr.Cause.{Cause}
 use Rattle.of_script.specs.Language.{reads_only}
 use Rattle.of_store.specs.State.{Store, Reply, InstrEffect, ScriptOutcome, instr_effect, outcome_of_script, then_outcome, with_answer_first, run_result, run, replies_in_order, last_store}
@@ -32,7 +32,7 @@ where_there false cause s = tt
 
 effect_stays : (s : Store) (i : Instr) → reads_only i ≡ true → Stays s (instr_effect s i)
 effect_stays s (Load r) e = refl
-effect_stays s (RustStore r v) e = absurd cc
+effect_stays s (StoreInstr r v) e = absurd cc
 effect_stays s (Add r v) e = absurd cc
 effect_stays s (Sub r v) e = absurd cc
 effect_stays s (Get k) e = refl

@@ -4,7 +4,7 @@
 use Rattle.std.specs.Prelude.{◌≡◌, ℕ, zero, suc, ◌-◌, ◌<◌, ◌≤◌, Bool, true, false, List, length, take, slice_get, slice_index_or, Option, Some, None, IsSome, IsNone, Result, Ok, Err}
 use Rattle.std.specs.FinMap as fm
 use Rattle.of_script.specs.declared.instr.Instr.{Instr}
-use Rattle.of_script.specs.declared.instr.Instr.TheVariants.{Load, Store as RustStore, Add, Sub, Get, Put, Del, Need, Push, Pop, Len, Count, First, Next, DropBelow}
+use Rattle.of_script.specs.declared.instr.Instr.TheVariants.{Load, Store as StoreInstr, Add, Sub, Get, Put, Del, Need, Push, Pop, Len, Count, First, Next, DropBelow}
 use Rattle.of_script.specs.declared.instr.TheConstants.{REGISTERS, QUEUES}
 use Rattle.of_script.specs.declared.instr.Reply.{Reply}
 use Rattle.of_script.specs.Language.{greatest}
@@ -15,7 +15,7 @@ use Rattle.of_store.specs.declared.change.Change.TheVariants.{Nothing, Register,
 -- the instruction takes a key or an item out
 abbrev pub takes_out : Instr → Bool
 takes_out (Load r) = false
-takes_out (RustStore r v) = false
+takes_out (StoreInstr r v) = false
 takes_out (Add r v) = false
 takes_out (Sub r v) = false
 takes_out (Get k) = false
@@ -33,7 +33,7 @@ takes_out (DropBelow k) = true
 -- the instruction may abort, or may want memory
 abbrev pub may_fail : Instr → Bool
 may_fail (Load r) = false
-may_fail (RustStore r v) = false
+may_fail (StoreInstr r v) = false
 may_fail (Add r v) = true
 may_fail (Sub r v) = true
 may_fail (Get k) = false
@@ -56,7 +56,7 @@ FailsFirst script = (i j : ℕ) (a b : Instr) → i < j → slice_get script i �
 -- what the instruction will have changed, of what can be taken back
 abbrev pub change_of : Store → Instr → Change
 change_of s (Load r) = Nothing
-change_of s (RustStore r v) = Register r (register s r)
+change_of s (StoreInstr r v) = Register r (register s r)
 change_of s (Add r v) = Register r (register s r)
 change_of s (Sub r v) = Register r (register s r)
 change_of s (Get k) = Nothing
