@@ -1,6 +1,6 @@
 //! Texts of images.
 
-ghost use Rattle.std.specs.Prelude.{◌≡◌, ◌++◌, ◌+◌, ◌<◌, ◌^◌, length, IfOk, OnOk, flat_map, slice_range, string_bytes};
+ghost use Rattle.std.specs.Prelude.{◌≡◌, ◌+◌, ◌<◌, ◌^◌, length, IfOk, OnOk, flat_map, slice_range};
 ghost use Rattle.std.specs.List.{enumerate_from, range_with_len};
 ghost use Rattle.of_cell.specs.Cells.{table_words};
 ghost use Rattle.of_mem.specs.Plots.{data_cell_count};
@@ -11,6 +11,7 @@ ghost use Rattle.of_image.specs.ImageText.{image_cell_text, image_line_text, ima
 ghost use Rattle.of_report.specs.Image.{IsImage, image_value};
 ghost use Rattle.of_report.specs.Image.{image_ticket};
 ghost use Rattle.of_image.specs.RecoveredText.{ticket_line, ticket_lines, recovered_text};
+ghost use Rattle.of_script.specs.Appending.{AppendsText};
 
 use crate::line::Line;
 use crate::version::Version;
@@ -23,7 +24,7 @@ use std::fmt::Write;
 
 // Writes a line at the end.
 fn put_line(out: &mut String, line: &Line) -> Result<(), AllocError>
-    ensures { OnOk result (string_bytes out.new ≡ string_bytes out.old ++ image_line_text line.now) }
+    ensures { OnOk result (AppendsText out.old out.new (image_line_text line.now)) }
 {
     match line {
         Line::Title { version } => writeln!(out, "onefile image {version}"),
@@ -36,7 +37,7 @@ fn put_line(out: &mut String, line: &Line) -> Result<(), AllocError>
 
 // Writes the line of a cell, if its word is not 0.
 fn put_cell(out: &mut String, cell: u32, word: u64) -> Result<(), AllocError>
-    ensures { OnOk result (string_bytes out.new ≡ string_bytes out.old ++ image_cell_text (cell, word)) }
+    ensures { OnOk result (AppendsText out.old out.new (image_cell_text (cell, word))) }
 {
     if word == 0 {
         return Ok(());
@@ -48,7 +49,7 @@ fn put_cell(out: &mut String, cell: u32, word: u64) -> Result<(), AllocError>
 // Writes the lines of the cells.
 fn put_cells(out: &mut String, words: &[u64]) -> Result<(), AllocError>
     requires { length words.now < 2 ^ 32 }
-    ensures { OnOk result (string_bytes out.new ≡ string_bytes out.old ++ flat_map image_cell_text (enumerate_from 0 words.now)) }
+    ensures { OnOk result (AppendsText out.old out.new (flat_map image_cell_text (enumerate_from 0 words.now))) }
 {
     for (cell, word) in words.iter().enumerate() {
         put_cell(out, cell as u32, *word)?;
@@ -59,7 +60,7 @@ fn put_cells(out: &mut String, words: &[u64]) -> Result<(), AllocError>
 // Writes the lines of a row.
 fn put_row(out: &mut String, version: Version, plot: &Plot, words: &[u64]) -> Result<(), AllocError>
     requires { length words.now < 2 ^ 32 }
-    ensures { OnOk result (string_bytes out.new ≡ string_bytes out.old ++ image_text version (row_in plot.now words.now)) }
+    ensures { OnOk result (AppendsText out.old out.new (image_text version (row_in plot.now words.now))) }
 {
     let number = version.number();
     put_line(out, &Line::Title { version: number })?;
@@ -107,7 +108,7 @@ pub fn image_print(alloc: Global, plot: &Plot, words: &[u64]) -> Result<Vec<u8>,
 
 // Writes the line of a caller's ticket, if it is not 0.
 fn put_ticket(out: &mut String, caller: u32, ticket: u32) -> Result<(), AllocError>
-    ensures { OnOk result (string_bytes out.new ≡ string_bytes out.old ++ ticket_line caller ticket) }
+    ensures { OnOk result (AppendsText out.old out.new (ticket_line caller ticket)) }
 {
     if ticket == 0 {
         return Ok(());
@@ -118,7 +119,7 @@ fn put_ticket(out: &mut String, caller: u32, ticket: u32) -> Result<(), AllocErr
 // Writes the tickets that are not 0.
 fn put_tickets(out: &mut String, image: &Image) -> Result<(), AllocError>
     requires { IsImage MOST_INSTRS (image_value image.now) }
-    ensures { OnOk result (string_bytes out.new ≡ string_bytes out.old ++ ticket_lines (image_value image.now)) }
+    ensures { OnOk result (AppendsText out.old out.new (ticket_lines (image_value image.now))) }
 {
     for caller in 0..image.callers {
         put_ticket(out, caller, image.ticket(caller))?;

@@ -1,10 +1,11 @@
 //! The lines of commits.
 
-ghost use Rattle.std.specs.Prelude.{◌≡◌, ◌+◌, ◌++◌, map, flat_map, OnOk, string_bytes};
+ghost use Rattle.std.specs.Prelude.{◌≡◌, ◌+◌, map, flat_map, OnOk};
 ghost use Rattle.of_cell.specs.Words.{seq_of};
 ghost use Rattle.of_core.specs.Inside.{call_value};
 ghost use Rattle.of_play.specs.Trace.{call_part, batch_line};
 ghost use Rattle.of_play.specs.Committing.{commits_by_step, commit_line};
+ghost use Rattle.of_script.specs.Appending.{AppendsText};
 
 use of_cell::seq_of;
 use of_core::{Op, Place, RanCall};
@@ -23,7 +24,7 @@ fn is_commit(place: Place, op: Op, found: u64) -> bool
 
 // Writes which script a call is, and whose.
 fn put_call(out: &mut String, call: &RanCall) -> Result<(), AllocError>
-    ensures { OnOk result (string_bytes out.new ≡ string_bytes out.old ++ call_part (call_value call.now)) }
+    ensures { OnOk result (AppendsText out.old out.new (call_part (call_value call.now))) }
 {
     write!(
         out,
@@ -41,7 +42,7 @@ fn put_batch(
     found: u64,
     calls: &[RanCall],
 ) -> Result<(), AllocError>
-    ensures { OnOk result (string_bytes out.new ≡ string_bytes out.old ++ batch_line number caller (seq_of found + 1) (map call_value calls.now)) }
+    ensures { OnOk result (AppendsText out.old out.new (batch_line number caller (seq_of found + 1) (map call_value calls.now))) }
 {
     let seq = u64::from(seq_of(found)) + 1;
     write!(out, "{number} {caller} commits {seq}")?;
@@ -61,7 +62,7 @@ pub fn put_commit(
     found: u64,
     calls: &[RanCall],
 ) -> Result<(), AllocError>
-    ensures { OnOk result (string_bytes out.new ≡ string_bytes out.old ++ commit_line (commits_by_step place op found) number caller (seq_of found + 1) (map call_value calls.now)) }
+    ensures { OnOk result (AppendsText out.old out.new (commit_line (commits_by_step place op found) number caller (seq_of found + 1) (map call_value calls.now))) }
 {
     if is_commit(place, op, found) {
         put_batch(out, number, caller, found, calls)

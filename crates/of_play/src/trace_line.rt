@@ -1,9 +1,10 @@
 //! The lines of a trace.
 
-ghost use Rattle.std.specs.Prelude.{◌≡◌, ◌++◌, OnOk, IfSome, string_bytes};
+ghost use Rattle.std.specs.Prelude.{OnOk, IfSome};
 ghost use Rattle.of_plan.specs.Plan.{data_cells};
 ghost use Rattle.of_caller.specs.Ends.{OutcomeHoldsReply};
 ghost use Rattle.of_play.specs.TraceLine.{end_text, head_text, means_part, step_parts, step_line, rest_line, evict_line};
+ghost use Rattle.of_script.specs.Appending.{AppendsText};
 
 use crate::names::Word;
 use crate::trace_parts::{put_did, put_help, put_meaning, put_reply_part};
@@ -32,7 +33,7 @@ pub struct Step {
 
 // Writes how a call has ended.
 fn put_end(out: &mut String, outcome: Option<Outcome>) -> Result<(), AllocError>
-    ensures { OnOk result (string_bytes out.new ≡ string_bytes out.old ++ end_text outcome) }
+    ensures { OnOk result (AppendsText out.old out.new (end_text outcome)) }
 {
     match outcome {
         None => Ok(()),
@@ -56,7 +57,7 @@ fn put_end(out: &mut String, outcome: Option<Outcome>) -> Result<(), AllocError>
 
 // Writes who has made an event, for which script, and the step.
 fn put_head(out: &mut String, number: u32, step: &Step) -> Result<(), AllocError>
-    ensures { OnOk result (string_bytes out.new ≡ string_bytes out.old ++ head_text number step.now) }
+    ensures { OnOk result (AppendsText out.old out.new (head_text number step.now)) }
 {
     let name = step_name(step.place);
     write!(out, "{number} {}", step.caller)?;
@@ -65,7 +66,7 @@ fn put_head(out: &mut String, number: u32, step: &Step) -> Result<(), AllocError
 
 // Writes what the word that was left means.
 fn put_left(out: &mut String, plan: &Plan, change: &Change) -> Result<(), AllocError>
-    ensures { OnOk result (string_bytes out.new ≡ string_bytes out.old ++ means_part plan.now.callers (data_cells plan.now.callers plan.now.blocks) change.now) }
+    ensures { OnOk result (AppendsText out.old out.new (means_part plan.now.callers (data_cells plan.now.callers plan.now.blocks) change.now)) }
 {
     put_meaning(out, plan, Word::at(&plan.shape(), change.word), change.left)
 }
@@ -73,7 +74,7 @@ fn put_left(out: &mut String, plan: &Plan, change: &Change) -> Result<(), AllocE
 // Writes the parts after the change.
 fn put_parts(out: &mut String, plan: &Plan, step: &Step) -> Result<(), AllocError>
     requires { IfSome step.now.outcome OutcomeHoldsReply }
-    ensures { OnOk result (string_bytes out.new ≡ string_bytes out.old ++ step_parts plan.now.callers (data_cells plan.now.callers plan.now.blocks) step.now) }
+    ensures { OnOk result (AppendsText out.old out.new (step_parts plan.now.callers (data_cells plan.now.callers plan.now.blocks) step.now)) }
 {
     put_help(out, step.helps)?;
     put_did(out, step.op, step.change.found)?;
@@ -84,7 +85,7 @@ fn put_parts(out: &mut String, plan: &Plan, step: &Step) -> Result<(), AllocErro
 /// Writes the line of a turn that has made a step.
 pub fn put_step(out: &mut String, plan: &Plan, number: u32, step: &Step) -> Result<(), AllocError>
     requires { IfSome step.now.outcome OutcomeHoldsReply }
-    ensures { OnOk result (string_bytes out.new ≡ string_bytes out.old ++ step_line plan.now.callers (data_cells plan.now.callers plan.now.blocks) number step.now) }
+    ensures { OnOk result (AppendsText out.old out.new (step_line plan.now.callers (data_cells plan.now.callers plan.now.blocks) number step.now)) }
 {
     put_head(out, number, step)?;
     put_change(out, plan, &step.change)?;
@@ -95,7 +96,7 @@ pub fn put_step(out: &mut String, plan: &Plan, number: u32, step: &Step) -> Resu
 
 /// Writes the line of a turn that has done nothing.
 pub fn put_rest(out: &mut String, number: u32, caller: u32) -> Result<(), AllocError>
-    ensures { OnOk result (string_bytes out.new ≡ string_bytes out.old ++ rest_line number caller) }
+    ensures { OnOk result (AppendsText out.old out.new (rest_line number caller)) }
 {
     writeln!(out, "{number} {caller} nothing")
 }
@@ -107,7 +108,7 @@ pub fn put_evict(
     number: u32,
     change: &Change,
 ) -> Result<(), AllocError>
-    ensures { OnOk result (string_bytes out.new ≡ string_bytes out.old ++ evict_line plan.now.callers (data_cells plan.now.callers plan.now.blocks) number change.now) }
+    ensures { OnOk result (AppendsText out.old out.new (evict_line plan.now.callers (data_cells plan.now.callers plan.now.blocks) number change.now)) }
 {
     write!(out, "{number} evict, ")?;
     put_change(out, plan, change)?;

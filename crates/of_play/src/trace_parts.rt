@@ -1,6 +1,6 @@
 //! What a line of a trace tells of its step after the change.
 
-ghost use Rattle.std.specs.Prelude.{◌≡◌, ◌++◌, false, true, length, OnOk, IfSome, string_bytes};
+ghost use Rattle.std.specs.Prelude.{◌≡◌, false, true, length, OnOk, IfSome};
 ghost use Rattle.of_mem.specs.declared.work.TheConstants.{MOST_INSTRS};
 ghost use Rattle.of_cell.specs.Words.{seq_of, payload_of};
 ghost use Rattle.of_script.specs.declared.instr.Reply.{Reply};
@@ -8,6 +8,7 @@ ghost use Rattle.of_script.specs.Reading.{instr_at};
 ghost use Rattle.of_eval.specs.Shapes.{IsHeldBy};
 ghost use Rattle.of_caller.specs.Ends.{OutcomeHoldsReply};
 ghost use Rattle.of_play.specs.TraceParts.{helper_part, exchange_part, raise_part, did_part, instr_part, pointer_part, shape_part, field_part, holding_part, request_part, log_part, cell_part, word_part, held_part, reply_part};
+ghost use Rattle.of_script.specs.Appending.{AppendsText};
 
 use crate::names::{Cell, Holding, Word};
 use crate::trace_text::{put_holding, put_pair};
@@ -23,7 +24,7 @@ use std::fmt::Write;
 
 /// Writes whom a step helps.
 pub fn put_help(out: &mut String, helps: Option<u32>) -> Result<(), AllocError>
-    ensures { OnOk result (string_bytes out.new ≡ string_bytes out.old ++ helper_part helps) }
+    ensures { OnOk result (AppendsText out.old out.new (helper_part helps)) }
 {
     match helps {
         None => Ok(()),
@@ -33,7 +34,7 @@ pub fn put_help(out: &mut String, helps: Option<u32>) -> Result<(), AllocError>
 
 // Writes that an exchange was lost, and what it would have done.
 fn put_lost(out: &mut String, old: u64, new: u64) -> Result<(), AllocError>
-    ensures { OnOk result (string_bytes out.new ≡ string_bytes out.old ++ exchange_part false old new) }
+    ensures { OnOk result (AppendsText out.old out.new (exchange_part false old new)) }
 {
     out.push_str("; lost, wanted ")?;
     put_pair(out, old)?;
@@ -43,7 +44,7 @@ fn put_lost(out: &mut String, old: u64, new: u64) -> Result<(), AllocError>
 
 // Writes to what a raise would have raised.
 fn put_wanted(out: &mut String, value: u64) -> Result<(), AllocError>
-    ensures { OnOk result (string_bytes out.new ≡ string_bytes out.old ++ raise_part true value) }
+    ensures { OnOk result (AppendsText out.old out.new (raise_part true value)) }
 {
     out.push_str("; wanted ")?;
     put_pair(out, value)
@@ -51,7 +52,7 @@ fn put_wanted(out: &mut String, value: u64) -> Result<(), AllocError>
 
 /// Writes what became of a step that found this word.
 pub fn put_did(out: &mut String, op: Op, found: u64) -> Result<(), AllocError>
-    ensures { OnOk result (string_bytes out.new ≡ string_bytes out.old ++ did_part op found) }
+    ensures { OnOk result (AppendsText out.old out.new (did_part op found)) }
 {
     match op {
         Op::Load { .. } | Op::Store { .. } => Ok(()),
@@ -74,7 +75,7 @@ pub fn put_did(out: &mut String, op: Op, found: u64) -> Result<(), AllocError>
 
 // Writes the instruction that a script word is.
 fn put_instr(out: &mut String, value: u64) -> Result<(), AllocError>
-    ensures { OnOk result (string_bytes out.new ≡ string_bytes out.old ++ instr_part (instr_at value)) }
+    ensures { OnOk result (AppendsText out.old out.new (instr_part (instr_at value))) }
 {
     let Some(instr) = from_word(value) else {
         return Ok(());
@@ -85,7 +86,7 @@ fn put_instr(out: &mut String, value: u64) -> Result<(), AllocError>
 
 // Writes the block to which a pointer leads.
 fn put_pointer(out: &mut String, pointer: u32) -> Result<(), AllocError>
-    ensures { OnOk result (string_bytes out.new ≡ string_bytes out.old ++ pointer_part pointer) }
+    ensures { OnOk result (AppendsText out.old out.new (pointer_part pointer)) }
 {
     if pointer == 0 {
         out.push_str("; no block")
@@ -96,7 +97,7 @@ fn put_pointer(out: &mut String, pointer: u32) -> Result<(), AllocError>
 
 // Writes of which reply a shape is.
 fn put_shape(out: &mut String, shape: u32) -> Result<(), AllocError>
-    ensures { OnOk result (string_bytes out.new ≡ string_bytes out.old ++ shape_part shape) }
+    ensures { OnOk result (AppendsText out.old out.new (shape_part shape)) }
 {
     if shape == 0 {
         Ok(())
@@ -109,7 +110,7 @@ fn put_shape(out: &mut String, shape: u32) -> Result<(), AllocError>
 
 // Writes what the number of a data cell means.
 fn put_number(out: &mut String, holding: Holding, number: u32) -> Result<(), AllocError>
-    ensures { OnOk result (string_bytes out.new ≡ string_bytes out.old ++ holding_part holding number) }
+    ensures { OnOk result (AppendsText out.old out.new (holding_part holding number)) }
 {
     match holding {
         Holding::Shape(_) => put_shape(out, number),
@@ -134,7 +135,7 @@ fn put_number(out: &mut String, holding: Holding, number: u32) -> Result<(), All
 
 // Writes whether the transaction of a request is open.
 fn put_request(out: &mut String, value: u64) -> Result<(), AllocError>
-    ensures { OnOk result (string_bytes out.new ≡ string_bytes out.old ++ request_part (seq_of value) (payload_of value)) }
+    ensures { OnOk result (AppendsText out.old out.new (request_part (seq_of value) (payload_of value))) }
 {
     if seq_of(value) == 0 {
         Ok(())
@@ -147,7 +148,7 @@ fn put_request(out: &mut String, value: u64) -> Result<(), AllocError>
 
 // Writes the data cell that a log word names.
 fn put_entry(out: &mut String, plan: &Plan, at: u32, addr: u32) -> Result<(), AllocError>
-    ensures { OnOk result (string_bytes out.new ≡ string_bytes out.old ++ log_part plan.now.callers at addr) }
+    ensures { OnOk result (AppendsText out.old out.new (log_part plan.now.callers at addr)) }
 {
     if at % 2 == 1 {
         out.push_str("; ")?;
@@ -159,7 +160,7 @@ fn put_entry(out: &mut String, plan: &Plan, at: u32, addr: u32) -> Result<(), Al
 
 // Writes what the word of a cell means.
 fn put_cell_part(out: &mut String, plan: &Plan, cell: Cell, value: u64) -> Result<(), AllocError>
-    ensures { OnOk result (string_bytes out.new ≡ string_bytes out.old ++ cell_part plan.now.callers cell value) }
+    ensures { OnOk result (AppendsText out.old out.new (cell_part plan.now.callers cell value)) }
 {
     match cell {
         Cell::Current => Ok(()),
@@ -171,7 +172,7 @@ fn put_cell_part(out: &mut String, plan: &Plan, cell: Cell, value: u64) -> Resul
 
 /// Writes what a word of the table means.
 pub fn put_meaning(out: &mut String, plan: &Plan, word: Word, value: u64) -> Result<(), AllocError>
-    ensures { OnOk result (string_bytes out.new ≡ string_bytes out.old ++ word_part plan.now.callers word value) }
+    ensures { OnOk result (AppendsText out.old out.new (word_part plan.now.callers word value)) }
 {
     match word {
         Word::Now(cell) | Word::Durable(cell) => put_cell_part(out, plan, cell, value),
@@ -184,7 +185,7 @@ pub fn put_meaning(out: &mut String, plan: &Plan, word: Word, value: u64) -> Res
 fn put_held(out: &mut String, raw: &RawReply) -> Result<(), AllocError>
     requires held { (r : Reply) × IsHeldBy raw.now r }
     requires width { length raw.now.values ≡ MOST_INSTRS }
-    ensures { OnOk result (string_bytes out.new ≡ string_bytes out.old ++ held_part raw.now) }
+    ensures { OnOk result (AppendsText out.old out.new (held_part raw.now)) }
 {
     let Some(reply) = reply_of(raw) else {
         unreachable!()
@@ -196,7 +197,7 @@ fn put_held(out: &mut String, raw: &RawReply) -> Result<(), AllocError>
 /// Writes the reply of a call that has ended.
 pub fn put_reply_part(out: &mut String, outcome: Option<Outcome>) -> Result<(), AllocError>
     requires { IfSome outcome OutcomeHoldsReply }
-    ensures { OnOk result (string_bytes out.new ≡ string_bytes out.old ++ reply_part outcome) }
+    ensures { OnOk result (AppendsText out.old out.new (reply_part outcome)) }
 {
     match outcome {
         None | Some(Outcome::Spent { .. }) => Ok(()),

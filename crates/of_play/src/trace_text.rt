@@ -1,8 +1,9 @@
 //! The names that a trace prints, and what has become of a word.
 
-ghost use Rattle.std.specs.Prelude.{◌≡◌, ◌<◌, ◌++◌, OnOk, string_bytes};
+ghost use Rattle.std.specs.Prelude.{◌≡◌, ◌<◌, OnOk};
 ghost use Rattle.of_plan.specs.Plan.{data_cells};
 ghost use Rattle.of_play.specs.TraceText.{step_text, holding_text, cell_name_text, word_text, pair_text, word_value_text, named_change, change_text};
+ghost use Rattle.of_script.specs.Appending.{AppendsText};
 
 use crate::names::{Cell, Holding, Word};
 use of_cell::{payload_of, seq_of};
@@ -62,7 +63,7 @@ pub fn step_name(place: Place) -> &'static str
 
 /// Writes what a data cell holds.
 pub fn put_holding(out: &mut String, holding: Holding) -> Result<(), AllocError>
-    ensures { OnOk result (string_bytes out.new ≡ string_bytes out.old ++ holding_text holding) }
+    ensures { OnOk result (AppendsText out.old out.new (holding_text holding)) }
 {
     match holding {
         Holding::Ticket(caller) => write!(out, "ticket of {caller}"),
@@ -82,7 +83,7 @@ pub fn put_holding(out: &mut String, holding: Holding) -> Result<(), AllocError>
 
 // Writes the name of a cell of a plan's table.
 fn put_cell(out: &mut String, plan: &Plan, cell: Cell) -> Result<(), AllocError>
-    ensures { OnOk result (string_bytes out.new ≡ string_bytes out.old ++ cell_name_text plan.now.callers cell) }
+    ensures { OnOk result (AppendsText out.old out.new (cell_name_text plan.now.callers cell)) }
 {
     match cell {
         Cell::Current => out.push_str("current"),
@@ -98,7 +99,7 @@ fn put_cell(out: &mut String, plan: &Plan, cell: Cell) -> Result<(), AllocError>
 
 // Writes the name of a word of a plan's table.
 fn put_word(out: &mut String, plan: &Plan, word: Word) -> Result<(), AllocError>
-    ensures { OnOk result (string_bytes out.new ≡ string_bytes out.old ++ word_text plan.now.callers word) }
+    ensures { OnOk result (AppendsText out.old out.new (word_text plan.now.callers word)) }
 {
     match word {
         Word::Now(cell) => put_cell(out, plan, cell),
@@ -114,7 +115,7 @@ fn put_word(out: &mut String, plan: &Plan, word: Word) -> Result<(), AllocError>
 
 /// Writes the two parts of a word.
 pub fn put_pair(out: &mut String, value: u64) -> Result<(), AllocError>
-    ensures { OnOk result (string_bytes out.new ≡ string_bytes out.old ++ pair_text value) }
+    ensures { OnOk result (AppendsText out.old out.new (pair_text value)) }
 {
     let (seq, number) = (seq_of(value), payload_of(value));
     write!(out, "({seq},{number})")
@@ -122,7 +123,7 @@ pub fn put_pair(out: &mut String, value: u64) -> Result<(), AllocError>
 
 // Writes what stands in a word.
 fn put_value(out: &mut String, word: Word, value: u64) -> Result<(), AllocError>
-    ensures { OnOk result (string_bytes out.new ≡ string_bytes out.old ++ word_value_text word value) }
+    ensures { OnOk result (AppendsText out.old out.new (word_value_text word value)) }
 {
     match word {
         Word::Script { .. } | Word::Members => write!(out, "{value}"),
@@ -132,7 +133,7 @@ fn put_value(out: &mut String, word: Word, value: u64) -> Result<(), AllocError>
 
 /// Writes a word of a plan's table by its name, and what has become of it.
 pub fn put_change(out: &mut String, plan: &Plan, change: &Change) -> Result<(), AllocError>
-    ensures { OnOk result (string_bytes out.new ≡ string_bytes out.old ++ change_text plan.now.callers (data_cells plan.now.callers plan.now.blocks) change.now) }
+    ensures { OnOk result (AppendsText out.old out.new (change_text plan.now.callers (data_cells plan.now.callers plan.now.blocks) change.now)) }
 {
     let word = Word::at(&plan.shape(), change.word);
     put_word(out, plan, word)?;

@@ -1,9 +1,10 @@
 //! Texts of reports of loads.
 
-ghost use Rattle.std.specs.Prelude.{◌≡◌, ◌++◌, IfOk, OnOk, string_bytes};
+ghost use Rattle.std.specs.Prelude.{◌≡◌, IfOk, OnOk};
 ghost use Rattle.std.specs.FinMap as fm;
 ghost use Rattle.of_report.specs.Report.{report_value};
 ghost use Rattle.of_report.specs.LoadText.{sum_of_values, sum_lines, load_text};
+ghost use Rattle.of_script.specs.Appending.{AppendsText};
 
 use crate::report::Report;
 use crate::store::put_registers;
@@ -26,7 +27,7 @@ fn sums(store: &Store) -> (u32, u64)
 
 // Writes how many keys there are, and the sum of their numbers.
 fn put_sums(out: &mut String, store: &Store) -> Result<(), AllocError>
-    ensures { OnOk result (string_bytes out.new ≡ string_bytes out.old ++ sum_lines store.now) }
+    ensures { OnOk result (AppendsText out.old out.new (sum_lines store.now)) }
 {
     let (keys, sum) = sums(store);
     writeln!(out, "keys {keys}")?;

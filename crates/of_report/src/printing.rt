@@ -1,10 +1,11 @@
 //! Texts of reports.
 
-ghost use Rattle.std.specs.Prelude.{◌≡◌, ◌++◌, IfOk, OnOk, flat_map, map, take, string_bytes};
+ghost use Rattle.std.specs.Prelude.{◌≡◌, IfOk, OnOk, flat_map, map, take};
 ghost use Rattle.std.specs.List.{enumerate_from};
 ghost use Rattle.of_store.specs.Replies.{reply_value_of};
 ghost use Rattle.of_report.specs.Report.{entry_value, line_value, report_value, end_state_value};
 ghost use Rattle.of_report.specs.ReportText.{reply_value_text, cause_text, reply_text, kind_text, entry_line, state_text, caller_line_text, seq_line, report_text};
+ghost use Rattle.of_script.specs.Appending.{AppendsText};
 
 use crate::report::{EndState, Entry, Line, Report};
 use crate::store::put_store;
@@ -27,7 +28,7 @@ fn cause_name(cause: Cause) -> &'static str
 
 // Writes the value of an instruction behind a space.
 fn put_value(out: &mut String, value: Option<u32>) -> Result<(), AllocError>
-    ensures { OnOk result (string_bytes out.new ≡ string_bytes out.old ++ reply_value_text value) }
+    ensures { OnOk result (AppendsText out.old out.new (reply_value_text value)) }
 {
     match value {
         Some(number) => write!(out, " {number}"),
@@ -45,7 +46,7 @@ fn answered(reply: &Reply) -> &[Option<u32>]
 
 /// Writes the words of a reply at the end of `out`, each after a space.
 pub fn put_reply(out: &mut String, reply: &Reply) -> Result<(), AllocError>
-    ensures { OnOk result (string_bytes out.new ≡ string_bytes out.old ++ reply_text (reply_value_of reply.now)) }
+    ensures { OnOk result (AppendsText out.old out.new (reply_text (reply_value_of reply.now))) }
 {
     match reply.abort {
         Some(abort) => {
@@ -71,7 +72,7 @@ fn kind_name(announced: bool) -> &'static str
 
 // Writes the line of an entry.
 fn put_entry(out: &mut String, entry: &Entry) -> Result<(), AllocError>
-    ensures { OnOk result (string_bytes out.new ≡ string_bytes out.old ++ entry_line (entry_value entry.now)) }
+    ensures { OnOk result (AppendsText out.old out.new (entry_line (entry_value entry.now))) }
 {
     let kind = kind_name(entry.announced);
     write!(out, "entry {} {}", entry.seq, entry.caller)?;
@@ -93,7 +94,7 @@ fn state_name(state: EndState) -> &'static str
 
 // Writes the line of a caller.
 fn put_caller(out: &mut String, caller: usize, line: &Line) -> Result<(), AllocError>
-    ensures { OnOk result (string_bytes out.new ≡ string_bytes out.old ++ caller_line_text (caller, line_value line.now)) }
+    ensures { OnOk result (AppendsText out.old out.new (caller_line_text (caller, line_value line.now))) }
 {
     let state = state_name(line.state);
     write!(out, "caller {caller} {state}")?;
@@ -103,14 +104,14 @@ fn put_caller(out: &mut String, caller: usize, line: &Line) -> Result<(), AllocE
 
 // Writes the line of the sequence.
 fn put_seq(out: &mut String, seq: u32) -> Result<(), AllocError>
-    ensures { OnOk result (string_bytes out.new ≡ string_bytes out.old ++ seq_line seq) }
+    ensures { OnOk result (AppendsText out.old out.new (seq_line seq)) }
 {
     writeln!(out, "seq {seq}")
 }
 
 // Writes the lines of the entries.
 fn put_entries(out: &mut String, entries: &[Entry]) -> Result<(), AllocError>
-    ensures { OnOk result (string_bytes out.new ≡ string_bytes out.old ++ flat_map entry_line (map entry_value entries.now)) }
+    ensures { OnOk result (AppendsText out.old out.new (flat_map entry_line (map entry_value entries.now))) }
 {
     for entry in entries {
         put_entry(out, entry)?;
@@ -120,7 +121,7 @@ fn put_entries(out: &mut String, entries: &[Entry]) -> Result<(), AllocError>
 
 // Writes the lines of the callers.
 fn put_callers(out: &mut String, callers: &[Line]) -> Result<(), AllocError>
-    ensures { OnOk result (string_bytes out.new ≡ string_bytes out.old ++ flat_map caller_line_text (enumerate_from 0 (map line_value callers.now))) }
+    ensures { OnOk result (AppendsText out.old out.new (flat_map caller_line_text (enumerate_from 0 (map line_value callers.now)))) }
 {
     for (caller, line) in callers.iter().enumerate() {
         put_caller(out, caller, line)?;
