@@ -9,9 +9,9 @@ use crate::step::word_reads;
 use crate::walk::{keep_sought, reach, run_words};
 use of_mem::{Keeps, Kept, MOST_INSTRS, Need, Part, Plot, RawReply, Work};
 
-/// What runs scripts on cells: so many callers, 1 to `MOST_CALLERS`, and room for so
-/// many keys and items, at most `MOST_BLOCKS`. An operation is the words of a script; a
-/// word that is no instruction aborts at its place.
+/// What runs scripts on cells: so many callers, 1 to `MOST_CALLERS`, and room for so many keys and
+/// items, at most `MOST_BLOCKS`. An operation is the words of a script; a word that is no instruction
+/// aborts at its place.
 #[derive(Clone, Copy, Debug, PartialEq, Eq)]
 pub struct Scripts {
     pub callers: u32,
@@ -37,7 +37,7 @@ impl Scripts {
 }
 
 impl Keeps for Scripts {
-    ghost use Rattle.of_eval.specs.Stopped.{HoldsScript, holds_nothing, holds_learnt};
+    ghost use Rattle.of_eval.specs.Resuming.{HoldsScript, holds_nothing, holds_learnt};
 
     ghost holds = { HoldsScript };
 

@@ -9,7 +9,7 @@ use Rattle.of_script.specs.declared.instr.TheConstants.{MOST_INSTRS}
 use Rattle.of_store.proofs.Values.{small_values, none_left}
 use Rattle.of_eval.specs.ScriptPrograms.{InstrResult}
 use Rattle.of_eval.specs.Calls.{run_word}
-use Rattle.of_eval.specs.Stopped.{part_with, MayResume}
+use Rattle.of_eval.specs.Resuming.{part_with, MayResume}
 use Rattle.of_eval.proofs.Walks.{ran_aborts, ran_lacks, ran_more, ran_ends}
 use Rattle.of_eval.proofs.Resumed.{begun_goes, after_word, goes_more, ran_so, of_store, has_store, goes_there, holds_so}
 use Rattle.of_eval.proofs.walk.run_words.Goals as goal

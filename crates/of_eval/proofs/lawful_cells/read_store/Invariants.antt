@@ -1,6 +1,6 @@
 use Rattle.std.proofs.Common.{◌+◌}
 use Rattle.of_eval.specs.Walking.{IsBeforeChain}
-use Rattle.of_eval.proofs.lawful_cells.looked_at.Given as goal
+use Rattle.of_eval.proofs.lawful_cells.read_store.Given as goal
 
 abbrev pub invariant-loop-b : goal.invariant-loop-b
 invariant-loop-b l = IsBeforeChain l.plot l.cells (1 + l.b) 0 l.owners.items l.store

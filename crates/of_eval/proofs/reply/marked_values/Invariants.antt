@@ -1,7 +1,7 @@
 use Rattle.std.proofs.Common.{◌≡◌, ◌++◌, ◌<◌, ◌-◌, ◌^◌, ◌≤◌, take, drop, length, get_or, None, ℕ}
 use Rattle.of_store.specs.Replies.{IsSmall}
 use Rattle.of_eval.specs.Reading.{marked_in}
-use Rattle.of_eval.proofs.reply.marked.Given as goal
+use Rattle.of_eval.proofs.reply.marked_values.Given as goal
 use Rattle.of_script.specs.declared.instr.TheConstants.{MOST_INSTRS}
 
 abbrev pub invariant-loop-i : goal.invariant-loop-i

@@ -3,7 +3,7 @@ use Rattle.std.specs.List.{All}
 use Rattle.of_store.specs.Replies.{IsSmall}
 use Rattle.of_eval.proofs.Masks.{bit_is}
 use Rattle.of_eval.proofs.Unpacked.{len_is, marks_below, values_are, small_values, answered_is, answered_holds}
-use Rattle.of_eval.proofs.reply.answered.Goals as goal
+use Rattle.of_eval.proofs.reply.answered_reply.Goals as goal
 
 pub returns-then-marks-len-clause-only : goal.returns-then-marks-len-clause-only
 returns-then-marks-len-clause-only c = λ r h. absurd (let l : c.args.len ≡ r.len = c.requires.len ∙ len_is c.args.raw.now r h in let b = bit_is c.args.len c.requires.few in let k : c.args.raw.now.shape % 2 ^ 16 < 2 ^ c.args.len = rw l (marks_below c.args.raw.now r h) in omega (arith, b, k, c.if-marks-len.true))

@@ -3,7 +3,7 @@ use Rattle.std.proofs.lemmas.List.{take-append-le, take_all}
 use Rattle.std.proofs.lemmas.Result.{err_from_is_err_and}
 use Rattle.of_eval.specs.Walking.{IsBeforeChain}
 use Rattle.of_eval.proofs.Beginnings.{begins}
-use Rattle.of_eval.proofs.lawful_cells.looked_at.Goals as goal
+use Rattle.of_eval.proofs.lawful_cells.read_store.Goals as goal
 
 -- a whole table is written back
 back : (n : ℕ) (xs ys : List ℕ) → length xs ≡ n → take n (xs ++ ys) ≡ xs

@@ -1,4 +1,5 @@
--- What is kept of a script whose run lacked a cell.
+-- What is kept of a script whose run lacked a cell. The two lemmas at the end are laws of
+-- `impl Keeps for Scripts`, which may cite specs/ alone.
 use Rattle.std.specs.Prelude.{◌≡◌, ℕ, ◌≤◌, ◌<◌, List, [], length, take, drop, Option, Some, None}
 use Rattle.std.proofs.Common.{get_or, arith, ap}
 use Rattle.of_mem.specs.declared.work.TheConstants.{MOST_INSTRS}
@@ -22,13 +23,21 @@ IsOfStore o blocks p = (m : ℕ → ℕ) × StandsForSome o blocks m × IsPartOf
 
 -- where the walk to the key lacks a cell, the word lacks it too
 abbrev pub LooksFor : ℕ → ℕ → ℕ → ℕ → Type 0
-LooksFor o blocks w key = (p : Part) (a : ℕ) → run_program (seek_program o blocks key) p ≡ Lacks a → run_program (word_program o blocks w) p ≡ Lacks a
+LooksFor o blocks w key =
+    (p : Part) (a : ℕ) → run_program (seek_program o blocks key) p ≡ Lacks a
+    → run_program (word_program o blocks w) p ≡ Lacks a
 
--- whatever else is known, the script goes on behind the words that have run, with what these answered and wrote
+-- whatever else is known, the script goes on behind the words that have run, with what these
+-- answered and wrote
 pub record MayResume (o blocks : ℕ) (k : SuspendedRun) (p : Part) : Type 0 where
-  pub runs : (more : List (Option ℕ)) → Extends more p.known → run_program (words_program o blocks (length k.words) [] k.words) (part_with more p.batch [])
-      ≡ run_program (words_program o blocks (length k.words) (take k.done k.values) (drop k.done k.words)) (part_with more p.batch k.writes)
-  pub stands : (more : List (Option ℕ)) → Extends more p.known → IsOfStore o blocks (part_with more p.batch []) → IsOfStore o blocks (part_with more p.batch k.writes)
+  pub runs : (more : List (Option ℕ)) → Extends more p.known
+      → run_program (words_program o blocks (length k.words) [] k.words) (part_with more p.batch [])
+      ≡ run_program
+        (words_program o blocks (length k.words) (take k.done k.values) (drop k.done k.words))
+        (part_with more p.batch k.writes)
+  pub stands : (more : List (Option ℕ)) → Extends more p.known
+      → IsOfStore o blocks (part_with more p.batch [])
+      → IsOfStore o blocks (part_with more p.batch k.writes)
   -- a word is left to run
   pub left : k.done < length k.words
   pub width : length k.values ≡ MOST_INSTRS
@@ -44,7 +53,8 @@ HoldsScript k p = 1 ≤ length k.words → MayResume (base_of k.callers MOST_INS
 pub holds_nothing : (k : SuspendedRun) (p : Part) → k.words ≡ [] → HoldsScript k p
 holds_nothing k p e l = absurd (omega (arith, l, ap length e))
 
-pub holds_learnt : (k : SuspendedRun) (p : Part) (a v : ℕ) → get_or p.known a None ≡ None → HoldsScript k p → HoldsScript k (learn p a v)
+pub holds_learnt : (k : SuspendedRun) (p : Part) (a v : ℕ) → get_or p.known a None ≡ None
+    → HoldsScript k p → HoldsScript k (learn p a v)
 holds_learnt k p a v none h l =
     let g = h l in
     record {

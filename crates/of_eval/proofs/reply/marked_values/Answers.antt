@@ -5,8 +5,8 @@ use Rattle.std.proofs.lemmas.List.{take_more, take_more_set, get_or_default}
 use Rattle.of_store.specs.Replies.{IsSmall}
 use Rattle.of_store.proofs.Values.{small_values, none_left}
 use Rattle.of_eval.proofs.Masks.{marked_step, marked_end, marked_there, marked_length, marks_left, no_marks}
-use Rattle.of_eval.proofs.reply.marked.Goals as goal
-use Rattle.of_eval.proofs.reply.marked.Goals.{then-rest-eq1+else-cells-i-gt-GREATEST, else-rest-eq1}
+use Rattle.of_eval.proofs.reply.marked_values.Goals as goal
+use Rattle.of_eval.proofs.reply.marked_values.Goals.{then-rest-eq1+else-cells-i-gt-GREATEST, else-rest-eq1}
 
 pub returns-then-cells-i-gt-GREATEST : goal.returns-then-cells-i-gt-GREATEST
 returns-then-cells-i-gt-GREATEST c = λ h.

@@ -1,6 +1,6 @@
 use Rattle.std.proofs.Common.{◌%◌, ◌/◌, ◌^◌, arith, refl, sym}
 use Rattle.of_eval.proofs.Unpacked.{len_is, abort_of, none_marked, aborted_is}
-use Rattle.of_eval.proofs.reply.aborted.Goals as goal
+use Rattle.of_eval.proofs.reply.aborted_reply.Goals as goal
 
 pub returns-in_err-cause-clause-only : goal.returns-in_err-cause-clause-only
 returns-in_err-cause-clause-only c = λ r h. absurd (let a = abort_of c.args.raw.now r h c.requires.shape in c.in_err-cause.ensures a.0.cause (sym a.2.code))
