@@ -10,11 +10,12 @@ use Rattle.of_eval.specs.ScriptPrograms.{InstrResult, answer_program, instr_prog
 module _ (o blocks : ℕ) where
   begins : (low : ℕ)
       → (k : ℕ → Program InstrResult)
-        × (then_do (least_program o blocks low) answer_program ≡ Read (bucket_at o 0) k)
+      × (then_do (least_program o blocks low) answer_program ≡ Read (bucket_at o 0) k)
   begins low =
-      let b = least_begins o blocks low in
-      ((λ v. then_do (b.0 v) answer_program),
-       ap (λ (f : Program (Option ℕ)). then_do f answer_program) b.1)
+      let b = least_begins o blocks low in (
+        (λ v. then_do (b.0 v) answer_program),
+        ap (λ (f : Program (Option ℕ)). then_do f answer_program) b.1,
+      )
 
   pub first_begins : (k : ℕ → Program InstrResult)
       × (instr_program o blocks First ≡ Read (bucket_at o 0) k)

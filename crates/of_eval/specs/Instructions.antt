@@ -46,8 +46,8 @@ HasEffect o blocks m f e =
 
 four : (qs : List (List ℕ)) → length qs ≡ 4
     → sum_by length qs
-      ≡ length (get_or qs 0 []) + length (get_or qs 1 []) + length (get_or qs 2 [])
-        + length (get_or qs 3 [])
+    ≡ length (get_or qs 0 []) + length (get_or qs 1 []) + length (get_or qs 2 [])
+    + length (get_or qs 3 [])
 four [] e = absurd (omega arith)
 four (a ∷ []) e = absurd (omega arith)
 four (a ∷ b ∷ []) e = absurd (omega arith)
@@ -62,7 +62,7 @@ things_kept s h = let e = four s.queues h.queues in omega (arith, e)
 -- a queue with other items, both ways to say it
 pub queue_plain : (s : Store) (q : ℕ) (items : List ℕ) → q < length s.queues
     → cell_store (with_queue s q items)
-      ≡ record (cell_store s) { queues = with_value (λ x. queue s x) q items }
+    ≡ record (cell_store s) { queues = with_value (λ x. queue s x) q items }
 queue_plain s q items l =
     λ i. record { registers = s.registers; map = s.keys; queues = λ x. at x i; room = s.room }
   where
@@ -94,13 +94,14 @@ module _ (o blocks : ℕ) (few : blocks ≤ MOST_BLOCKS) (m : ℕ → ℕ) (s : 
   is_register r l = (h.stands.holds.registers r l).0
 
   load : (r : ℕ) → r < 16 → Does (instr_program o blocks (Load r)) (instr_effect s (Load r))
-  load r l =
-      ((omega arith, omega (arith, l), tt),
-       (ap (λ (v : ℕ). Ok (Some v)) (is_register r l), h.stands))
+  load r l = (
+    (omega arith, omega (arith, l), tt),
+    (ap (λ (v : ℕ). Ok (Some v)) (is_register r l), h.stands),
+  )
 
   writes : (r v : ℕ) → r < 16 → v ≤ greatest
       → StandsForStore o blocks (with_value m (register_at o r) v)
-        (cell_store (with_register s r v))
+      (cell_store (with_register s r v))
   writes r v l k = register_stands o blocks m (cell_store s) h.stands r v l (omega (arith, k))
 
   store : (r v : ℕ) → r < 16 → v ≤ greatest
@@ -118,33 +119,37 @@ module _ (o blocks : ℕ) (few : blocks ≤ MOST_BLOCKS) (m : ℕ → ℕ) (s : 
   add r v l =
       let k = add_case r (register s r + v) l (ltb greatest (register s r + v)) refl in
       let g =
-          subst (λ (n : ℕ). Does (add_to o r v n) (instr_effect s (Add r v)))
-          (sym (is_register r l)) k in
+      subst (λ (n : ℕ). Does (add_to o r v n) (instr_effect s (Add r v)))
+      (sym (is_register r l)) k in
       ((omega arith, omega (arith, l), g.0), g.1)
 
   sub_case : (r n v : ℕ) → r < 16 → n ≤ greatest → (t : Bool)
       → Does (sub_unless o r (n - v) t)
-        (cond t (Err Short) (Ok (with_register s r (n - v), Some (n - v))))
+      (cond t (Err Short) (Ok (with_register s r (n - v), Some (n - v))))
   sub_case r n v l k true = (tt, refl)
-  sub_case r n v l k false =
-      ((omega arith, omega (arith, l), omega (arith, k), tt),
-       (refl, writes r (n - v) l (omega (arith, k))))
+  sub_case r n v l k false = (
+    (omega arith, omega (arith, l), omega (arith, k), tt),
+    (refl, writes r (n - v) l (omega (arith, k))),
+  )
 
   sub : (r v : ℕ) → r < 16 → Does (instr_program o blocks (Sub r v)) (instr_effect s (Sub r v))
   sub r v l =
       let k = sub_case r (register s r) v l (h.state.small r) (ltb (register s r) v) in
       let g =
-          subst (λ (n : ℕ). Does (sub_from o r v n) (instr_effect s (Sub r v)))
-          (sym (is_register r l)) k in
+      subst (λ (n : ℕ). Does (sub_from o r v n) (instr_effect s (Sub r v)))
+      (sym (is_register r l)) k in
       ((omega arith, omega (arith, l), g.0), g.1)
 
   get : (k : ℕ) → Does (instr_program o blocks (Get k)) (instr_effect s (Get k))
   get k =
       let g = get_means o blocks m (cell_store s) h.stands k in
-      after_first o blocks m (get_program o blocks k) answer_program (instr_effect s (Get k)) g.2
-      (tt,
-       (ap Ok g.0,
-        subst (λ (n : ℕ → ℕ). StandsForStore o blocks n (cell_store s)) (sym g.1) h.stands))
+      after_first o blocks m (get_program o blocks k) answer_program (instr_effect s (Get k)) g.2 (
+        tt,
+        (
+          ap Ok g.0,
+          subst (λ (n : ℕ → ℕ). StandsForStore o blocks n (cell_store s)) (sym g.1) h.stands,
+        ),
+      )
 
   need_case : (v : ℕ) (t : Bool) (n : ℕ → ℕ) → StandsForStore o blocks n (cell_store s)
       → HasEffect o blocks n (answers_if Differs t) (cond t (Ok (s, None)) (Err Differs))
@@ -155,46 +160,46 @@ module _ (o blocks : ℕ) (few : blocks ≤ MOST_BLOCKS) (m : ℕ → ℕ) (s : 
   need k v =
       let g = get_means o blocks m (cell_store s) h.stands k in
       let stay =
-          subst (λ (n : ℕ → ℕ). StandsForStore o blocks n (cell_store s)) (sym g.1) h.stands in
+      subst (λ (n : ℕ → ℕ). StandsForStore o blocks n (cell_store s)) (sym g.1) h.stands in
       after_first o blocks m (get_program o blocks k) (need_answers v) (instr_effect s (Need k v))
       g.2
       (subst
-       (λ (x : Option ℕ). HasEffect o blocks (memory_after (get_program o blocks k) m)
-          (need_answers v x) (instr_effect s (Need k v))) (sym g.0)
-       (need_case v (is_there (fin.get s.keys k) v) (memory_after (get_program o blocks k) m) stay))
+      (λ (x : Option ℕ). HasEffect o blocks (memory_after (get_program o blocks k) m)
+      (need_answers v x) (instr_effect s (Need k v))) (sym g.0)
+      (need_case v (is_there (fin.get s.keys k) v) (memory_after (get_program o blocks k) m) stay))
 
   -- there is room exactly where the store is not full
   full : ltb (thing_count (cell_store s)) blocks ≡ false → leb s.room (stored_count s) ≡ true
   full e =
       le-leb s.room (stored_count s)
       (omega
-       (arith, ltb-false (thing_count (cell_store s)) blocks e, things_kept s h.state, room_is))
+      (arith, ltb-false (thing_count (cell_store s)) blocks e, things_kept s h.state, room_is))
 
   not_full : ltb (thing_count (cell_store s)) blocks ≡ true → leb s.room (stored_count s) ≡ false
   not_full e =
       lt-leb s.room (stored_count s)
       (omega
-       (arith, ltb-true (thing_count (cell_store s)) blocks e, things_kept s h.state, room_is))
+      (arith, ltb-true (thing_count (cell_store s)) blocks e, things_kept s h.state, room_is))
 
   put : (k v : ℕ) → k ≤ greatest → v ≤ greatest
       → Does (instr_program o blocks (Put k v)) (instr_effect s (Put k v))
   put k v k_in v_in =
       let p =
-          put_means o blocks few m (cell_store s) h.stands k v (omega (arith, k_in))
-          (omega (arith, v_in)) in
+      put_means o blocks few m (cell_store s) h.stands k v (omega (arith, k_in))
+      (omega (arith, v_in)) in
       after_first o blocks m (put_program o blocks k v) put_answers (instr_effect s (Put k v))
       (put_inside o blocks few m (cell_store s) h.stands k v (omega (arith, k_in))
-       (omega (arith, v_in)))
+      (omega (arith, v_in)))
       (put_case (fin.get s.keys k) (ltb (thing_count (cell_store s)) blocks) refl
-       (program_answer (put_program o blocks k v) m) (memory_after (put_program o blocks k v) m) p.0
-       p.1)
+      (program_answer (put_program o blocks k v) m) (memory_after (put_program o blocks k v) m) p.0
+      p.1)
     where
       put_case : (old : Option ℕ) (t : Bool) → ltb (thing_count (cell_store s)) blocks ≡ t
           → (r : PutAnswer) (n : ℕ → ℕ) → r ≡ put_answer old t
           → StandsForStore o blocks n (put_store (cell_store s) k v old t)
           → HasEffect o blocks n (put_answers r)
-            (cond (is_none old && leb s.room (stored_count s)) (Err NoRoom)
-             (Ok (record s { keys = fin.insert s.keys k v }, old)))
+          (cond (is_none old && leb s.room (stored_count s)) (Err NoRoom)
+          (Ok (record s { keys = fin.insert s.keys k v }, old)))
       put_case (Some w) t e r n is stands = rw is (tt, (refl, stands))
       put_case None true e r n is stands = rw (is, not_full e) (tt, (refl, stands))
       put_case None false e r n is stands = rw (is, full e) (tt, refl)
@@ -212,21 +217,24 @@ module _ (o blocks : ℕ) (few : blocks ≤ MOST_BLOCKS) (m : ℕ → ℕ) (s : 
       after_first o blocks m (push_program o blocks q v) (answers_if NoRoom)
       (instr_effect s (Push q v)) p.0
       (push_case (ltb (thing_count (cell_store s)) blocks) refl
-       (program_answer (push_program o blocks q v) m) (memory_after (push_program o blocks q v) m)
-       p.1.0 p.1.1)
+      (program_answer (push_program o blocks q v) m) (memory_after (push_program o blocks q v) m)
+      p.1.0 p.1.1)
     where
       push_case : (t : Bool) → ltb (thing_count (cell_store s)) blocks ≡ t → (r : Bool) (n : ℕ → ℕ)
           → r ≡ t → StandsForStore o blocks n (push_store (cell_store s) q v t)
           → HasEffect o blocks n (answers_if NoRoom r)
-            (cond (leb s.room (stored_count s)) (Err NoRoom)
-             (Ok (with_queue s q (queue s q ++ v ∷ []), None)))
+          (cond (leb s.room (stored_count s)) (Err NoRoom)
+          (Ok (with_queue s q (queue s q ++ v ∷ []), None)))
       push_case true e r n is stands =
-          rw (is, not_full e)
-          (tt,
-           (refl,
-            subst (StandsForStore o blocks n)
-            (sym (queue_plain s q (queue s q ++ v ∷ []) (omega (arith, h.state.queues, q_in))))
-            stands))
+          rw (is, not_full e) (
+            tt,
+            (
+              refl,
+              subst (StandsForStore o blocks n)
+                  (sym (queue_plain s q (queue s q ++ v ∷ []) (omega (arith, h.state.queues, q_in))))
+                  stands,
+            ),
+          )
       push_case false e r n is stands = rw (is, full e) (tt, refl)
 
   pop : (q : ℕ) → q < 4 → Does (instr_program o blocks (Pop q)) (instr_effect s (Pop q))
@@ -234,22 +242,26 @@ module _ (o blocks : ℕ) (few : blocks ≤ MOST_BLOCKS) (m : ℕ → ℕ) (s : 
       let p = pop_means o blocks few m (cell_store s) h.stands q q_in in
       after_first o blocks m (pop_program o q) answer_program (instr_effect s (Pop q)) p.0
       (pop_case (queue s q) (program_answer (pop_program o q) m) (memory_after (pop_program o q) m)
-       p.1.0 p.1.1)
+      p.1.0 p.1.1)
     where
       pop_case : (items : List ℕ) (r : Option ℕ) (n : ℕ → ℕ) → r ≡ front_of items
           → StandsForStore o blocks n (pop_store (cell_store s) q items)
           → HasEffect o blocks n (answer_program r) (pop_effect s q items)
       pop_case [] r n is stands = (tt, (ap Ok is, stands))
-      pop_case (x ∷ items) r n is stands =
-          (tt,
-           (ap Ok is,
-            subst (StandsForStore o blocks n)
-            (sym (queue_plain s q items (omega (arith, h.state.queues, q_in)))) stands))
+      pop_case (x ∷ items) r n is stands = (
+        tt,
+        (
+          ap Ok is,
+          subst (StandsForStore o blocks n)
+              (sym (queue_plain s q items (omega (arith, h.state.queues, q_in)))) stands,
+        ),
+      )
 
   len : (q : ℕ) → q < 4 → Does (instr_program o blocks (Len q)) (instr_effect s (Len q))
-  len q q_in =
-      ((omega arith, omega (arith, q_in), tt),
-       (ap (λ (v : ℕ). Ok (Some v)) (h.stands.holds.queues q q_in).counted, h.stands))
+  len q q_in = (
+    (omega arith, omega (arith, q_in), tt),
+    (ap (λ (v : ℕ). Ok (Some v)) (h.stands.holds.queues q q_in).counted, h.stands),
+  )
 
   count : Does (instr_program o blocks Count) (instr_effect s Count)
   count =
@@ -260,10 +272,13 @@ module _ (o blocks : ℕ) (few : blocks ≤ MOST_BLOCKS) (m : ℕ → ℕ) (s : 
   least low =
       let g = least_means o blocks low m (cell_store s) h.stands in
       after_first o blocks m (least_program o blocks low) answer_program
-      (Ok (s, least_from s.keys low)) g.2
-      (tt,
-       (ap Ok g.0,
-        subst (λ (n : ℕ → ℕ). StandsForStore o blocks n (cell_store s)) (sym g.1) h.stands))
+      (Ok (s, least_from s.keys low)) g.2 (
+        tt,
+        (
+          ap Ok g.0,
+          subst (λ (n : ℕ → ℕ). StandsForStore o blocks n (cell_store s)) (sym g.1) h.stands,
+        ),
+      )
 
   drop : (k : ℕ) → Does (instr_program o blocks (DropBelow k)) (instr_effect s (DropBelow k))
   drop k =

@@ -43,7 +43,7 @@ bit_of (v ∷ vs) x (suc k) (suc j) l =
     let f : 2 ^ suc j ≡ 2 * 2 ^ j = grind arith in
     let s = mark_small v in
     let half : (mask_of (v ∷ vs) + x * 2 ^ suc k) / 2 ≡ mask_of vs + x * 2 ^ k =
-        rw e (omega (arith, s)) in
+    rw e (omega (arith, s)) in
     ap (λ (d : ℕ). (mask_of (v ∷ vs) + x * 2 ^ suc k) / d % 2) f
     ∙ ap (λ (q : ℕ). q % 2) (sym (div-div-eq-div-mul (mask_of (v ∷ vs) + x * 2 ^ suc k) 2 (2 ^ j)))
     ∙ ap (λ (q : ℕ). q / 2 ^ j % 2) half ∙ bit_of vs x k j (omega arith)
@@ -54,7 +54,7 @@ marked_has : (vs : List (Option ℕ)) (shape x : ℕ) → shape ≡ mask_of vs +
 unfolding is_marked
 marked_has vs shape x e j l h =
     let b : shape / 2 ^ j % 2 ≡ mark_bit (get_or vs j None) =
-        ap (λ (q : ℕ). q / 2 ^ j % 2) e ∙ bit_of vs x MOST_INSTRS j l in
+    ap (λ (q : ℕ). q / 2 ^ j % 2) e ∙ bit_of vs x MOST_INSTRS j l in
     let k : shape / 2 ^ j % 2 ≡ 1 = grind (arith, nat_tests) in
     sym b ∙ k
 
@@ -68,10 +68,10 @@ unmarked_none : (vs : List (Option ℕ)) (shape x : ℕ) → shape ≡ mask_of v
 unfolding is_marked
 unmarked_none vs shape x e j l h =
     let b : shape / 2 ^ j % 2 ≡ mark_bit (get_or vs j None) =
-        ap (λ (q : ℕ). q / 2 ^ j % 2) e ∙ bit_of vs x MOST_INSTRS j l in
+    ap (λ (q : ℕ). q / 2 ^ j % 2) e ∙ bit_of vs x MOST_INSTRS j l in
     none_of (get_or vs j None)
     (λ (m : mark_bit (get_or vs j None) ≡ 1).
-       let k : shape / 2 ^ j % 2 ≡ 1 = b ∙ m in unmarked (shape / 2 ^ j % 2) k h)
+    let k : shape / 2 ^ j % 2 ≡ 1 = b ∙ m in unmarked (shape / 2 ^ j % 2) k h)
   where
     unmarked : (n : ℕ) → n ≡ 1 → (n == 1) ≡ false → ⊥
     unmarked n is not =
@@ -123,23 +123,31 @@ reply_fits op ws (Ok e) few part h =
     let wide : length vs ≡ MOST_INSTRS = full_width e.1 (omega (arith, few, h.0)) in
     let small : mask_of vs < 2 ^ MOST_INSTRS = mask_all vs wide in
     let answered : (j : ℕ) → j < MOST_INSTRS
-        → is_marked (mask_of vs + length ws * 2 ^ 16 + 0) j ≡ true → j < length e.1 =
-        λ j l m. none_past e.1 (MOST_INSTRS - length e.1) j
-          (marked_has vs (mask_of vs + length ws * 2 ^ 16 + 0) (length ws) (omega arith) j l m) in
+    → is_marked (mask_of vs + length ws * 2 ^ 16 + 0) j ≡ true → j < length e.1 =
+    λ j l m. none_past e.1 (MOST_INSTRS - length e.1) j
+    (marked_has vs (mask_of vs + length ws * 2 ^ 16 + 0) (length ws) (omega arith) j l m) in
     record {
       shape = omega (arith, small, few);
       values =
           all_each FitsCell (map (λ v. unwrap_or v 0) vs)
           (words_small e.1 (MOST_INSTRS - length e.1) h.1);
       marks =
-          λ j l m. (omega (arith, small, few), omega (arith, part, h.0, answered j l m),
-            omega
-            (arith, length-map vs (λ (v : Option ℕ). unwrap_or v 0), wide, few, h.0,
-             answered j l m));
+          λ j l m. (
+            omega (arith, small, few),
+            omega (arith, part, h.0, answered j l m),
+            omega (
+              arith,
+              length-map vs (λ (v : Option ℕ). unwrap_or v 0),
+              wide,
+              few,
+              h.0,
+              answered j l m,
+            ),
+          );
       rest =
           λ j l m. zero_there vs j
-            (unmarked_none vs (mask_of vs + length ws * 2 ^ 16 + 0) (length ws) (omega arith) j
-             l m);
+          (unmarked_none vs (mask_of vs + length ws * 2 ^ 16 + 0) (length ws) (omega arith) j
+          l m);
     }
 reply_fits op ws (Err p) few part h =
     let code = code_some p.1 in
@@ -150,15 +158,15 @@ reply_fits op ws (Err p) few part h =
           (words_small [] MOST_INSTRS tt);
       marks =
           λ j l m. absurd
-            (let r : j < 0 =
-                 none_past [] MOST_INSTRS j
-                 (marked_has (replicate MOST_INSTRS None)
-                  (shape_of (reply_to (length ws) (Aborted (0 + p.0) p.1)))
-                  (length ws + p.0 * 32 + code_of p.1 * 1024) (omega arith) j l m) in
-             omega (arith, r));
+          (let r : j < 0 =
+          none_past [] MOST_INSTRS j
+          (marked_has (replicate MOST_INSTRS None)
+          (shape_of (reply_to (length ws) (Aborted (0 + p.0) p.1)))
+          (length ws + p.0 * 32 + code_of p.1 * 1024) (omega arith) j l m) in
+          omega (arith, r));
       rest =
           λ j l m. zero_there (replicate MOST_INSTRS None) j
-            (unmarked_none (replicate MOST_INSTRS None)
-             (shape_of (reply_to (length ws) (Aborted (0 + p.0) p.1)))
-             (length ws + p.0 * 32 + code_of p.1 * 1024) (omega arith) j l m);
+          (unmarked_none (replicate MOST_INSTRS None)
+          (shape_of (reply_to (length ws) (Aborted (0 + p.0) p.1)))
+          (length ws + p.0 * 32 + code_of p.1 * 1024) (omega arith) j l m);
     }

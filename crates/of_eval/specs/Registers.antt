@@ -28,12 +28,14 @@ module _ (o blocks : ℕ) (m : ℕ → ℕ) (s : CellStore) (h : StandsForStore 
       → (n (register_at o x) ≡ get_or (set s.registers r v) x 0) × IsNumber (n (register_at o x))
   registers x l = elim (cases_eq x r) [
     | inl e ↦
-        rw
-        (e, changed_same m (register_at o r) v,
-         get_or-set_same s.registers r v 0 (omega (arith, h.sixteen, r_in))) (refl, v_in)
+        rw (
+          e,
+          changed_same m (register_at o r) v,
+          get_or-set_same s.registers r v 0 (omega (arith, h.sixteen, r_in)),
+        ) (refl, v_in)
     | inr k ↦
         let a : n (register_at o x) ≡ m (register_at o x) =
-            changed_other m (register_at o r) v (register_at o x) (λ e. k (omega arith)) in
+        changed_other m (register_at o r) v (register_at o x) (λ e. k (omega arith)) in
         rw (a, get_or-set_other s.registers r x v 0 k) (h.holds.registers x l)
   ]
 
@@ -52,15 +54,15 @@ module _ (o blocks : ℕ) (m : ℕ → ℕ) (s : CellStore) (h : StandsForStore 
       registers = registers;
       values =
           λ key. h.holds.values key
-            ∙ sym (value_same o m n key (h.chains (1 + key % 32)) (same (h.chains (1 + key % 32))));
+          ∙ sym (value_same o m n key (h.chains (1 + key % 32)) (same (h.chains (1 + key % 32))));
       buckets =
           λ b l.
-            bucket_same o m n b (h.chains (1 + b)) (same (h.chains (1 + b))) (h.holds.buckets b l);
+          bucket_same o m n b (h.chains (1 + b)) (same (h.chains (1 + b))) (h.holds.buckets b l);
       keys = other (keys_at o) (omega arith) ∙ h.holds.keys;
       key_blocks = h.holds.key_blocks;
       queues =
           λ q l. queue_same o m n q (h.chains (33 + q)) (s.queues q) (same (h.chains (33 + q)))
-            (other (tail_at o q) (omega arith)) (other (length_at o q) (omega arith))
-            (h.holds.queues q l);
+          (other (tail_at o q) (omega arith)) (other (length_at o q) (omega arith))
+          (h.holds.queues q l);
     };
   }

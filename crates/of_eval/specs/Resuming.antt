@@ -33,8 +33,8 @@ pub record MayResume (o blocks : ℕ) (k : SuspendedRun) (p : Part) : Type 0 whe
   pub runs : (more : List (Option ℕ)) → Extends more p.known
       → run_program (words_program o blocks (length k.words) [] k.words) (part_with more p.batch [])
       ≡ run_program
-        (words_program o blocks (length k.words) (take k.done k.values) (drop k.done k.words))
-        (part_with more p.batch k.writes)
+      (words_program o blocks (length k.words) (take k.done k.values) (drop k.done k.words))
+      (part_with more p.batch k.writes)
   pub stands : (more : List (Option ℕ)) → Extends more p.known
       → IsOfStore o blocks (part_with more p.batch [])
       → IsOfStore o blocks (part_with more p.batch k.writes)

@@ -74,24 +74,24 @@ first_word_does : (o blocks n : ℕ) (further : Option ℕ → Program RawReply)
     (others : Store → ScriptOutcome) (done : List (Option ℕ)) (m : ℕ → ℕ) (r : InstrResult)
     (e : InstrEffect) → GivesEffect o blocks e r m → Leaves e
     → ((t : Store) (v : Option ℕ) → IsStored o blocks m t
-       → DoesOutcome o blocks n (further v) m (done ++ v ∷ []) (others t))
+    → DoesOutcome o blocks n (further v) m (done ++ v ∷ []) (others t))
     → DoesOutcome o blocks n (go_on n done further r) m done (then_outcome e others)
 first_word_does o blocks n further others done m r (Ok x) k l again =
     subst
     (λ (y : InstrResult).
-       DoesOutcome o blocks n (go_on n done further y) m done (with_answer_first x.1 (others x.0)))
+    DoesOutcome o blocks n (go_on n done further y) m done (with_answer_first x.1 (others x.0)))
     (sym k.0)
     (runs_more o blocks n (further x.1) m done x.1 (others x.0)
-     (again x.0 x.1 (record { state = l; stands = k.1 })))
+    (again x.0 x.1 (record { state = l; stands = k.1 })))
 first_word_does o blocks n further others done m r (Err cause) k l again =
     subst
     (λ (y : InstrResult). DoesOutcome o blocks n (go_on n done further y) m done (Err (0, cause)))
     (sym k)
     (record {
-       inside = tt;
-       reply = ap (λ (p : ℕ). reply_cells (reply_to n (Aborted p cause))) (omega arith);
-       leads = tt;
-     })
+      inside = tt;
+      reply = ap (λ (p : ℕ). reply_cells (reply_to n (Aborted p cause))) (omega arith);
+      leads = tt;
+    })
 
 pub instr_leaves : (s : Store) (w : ℕ) (i : Option Instr) → instr_at w ≡ i → IsState s
     → Leaves (effect_of s i)
@@ -110,7 +110,7 @@ module _ (o blocks : ℕ) (few : blocks ≤ MOST_BLOCKS) where
   words_run n [] done m s h = record {
     inside = tt;
     reply =
-      ap (λ (vs : List (Option ℕ)). reply_cells (reply_to n (Answered vs))) (sym (append-nil done));
+        ap (λ (vs : List (Option ℕ)). reply_cells (reply_to n (Answered vs))) (sym (append-nil done));
     leads = h;
   }
   words_run n (w ∷ ws) done m s h =
@@ -120,9 +120,9 @@ module _ (o blocks : ℕ) (few : blocks ≤ MOST_BLOCKS) where
       (go_on n done (λ v. words_program o blocks n (done ++ v ∷ []) ws)) m done
       (then_outcome (word_effect s w) (λ t. words_outcome t ws)) a.0
       (first_word_does o blocks n (λ v. words_program o blocks n (done ++ v ∷ []) ws)
-       (λ t. words_outcome t ws) done (memory_after (word_program o blocks w) m)
-       (program_answer (word_program o blocks w) m) (word_effect s w) a.1 l
-       (λ t v k. words_run n ws (done ++ v ∷ []) (memory_after (word_program o blocks w) m) t k))
+      (λ t. words_outcome t ws) done (memory_after (word_program o blocks w) m)
+      (program_answer (word_program o blocks w) m) (word_effect s w) a.1 l
+      (λ t v k. words_run n ws (done ++ v ∷ []) (memory_after (word_program o blocks w) m) t k))
 
 -- what words answer: a number of a store for each, or an abort at one of them
 abbrev pub AnswerInRange : List ℕ → ScriptOutcome → Type 0

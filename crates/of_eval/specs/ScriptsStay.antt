@@ -1,10 +1,10 @@
 -- Scripts read and write nothing before the first cell of the store; those that only read write
 -- nothing. These lemmas stand in specs/ since SoundScripts, the law of an impl, is proved with
 -- them.
-use Rattle.std.proofs.Common.{◌≡◌, ℕ, ◌+◌, ◌-◌, Bool, true, false, Option, Some, None, Ok, Err, List, [], ◌∷◌, ◌++◌, ap, arith}
+use Rattle.std.proofs.Common.{◌≡◌, ℕ, ◌+◌, ◌-◌, Bool, true, false, Option, Some, None, Ok, Err, List, [], ◌∷◌, ◌++◌, arith}
 use Rattle.std.proofs.lemmas.Bool.{false≢true}
 use Rattle.of_mem.specs.declared.work.RawReply.{RawReply}
-use Rattle.of_mem.specs.Programs.{Program, then_do, StaysFrom, OnlyReads}
+use Rattle.of_mem.specs.Programs.{Program, StaysFrom, OnlyReads}
 use Rattle.of_mem.proofs.Runs.{stays_then, reads_then}
 use Rattle.of_map.specs.declared.answers.Put.{Put as PutAnswer}
 use Rattle.of_map.specs.declared.answers.Put.TheVariants.{Full, New, Over}
@@ -94,7 +94,7 @@ module _ (o blocks : ℕ) where
       stays_then o (word_program o blocks w)
       (go_on n done (λ v. words_program o blocks n (done ++ v ∷ []) ws)) (word_stays (instr_at w))
       (next_stays n done (λ v. words_program o blocks n (done ++ v ∷ []) ws)
-       (λ v. words_stay n ws (done ++ v ∷ [])))
+      (λ v. words_stay n ws (done ++ v ∷ [])))
 
   instr_only : (i : Instr) → reads_only i ≡ true → OnlyReads (instr_program o blocks i)
   instr_only (Load r) e = λ v. tt
@@ -138,4 +138,4 @@ module _ (o blocks : ℕ) where
       (go_on n done (λ v. words_program o blocks n (done ++ v ∷ []) ws))
       (word_only (instr_at w) b.0)
       (next_only n done (λ v. words_program o blocks n (done ++ v ∷ []) ws)
-       (λ v. words_only n ws (done ++ v ∷ []) b.1))
+      (λ v. words_only n ws (done ++ v ∷ []) b.1))

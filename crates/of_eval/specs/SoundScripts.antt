@@ -40,18 +40,18 @@ empty_is_stored o blocks few m z = record {
 
     same : ◌≡◌ {A = CellStore}
         (record {
-           registers = replicate REGISTERS 0;
-           map = (empty_store blocks).keys;
-           queues = λ q. [];
-           room = blocks;
-         }) (cell_store (empty_store blocks))
+          registers = replicate REGISTERS 0;
+          map = (empty_store blocks).keys;
+          queues = λ q. [];
+          room = blocks;
+        }) (cell_store (empty_store blocks))
     same =
         λ i. record {
-            registers = replicate REGISTERS 0;
-            map = (empty_store blocks).keys;
-            queues = λ q. none q 4 i;
-            room = blocks;
-          }
+          registers = replicate REGISTERS 0;
+          map = (empty_store blocks).keys;
+          queues = λ q. none q 4 i;
+          room = blocks;
+        }
 
 module _ (o blocks : ℕ) (few : blocks ≤ MOST_BLOCKS) where
   abbrev first : List ℕ → List ℕ
@@ -63,7 +63,7 @@ module _ (o blocks : ℕ) (few : blocks ≤ MOST_BLOCKS) where
 
   pub script_run : (op : List ℕ) (m : ℕ → ℕ) (s : Store) → IsStored o blocks m s
       → DoesOutcome o blocks (length (first op)) (script_program o blocks op) m []
-        (words_outcome s (first op))
+      (words_outcome s (first op))
   script_run op m s h = words_run o blocks few (length (first op)) (first op) [] m s h
 
   -- an abort is no success
@@ -86,7 +86,7 @@ module _ (o blocks : ℕ) (few : blocks ≤ MOST_BLOCKS) where
       let r = script_run op m l.0 l.1 in
       subst (IsReplyTo op) (sym r.reply)
       (reply_fits op (first op) (words_outcome l.0 (first op)) (first_few op).0 (first_few op).1
-       (words_answer (first op) l.0 l.1.state))
+      (words_answer (first op) l.0 l.1.state))
 
   taken_read : (n : ℕ) (ws : List ℕ) → words_read ws ≡ true → words_read (take n ws) ≡ true
   taken_read zero ws e = refl
@@ -98,34 +98,38 @@ module _ (o blocks : ℕ) (few : blocks ≤ MOST_BLOCKS) where
   all_read op e =
       taken_read MOST_INSTRS op
       (both (leb (length op) MOST_INSTRS) (words_read op)
-       (both (leb 1 (length op)) (leb (length op) MOST_INSTRS && words_read op) e).1).1
+      (both (leb 1 (length op)) (leb (length op) MOST_INSTRS && words_read op) e).1).1
 
 pub scripts_sound : (w : Scripts)
     → IsSoundMeaning (scripts_meaning w) (LawfulCells w) (w.callers * (MOST_INSTRS + 2))
-      (scripts_data_cells w)
+    (scripts_data_cells w)
 scripts_sound w =
     sound is_success script_reads (script_program (store_at w) w.blocks)
     (StandsForSome (store_at w) w.blocks) (store_at w) (scripts_data_cells w)
     (record {
-       zeros =
-           λ m z. (empty_store w.blocks,
-             empty_is_stored (store_at w) w.blocks w.few_blocks m z);
-       leads = λ m op l k. script_leads (store_at w) w.blocks w.few_blocks m op l k;
-       lawful_from =
-           λ m n same l. (l.0,
-             record {
-               state = l.1.state;
-               stands = stands_from (store_at w) w.blocks m n same (cell_store l.0) l.1.stands;
-             });
-       stays =
-           λ op. words_stay (store_at w) w.blocks (length (take MOST_INSTRS op))
-             (take MOST_INSTRS op) [];
-       inside = λ m op l. (script_run (store_at w) w.blocks w.few_blocks op m l.0 l.1).inside;
-       replies = λ m op l. script_replies (store_at w) w.blocks w.few_blocks m op l;
-       reads_only =
-           λ op e. words_only (store_at w) w.blocks (length (take MOST_INSTRS op))
-             (take MOST_INSTRS op) [] (all_read (store_at w) w.blocks w.few_blocks op e);
-     })
+      zeros =
+          λ m z. (
+            empty_store w.blocks,
+            empty_is_stored (store_at w) w.blocks w.few_blocks m z,
+          );
+      leads = λ m op l k. script_leads (store_at w) w.blocks w.few_blocks m op l k;
+      lawful_from =
+          λ m n same l. (
+            l.0,
+            record {
+              state = l.1.state;
+              stands = stands_from (store_at w) w.blocks m n same (cell_store l.0) l.1.stands;
+            },
+          );
+      stays =
+          λ op. words_stay (store_at w) w.blocks (length (take MOST_INSTRS op))
+          (take MOST_INSTRS op) [];
+      inside = λ m op l. (script_run (store_at w) w.blocks w.few_blocks op m l.0 l.1).inside;
+      replies = λ m op l. script_replies (store_at w) w.blocks w.few_blocks m op l;
+      reads_only =
+          λ op e. words_only (store_at w) w.blocks (length (take MOST_INSTRS op))
+          (take MOST_INSTRS op) [] (all_read (store_at w) w.blocks w.few_blocks op e);
+    })
 
 pub scripts_fit : (w : Scripts) → HasRoom w.callers (scripts_data_cells w)
 scripts_fit w = record {

@@ -86,7 +86,11 @@ pub fn reply_of(raw: &RawReply) -> Option<Reply>
 }
 
 /// The numbers that a mask marks. None where one of them is above `GREATEST`.
-fn marked_values(mask: u32, cells: &[u32; MOST_INSTRS], len: usize) -> Option<[Option<u32>; MOST_INSTRS]>
+fn marked_values(
+    mask: u32,
+    cells: &[u32; MOST_INSTRS],
+    len: usize,
+) -> Option<[Option<u32>; MOST_INSTRS]>
     requires few { len ≤ MOST_INSTRS }
     requires below { mask < 2 ^ len }
     ensures { MatchOption result (All IsSmall (marked_in mask cells.now) → ⊥)
