@@ -231,7 +231,8 @@ module _ (o blocks : ℕ) (few : blocks ≤ MOST_BLOCKS) (m : ℕ → ℕ) (s : 
             (
               refl,
               subst (StandsForStore o blocks n)
-                  (sym (queue_plain s q (queue s q ++ v ∷ []) (omega (arith, h.state.queues, q_in))))
+                  (sym
+                  (queue_plain s q (queue s q ++ v ∷ []) (omega (arith, h.state.queues, q_in))))
                   stands,
             ),
           )

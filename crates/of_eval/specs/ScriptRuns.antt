@@ -110,7 +110,8 @@ module _ (o blocks : ℕ) (few : blocks ≤ MOST_BLOCKS) where
   words_run n [] done m s h = record {
     inside = tt;
     reply =
-        ap (λ (vs : List (Option ℕ)). reply_cells (reply_to n (Answered vs))) (sym (append-nil done));
+        ap (λ (vs : List (Option ℕ)). reply_cells (reply_to n (Answered vs)))
+        (sym (append-nil done));
     leads = h;
   }
   words_run n (w ∷ ws) done m s h =

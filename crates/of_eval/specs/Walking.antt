@@ -66,21 +66,21 @@ pub record HasWalked (p : Plot) (cells : List ℕ) (n k : ℕ) (chains : ℕ →
   pub painted : OwnersMatchChains (memory_of cells (fresh_at (base p))) chains owners
 
 -- the store has the registers, and what the blocks that were met hold
-pub record HoldsWhatWasMet (p : Plot) (cells : List ℕ) (chains : ℕ → List ℕ) (s : Store) : Type 0
-  where
-    pub state : IsState s
-    pub room : s.room ≡ p.blocks
-    pub registers : (r : ℕ) → r < 16
-        → memory_of cells (register_at (base p) r) ≡ get_or s.registers r 0
-    pub values : (key : ℕ)
-        → fin.get s.keys key ≡ value_in (base p) (memory_of cells) key (chains (1 + key % 32))
-    pub key_blocks : blocks_in_chains chains 33 ≡ length (chains 0) + fin.len s.keys
-    pub items : (q : ℕ) → q < 4
-        → map (λ b. memory_of cells (first_at (base p) b)) (chains (33 + q)) ≡ queue s q
+pub record HoldsWhatWasMet (p : Plot) (cells : List ℕ) (chains : ℕ → List ℕ) (s : Store)
+    : Type 0 where
+  pub state : IsState s
+  pub room : s.room ≡ p.blocks
+  pub registers : (r : ℕ) → r < 16
+      → memory_of cells (register_at (base p) r) ≡ get_or s.registers r 0
+  pub values : (key : ℕ)
+      → fin.get s.keys key ≡ value_in (base p) (memory_of cells) key (chains (1 + key % 32))
+  pub key_blocks : blocks_in_chains chains 33 ≡ length (chains 0) + fin.len s.keys
+  pub items : (q : ℕ) → q < 4
+      → map (λ b. memory_of cells (first_at (base p) b)) (chains (33 + q)) ≡ queue s q
 
 -- the walk stands before chain n, and what was counted behind the chains before chain k is right
-pub record IsBeforeChain (p : Plot) (cells : List ℕ) (n k : ℕ) (owners : List ℕ) (s : Store) : Type
-    0 where
+pub record IsBeforeChain (p : Plot) (cells : List ℕ) (n k : ℕ) (owners : List ℕ) (s : Store)
+    : Type 0 where
   pub chains : ℕ → List ℕ
   pub walked : HasWalked p cells n k chains owners
   pub kept : HoldsWhatWasMet p cells chains s
