@@ -1,6 +1,6 @@
 -- What contracts see of a bank's fields, and what it keeps.
 use Rattle.std.specs.Prelude.{◌≡◌, ◌≤◌, ℕ, List, length}
-use Rattle.of_core.specs.declared.machine.TheConstants.{GREATEST_LIMIT}
+use Rattle.of_cell.specs.declared.word.TheConstants.{GREATEST_LIMIT}
 use Rattle.of_mem.specs.Meaning.{Meaning}
 use Rattle.of_mem.specs.declared.work.TheConstants.{MOST_INSTRS}
 use Rattle.of_core.specs.declared.bank.Bank.TheInside.{Inside}

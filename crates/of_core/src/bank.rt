@@ -13,10 +13,10 @@ ghost use Rattle.of_core.specs.Starts.{IsStartRow, closed_request, first_cells, 
 ghost use Rattle.of_core.specs.Moment.{IsReached, RunSameWork, bank_after, call_states, machine_of, bank_setup, table_word_count};
 ghost use Rattle.of_core.specs.Turn.{turn_of, turn_of_outcome, IsIdle};
 
-use crate::machine::{GREATEST_LIMIT, Machine};
+use crate::machine::Machine;
 use crate::performer::OnWords;
 use crate::place::Outcome;
-use of_cell::{Shape, pack, payload_of, seq_of};
+use of_cell::{GREATEST_LIMIT, Shape, pack, payload_of, seq_of};
 use of_mem::{MOST_INSTRS, Work};
 use std::alloc::{AllocError, Global};
 use std::marker::Model;

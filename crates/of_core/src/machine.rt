@@ -24,14 +24,11 @@ mod trying;
 use crate::performer::{Naming, Performer};
 use crate::place::{Op, Outcome, Place};
 use crate::ran::RanCall;
-use of_cell::{Shape, pack};
+use of_cell::{GREATEST_LIMIT, Shape, pack};
 use of_mem::{MOST_INSTRS, RawReply, Work, Workspace};
 use of_wset::WriteSet;
 use std::alloc::{AllocError, Global};
 use std::marker::Model;
-
-/// The greatest sequence that may be the last: the log words of the next one are still words.
-pub const GREATEST_LIMIT: u32 = u32::MAX - 1;
 
 /// How many data cells belong to each caller: its ticket, the shape of its reply, and the reply's numbers.
 const OWN_CELLS: u32 = MOST_INSTRS as u32 + 2;

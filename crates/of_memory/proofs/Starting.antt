@@ -6,7 +6,7 @@ use Rattle.of_cell.proofs.Order.{pay_zero}
 use Rattle.of_cell.specs.declared.shape.Shape.{Shape}
 use Rattle.of_mem.specs.ProgramWork.{memory_of}
 use Rattle.of_store.specs.State.{Store, empty_store}
-use Rattle.of_plan.specs.declared.plan.TheConstants.{GREATEST_LIMIT}
+use Rattle.of_cell.specs.declared.word.TheConstants.{GREATEST_LIMIT}
 use Rattle.of_eval.specs.declared.scripts.Scripts.{Scripts}
 use Rattle.of_eval.specs.Scripts.{store_at, scripts_data_cells, LawfulCells, scripts_meaning}
 use Rattle.of_eval.specs.SoundScripts.{empty_is_stored}

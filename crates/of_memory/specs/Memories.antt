@@ -11,7 +11,7 @@ use Rattle.of_row.specs.Rows.{key_of, IsSeatOf}
 use Rattle.of_caller.specs.declared.caller.Caller.{Caller}
 use Rattle.of_mem.specs.declared.work.TheConstants.{MOST_CALLERS}
 use Rattle.of_mem.specs.declared.plot.TheConstants.{MOST_BLOCKS}
-use Rattle.of_plan.specs.declared.plan.TheConstants.{GREATEST_LIMIT}
+use Rattle.of_cell.specs.declared.word.TheConstants.{GREATEST_LIMIT}
 use Rattle.of_memory.specs.declared.error.EnrolErr.{EnrolErr}
 use Rattle.of_memory.specs.declared.error.EnrolErr.TheVariants.{OutOfMemory, NoCaller, Enrolled}
 use Rattle.of_memory.specs.declared.error.OpenErr.{OpenErr}

@@ -1,6 +1,6 @@
 -- What a closed memory leaves.
 use Rattle.std.specs.Prelude.{ℕ, ◌≤◌}
-use Rattle.of_plan.specs.declared.plan.TheConstants.{GREATEST_LIMIT}
+use Rattle.of_cell.specs.declared.word.TheConstants.{GREATEST_LIMIT}
 use Rattle.of_store.specs.State.{Store, Reply}
 use Rattle.of_eval.specs.Scripts.{scripts_data_cells, LawfulCells}
 use Rattle.of_core.specs.World.{TableStart}

@@ -1,7 +1,8 @@
 -- How the code reads a line: the ranges of its numbers, and what its words say.
 use Rattle.of_cell.specs.declared.shape.TheConstants.{MOST_CALLERS}
 use Rattle.of_store.specs.declared.store.TheConstants.{MOST_BLOCKS}
-use Rattle.of_plan.specs.declared.plan.TheConstants.{GREATEST_LIMIT, LATEST_STOP, MOST_TURNS}
+use Rattle.of_plan.specs.declared.plan.TheConstants.{LATEST_STOP, MOST_TURNS}
+use Rattle.of_cell.specs.declared.word.TheConstants.{GREATEST_LIMIT}
 use Rattle.of_plan.specs.declared.line.TheConstants.{GREATEST_CELL}
 use Rattle.std.specs.Prelude.{◌≡◌, ℕ, ◌-◌, ◌≤◌, ◌&&◌, List, [], ◌∷◌, if◌then◌else◌, codes, decimal, Option, None}
 use Rattle.std.specs.Str.{bytes_eq}

@@ -5,7 +5,8 @@ ghost use Rattle.of_cell.specs.declared.shape.TheConstants.{MOST_CALLERS};
 ghost use Rattle.of_plan.specs.declared.plan.TheConstants.{MOST_SCRIPTS};
 ghost use Rattle.of_plan.specs.Generated.{load_script, load_scripts, generated_plan};
 
-use crate::plan::{GREATEST_LIMIT, Plan};
+use crate::plan::Plan;
+use of_cell::GREATEST_LIMIT;
 use of_script::{Instr, REGISTERS, Script};
 use of_store::MOST_BLOCKS;
 use std::alloc::{AllocError, Global};
