@@ -8,8 +8,8 @@ ghost use Rattle.of_plan.specs.Plan.{Plan};
 ghost use Rattle.of_plan.specs.declared.parsing.PlanErr.TheVariants.{Memory};
 
 use crate::plan::Plan;
-use of_cell::GREATEST_LIMIT;
 use crate::reading::{Reading, Stage};
+use of_cell::GREATEST_LIMIT;
 use of_script::text::cut;
 use std::alloc::{AllocError, Global};
 
