@@ -6,6 +6,7 @@ use Rattle.std.specs.List.{range_with_len, AllByRecursion as Each}
 use Rattle.std.proofs.lemmas.List.{get_or-map, get_or-take, get_or-drop, length-map, length-drop}
 use Rattle.std.proofs.lemmas.Bool.{cases_order}
 use Rattle.std.proofs.lemmas.Bool.Decides.{eqb_tells}
+use Rattle.std.proofs.lemmas.Bool.{eq-eqb as eqb_is, ne_eqb as eqb_not}
 use Rattle.of_cell.specs.Words.{seq_of}
 use Rattle.of_cell.proofs.Order.{seq_word}
 use Rattle.of_mem.specs.Places.{ticket_cell_at}
@@ -114,16 +115,8 @@ open_one : (p : Plan) (e : Ended) (c x : ℕ) (b : Bool) (r : RustReply) → b �
 open_one p e c x true r is held = (r, held, refl)
 open_one p e c x false r is held = absurd (cc)
 
-eqb_is : (a b : ℕ) → a ≡ b → eqb a b ≡ true
-eqb_is a b same = elim (eqb_tells a b) [
-  | inl here ↦ here.0
-  | inr other ↦ absurd (other.1 same)
 ]
 
-eqb_not : (a b : ℕ) → a ≢ b → eqb a b ≡ false
-eqb_not a b ne = elim (eqb_tells a b) [
-  | inl here ↦ absurd (ne here.1)
-  | inr other ↦ other.0
 ]
 
 module _ (p : Plan) (s : Start) (B : TableStart) (w : Moment) (sound : IsSound (plan_setup p) B w) (e : Ended) (c : ℕ) (ops : List (List ℕ)) (outs : List Outcome) (lt : c < p.callers) (narrow : length (scripts_of p c) < 4294967296)

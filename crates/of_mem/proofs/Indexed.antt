@@ -9,14 +9,9 @@ use Rattle.std.proofs.lemmas.Bool.Decides.{Decides-eqb, nat_tests}
 use Rattle.std.proofs.lemmas.Bool.{cases_eq}
 use Rattle.std.proofs.lemmas.List.{get_or-map, length-map, get_or-set_same, get_or-set_other, get_or_append_left, get_or_push, get_or_default, get_or-take, length-take-le}
 use Rattle.std.proofs.Math.Seq.{take-set-lt}
+use Rattle.std.proofs.lemmas.Bool.{eq-eqb as equals, ne_eqb as differs}
 use Rattle.of_mem.specs.Pairs.{CellMap, value_for, put_pair, entry_address, IsAbsent, IsCellMap}
 use Rattle.of_mem.specs.Indexed.{IsIndexed, FindsEntry, MissesEntry}
-
-equals : (a b : ℕ) → a ≡ b → (a == b) ≡ true
-equals a b e = grind (arith, nat_tests)
-
-differs : (a b : ℕ) → (a ≡ b → ⊥) → (a == b) ≡ false
-differs a b e = grind (arith, nat_tests)
 
 -- where the address is absent
 pub value_at-absent : (es : List (ℕ × ℕ)) (a : ℕ) → IsAbsent es a → value_for es a ≡ None

@@ -5,6 +5,7 @@ use Rattle.std.specs.List.{AllByRecursion, range_with_len, sum_by, filter_map}
 use Rattle.std.proofs.lemmas.List.Sums.{sum_by-cons}
 use Rattle.std.proofs.lemmas.Bool.Decides.{eqb_tells}
 use Rattle.std.proofs.lemmas.List.FromFn.{length-map-range_with_len}
+use Rattle.std.proofs.lemmas.Bool.{ne_eqb as eqb_no}
 use Rattle.of_script.specs.declared.instr.Instr.{Instr}
 use Rattle.of_script.specs.Language.{IsScript}
 use Rattle.of_plan.specs.declared.line.Entry.{Entry}
@@ -58,9 +59,6 @@ one_more f g d k (suc n) other own = elim (eqb_tells k d) [
 none_below : (k n : ℕ) → sum_by length (map (scripts_in []) (range_with_len k n)) ≡ 0
 none_below k zero = refl
 none_below k (suc n) = none_below (k + 1) n
-
-eqb_no : (a b : ℕ) → (a ≡ b → ⊥) → eqb a b ≡ false
-eqb_no a b h = elim (eqb_tells a b) [ inl p ↦ absurd (h p.1) | inr p ↦ p.0 ]
 
 eqb_yes : (a : ℕ) → eqb a a ≡ true
 eqb_yes a = elim (eqb_tells a a) [ inl p ↦ p.0 | inr p ↦ absurd (p.1 refl) ]

@@ -6,13 +6,11 @@ use Rattle.std.proofs.lemmas.List.Folds.{list_any_at}
 use Rattle.std.proofs.lemmas.Bool.Decides.{nat_tests}
 use Rattle.std.proofs.lemmas.Bool.{cases_eq, cases_lt, cases_order}
 use Rattle.std.proofs.lemmas.List.{get_or-map, length-map, get_or_past}
+use Rattle.std.proofs.lemmas.Bool.{eq-eqb as equals}
 use Rattle.of_wset.specs.declared.table.Entry.{Entry}
 use Rattle.of_wset.specs.Walk.{hash_place, next_place, walk_steps}
 use Rattle.of_wset.specs.Table.{entry_at, slot_at, no_entry, IsPlaceTaken, IsTable, IsUnwritten, IsFree, PassesOnlyOthers}
 use Rattle.of_wset.proofs.Walks.{steps_below, steps_none, steps_same, steps_next, before_next, before_round}
-
-equals : (a b : ℕ) → a ≡ b → eqb a b ≡ true
-equals a b e = grind (arith, nat_tests)
 
 -- a taken place is one of the table's
 pub taken_below : (t : List (Option ℕ)) (p k : ℕ) → slot_at t p ≡ Some k → p < length t

@@ -6,15 +6,10 @@ use Rattle.std.proofs.lemmas.Map.Made.{IsDistinct-from_AllPairs}
 use Rattle.std.proofs.lemmas.List.Folds.{Any-from_list_any}
 use Rattle.std.proofs.lemmas.Bool.Decides.{Decides-eqb, nat_tests}
 use Rattle.std.proofs.lemmas.List.{get_or-map, length-map, get_or_default}
+use Rattle.std.proofs.lemmas.Bool.{eq-eqb as equals, ne_eqb as differs}
 use Rattle.of_wset.specs.declared.table.Entry.{Entry}
 use Rattle.of_wset.specs.Pairs.{WriteSet, value_at, put, address, IsMap}
 use Rattle.of_wset.specs.Table.{entry_pair, entry_pairs, entry_at, no_entry, IsUnwritten, IsWriteSet}
-
-equals : (a b : ℕ) → a ≡ b → (a == b) ≡ true
-equals a b e = grind (arith, nat_tests)
-
-differs : (a b : ℕ) → (a ≡ b → ⊥) → (a == b) ≡ false
-differs a b e = grind (arith, nat_tests)
 
 -- of different numbers below n there are at most n
 few_numbers : (xs : List ℕ) (n : ℕ) → ((k : ℕ) → k < length xs → get_or xs k 0 < n) → ((j k : ℕ) → j < length xs → k < length xs → get_or xs j 0 ≡ get_or xs k 0 → j ≡ k) → length xs ≤ n
