@@ -7,7 +7,7 @@ ghost use Rattle.of_mem.specs.declared.plot.TheConstants.{MOST_BLOCKS};
 use crate::reply::reply_cells;
 use crate::step::word_reads;
 use crate::walk::{keep_sought, reach, run_words};
-use of_mem::{Keeps, Kept, MOST_INSTRS, Need, Part, Plot, RawReply, Work};
+use of_mem::{MOST_INSTRS, MaySuspend, Need, Part, Plot, RawReply, SuspendedRun, Work};
 
 /// What runs scripts on cells: so many callers, 1 to `MOST_CALLERS`, and room for so
 /// many keys and items, at most `MOST_BLOCKS`. An operation is the words of a script; a
@@ -36,7 +36,7 @@ impl Scripts {
     }
 }
 
-impl Keeps for Scripts {
+impl MaySuspend for Scripts {
     ghost use Rattle.of_eval.specs.Stopped.{HoldsScript, holds_nothing, holds_learnt};
 
     ghost holds = { HoldsScript };
@@ -69,7 +69,7 @@ impl Work for Scripts {
     fn run_on(
         &self,
         part: &mut Part,
-        kept: &mut Kept,
+        kept: &mut SuspendedRun,
         op: &[u64],
         out: &mut RawReply,
     ) -> Result<(), Need> {

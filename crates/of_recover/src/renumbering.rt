@@ -10,7 +10,7 @@ ghost use Rattle.of_recover.specs.Writes.{words_after_writes};
 
 use of_cell::{Shape, pack, payload_of};
 
-/// Whether a cell is a data cell.
+// Whether a cell is a data cell.
 fn is_data(shape: &Shape, cell: usize) -> bool
     ensures { result ≡ is_data shape.now.callers shape.now.cells cell }
 {
@@ -18,7 +18,7 @@ fn is_data(shape: &Shape, cell: usize) -> bool
     callers < cell && cell < callers + 1 + shape.cells as usize
 }
 
-/// The word of a cell when the sequences have begun anew.
+// The word of a cell when the sequences have begun anew.
 fn renumbered_word(shape: &Shape, cell: usize, word: u64) -> u64
     ensures { result ≡ renumbered_word shape.now.callers shape.now.cells (λ c. word) cell }
 {

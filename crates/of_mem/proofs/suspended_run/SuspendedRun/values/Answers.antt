@@ -2,7 +2,7 @@ use Rattle.std.proofs.Common.{◌≡◌, ◌≢◌, ◌<◌, List, Option, None,
 use Rattle.std.proofs.lemmas.List.{take_more, take_more_set, get_or-set_other}
 use Rattle.of_mem.specs.declared.work.TheConstants.{MOST_INSTRS}
 use Rattle.of_mem.proofs.Filled.{filled_all}
-use Rattle.of_mem.proofs.kept.Kept.values.Goals as goal
+use Rattle.of_mem.proofs.suspended_run.SuspendedRun.values.Goals as goal
 
 pub loop-i-preserved : goal.loop-i-preserved
 loop-i-preserved c =

@@ -16,7 +16,7 @@ use std::marker::Model;
 /// key that the next word looks for before all else, if it does.
 /// There are no words where nothing is kept. Only `new` takes memory.
 #[derive(Drop)]
-pub struct Kept {
+pub struct SuspendedRun {
     callers: u32,
     blocks: u32,
     count: usize,
@@ -27,7 +27,7 @@ pub struct Kept {
     sought: Option<u32>,
 }
 
-impl Model for Kept {
+impl Model for SuspendedRun {
     ghost use Rattle.of_mem.specs.Remains.{SuspendedRun};
 
     ghost Value = { SuspendedRun };
@@ -47,18 +47,18 @@ impl Model for Kept {
       sought = k.sought;
     } };
 
-    ghost invariant = { λ k. (k.done ≤ k.count) × (k.count ≤ MOST_INSTRS) × (length k.words ≡ MOST_INSTRS)
-        × (length k.values ≡ MOST_INSTRS) };
+    ghost invariant = { λ k. (k.done ≤ k.count) × (k.count ≤ MOST_INSTRS)
+        × (length k.words ≡ MOST_INSTRS) × (length k.values ≡ MOST_INSTRS) };
 }
 
-impl Kept {
+impl SuspendedRun {
     /// Nothing is kept, in room for the writes of cells below `cells`. The error is that there is
     /// no memory.
     pub fn new(alloc: Global, cells: u32) -> Result<Self, AllocError>
         ensures { IfOk result (λ k. k ≡ nothing_suspended cells) }
     {
         let writes = CellMap::new(alloc, cells)?;
-        Ok(Kept {
+        Ok(SuspendedRun {
             callers: 0,
             blocks: 0,
             count: 0,
@@ -165,7 +165,7 @@ impl Kept {
 
 /// What a work may keep between two runs. What is kept tells itself which work and which operation
 /// it is of.
-pub trait Keeps: Copy + Send + Sync {
+pub trait MaySuspend: Copy + Send + Sync {
     ghost use Rattle.std.specs.Prelude.{◌≡◌, ℕ, [], None};
     ghost use Rattle.std.proofs.Common.{get_or};
     ghost use Rattle.of_mem.specs.Remains.{SuspendedRun};

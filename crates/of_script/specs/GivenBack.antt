@@ -1,4 +1,5 @@
--- That the fields of a script and its list of instructions give each other.
+-- The law by which a script's list gives its fields back. It stands in specs/ since the model of
+-- `Script` names it, and may name nothing of its own proofs/.
 use Rattle.std.specs.Prelude.{◌≡◌, ℕ, ◌-◌, List, length, ◌++◌, replicate}
 use Rattle.std.proofs.Common.{arith, ap, sym, ◌∙◌}
 use Rattle.std.proofs.lemmas.List.{take-append-drop, length-take}

@@ -2,7 +2,7 @@ use Rattle.std.proofs.Common.{◌≡◌, ◌<◌, ℕ, length, take, arith, ap, 
 use Rattle.std.proofs.lemmas.List.{length-take-le}
 use Rattle.of_mem.specs.declared.work.TheConstants.{MOST_INSTRS}
 use Rattle.of_mem.proofs.Filled.{filled_more}
-use Rattle.of_mem.proofs.kept.Kept.advance.Goals as goal
+use Rattle.of_mem.proofs.suspended_run.SuspendedRun.advance.Goals as goal
 
 pub returns : goal.returns
 returns c =
