@@ -59,8 +59,8 @@ pub record HasOut (plot : Plot) (p : Part) (b : ℕ) : Type 0 where
   pub list : IsFreeList (base plot) plot.blocks memory free
   pub out : IsOut (base plot) memory free b
 
--- the call took this block, or none, from the free list of this memory, which is changed by what the
--- script wrote
+-- the call took this block, or none, from the free list of this memory, which is changed by what
+-- the script wrote
 pub record TakesFromList (plot : Plot) (m : ℕ → ℕ) (free : List ℕ) (r : Option ℕ) (after : Part)
     : Type 0 where
   pub part : IsPartOf after (with_writes m after.script)
@@ -74,8 +74,8 @@ pub record TakesFromMemory (plot : Plot) (before after : Part) (result : Result 
       → TakesFromList plot m free r after)
   pub none : IfOk result (λ r. r ≡ None → after ≡ before)
 
--- the call gave this block back to the free list of this memory, which is changed by what the script
--- wrote
+-- the call gave this block back to the free list of this memory, which is changed by what the
+-- script wrote
 pub record GivesToList (plot : Plot) (m : ℕ → ℕ) (free : List ℕ) (b : ℕ) (after : Part)
     : Type 0 where
   pub part : IsPartOf after (with_writes m after.script)

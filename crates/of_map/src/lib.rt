@@ -166,7 +166,8 @@ fn fill(plot: &Plot, part: &mut Part, key: u32, value: u32, block: u32) -> Resul
 pub fn del(plot: &Plot, part: &mut Part, key: u32) -> Result<Option<u32>, Need>
     requires { HasStore plot.now part.old }
     ensures runs { RunsProgram (del plot.now key) part.old part.new result }
-    ensures acts { ActsOnStore plot.now part.old part.new result (λ s. fin.get s.map key) (after_del key) }
+    ensures acts { ActsOnStore plot.now part.old part.new result
+        (λ s. fin.get s.map key) (after_del key) }
 {
     match seek(plot, part, key)? {
         None => Ok(None),

@@ -86,7 +86,8 @@ fn better(low: u64, key: u32, best: Option<u32>) -> Option<u32>
 pub fn drop_below(plot: &Plot, part: &mut Part, key: u32) -> Result<u32, Need>
     requires { HasStore plot.now part.old }
     ensures runs { RunsProgram (program.drop_below plot.now key) part.old part.new result }
-    ensures acts { ActsOnStore plot.now part.old part.new result (dropped_count key) (after_drop key) }
+    ensures acts { ActsOnStore plot.now part.old part.new result
+        (dropped_count key) (after_drop key) }
 {
     let mut gone = 0;
     for bucket in 0..BUCKETS {

@@ -64,7 +64,8 @@ pub fn pop(plot: &Plot, part: &mut Part, queue: u32) -> Result<Option<u32>, Need
     requires stands { HasStore plot.now part.old }
     requires queue { queue < QUEUES }
     ensures runs { RunsProgram (pop plot.now queue) part.old part.new result }
-    ensures acts { ActsOnStore plot.now part.old part.new result (front_item queue) (after_pop queue) }
+    ensures acts { ActsOnStore plot.now part.old part.new result
+        (front_item queue) (after_pop queue) }
 {
     let head = part.read(plot.head(queue))?;
     if head == 0 {
