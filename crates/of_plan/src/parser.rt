@@ -2,15 +2,20 @@
 
 ghost use Rattle.std.specs.Prelude.{◌≡◌, IfOk, IfErr, MatchResult};
 ghost use Rattle.of_plan.specs.Grammar.{SpellsPlan};
-ghost use Rattle.of_plan.specs.Progress.{reading_value, nothing_read};
 ghost use Rattle.of_plan.specs.Parsed.{PlanIsRefused};
 ghost use Rattle.of_plan.specs.Plan.{Plan};
-ghost use Rattle.of_plan.specs.declared.parsing.PlanErr.TheVariants.{Memory};
+ghost use Rattle.of_plan.specs.declared.parser.PlanErr.TheVariants.{Memory};
 
-use crate::plan::{GREATEST_LIMIT, Plan};
-use crate::reading::{Reading, Stage};
+use crate::plan::Plan;
 use of_script::text::cut;
+use state::{Reading, Stage};
 use std::alloc::{AllocError, Global};
+use std::error::Error;
+use std::fmt;
+
+pub(crate) mod line;
+pub(crate) mod state;
+pub(crate) mod step;
 
 /// Why a text is no plan.
 #[derive(Clone, Copy, Debug, PartialEq, Eq)]
@@ -21,31 +26,30 @@ pub enum PlanErr {
     Bad { line: u64 },
 }
 
+impl fmt::Display for PlanErr {
+    ghost use Rattle.std.specs.Prelude.{Some};
+    ghost use Rattle.of_plan.specs.Parsed.{plan_err_text};
+
+    ghost output = { λ e. Some (plan_err_text e) };
+
+    fn fmt<W: fmt::Write>(&self, f: &mut fmt::Formatter<W>) -> fmt::Result {
+        match self {
+            PlanErr::Memory => f.write_str("out of memory"),
+            PlanErr::Bad { line } => write!(f, "no plan: line {line}"),
+        }
+    }
+}
+
+impl Error for PlanErr {}
+
 impl From<AllocError> for PlanErr {
     ghost use Rattle.std.specs.Prelude.{◌≡◌};
-    ghost use Rattle.of_plan.specs.declared.parsing.PlanErr.TheVariants.{Memory};
+    ghost use Rattle.of_plan.specs.declared.parser.PlanErr.TheVariants.{Memory};
 
     ghost from_gives = { λ _ e. e ≡ Memory };
 
     fn from(_e: AllocError) -> PlanErr {
         PlanErr::Memory
-    }
-}
-
-// A reading of nothing yet.
-fn begun(alloc: Global) -> Reading
-    ensures { reading_value result ≡ nothing_read }
-{
-    Reading {
-        stage: Stage::Start,
-        callers: 0,
-        blocks: 0,
-        limit: GREATEST_LIMIT,
-        scripts: Vec::new(alloc),
-        stops: Vec::new(alloc),
-        schedule: Vec::new(alloc),
-        count: 0,
-        turns: 0,
     }
 }
 
@@ -56,9 +60,10 @@ pub fn parse(alloc: Global, text: &[u8]) -> Result<Plan, PlanErr>
     // A line that is named is the bad one, and then no plan is spelled.
     ensures bad { IfErr result (PlanIsRefused text.now) }
     // A text of the grammar is answered by its plan, unless memory runs out.
-    ensures only { (plan : Plan) → SpellsPlan text.now plan → MatchResult result (λ p. p ≡ plan) (λ e. e ≡ Memory) }
+    ensures only { (plan : Plan) → SpellsPlan text.now plan
+        → MatchResult result (λ p. p ≡ plan) (λ e. e ≡ Memory) }
 {
-    let mut reading = begun(alloc);
+    let mut reading = Reading::new(alloc);
     let mut number: u64 = 0;
     let mut rest = text;
     loop {
@@ -71,7 +76,7 @@ pub fn parse(alloc: Global, text: &[u8]) -> Result<Plan, PlanErr>
             Some(more) => rest = more,
             None => {
                 return match reading.stage {
-                    Stage::Ended => Ok(Plan::made(reading)),
+                    Stage::Ended => Ok(Plan::from_reading(reading)),
                     _ => Err(PlanErr::Bad { line: number }),
                 };
             }

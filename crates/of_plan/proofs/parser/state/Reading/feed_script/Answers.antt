@@ -1,13 +1,13 @@
 use Rattle.std.proofs.Common.{◌≡◌, ◌∙◌, inl, inr, ap, List, ℕ, ◌∷◌}
 use Rattle.std.specs.Prelude.{decimal}
 use Rattle.of_script.specs.Text.{text_words, script_words}
-use Rattle.of_plan.specs.declared.line.Entry.TheVariants.{Script}
-use Rattle.of_plan.specs.declared.line.Line.TheVariants.{Body}
+use Rattle.of_plan.specs.declared.parser.line.BodyLine.TheVariants.{Script}
+use Rattle.of_plan.specs.declared.parser.line.PlanLine.TheVariants.{Body}
 use Rattle.of_plan.specs.LineReading.{ScriptLine}
 use Rattle.of_plan.specs.Progress.{reading_value}
 use Rattle.of_plan.proofs.LineLaws.{no_number, number_and}
 use Rattle.of_plan.proofs.LinesLead.{entry_leads, script_leads}
-use Rattle.of_plan.proofs.reading.Reading.feed_script.Goals as goal
+use Rattle.of_plan.proofs.parser.state.Reading.feed_script.Goals as goal
 
 pub returns-in_default : goal.returns-in_default
 returns-in_default c = inl (no_number _ c.in_default.ensures.words)

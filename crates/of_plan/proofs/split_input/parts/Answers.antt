@@ -1,6 +1,6 @@
 use Rattle.std.proofs.Common.{sym, ◌∙◌, arith}
 use Rattle.of_plan.proofs.InputParts.{behind_one_more, parts_at, one_part}
-use Rattle.of_plan.proofs.input.parts.Goals as goal
+use Rattle.of_plan.proofs.split_input.parts.Goals as goal
 
 pub returns-in_default : goal.returns-in_default
 returns-in_default c =

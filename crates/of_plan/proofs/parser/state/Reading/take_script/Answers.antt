@@ -5,7 +5,7 @@ use Rattle.of_script.specs.declared.instr.Instr.{Instr}
 use Rattle.of_plan.specs.Progress.{reading_value}
 use Rattle.of_plan.proofs.Entering.{script_entered}
 use Rattle.of_plan.proofs.Lists.{at_place}
-use Rattle.of_plan.proofs.reading.Reading.take_script.Goals as goal
+use Rattle.of_plan.proofs.parser.state.Reading.take_script.Goals as goal
 
 pub returns : goal.returns
 returns c =

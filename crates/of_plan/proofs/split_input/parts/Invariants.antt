@@ -1,6 +1,6 @@
 use Rattle.std.proofs.Common.{◌≤◌, length}
 use Rattle.of_plan.proofs.InputParts.{IsBehind}
-use Rattle.of_plan.proofs.input.parts.Given as goal
+use Rattle.of_plan.proofs.split_input.parts.Given as goal
 
 -- the lines that were passed are no end lines
 abbrev pub invariant-loop-more : goal.invariant-loop-more

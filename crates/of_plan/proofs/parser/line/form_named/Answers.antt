@@ -3,7 +3,7 @@ use Rattle.std.proofs.lemmas.List.{nil_from_length}
 use Rattle.std.proofs.lemmas.Slice.Eq.{bytes_eq-Decides}
 use Rattle.of_plan.specs.LineTable.{form_name, line_form_named}
 use Rattle.of_plan.proofs.LineLaws.{name_is, none_named}
-use Rattle.of_plan.proofs.line.form_named.Goals as goal
+use Rattle.of_plan.proofs.parser.line.form_named.Goals as goal
 
 pub returns-then-is_empty : goal.returns-then-is_empty
 unfolding line_form_named
