@@ -9,7 +9,7 @@ use crate::reply::reply_cells;
 use crate::step::word_reads;
 use crate::walk::{keep_sought, reach, run_words};
 use of_cell::Shape;
-use of_mem::{Keeps, Kept, MOST_INSTRS, Need, Part, Plot, RawReply, Work};
+use of_mem::{MOST_INSTRS, MaySuspend, Need, Part, Plot, RawReply, SuspendedRun, Work};
 use of_plan::{Plan, shape_of};
 
 /// What runs scripts on cells: so many callers, 1 to `MOST_CALLERS`, and room for so
@@ -59,7 +59,7 @@ impl Scripts {
     }
 }
 
-impl Keeps for Scripts {
+impl MaySuspend for Scripts {
     ghost use Rattle.of_eval.specs.Stopped.{HoldsScript, holds_nothing, holds_learnt};
 
     ghost holds = { HoldsScript };
@@ -92,7 +92,7 @@ impl Work for Scripts {
     fn run_on(
         &self,
         part: &mut Part,
-        kept: &mut Kept,
+        kept: &mut SuspendedRun,
         op: &[u64],
         out: &mut RawReply,
     ) -> Result<(), Need> {

@@ -37,8 +37,10 @@ abbrev pub after_put : ℕ → ℕ → ℕ → CellStore → CellStore
 after_put blocks key v s = put_store s key v (fin.get s.map key) (ltb (thing_count s) blocks)
 
 -- the call put this value at this key, or found no room, and then it wrote nothing
-pub record PutsValue (plot : Plot) (before after : Part) (key v : ℕ) (result : Result Put Need) : Type 0 where
-  pub acts : ActsOnStore plot before after result (answer_of_put plot.blocks key) (after_put plot.blocks key v)
+pub record PutsValue (plot : Plot) (before after : Part) (key v : ℕ) (result : Result Put Need)
+    : Type 0 where
+  pub acts : ActsOnStore plot before after result
+      (answer_of_put plot.blocks key) (after_put plot.blocks key v)
   pub full : IfOk result (λ r. r ≡ Full → after ≡ before)
 
 -- the store after a del

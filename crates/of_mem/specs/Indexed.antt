@@ -1,4 +1,5 @@
--- How the code keeps pairs: each entry's place is noted at its address, and a note counts only where that entry names the address.
+-- How the code keeps pairs: each entry's place is noted at its address, and a note counts only
+-- where that entry names the address.
 use Rattle.std.specs.Prelude.{◌≡◌, ℕ, ◌<◌, ◌≤◌, List, ◌∷◌, [], ◌++◌, length, Some, None}
 use Rattle.std.proofs.Common.{get_or, set}
 use Rattle.of_mem.specs.Numbers.{FitsCell}

@@ -1,4 +1,5 @@
--- Partial memory: what is known of each cell, what a batch wrote over it, and what a script wrote over both.
+-- Partial memory: what is known of each cell, what a batch wrote over it, and what a script wrote
+-- over both.
 use Rattle.std.specs.Prelude.{◌≡◌, ℕ, Bool, true, false, Result, MatchResult, List, [], ◌∷◌, Option, Some, None}
 use Rattle.std.proofs.Common.{get_or, set, replicate}
 use Rattle.of_mem.specs.declared.part.Need.{Need}
@@ -25,7 +26,8 @@ newer_of (Some v) old = Some v
 
 -- what a cell holds, as far as it is known
 unfoldable pub newest_at : Part → ℕ → Option ℕ
-newest_at p a = newer_of (value_for p.script a) (newer_of (value_for p.batch a) (get_or p.known a None))
+newest_at p a =
+    newer_of (value_for p.script a) (newer_of (value_for p.batch a) (get_or p.known a None))
 
 -- a cell's number is known
 abbrev pub learn : Part → ℕ → ℕ → Part
@@ -38,7 +40,8 @@ write p a v = record p { script = put_pair p.script a v }
 -- the read gave the number that the cell holds, or named the cell where none is known
 abbrev pub ReadsAt : Part → ℕ → Result ℕ Need → Type 0
 ReadsAt p a result =
-    MatchResult result (λ v. newest_at p a ≡ Some v) (λ need. (newest_at p a ≡ None) × (need.addr ≡ a))
+    MatchResult result (λ v. newest_at p a ≡ Some v)
+    (λ need. (newest_at p a ≡ None) × (need.addr ≡ a))
 
 -- more is known: each cell that was known has the same number
 abbrev pub Extends : List (Option ℕ) → List (Option ℕ) → Type 0

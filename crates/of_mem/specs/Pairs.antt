@@ -33,7 +33,8 @@ IsAbsent es a = (k : ℕ) → k < length es → entry_address es k ≡ a → ⊥
 
 -- no address is there twice, and each is below the room
 pub record IsCellMap (p : CellMap) : Type 0 where
-  pub once : (j k : ℕ) → j < length p.entries → k < length p.entries → entry_address p.entries j ≡ entry_address p.entries k → j ≡ k
+  pub once : (j k : ℕ) → j < length p.entries → k < length p.entries
+      → entry_address p.entries j ≡ entry_address p.entries k → j ≡ k
   pub below : (k : ℕ) → k < length p.entries → entry_address p.entries k < p.room
   pub few : length p.entries ≤ p.room
   pub room : FitsCell p.room

@@ -11,11 +11,11 @@ use std::marker::Model;
 /// however many cells there are.
 #[derive(Drop)]
 pub struct CellMap {
-    /// As many places as there are addresses. The first `count` are the entries.
+    // As many places as there are addresses. The first `count` are the entries.
     entries: Vec<(u32, u32)>,
     count: u32,
-    /// At each address that is there, the place of its entry. What stands at another address is
-    /// left over from earlier.
+    // At each address that is there, the place of its entry. What stands at another address is
+    // left over from earlier.
     places: Vec<u32>,
 }
 
@@ -27,7 +27,10 @@ impl Model for CellMap {
     ghost use Rattle.std.specs.Prelude.{◌≤◌, length, take};
     ghost use Rattle.of_mem.specs.Indexed.{IsIndexed};
 
-    ghost view = { λ w. record { room = length w.places.items; entries = take w.count w.entries.items } };
+    ghost view = { λ w. record {
+      room = length w.places.items;
+      entries = take w.count w.entries.items;
+    } };
 
     ghost invariant = { λ w. (w.count ≤ length w.entries.items)
         × IsIndexed (take w.count w.entries.items) w.places.items (length w.entries.items) };
@@ -56,7 +59,7 @@ impl CellMap {
         self.count
     }
 
-    /// The place of an address among the entries.
+    // The place of an address among the entries.
     fn find(&self, addr: u32) -> Option<usize>
         ensures place { MatchOption result (MissesEntry self.now addr) (FindsEntry self.now addr) }
         ensures map { IsCellMap self.now }

@@ -13,7 +13,8 @@ use Rattle.of_script.specs.Language.{IsScript}
 use Rattle.of_plan.specs.declared.plan.Item.{Item}
 use Rattle.of_plan.specs.declared.plan.Item.TheVariants.{Turns, Evict}
 
--- how many callers and blocks there are, the greatest sequence, and each caller's scripts and stop, and what happens step by step
+-- how many callers and blocks there are, the greatest sequence, and each caller's scripts and stop,
+-- and what happens step by step
 pub record Plan : Type 0 where
   pub callers : ℕ
   pub blocks : ℕ

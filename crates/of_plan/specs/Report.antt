@@ -3,7 +3,8 @@ use Rattle.std.specs.Prelude.{ℕ, Bool, List, filter, replicate, slice_index, s
 use Rattle.of_store.specs.State.{Store, Reply, empty_store}
 use Rattle.of_plan.specs.Plan.{Plan}
 
--- a call in the history: a script of a caller by its index from 0, at a sequence, with its reply; a read that was not announced shares its sequence with others
+-- a call in the history: a script of a caller by its index from 0, at a sequence, with its reply; a
+-- read that was not announced shares its sequence with others
 pub record Entry : Type 0 where
   pub seq : ℕ
   pub caller : ℕ

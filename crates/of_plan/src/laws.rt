@@ -21,13 +21,14 @@ pub fn serial_is_legal()
     ensures { (p : Plan) → IsLegal p (empty_start p) (serial_report p) }
 {}
 
-/// The report that is put together of a history, sequence by sequence, is legal, and its entries of a caller are the
-/// caller's in the order of its calls.
+/// The report that is put together of a history, sequence by sequence, is legal, and its entries of
+/// a caller are the caller's in the order of its calls.
 pub fn histories_are_legal()
     ensures { (p : Plan) (s : Start) → HistoriesAreLegal p s }
 {}
 
-/// A worked report is legal, and for each clause of legality a report that is one field away from it is refused.
+/// A worked report is legal, and for each clause of legality a report that is one field away
+/// from it is refused.
 pub fn worked_reports()
     ensures legal { IsLegal two_callers (empty_start two_callers) legal_report }
     ensures in_order { IsLegal two_callers (empty_start two_callers) script_twice → ⊥ }

@@ -14,18 +14,22 @@ pub struct Entry {
 
 /// Where a look-up ends.
 #[derive(Clone, Copy)]
-pub enum Found {
+pub enum Lookup {
     /// At the entry of the address, by its number.
     Entry(usize),
     /// At the place that is free for the address.
     Free(usize),
 }
 
-/// 2 ^ 32 over the golden ratio: multiples of it are spread evenly.
+// 2 ^ 32 over the golden ratio: multiples of it are spread evenly.
 const SPREAD: u64 = 2_654_435_769;
 
-#[tactic(auto, using(std::proofs::lemmas::Nat::and_le_r), unfolding(crate::specs::Walk::hash_place))]
-/// The place at which the walk for an address begins.
+// The place at which the walk for an address begins.
+#[tactic(
+    auto,
+    using(std::proofs::lemmas::Nat::and_le_r),
+    unfolding(crate::specs::Walk::hash_place)
+)]
 fn hash_place(places: usize, addr: u32) -> usize
     requires { 0 < places }
     ensures value { result ≡ hash_place places addr }
@@ -34,8 +38,8 @@ fn hash_place(places: usize, addr: u32) -> usize
     (addr as u64 * SPREAD >> 16) as usize & (places - 1)
 }
 
+// The place behind a place, going round.
 #[tactic(auto, unfolding(crate::specs::Walk::next_place))]
-/// The place behind a place, going round.
 fn next_place(places: usize, place: usize) -> usize
     requires { place < places }
     ensures value { result ≡ next_place places place }
@@ -45,7 +49,7 @@ fn next_place(places: usize, place: usize) -> usize
 }
 
 /// Walks from the address's hash place over taken places, to its entry or to a free place.
-pub fn find(entries: &[Entry], table: &[Option<u32>], addr: u32) -> Found
+pub fn find(entries: &[Entry], table: &[Option<u32>], addr: u32) -> Lookup
     requires { IsTable entries.now table.now }
     ensures { LookupEndsAt entries.now table.now addr result }
 {
@@ -53,11 +57,11 @@ pub fn find(entries: &[Entry], table: &[Option<u32>], addr: u32) -> Found
     let mut place = hash_place(places, addr);
     while let Some(at) = table[place] {
         if entries[at as usize].addr == addr {
-            return Found::Entry(at as usize);
+            return Lookup::Entry(at as usize);
         }
         place = next_place(places, place);
     }
-    Found::Free(place)
+    Lookup::Free(place)
 }
 
 /// Frees the place of each entry, which leaves every place free.

@@ -1,7 +1,9 @@
+//! The write-set: a list of pairs with a table by which an address is found.
+
 ghost use Rattle.std.specs.Prelude.{◌≡◌, ◌<◌, ◌==◌, [], length, IfOk, slice_index_or};
 ghost use Rattle.of_wset.specs.Pairs.{value_at, put, IsMap};
 
-use crate::table::{Entry, Found, find, free};
+use crate::table::{Entry, Lookup, find, free};
 use std::alloc::{AllocError, Global};
 use std::marker::Model;
 
@@ -10,7 +12,7 @@ use std::marker::Model;
 pub struct WriteSet {
     room: u32,
     entries: Vec<Entry>,
-    /// A taken place holds the number of an entry.
+    // A taken place holds the number of an entry.
     table: Vec<Option<u32>>,
 }
 
@@ -24,7 +26,8 @@ impl Model for WriteSet {
 
     ghost view = { λ w. record { room = w.room; entries = entry_pairs w.entries.items } };
 
-    ghost invariant = { λ w. IsWriteSet w.room w.entries.items w.table.items (vec_capacity w.entries) };
+    ghost invariant = { λ w.
+        IsWriteSet w.room w.entries.items w.table.items (vec_capacity w.entries) };
 }
 
 impl WriteSet {
@@ -60,19 +63,20 @@ impl WriteSet {
         ensures { result ≡ value_at self.now.entries addr }
     {
         match find(self.entries.as_slice(), self.table.as_slice(), addr) {
-            Found::Entry(at) => Some(self.entries[at].value),
-            Found::Free(_) => None,
+            Lookup::Entry(at) => Some(self.entries[at].value),
+            Lookup::Free(_) => None,
         }
     }
 
-    /// Writes a value: in its place where the address was written before, and else behind the others.
+    /// Writes a value: in its place where the address was written before, and else behind the
+    /// others.
     pub fn put(&mut self, addr: u32, value: u32)
         requires { addr < self.old.room }
         ensures { self.new ≡ record self.old { entries = put self.old.entries addr value } }
     {
         match find(self.entries.as_slice(), self.table.as_slice(), addr) {
-            Found::Entry(at) => self.entries[at].value = value,
-            Found::Free(place) => {
+            Lookup::Entry(at) => self.entries[at].value = value,
+            Lookup::Free(place) => {
                 self.table[place] = Some(self.entries.len() as u32);
                 match self.entries.push(Entry { addr, value, place }) {
                     Ok(()) => {}

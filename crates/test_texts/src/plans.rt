@@ -1,7 +1,7 @@
 //! Plans that are read and printed, the lines at which texts are refused, the two parts of an input, and plans of loads.
 
 ghost use Rattle.std.specs.Prelude.{◌≡◌, IfOk, MatchResult};
-ghost use Rattle.of_plan.specs.declared.parsing.PlanErr.TheVariants.{Memory};
+ghost use Rattle.of_plan.specs.declared.parser.PlanErr.TheVariants.{Memory};
 
 use of_plan::{GREATEST_LIMIT, Item, Plan, PlanErr, generate, parse, parts, print};
 use std::alloc::{AllocError, Global};

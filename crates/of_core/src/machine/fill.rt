@@ -9,11 +9,11 @@ ghost use Rattle.of_mem.specs.Pairs.{put_all};
 ghost use Rattle.of_core.specs.Machine.{log_of, log_words, own_cells, reply_cell_pairs, entries_going_round};
 ghost use Rattle.of_core.specs.Steps.{first_marked_place};
 
-use of_mem::{Keeps, LEAST_ABORT, MOST_INSTRS, RawReply, Workspace};
+use of_mem::{LEAST_ABORT, MOST_INSTRS, MaySuspend, RawReply, Workspace};
 use of_wset::WriteSet;
 
 /// Hands what the script wrote to the log and to the batch.
-pub fn collect<W: Keeps>(part: &mut Workspace<W>, log: &mut WriteSet)
+pub fn collect<W: MaySuspend>(part: &mut Workspace<W>, log: &mut WriteSet)
     requires { length part.old.known ≡ log.old.room }
     ensures log { log.new ≡ record log.old { entries = put_all log.old.entries part.old.script } }
     ensures part { part.new ≡ record part.old { batch = put_all part.old.batch part.old.script; script = [] } }
@@ -26,7 +26,7 @@ pub fn collect<W: Keeps>(part: &mut Workspace<W>, log: &mut WriteSet)
 }
 
 /// Writes the reply cells of the caller whose ticket cell is `row`.
-fn put_reply<W: Keeps>(part: &mut Workspace<W>, row: u32, count: u32, raw: &RawReply)
+fn put_reply<W: MaySuspend>(part: &mut Workspace<W>, row: u32, count: u32, raw: &RawReply)
     requires room { row + 2 + MOST_INSTRS ≤ length part.old.known }
     requires small { length part.old.known ≤ MOST_DATA_CELLS }
     requires count { count ≤ MOST_INSTRS }
@@ -43,7 +43,13 @@ fn put_reply<W: Keeps>(part: &mut Workspace<W>, row: u32, count: u32, raw: &RawR
 }
 
 /// Writes the own cells of the caller whose ticket cell is `row`: the reply's numbers, its shape and the ticket.
-pub fn put_own<W: Keeps>(part: &mut Workspace<W>, row: u32, ticket: u32, count: u32, raw: &RawReply)
+pub fn put_own<W: MaySuspend>(
+    part: &mut Workspace<W>,
+    row: u32,
+    ticket: u32,
+    count: u32,
+    raw: &RawReply,
+)
     requires room { row + 2 + MOST_INSTRS ≤ length part.old.known }
     requires small { length part.old.known ≤ MOST_DATA_CELLS }
     requires count { count ≤ MOST_INSTRS }
