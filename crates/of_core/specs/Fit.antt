@@ -1,10 +1,11 @@
 -- What a machine keeps of itself, so that its next step is a step on the table.
-use Rattle.std.specs.Prelude.{◌≡◌, ℕ, ◌+◌, ◌*◌, ◌<◌, ◌≤◌, List, [], Bool, true, false, length}
+use Rattle.std.specs.Prelude.{◌≡◌, ℕ, ◌+◌, ◌*◌, ◌<◌, ◌≤◌, List, [], Bool, true, false, None, length}
 use Rattle.of_core.specs.declared.machine.TheConstants.{GREATEST_LIMIT}
 use Rattle.of_cell.specs.Words.{payload_of}
 use Rattle.of_core.specs.declared.place.Place.{Place}
 use Rattle.of_core.specs.declared.place.Place.TheVariants.{Idle, TryCurrent, TryRequest, TryCell, StoreScript, StoreAnnouncement, LoadCurrent, LoadRequest, CopyLog, LookAgain, LoadOwnTicket, LoadShape, LoadReply, LoadAnnouncement, LoadTicket, LoadScript, LoadCell, RaiseOld, StoreLog, RaiseLog, StoreRequest, RaiseRequest, ExchangeCurrent, RaiseCurrent, LoadTarget, ExchangeTarget, ReloadTarget, RaiseTarget, CloseRequest, RaiseClosed}
-use Rattle.of_core.specs.Table.{Setup, first_operation_cell}
+use Rattle.of_mem.specs.Pairs.{value_for}
+use Rattle.of_core.specs.Table.{Setup, first_operation_cell, ticket_cell}
 use Rattle.of_core.specs.Machine.{CallState, log_words}
 
 -- the scan is at a caller, has run no more calls than it has passed callers, and may still commit
@@ -12,6 +13,10 @@ pub record IsScanning (S : Setup) (m : CallState) : Type 0 where
   pub scan : m.scan < S.callers
   pub few : length m.calls ≤ m.scan
   pub under : m.seq < S.limit
+
+-- no call that it has run so far has written the ticket cell of that caller
+abbrev pub LeavesTicket : Setup → CallState → Type 0
+LeavesTicket S m = value_for m.log (ticket_cell S m.scan) ≡ None
 
 -- what a place asks of its machine
 abbrev pub FitsPlace : Setup → CallState → Place → Type 0

@@ -109,6 +109,10 @@ abbrev pub first_place : (reads : Bool) → Place
 first_place true = TryCurrent
 first_place false = StoreScript 0
 
+-- of the calls before it the machine keeps their number alone, and it has the new call's words
+abbrev pub fresh_call : Setup → CallState → CallState
+fresh_call S m = record (idle_machine S m.caller m.made) { op = m.op }
+
 -- it begins anew: of the calls before it the machine keeps their number alone
 abbrev pub begin_call : Setup → CallState → List ℕ → CallState
 begin_call S m op = record (idle_machine S m.caller m.made) { made = m.made + 1; op = op; place = first_place (S.meaning.reads_only op) }

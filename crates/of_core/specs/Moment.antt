@@ -32,6 +32,11 @@ bank_setup meaning b = setup_of b.callers b.cells b.limit (meaning b.work)
 abbrev pub table_word_count : Setup → ℕ
 table_word_count S = cells.table_words S.callers S.instrs S.cells
 
+-- the moment at which it opens, if it begins at this start
+abbrev pub bank_opening : {X : Type 0} → (X → Meaning) → TableStart → Bank X → Moment
+bank_opening meaning B b =
+    opening_moment (bank_setup meaning b) B (table_word_count (bank_setup meaning b))
+
 -- caller i's machine
 abbrev pub machine_of : {X : Type 0} → Bank X → ℕ → CallState
 machine_of b i = get_or b.machines i no_machine

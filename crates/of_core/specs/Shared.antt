@@ -21,6 +21,10 @@ pub record IsLog (S : Setup) (es : List (ℕ × ℕ)) : Type 0 where
   pub once : HasDistinctCells es
   pub few : length es ≤ S.cells
 
+-- the words are those of such a log
+abbrev pub AreLogWords : Setup → List ℕ → Type 0
+AreLogWords S copy = (es : List (ℕ × ℕ)) × (copy ≡ log_words es) × IsLog S es
+
 -- a start that may be: no data word is newer than its sequence
 pub record IsStart (S : Setup) (B : TableStart) : Type 0 where
   pub owner_in : B.owner < S.callers
