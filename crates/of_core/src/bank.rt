@@ -101,7 +101,7 @@ fn first_words(alloc: Global, shape: &Shape, durable: &[u64]) -> Result<Vec<u64>
     requires owner { payload_of (get_or durable.now 0 0) < shape.now.callers }
     ensures { IfOk result (λ words. words.items
         ≡ first_words shape.now.callers shape.now.cells (start_on shape.now durable.now)
-            (cell_words shape.now.callers shape.now.instrs shape.now.cells)) }
+        (cell_words shape.now.callers shape.now.instrs shape.now.cells)) }
 {
     let cells = first_cells(alloc, shape, durable)?;
     let mut words = Vec::from_slice(alloc, &cells)?;
@@ -123,8 +123,8 @@ fn start_ticket(shape: &Shape, words: &[u64], caller: u32) -> u32
     payload_of(words[shape.data_cell(ticket) as usize])
 }
 
-/// An idle machine for each caller, with the calls behind it that the first words tell. The error is
-/// that there is no memory.
+/// An idle machine for each caller, with the calls behind it that the first words tell. The error
+/// is that there is no memory.
 fn idle_machines<W: Work>(
     alloc: Global,
     shape: Shape,
@@ -141,7 +141,7 @@ fn idle_machines<W: Work>(
     ensures alike { IfOk result (λ ms. RunSameWork work shape.callers shape.cells limit ms.items) }
     ensures idle { let S = setup_on shape limit (W.meaning work) in
         IfOk result (λ ms. call_states ms.items
-            ≡ idle_machines S (start_ticket S (start_on shape words.now)) 0 shape.callers) }
+        ≡ idle_machines S (start_ticket S (start_on shape words.now)) 0 shape.callers) }
 {
     let mut machines = Vec::new(alloc);
     for caller in 0..shape.callers {
@@ -153,8 +153,8 @@ fn idle_machines<W: Work>(
 }
 
 impl<W: Work> Bank<W> {
-    /// A bank of zeros, with an idle machine for each caller. `limit` is the last sequence that may be
-    /// committed. The error is that there is no memory.
+    /// A bank of zeros, with an idle machine for each caller. `limit` is the last sequence that may
+    /// be committed. The error is that there is no memory.
     pub fn new(alloc: Global, shape: Shape, limit: u32, work: W) -> Result<Self, AllocError>
         requires callers { shape.callers ≡ W.many work }
         requires instrs { shape.instrs ≡ MOST_INSTRS }
@@ -177,9 +177,9 @@ impl<W: Work> Bank<W> {
         Ok(bank)
     }
 
-    /// A bank that starts from a durable row of which recovery changes nothing, with an idle machine
-    /// for each caller, which has the row's calls behind it. `limit` is the last sequence that may be
-    /// committed. The error is that there is no memory.
+    /// A bank that starts from a durable row of which recovery changes nothing, with an idle
+    /// machine for each caller, which has the row's calls behind it. `limit` is the last sequence
+    /// that may be committed. The error is that there is no memory.
     pub fn start(
         alloc: Global,
         shape: Shape,
@@ -191,7 +191,8 @@ impl<W: Work> Bank<W> {
         requires instrs { shape.instrs ≡ MOST_INSTRS }
         requires cells { shape.cells ≡ W.size work }
         requires limit { limit ≤ GREATEST_LIMIT }
-        requires row { IsStartRow (setup_on shape limit (W.meaning work)) (W.lawful work) durable.now }
+        requires row { IsStartRow (setup_on shape limit (W.meaning work)) (W.lawful work)
+            durable.now }
         ensures work { IfOk result (λ b. b.work ≡ work) }
         ensures callers { IfOk result (λ b. b.callers ≡ shape.callers) }
         ensures cells { IfOk result (λ b. b.cells ≡ shape.cells) }
@@ -207,8 +208,8 @@ impl<W: Work> Bank<W> {
         Ok(bank)
     }
 
-    /// A bank over these first words, with an idle machine for each caller. The error is that there is
-    /// no memory.
+    /// A bank over these first words, with an idle machine for each caller. The error is that there
+    /// is no memory.
     fn over(
         alloc: Global,
         shape: Shape,
@@ -224,7 +225,7 @@ impl<W: Work> Bank<W> {
             MayStart S (W.lawful work) (start_on shape words.items) }
         requires words { let S = setup_on shape limit (W.meaning work) in words.items
             ≡ first_words shape.callers shape.cells (start_on shape words.items)
-                (table_word_count S) }
+            (table_word_count S) }
         ensures work { IfOk result (λ b. b.work ≡ work) }
         ensures callers { IfOk result (λ b. b.callers ≡ shape.callers) }
         ensures cells { IfOk result (λ b. b.cells ≡ shape.cells) }

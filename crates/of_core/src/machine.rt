@@ -33,11 +33,12 @@ use std::marker::Model;
 /// The greatest sequence that may be the last: the log words of the next one are still words.
 pub const GREATEST_LIMIT: u32 = u32::MAX - 1;
 
-/// How many data cells belong to each caller: its ticket, the shape of its reply, and the reply's numbers.
+/// How many data cells belong to each caller: its ticket, the shape of its reply, and the reply's
+/// numbers.
 const OWN_CELLS: u32 = MOST_INSTRS as u32 + 2;
 
-/// One call as a machine of atomic steps on the words of a shared table. It makes no step itself: it names the next one, and takes the
-/// word which that step found.
+/// One call as a machine of atomic steps on the words of a shared table. It makes no step itself:
+/// it names the next one, and takes the word which that step found.
 #[derive(Drop)]
 pub struct Machine<W: Work> {
     work: W,
@@ -86,8 +87,8 @@ impl<W: Work> Model for Machine<W> {
 }
 
 impl<W: Work> Machine<W> {
-    /// An idle machine of a caller that has begun `made` calls before. `limit` is the last sequence that may be committed. The error is
-    /// that there is no memory.
+    /// An idle machine of a caller that has begun `made` calls before. `limit` is the last sequence
+    /// that may be committed. The error is that there is no memory.
     pub fn new(
         alloc: Global,
         shape: Shape,
@@ -147,7 +148,8 @@ impl<W: Work> Machine<W> {
         })
     }
 
-    /// Opens a call of 1 to `MOST_INSTRS` words: one that only reads is tried first, any other is announced.
+    /// Opens a call of 1 to `MOST_INSTRS` words: one that only reads is tried first, any other is
+    /// announced.
     pub fn begin(&mut self, op: &[u64])
         requires idle { self.old.call.place ≡ Place.Idle }
         requires some { 1 ≤ length op.now }
@@ -170,7 +172,8 @@ impl<W: Work> Machine<W> {
         };
     }
 
-    /// Nothing of the calls before is kept but their number: a call begins as that of a fresh machine does.
+    /// Nothing of the calls before is kept but their number: a call begins as that of a fresh
+    /// machine does.
     fn forget(&mut self)
         ensures { self.new ≡ machine_after W.meaning fresh_call self.old }
     {
@@ -271,7 +274,8 @@ impl<W: Work> Machine<W> {
 
     /// The word of the shape of one's reply.
     fn shape_word(&self) -> u32
-        ensures value { result ≡ shape_word_at (machine_setup W.meaning self.now) self.now.call.caller }
+        ensures value { result
+            ≡ shape_word_at (machine_setup W.meaning self.now) self.now.call.caller }
         ensures below { result < cell_count (machine_setup W.meaning self.now) }
     {
         self.shape.data_cell(self.caller * OWN_CELLS + 1)
@@ -280,7 +284,8 @@ impl<W: Work> Machine<W> {
     /// The word of a number of one's reply.
     fn reply_word(&self, at: u32) -> u32
         requires { at < MOST_INSTRS }
-        ensures value { result ≡ reply_word_at (machine_setup W.meaning self.now) self.now.call.caller at }
+        ensures value { result
+            ≡ reply_word_at (machine_setup W.meaning self.now) self.now.call.caller at }
         ensures below { result < cell_count (machine_setup W.meaning self.now) }
     {
         self.shape.data_cell(self.caller * OWN_CELLS + 2 + at)
@@ -298,14 +303,16 @@ impl<W: Work> Machine<W> {
     }
 
     /// Has the next atomic step performed: that of `place`, where the machine stands.
-    // in line, and with an arm for each place: it performs its own form of step and goes straight on from there, with one jump by the place
+    // in line, and with an arm for each place: it performs its own form of step and goes straight
+    // on from there, with one jump by the place
     #[inline(always)]
     pub fn want_by<P: Performer>(&self, place: Place, by: &P, hand: &mut P::Hand) -> P::Given
         requires here { place ≡ self.now.call.place }
         requires takes { (op : Op) → op ≡ op_at W.meaning place self.now
             → IsOnTable (machine_setup W.meaning self.now) op → P.takes by.now hand.old op }
         ensures made { P.made by.now hand.old (op_at W.meaning place self.now) result hand.new }
-        ensures range { IsOnTable (machine_setup W.meaning self.now) (op_at W.meaning place self.now) }
+        ensures range { IsOnTable (machine_setup W.meaning self.now)
+            (op_at W.meaning place self.now) }
     {
         match place {
             Place::Idle => by.load(hand, 0),

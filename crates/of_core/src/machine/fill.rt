@@ -44,8 +44,8 @@ fn put_reply<W: Keeps>(part: &mut Workspace<W>, row: u32, count: u32, raw: &RawR
     }
 }
 
-/// Writes the own cells of the caller whose ticket cell is `row`: the reply's numbers, its shape and
-/// the ticket.
+/// Writes the own cells of the caller whose ticket cell is `row`: the reply's numbers, its shape
+/// and the ticket.
 pub fn put_own<W: Keeps>(part: &mut Workspace<W>, row: u32, ticket: u32, count: u32, raw: &RawReply)
     requires room { row + 2 + MOST_INSTRS ≤ length part.old.known }
     requires small { length part.old.known ≤ MOST_DATA_CELLS }
@@ -66,7 +66,8 @@ fn put_some(log: &mut WriteSet, copy: &[u32], from: u32, to: u32)
         × All (λ (e : ℕ × ℕ). e.0 < log.old.room) es × (to ≤ length es) }
     requires order { from ≤ to }
     ensures { log.new ≡ record log.old {
-        entries = put_all log.old.entries (drop from (take to (log_of copy.now))) } }
+      entries = put_all log.old.entries (drop from (take to (log_of copy.now)));
+    } }
 {
     for j in from..to {
         let at = 2 * j as usize + 1;
@@ -80,7 +81,8 @@ pub fn put_copy(log: &mut WriteSet, copy: &[u32], helper: u32)
     requires { (es : List (ℕ × ℕ)) × (copy.now ≡ log_words es)
         × All (λ (e : ℕ × ℕ). e.0 < log.old.room) es }
     ensures { let es = log_of copy.now in log.new ≡ record log.old {
-        entries = put_all log.old.entries (entries_going_round (helper % length es) es) } }
+      entries = put_all log.old.entries (entries_going_round (helper % length es) es);
+    } }
 {
     let count = copy[0];
     if count > 0 {

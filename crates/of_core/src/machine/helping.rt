@@ -1,4 +1,5 @@
-//! How a machine goes on at the steps by which it looks at another's transaction and copies its log.
+//! How a machine goes on at the steps by which it looks at another's transaction and copies its
+//! log.
 
 ghost use Rattle.std.specs.Prelude.{◌≡◌, ◌<◌, ◌≤◌, ◌+◌, ◌*◌, ◌==◌, length, true};
 ghost use Rattle.std.proofs.Common.{get_or};
@@ -71,8 +72,8 @@ impl<W: Work> Machine<W> {
         };
     }
 
-    /// From the second look at the request: a copy that was made while the transaction was open is its
-    /// log.
+    /// From the second look at the request: a copy that was made while the transaction was open is
+    /// its log.
     pub(super) fn after_look_again(&mut self, found: u64)
         requires some { 1 ≤ length self.old.call.op }
         requires copied { found ≡ pack self.old.call.seq 0

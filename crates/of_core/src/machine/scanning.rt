@@ -1,4 +1,5 @@
-//! How a machine goes on at the steps of a scan: of each caller in turn the announced call is run, where its ticket is new.
+//! How a machine goes on at the steps of a scan: of each caller in turn the announced call is run,
+//! where its ticket is new.
 
 ghost use Rattle.std.specs.Prelude.{◌≡◌, ◌<◌, ◌≤◌, ◌+◌, length, true, IsTrue};
 ghost use Rattle.of_cell.specs.Words.{seq_of, payload_of};
@@ -36,8 +37,8 @@ fn newer_raw(own: bool, new: &RawReply, old: &RawReply) -> RawReply
 }
 
 impl<W: Work> Machine<W> {
-    /// From the load of an announcement: its ticket is weighed against the caller's ticket cell, which
-    /// is loaded where it isn't known.
+    /// From the load of an announcement: its ticket is weighed against the caller's ticket cell,
+    /// which is loaded where it isn't known.
     pub(super) fn after_load_announcement(&mut self, found: u64)
         requires at { self.old.call.place ≡ Place.LoadAnnouncement }
         requires small { payload_of found ≤ MOST_INSTRS }

@@ -1,4 +1,5 @@
-//! How a machine goes on at the steps of a try: a read runs on the last committed state, and is answered unannounced.
+//! How a machine goes on at the steps of a try: a read runs on the last committed state, and is
+//! answered unannounced.
 
 ghost use Rattle.std.specs.Prelude.{◌≡◌, ◌<◌, ◌≤◌, ◌+◌, length, true, nat_lt};
 ghost use Rattle.of_cell.specs.Words.{seq_of, payload_of};
