@@ -5,13 +5,13 @@ use Rattle.std.specs.Vec.{vec_capacity}
 use Rattle.of_cell.specs.Cells.{durable_cells, log_cell}
 use Rattle.of_mem.specs.Meaning.{Meaning}
 use Rattle.of_mem.specs.declared.work.TheConstants.{MOST_INSTRS}
-use Rattle.of_core.specs.declared.ran.RanCall.{RanCall}
+use Rattle.of_core.specs.declared.call.Call.{Call as RustCall}
 use Rattle.of_core.specs.declared.machine.Machine.TheInside.{Inside}
 use Rattle.of_core.specs.Machine.{Call}
 use Rattle.of_core.specs.Seen.{Machine, machine_setup}
 use Rattle.of_core.specs.Fit.{FitsSizes, HasRoomInParts}
 
-abbrev pub call_value : RanCall → Call
+abbrev pub call_value : RustCall → Call
 call_value c = record { caller = c.caller; ticket = c.ticket; op = take c.words c.op; raw = c.raw }
 
 abbrev pub machine_value : {W : Type 0} → Inside W → Machine W

@@ -23,7 +23,7 @@ use std::alloc::{AllocError, Global};
 use std::marker::Model;
 use std::snapshot::Snapshot;
 
-mod showing;
+mod inspect;
 
 /// What a turn says of its caller's call.
 #[derive(Clone, Copy)]
@@ -62,7 +62,7 @@ impl<W: Work> Model for Bank<W> {
 }
 
 /// What a turn says of a call that was open before it.
-fn turn_to(answer: Option<Outcome>) -> Turn
+fn turn_of_answer(answer: Option<Outcome>) -> Turn
     ensures { result ≡ turn_of_outcome answer }
 {
     match answer {
@@ -288,9 +288,9 @@ impl<W: Work> Bank<W> {
         }
         let machine = &mut self.machines[caller as usize];
         let place = machine.place();
-        let found = machine.want_by(place, &OnWords, &mut self.words);
+        let found = machine.perform(place, &OnWords, &mut self.words);
         machine.take_at(place, found);
-        turn_to(machine.answer())
+        turn_of_answer(machine.answer())
     }
 
     /// Raises a cell's durable word to the word that the cell holds.

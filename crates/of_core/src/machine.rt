@@ -15,15 +15,15 @@ mod announcing;
 mod answering;
 mod applying;
 mod committing;
-mod fill;
 mod helping;
+mod inspect;
+mod logs;
 mod scanning;
-mod showing;
 mod trying;
 
-use crate::performer::{Naming, Performer};
+use crate::call::Call;
+use crate::performer::{NameStep, Performer};
 use crate::place::{Op, Outcome, Place};
-use crate::ran::RanCall;
 use of_cell::{Shape, pack};
 use of_mem::{MOST_INSTRS, RawReply, Work, Workspace};
 use of_wset::WriteSet;
@@ -71,7 +71,7 @@ pub struct Machine<W: Work> {
     scan: u32,
     heard: u64,
     script: Vec<u64>,
-    calls: Vec<RanCall>,
+    calls: Vec<Call>,
 }
 
 impl<W: Work> Model for Machine<W> {
@@ -299,14 +299,14 @@ impl<W: Work> Machine<W> {
         ensures value { result ≡ want (machine_setup W.meaning self.now) self.now.call }
         ensures range { IsOnTable (machine_setup W.meaning self.now) result }
     {
-        self.want_by(self.place, &Naming, &mut ())
+        self.perform(self.place, &NameStep, &mut ())
     }
 
     /// Has the next atomic step performed: that of `place`, where the machine stands.
     // in line, and with an arm for each place: it performs its own form of step and goes straight
     // on from there, with one jump by the place
     #[inline(always)]
-    pub fn want_by<P: Performer>(&self, place: Place, by: &P, hand: &mut P::Hand) -> P::Given
+    pub fn perform<P: Performer>(&self, place: Place, by: &P, hand: &mut P::Hand) -> P::Given
         requires here { place ≡ self.now.call.place }
         requires takes { (op : Op) → op ≡ op_at W.meaning place self.now
             → IsOnTable (machine_setup W.meaning self.now) op → P.takes by.now hand.old op }

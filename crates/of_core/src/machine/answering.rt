@@ -7,7 +7,7 @@ ghost use Rattle.of_core.specs.Steps.{next_reply_place};
 ghost use Rattle.of_core.specs.Seen.{machine_setup, step_from};
 ghost use Rattle.of_core.specs.declared.place.Place.TheVariants.{LoadReply};
 
-use crate::machine::fill::first_mark;
+use crate::machine::logs::first_mark;
 use crate::machine::{Machine, OWN_CELLS};
 use crate::place::{Outcome, Place};
 use of_cell::{payload_of, seq_of};

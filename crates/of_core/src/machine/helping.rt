@@ -10,7 +10,7 @@ ghost use Rattle.of_core.specs.Seen.{machine_setup, machine_after, step_from};
 ghost use Rattle.of_core.specs.declared.place.Place.TheVariants.{CopyLog};
 
 use crate::machine::Machine;
-use crate::machine::fill::put_copy;
+use crate::machine::logs::put_copy;
 use crate::place::Place;
 use of_cell::{pack, payload_of, seq_of};
 use of_mem::Work;

@@ -11,10 +11,10 @@ ghost use Rattle.of_core.specs.Fit.{IsScanning, LeavesTicket, is_scanning};
 ghost use Rattle.of_core.specs.Seen.{machine_setup, machine_after, step_from, KnowsState};
 ghost use Rattle.of_core.specs.declared.place.Place.TheVariants.{LoadScript, LoadCell};
 
-use crate::machine::fill::{collect, put_own, words_of};
+use crate::call::Call;
+use crate::machine::logs::{hand_to_log, padded_words, put_own};
 use crate::machine::{Machine, OWN_CELLS};
 use crate::place::Place;
-use crate::ran::RanCall;
 use of_cell::{payload_of, seq_of};
 use of_mem::{MOST_INSTRS, RawReply, Work};
 
@@ -149,15 +149,15 @@ impl<W: Work> Machine<W> {
                     words as u32,
                     &raw,
                 );
-                collect(&mut self.part, &mut self.log);
-                let ran = RanCall {
+                hand_to_log(&mut self.part, &mut self.log);
+                let call = Call {
                     caller: self.scan,
                     ticket,
                     words,
-                    op: words_of(self.script.as_slice()),
+                    op: padded_words(self.script.as_slice()),
                     raw,
                 };
-                match self.calls.push(ran) {
+                match self.calls.push(call) {
                     Ok(()) => {}
                     // there is room for a call of each caller
                     Err(_) => unreachable!(),

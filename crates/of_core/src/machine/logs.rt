@@ -14,7 +14,7 @@ use of_mem::{Keeps, LEAST_ABORT, MOST_INSTRS, RawReply, Workspace};
 use of_wset::WriteSet;
 
 /// Hands what the script wrote to the log and to the batch.
-pub fn collect<W: Keeps>(part: &mut Workspace<W>, log: &mut WriteSet)
+pub fn hand_to_log<W: Keeps>(part: &mut Workspace<W>, log: &mut WriteSet)
     requires { length part.old.known ≡ log.old.room }
     ensures log { log.new ≡ record log.old { entries = put_all log.old.entries part.old.script } }
     ensures part { part.new ≡ keep part.old }
@@ -61,7 +61,7 @@ pub fn put_own<W: Keeps>(part: &mut Workspace<W>, row: u32, ticket: u32, count: 
 }
 
 /// Writes some entries of a copy of log words.
-fn put_some(log: &mut WriteSet, copy: &[u32], from: u32, to: u32)
+fn put_entries(log: &mut WriteSet, copy: &[u32], from: u32, to: u32)
     requires entries { (es : List (ℕ × ℕ)) × (copy.now ≡ log_words es)
         × All (λ (e : ℕ × ℕ). e.0 < log.old.room) es × (to ≤ length es) }
     requires order { from ≤ to }
@@ -87,8 +87,8 @@ pub fn put_copy(log: &mut WriteSet, copy: &[u32], helper: u32)
     let count = copy[0];
     if count > 0 {
         let begin = helper % count;
-        put_some(log, copy, begin, count);
-        put_some(log, copy, 0, begin);
+        put_entries(log, copy, begin, count);
+        put_entries(log, copy, 0, begin);
     }
 }
 
@@ -108,7 +108,7 @@ pub fn first_mark(shape: u32, from: u32, many: u32) -> Option<u32>
 }
 
 /// A script's words in room for the most.
-pub fn words_of(script: &[u64]) -> [u64; MOST_INSTRS]
+pub fn padded_words(script: &[u64]) -> [u64; MOST_INSTRS]
     requires { length script.now ≤ MOST_INSTRS }
     ensures { take (length script.now) result ≡ script.now }
 {
