@@ -35,11 +35,14 @@ FitsPlace S m LoadShape = Unit {0}
 FitsPlace S m (LoadReply j) = j < S.instrs
 FitsPlace S m LoadAnnouncement = IsScanning S m
 FitsPlace S m LoadTicket = IsScanning S m × (payload_of m.heard ≤ S.instrs)
-FitsPlace S m (LoadScript j) = IsScanning S m × (j < payload_of m.heard) × (payload_of m.heard ≤ S.instrs)
+FitsPlace S m (LoadScript j) =
+    IsScanning S m × (j < payload_of m.heard) × (payload_of m.heard ≤ S.instrs)
 FitsPlace S m (LoadCell a) = IsScanning S m × (a < S.cells)
 FitsPlace S m RaiseOld = m.seq < S.limit
-FitsPlace S m (StoreLog x) = (x < length (log_words m.log)) × (m.seq < S.limit) × (x < 2 * S.cells + 1)
-FitsPlace S m (RaiseLog x) = (x < length (log_words m.log)) × (m.seq < S.limit) × (x < 2 * S.cells + 1)
+FitsPlace S m (StoreLog x) =
+    (x < length (log_words m.log)) × (m.seq < S.limit) × (x < 2 * S.cells + 1)
+FitsPlace S m (RaiseLog x) =
+    (x < length (log_words m.log)) × (m.seq < S.limit) × (x < 2 * S.cells + 1)
 FitsPlace S m StoreRequest = m.seq < S.limit
 FitsPlace S m RaiseRequest = m.seq < S.limit
 FitsPlace S m ExchangeCurrent = m.seq < S.limit
@@ -80,7 +83,8 @@ is_reading (TryCell a) = true
 is_reading p = false
 
 -- the room that the machine's parts have, and what lies over the known cells
-pub record HasRoomInParts (S : Setup) (m : CallState) (logs words scripts copies runs : ℕ) (batch script : List (ℕ × ℕ)) : Type 0 where
+pub record HasRoomInParts (S : Setup) (m : CallState) (logs words scripts copies runs : ℕ)
+    (batch script : List (ℕ × ℕ)) : Type 0 where
   pub log : logs ≡ S.cells
   pub op : S.instrs ≤ words
   pub scripts_in : S.instrs ≤ scripts

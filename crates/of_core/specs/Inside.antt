@@ -45,9 +45,13 @@ machine_value m = record {
   };
 }
 
-pub record IsFit {W : Type 0} (many size : W → ℕ) (meaning : W → Meaning) (m : Inside W) : Type 0 where
+pub record IsFit {W : Type 0} (many size : W → ℕ) (meaning : W → Meaning) (m : Inside W)
+    : Type 0 where
   pub instrs : m.shape.instrs ≡ MOST_INSTRS
   pub durable : m.durable ≡ durable_cells m.shape.callers m.shape.cells
   pub own_log : m.own_log ≡ log_cell m.shape.callers m.shape.cells m.caller 0
-  pub fit : FitsSizes (many m.work) (size m.work) (machine_setup meaning (machine_value m)) (machine_value m).call
-  pub room : HasRoomInParts (machine_setup meaning (machine_value m)) (machine_value m).call m.log.room (vec_capacity m.op) (vec_capacity m.script) (vec_capacity m.copy) (vec_capacity m.calls) m.part.batch m.part.script
+  pub fit : FitsSizes (many m.work) (size m.work) (machine_setup meaning (machine_value m))
+      (machine_value m).call
+  pub room : HasRoomInParts (machine_setup meaning (machine_value m)) (machine_value m).call
+      m.log.room (vec_capacity m.op) (vec_capacity m.script) (vec_capacity m.copy)
+      (vec_capacity m.calls) m.part.batch m.part.script

@@ -25,7 +25,8 @@ machine_setup meaning m = setup_of m.callers m.cells m.limit (meaning m.work)
 
 -- the machine after its step from a place found this number; the step is counted before
 abbrev pub step_from : {X : Type 0} → (X → Meaning) → Place → (found : ℕ) → Machine X → Machine X
-step_from meaning p found m = record m { call = take_word_at (machine_setup meaning m) m.call found p }
+step_from meaning p found m =
+    record m { call = take_word_at (machine_setup meaning m) m.call found p }
 
 -- the machine after its call has gone on in this way
 abbrev pub machine_after : {X : Type 0} → (X → Meaning) → (Setup → CallState → CallState)

@@ -24,13 +24,21 @@ pub record Setup : Type 0 where
 
 -- helper i begins at entry i mod n and goes round
 abbrev pub setup_of : (callers cells limit : ℕ) → Meaning → Setup
-setup_of n m l meaning = record { callers = n; instrs = MOST_INSTRS; cells = m; limit = l; begins = λ i n. i % n; meaning = meaning }
+setup_of n m l meaning = record {
+  callers = n;
+  instrs = MOST_INSTRS;
+  cells = m;
+  limit = l;
+  begins = λ i n. i % n;
+  meaning = meaning;
+}
 
 -- on a table of this shape
 abbrev pub setup_on : Shape → (limit : ℕ) → Meaning → Setup
 setup_on shape limit meaning = setup_of shape.callers shape.cells limit meaning
 
--- Cells. Cell 0 names the last committed transaction; a request for each caller, the data cells and each caller's log words follow.
+-- Cells. Cell 0 names the last committed transaction; a request for each caller, the data cells and
+-- each caller's log words follow.
 abbrev pub request_at : ℕ → ℕ
 request_at i = request_cell i
 
@@ -55,7 +63,8 @@ script_word_at S i x = script_place S.callers S.instrs S.cells i x
 abbrev pub words_before_members : Setup → ℕ
 words_before_members S = members_place S.callers S.instrs S.cells
 
--- Data cells. Each caller's own come first: the ticket, the shape and the reply of its last announced call that was run.
+-- Data cells. Each caller's own come first: the ticket, the shape and the reply of its last
+-- announced call that was run.
 abbrev pub ticket_cell : Setup → ℕ → ℕ
 ticket_cell S i = ticket_cell_at S.instrs i
 
