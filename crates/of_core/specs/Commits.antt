@@ -83,7 +83,8 @@ pub record HasLost (S : Setup) (m : CallState) (commits : ℕ) : Type 0 where
 -- there is none, a read ends in its first try, and any other call in its first round
 abbrev pub LostToCommits : Setup → (List ℕ → Type 0) → Type 0
 LostToCommits S Lawful =
-    (B : TableStart) (w : Moment) → MeetsInvariant S Lawful B w → (es : List Event) → IsSchedule S w es →
+    (B : TableStart) (w : Moment) → MeetsInvariant S Lawful B w → (es : List Event)
+    → IsSchedule S w es →
     let v : Moment = after_events S w es in
     (i : ℕ) → i < S.callers → IsIdle (machine_in w i) → IsOpen (machine_in v i).place
     → HasLost S (machine_in v i) (last_batch B v - last_batch B w)

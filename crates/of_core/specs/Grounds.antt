@@ -9,13 +9,16 @@ use Rattle.of_core.specs.Shared.{MayStart, IsLog}
 use Rattle.of_core.specs.Invariant.{MeetsInvariant}
 
 -- what a moment rests on
-pub record HasGrounds (S : Setup) (Lawful : List ℕ → Type 0) (B : TableStart) (w : Moment) : Type 0 where
+pub record HasGrounds (S : Setup) (Lawful : List ℕ → Type 0) (B : TableStart) (w : Moment)
+    : Type 0 where
   -- it has begun at a start that a table may have
   pub may_start : MayStart S Lawful B
   -- the state behind each batch is lawful
-  pub states : (k : ℕ) → B.seq ≤ k → k ≤ B.seq + length w.batches → Lawful (numbers_after B w.batches k)
+  pub states : (k : ℕ) → B.seq ≤ k → k ≤ B.seq + length w.batches
+      → Lawful (numbers_after B w.batches k)
   -- and each batch's log has entries of data cells, none twice
-  pub logs : (k : ℕ) → B.seq < k → k ≤ B.seq + length w.batches → IsLog S (batch_at B w.batches k).log
+  pub logs : (k : ℕ) → B.seq < k → k ≤ B.seq + length w.batches
+      → IsLog S (batch_at B w.batches k).log
   -- the table has room for all its words, and its numbers fit a word
   pub room : words_before_members S ≤ length w.words
   pub callers : S.callers < PAYLOADS

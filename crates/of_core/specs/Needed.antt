@@ -1,5 +1,5 @@
--- A try or a round makes no step that it has no use for: it loads a data cell only if a run needs it,
--- and copies a log only if its transaction is open.
+-- A try or a round makes no step that it has no use for: it loads a data cell only if a run needs
+-- it, and copies a log only if its transaction is open.
 use Rattle.std.specs.Prelude.{ℕ, List, ◌≡◌, ◌<◌}
 use Rattle.of_cell.specs.Words.{pack}
 use Rattle.of_mem.specs.Meaning.{Needs}

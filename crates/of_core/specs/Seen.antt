@@ -1,12 +1,13 @@
 -- What contracts see of a machine.
-use Rattle.std.specs.Prelude.{ℕ, Option, None}
-use Rattle.of_mem.specs.Meaning.{Meaning}
+use Rattle.std.specs.Prelude.{ℕ, List, Option, None}
+use Rattle.of_mem.specs.Meaning.{Meaning, KnowsSome}
 use Rattle.of_core.specs.declared.place.Place.{Place}
 use Rattle.of_core.specs.declared.place.Place.TheVariants.{Idle}
 use Rattle.of_core.specs.declared.place.Outcome.{Outcome}
+use Rattle.of_core.specs.declared.place.Op.{Op}
 use Rattle.of_core.specs.Table.{Setup, setup_of}
 use Rattle.of_core.specs.Machine.{CallState}
-use Rattle.of_core.specs.Steps.{take_word_at}
+use Rattle.of_core.specs.Steps.{want_at, take_word_at}
 
 pub record Machine (X : Type 0) : Type 0 where
   -- what runs operations
@@ -24,7 +25,22 @@ machine_setup meaning m = setup_of m.callers m.cells m.limit (meaning m.work)
 
 -- the machine after its step from a place found this number; the step is counted before
 abbrev pub step_from : {X : Type 0} → (X → Meaning) → Place → (found : ℕ) → Machine X → Machine X
-step_from meaning p found m = record m { call = take_word_at (machine_setup meaning m) m.call found p }
+step_from meaning p found m =
+    record m { call = take_word_at (machine_setup meaning m) m.call found p }
+
+-- the machine after its call has gone on in this way
+abbrev pub machine_after : {X : Type 0} → (X → Meaning) → (Setup → CallState → CallState)
+    → Machine X → Machine X
+machine_after meaning next m = record m { call = next (machine_setup meaning m) m.call }
+
+-- the step that it asks for at a place
+abbrev pub op_at : {X : Type 0} → (X → Meaning) → Place → Machine X → Op
+op_at meaning p m = want_at (machine_setup meaning m) m.call p
+
+-- the known cells are those of a state that is lawful for its work
+abbrev pub KnowsState : {X : Type 0} → (X → List ℕ → Type 0) → Machine X
+    → (known : List (Option ℕ)) → Type 0
+KnowsState lawful m known = KnowsSome (lawful m.work) m.cells known
 
 -- how the last call ended, where none is open
 abbrev pub ended_outcome_at : Place → CallState → Option Outcome

@@ -23,5 +23,6 @@ pub record IsSpentInRound (S : Setup) (w : Moment) (i : ℕ) (m : CallState) (s 
 -- a step that ends a call as spent looks for the call's ticket in a round
 abbrev pub SpentInRounds : Setup → (List ℕ → Type 0) → Type 0
 SpentInRounds S Lawful = EachStep S Lawful (λ B w i m n.
-    (s : ℕ) → IsOpen m.place → (take_word S m n).place ≡ Idle → (take_word S m n).answer ≡ Some (Spent s)
+    (s : ℕ) → IsOpen m.place → (take_word S m n).place ≡ Idle
+    → (take_word S m n).answer ≡ Some (Spent s)
     → IsSpentInRound S w i m s)

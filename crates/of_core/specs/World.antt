@@ -29,7 +29,8 @@ pub record Read : Type 0 where
   pub raw : RawReply
   pub seq : ℕ
 
--- the words, each caller's machine, and the history: the batches in order, and beside them the reads in the order of their answers
+-- the words, each caller's machine, and the history: the batches in order, and beside them the
+-- reads in the order of their answers
 pub record Moment : Type 0 where
   pub words : List ℕ
   pub machines : List CallState
@@ -46,7 +47,12 @@ pub record TableStart : Type 0 where
 
 -- what an exchange commits, where it wins
 abbrev pub one_batch : Setup → List ℕ → CallState → Bool → List Batch
-one_batch S ws m true = record { owner = m.caller; log = m.log; calls = m.calls; announcements = λ c. announcement_of S ws c } ∷ []
+one_batch S ws m true = record {
+  owner = m.caller;
+  log = m.log;
+  calls = m.calls;
+  announcements = λ c. announcement_of S ws c;
+} ∷ []
 one_batch S ws m false = []
 
 -- what a step from a place commits: an exchange of the current-transaction word its batch, and
@@ -58,7 +64,8 @@ step_batches_at S ws m found p = []
 -- the read that an outcome of the machine is
 abbrev pub read_of : CallState → Option Outcome → List Read
 read_of d None = []
-read_of d (Some (Answered s false raw n)) = record { caller = d.caller; ticket = d.made; op = d.op; raw = raw; seq = s } ∷ []
+read_of d (Some (Answered s false raw n)) =
+    record { caller = d.caller; ticket = d.made; op = d.op; raw = raw; seq = s } ∷ []
 read_of d (Some (Answered s true raw n)) = []
 read_of d (Some (Spent s)) = []
 

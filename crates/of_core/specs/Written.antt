@@ -63,7 +63,9 @@ OwnersTakePart S Lawful = EachSchedule S Lawful (λ B n es.
 -- never writes an older number, however late it comes
 abbrev pub CellsRise : Setup → (List ℕ → Type 0) → Type 0
 CellsRise S Lawful =
-    (B : TableStart) (w : Moment) → MeetsInvariant S Lawful B w → (es : List Event) → IsSchedule S w es →
+    (B : TableStart) (w : Moment) → MeetsInvariant S Lawful B w → (es : List Event)
+    → IsSchedule S w es →
     let v : Moment = after_events S w es in
     (a : ℕ) → a < S.cells
-    → (data_word S v.words a ≡ data_word S w.words a) ⊎ (seq_of (data_word S w.words a) < seq_of (data_word S v.words a))
+    → (data_word S v.words a ≡ data_word S w.words a)
+    ⊎ (seq_of (data_word S w.words a) < seq_of (data_word S v.words a))

@@ -1,4 +1,5 @@
-//! How a machine goes on at the steps of its own transaction: the log, the request, and the exchange that commits.
+//! How a machine goes on at the steps of its own transaction: the log, the request, and the
+//! exchange that commits.
 
 ghost use Rattle.std.specs.Prelude.{◌≡◌, ◌<◌, ◌+◌};
 ghost use Rattle.of_core.specs.Seen.{step_from};

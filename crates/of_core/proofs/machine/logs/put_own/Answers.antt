@@ -3,7 +3,7 @@ use Rattle.of_mem.specs.Pad.{Part}
 use Rattle.of_mem.specs.Pairs.{put_pair}
 use Rattle.of_core.specs.Machine.{reply_cell_pairs}
 use Rattle.of_core.proofs.Puts.{put_all_append, wrote_script}
-use Rattle.of_core.proofs.machine.fill.put_own.Goals as goal
+use Rattle.of_core.proofs.machine.logs.put_own.Goals as goal
 
 pub returns-clause-script : goal.returns-clause-script
 returns-clause-script g c =

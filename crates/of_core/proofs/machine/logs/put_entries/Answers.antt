@@ -4,7 +4,7 @@ use Rattle.of_mem.specs.Pairs.{put_pair, put_all}
 use Rattle.of_core.specs.Machine.{log_words, log_of}
 use Rattle.of_core.proofs.Logs.{length-log_words, words_at}
 use Rattle.of_core.proofs.Puts.{log_of_words, put_part, wset_put}
-use Rattle.of_core.proofs.machine.fill.put_some.Goals as goal
+use Rattle.of_core.proofs.machine.logs.put_entries.Goals as goal
 
 pub bounds-copy-at : goal.bounds-copy-at
 bounds-copy-at c =

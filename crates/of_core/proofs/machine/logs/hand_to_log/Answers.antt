@@ -2,7 +2,7 @@ use Rattle.std.proofs.Common.{◌≡◌, ◌<◌, ℕ, List, length, get_or, ◌
 use Rattle.of_wset.specs.Pairs.{WriteSet}
 use Rattle.of_mem.specs.Pairs.{put_pair}
 use Rattle.of_core.proofs.Puts.{wset_put, put_all_take}
-use Rattle.of_core.proofs.machine.fill.collect.Goals as goal
+use Rattle.of_core.proofs.machine.logs.hand_to_log.Goals as goal
 
 pub loop-i-preserved : goal.loop-i-preserved
 loop-i-preserved g c =

@@ -1,7 +1,7 @@
 use Rattle.std.proofs.Common.{◌≡◌, ◌+◌, take}
 use Rattle.of_mem.specs.Pairs.{put_all}
 use Rattle.of_core.specs.Machine.{cells_from}
-use Rattle.of_core.proofs.machine.fill.put_reply.Given as goal
+use Rattle.of_core.proofs.machine.logs.put_reply.Given as goal
 
 abbrev pub invariant-loop-j : goal.invariant-loop-j
 invariant-loop-j g l = record {

@@ -1,7 +1,7 @@
 use Rattle.std.proofs.Common.{◌≡◌, drop, take}
 use Rattle.of_mem.specs.Pairs.{put_all}
 use Rattle.of_core.specs.Machine.{log_of}
-use Rattle.of_core.proofs.machine.fill.put_some.Given as goal
+use Rattle.of_core.proofs.machine.logs.put_entries.Given as goal
 
 abbrev pub invariant-loop-j : goal.invariant-loop-j
 invariant-loop-j l = record {

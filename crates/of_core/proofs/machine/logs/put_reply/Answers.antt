@@ -2,7 +2,7 @@ use Rattle.std.proofs.Common.{◌+◌, ◌<◌, ℕ, List, length, get_or, ◌�
 use Rattle.of_mem.specs.Pad.{Part}
 use Rattle.of_mem.specs.Pairs.{put_pair}
 use Rattle.of_core.proofs.Puts.{put_listed, wrote_script}
-use Rattle.of_core.proofs.machine.fill.put_reply.Goals as goal
+use Rattle.of_core.proofs.machine.logs.put_reply.Goals as goal
 
 pub loop-j-preserved : goal.loop-j-preserved
 loop-j-preserved g c =

@@ -1,6 +1,6 @@
 use Rattle.std.proofs.Common.{◌≡◌, take}
 use Rattle.of_mem.specs.Pairs.{put_all}
-use Rattle.of_core.proofs.machine.fill.collect.Given as goal
+use Rattle.of_core.proofs.machine.logs.hand_to_log.Given as goal
 
 abbrev pub invariant-loop-i : goal.invariant-loop-i
 invariant-loop-i g l = record {

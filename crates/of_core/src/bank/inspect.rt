@@ -12,8 +12,8 @@ ghost use Rattle.of_core.specs.Steps.{want, word_of};
 ghost use Rattle.of_core.specs.Moment.{machine_of, bank_setup, table_word_count};
 
 use crate::bank::Bank;
+use crate::call::Call;
 use crate::place::{Op, Outcome, Place};
-use crate::ran::RanCall;
 use of_mem::Work;
 
 impl<W: Work> Bank<W> {
@@ -52,7 +52,7 @@ impl<W: Work> Bank<W> {
     }
 
     /// The calls that a caller's scan has run so far: those of its batch, where it commits them.
-    pub fn calls(&self, caller: u32) -> &[RanCall]
+    pub fn calls(&self, caller: u32) -> &[Call]
         requires { caller < self.now.callers }
         ensures { map call_value result.now ≡ (machine_of self.now caller).calls }
     {

@@ -4,9 +4,9 @@ ghost use Rattle.std.specs.Prelude.{◌≡◌, map};
 ghost use Rattle.of_core.specs.Helping.{helped_owner};
 ghost use Rattle.of_core.specs.Inside.{call_value};
 
+use crate::call::Call;
 use crate::machine::Machine;
 use crate::place::Place;
-use crate::ran::RanCall;
 use of_mem::Work;
 
 impl<W: Work> Machine<W> {
@@ -26,7 +26,7 @@ impl<W: Work> Machine<W> {
     }
 
     /// The calls that the scan has run so far: those of the batch, where it is committed.
-    pub fn calls(&self) -> &[RanCall]
+    pub fn calls(&self) -> &[Call]
         ensures { map call_value result.now ≡ self.now.call.calls }
     {
         &self.calls
