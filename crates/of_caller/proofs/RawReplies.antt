@@ -10,7 +10,7 @@ use Rattle.of_script.specs.declared.instr.TheConstants.{MOST_INSTRS}
 use Rattle.of_store.specs.State.{Store}
 use Rattle.of_eval.specs.Shapes.{IsHeldBy}
 use Rattle.of_eval.specs.Words.{run_words, words_outcome}
-use Rattle.of_eval.specs.Scripted.{words_answer}
+use Rattle.of_eval.specs.ScriptRuns.{words_answer}
 use Rattle.of_eval.specs.SoundScripts.{scripts_sound}
 use Rattle.of_eval.proofs.Meanings.{means_words}
 use Rattle.of_plan.specs.Plan.{Plan, IsPlan, data_cells}

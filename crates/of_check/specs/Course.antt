@@ -63,7 +63,8 @@ course_end p c (q ∷ qs) = course_end p (after_claimed_call p c q) qs
 -- last is announced and of a lesser caller; or a read at the same sequence, where the last is
 -- announced or a read of no greater caller
 abbrev pub MayFollowWithin : (last_announced announced : Bool) → (last next : CallClaim) → Type 0
-MayFollowWithin true true last q = (q.seq ≡ last.seq + 1) ⊎ ((q.seq ≡ last.seq) × (last.caller < q.caller))
+MayFollowWithin true true last q =
+    (q.seq ≡ last.seq + 1) ⊎ ((q.seq ≡ last.seq) × (last.caller < q.caller))
 MayFollowWithin true false last q = q.seq ≡ last.seq
 MayFollowWithin false true last q = q.seq ≡ last.seq + 1
 MayFollowWithin false false last q = (q.seq ≡ last.seq) × (last.caller ≤ q.caller)
@@ -95,7 +96,8 @@ entries_so_far r = map entry_value r.entries.items
 pub record HasRunCall (p : Plan) (before now : RustReplay) (q : CallClaim) : Type 0 where
   pub follows : MayFollow p (replay_value before) q
   pub course : replay_value now ≡ after_claimed_call p (replay_value before) q
-  pub entries : entries_so_far now ≡ entries_so_far before ++ entry_for p (replay_value before) q ∷ []
+  pub entries : entries_so_far now
+      ≡ entries_so_far before ++ entry_for p (replay_value before) q ∷ []
 
 -- all have run, from a start
 pub record HasRunCalls (p : Plan) (s : Start) (qs : List CallClaim) (r : RustReplay) : Type 0 where

@@ -61,7 +61,7 @@ impl Replay {
 
     // Runs a claimed call and answers true, where it may come next; else false. The error is want
     // of memory.
-    pub(crate) fn take(&mut self, plan: &Plan, call: CallClaim) -> Result<bool, AllocError>
+    pub(crate) fn run_call(&mut self, plan: &Plan, call: CallClaim) -> Result<bool, AllocError>
         requires { length self.old.counts.items ≡ plan.now.callers }
         ensures { IfOk result (λ taken. MatchBool taken
             (HasRunCall plan.now self.old self.new call)
@@ -97,7 +97,7 @@ impl Replay {
 
     // Runs claimed calls from a start; None where one of them may not come next. The error is want
     // of memory.
-    pub(crate) fn all(
+    pub(crate) fn run_all(
         alloc: Global,
         plan: &Plan,
         start: Start,
@@ -110,7 +110,7 @@ impl Replay {
     {
         let mut replay = Replay::new(alloc, start);
         for call in calls {
-            if !replay.take(plan, *call)? {
+            if !replay.run_call(plan, *call)? {
                 return Ok(None);
             }
         }

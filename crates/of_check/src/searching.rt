@@ -62,7 +62,7 @@ fn replayed(
         if let Some(rule) = broken_entry(plan, &replay, calls[index]) {
             return Ok(Err((index, rule)));
         }
-        if !replay.take(plan, calls[index])? {
+        if !replay.run_call(plan, calls[index])? {
             unreachable!();
         }
     }
@@ -81,7 +81,8 @@ fn has_open_call(entries: u32, end: EndClaim) -> bool
 
 // Whether a caller with so many scripts may end so.
 fn has_ended(scripts: u32, seq: u32, limit: u32, end: EndClaim) -> bool
-    ensures { IsTrue result ↔ HasEndState (end_state_value end.state) end.answered scripts seq limit }
+    ensures { IsTrue result
+        ↔ HasEndState (end_state_value end.state) end.answered scripts seq limit }
 {
     match end.state {
         EndState::Done => end.answered == scripts,

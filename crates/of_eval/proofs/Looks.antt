@@ -8,7 +8,7 @@ use Rattle.of_script.specs.declared.instr.Instr.{Instr}
 use Rattle.of_script.specs.declared.instr.Instr.TheVariants.{Get, Put, Del, Need}
 use Rattle.of_script.specs.Reading.{instr_at}
 use Rattle.of_eval.specs.ScriptPrograms.{InstrResult, answer_program, put_answers, need_answers, instr_program, program_of, word_program}
-use Rattle.of_eval.specs.Stopped.{LooksFor}
+use Rattle.of_eval.specs.Resuming.{LooksFor}
 
 -- a word is that of an instruction that begins with the walk
 module _ (w key : ℕ) (i : Instr) (is : instr_at w ≡ Some i) where

@@ -17,7 +17,7 @@ use Rattle.of_script.specs.declared.instr.TheConstants.{MOST_INSTRS}
 use Rattle.of_store.specs.Replies.{IsSmall}
 use Rattle.of_store.proofs.Values.{small_values, none_left}
 use Rattle.of_eval.specs.ScriptPrograms.{word_program, words_program, script_program}
-use Rattle.of_eval.specs.Stopped.{part_with, IsOfStore, LooksFor, MayResume, HoldsScript}
+use Rattle.of_eval.specs.Resuming.{part_with, IsOfStore, LooksFor, MayResume, HoldsScript}
 use Rattle.of_eval.specs.Stored.{cell_store, HasState}
 use Rattle.of_eval.proofs.Walks.{script_is, ran_more, ran_lacks, word_leaves}
 

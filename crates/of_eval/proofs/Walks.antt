@@ -19,11 +19,11 @@ use Rattle.of_store.specs.Replies.{IsSmall}
 use Rattle.of_store.proofs.Keeps.{Leaves}
 use Rattle.of_store.proofs.Values.{value_of}
 use Rattle.of_eval.specs.Shapes.{reply_cells}
-use Rattle.of_eval.specs.Stopped.{IsOfStore}
+use Rattle.of_eval.specs.Resuming.{IsOfStore}
 use Rattle.of_eval.specs.Words.{word_effect, reply_to}
 use Rattle.of_eval.specs.ScriptPrograms.{InstrResult, word_program, go_on, words_program, script_program}
 use Rattle.of_eval.specs.Instructions.{GivesEffect}
-use Rattle.of_eval.specs.Scripted.{word_acts, instr_leaves, instr_small}
+use Rattle.of_eval.specs.ScriptRuns.{word_acts, instr_leaves, instr_small}
 use Rattle.of_eval.proofs.Unpacked.{nones}
 
 -- a register that is known holds a number

@@ -9,7 +9,12 @@ use Rattle.of_store.specs.State.{Store, IsState, queue}
 
 -- the same store as cells see it
 abbrev pub cell_store : Store → CellStore
-cell_store s = record { registers = s.registers; map = s.keys; queues = λ q. queue s q; room = s.room }
+cell_store s = record {
+  registers = s.registers;
+  map = s.keys;
+  queues = λ q. queue s q;
+  room = s.room;
+}
 
 -- The cells from o on stand for this store, with so many blocks.
 pub record IsStored (o blocks : ℕ) (m : ℕ → ℕ) (s : Store) : Type 0 where

@@ -12,9 +12,9 @@ use of_cell::Shape;
 use of_mem::{MOST_INSTRS, MaySuspend, Need, Part, Plot, RawReply, SuspendedRun, Work};
 use of_plan::{Plan, shape_of};
 
-/// What runs scripts on cells: so many callers, 1 to `MOST_CALLERS`, and room for so
-/// many keys and items, at most `MOST_BLOCKS`. An operation is the words of a script; a
-/// word that is no instruction aborts at its place.
+/// What runs scripts on cells: so many callers, 1 to `MOST_CALLERS`, and room for so many keys and
+/// items, at most `MOST_BLOCKS`. An operation is the words of a script; a word that is no instruction
+/// aborts at its place.
 #[derive(Clone, Copy, Debug, PartialEq, Eq)]
 pub struct Scripts {
     pub callers: u32,
@@ -60,7 +60,7 @@ impl Scripts {
 }
 
 impl MaySuspend for Scripts {
-    ghost use Rattle.of_eval.specs.Stopped.{HoldsScript, holds_nothing, holds_learnt};
+    ghost use Rattle.of_eval.specs.Resuming.{HoldsScript, holds_nothing, holds_learnt};
 
     ghost holds = { HoldsScript };
 

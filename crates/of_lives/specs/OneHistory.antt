@@ -60,7 +60,8 @@ NoneAnnouncedOf c es = All (λ e. e.caller ≡ c → e.announced ≡ false) es
 
 -- an entry that wasn't announced is of a script that only reads
 abbrev pub UnannouncedOnlyReads : Life → Entry → Type 0
-UnannouncedOnlyReads l e = e.announced ≡ false → All (λ i. IsTrue (reads_only i)) (script_of_entry l.plan e)
+UnannouncedOnlyReads l e =
+    e.announced ≡ false → All (λ i. IsTrue (reads_only i)) (script_of_entry l.plan e)
 
 -- so it is with each entry of a life
 abbrev pub HasReads : Start → Life → Type 0
