@@ -7,7 +7,7 @@ use Rattle.of_row.specs.Rule.{KeepsOwn, KeepsOnce, IsLegalFront}
 use Rattle.of_row.specs.Views.{View, KnowsBothJoined}
 use Rattle.of_row.proofs.Moves.{looks_for}
 use Rattle.of_row.proofs.RowLaws.{at_row}
-use Rattle.of_row.proofs.row.Row.look.Goals as goal
+use Rattle.of_row.proofs.row.Row.recall.Goals as goal
 
 pub load-requires : goal.load-requires
 load-requires g c =
