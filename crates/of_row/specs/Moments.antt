@@ -1,6 +1,7 @@
 -- Any moment of a row: a schedule has led to its words, and a row that stops there loses no call
 -- that was answered.
-use Rattle.std.specs.Prelude.{◌≡◌, ℕ, ◌<◌, List, [], length, false}
+use Rattle.std.specs.Prelude.{◌≡◌, ◌≢◌, ℕ, ◌<◌, List, [], length, false}
+use Rattle.std.specs.List.{All}
 use Rattle.std.proofs.Common.{get_or}
 use Rattle.atomic_table.specs.Table.{State}
 use Rattle.of_recover.specs.Recovered.{recovered_words}
@@ -11,8 +12,9 @@ use Rattle.of_core.specs.Starts.{IsDurable, IsStartRow}
 use Rattle.of_core.specs.Events.{Event, IsSchedule}
 use Rattle.of_core.specs.Linear.{ExplainsOutcome, Linearizes, IsRecovered}
 use Rattle.of_row.specs.Views.{KnownCaller, View, IsSeenPrefix, Each}
-use Rattle.of_row.specs.Rule.{IsRaised, MeetsRule, ViewMeetsRule, ticket_at, ended_operation_at, outcome_at}
-use Rattle.of_row.specs.Trail.{first_of, moment, HasPast, IsRunBy, EachView}
+use Rattle.of_row.specs.Rule.{IsRaised, MeetsRule, ViewMeetsRule, EachFree}
+use Rattle.of_row.specs.Rule.{ticket_at, ended_operation_at, outcome_at}
+use Rattle.of_row.specs.Trail.{first_of, moment, HasPast, IsRunBy, HasDoneNothing, EachView}
 
 -- The events lead from the row's start to this moment. A step of a member is a turn of its caller;
 -- a call begins right before its first turn; an eviction is a load and, later, a raise.
@@ -31,6 +33,8 @@ pub record IsReachedBy (S : Setup) (B : TableStart) (s : State (Unit {0}) View) 
   -- each caller that it keeps has had as many turns as it has made steps, and its calls began and
   -- ended so
   pub callers : EachView (λ v. Each (IsRunBy S B es) v.kept) s.views
+  -- a number that isn't taken has done nothing
+  pub free : EachFree S s.words (HasDoneNothing es)
 
 -- the order has each call of the caller that was answered, with its reply, and none that was spent
 abbrev pub ExplainsEndedCalls : Setup → TableStart → (order : List Call) → KnownCaller → Type 0
@@ -38,6 +42,10 @@ ExplainsEndedCalls S B order x =
     (y : ℕ) → y < length x.ended
     → ExplainsOutcome S order x.machine.caller (ticket_at S B x y)
         (ended_operation_at x.ended y) (outcome_at x.ended y)
+
+-- no call of the order is this caller's
+abbrev pub HasNoneOf : List Call → (caller : ℕ) → Type 0
+HasNoneOf order i = All (λ (c : Call). c.caller ≢ i) order
 
 -- a world with these words, and nothing else
 abbrev pub words_alone : List ℕ → Moment
@@ -69,10 +77,11 @@ StopsLoseNothing Lawful S =
 -- them as they ended, recovery of the words finds what that order leads to, and from the row that
 -- it makes a table may start.
 pub record HoldsCalls (S : Setup) (Lawful : List ℕ → Type 0) (B : TableStart) (ws : List ℕ)
-    (v : View)
-    : Type 0 where
+    (v : View) : Type 0 where
   pub order : List Call
   pub explained : Each (ExplainsEndedCalls S B order) v.kept
+  -- none of its calls is of a number that isn't taken
+  pub free : EachFree S ws (HasNoneOf order)
   pub recovered_so : IsRecovered S B (words_alone ws) order
   pub restarts : (row : List ℕ) → IsDurable S ws row
       → IsStartRow S Lawful (recovered_words S.callers S.cells row)
