@@ -15,7 +15,7 @@ use Rattle.of_row.specs.Views.{KnownCaller}
 use Rattle.of_row.specs.Rows.{IsSeatOf}
 use Rattle.of_row.specs.declared.row.Row.{Row}
 use Rattle.of_caller.specs.declared.caller.Caller.{Caller}
-use Rattle.of_caller.specs.declared.lane.Lane.{Lane}
+use Rattle.of_caller.specs.declared.team_caller.TeamCaller.{TeamCaller}
 use Rattle.of_caller.specs.Brakes.{TakesSteps}
 use Rattle.of_caller.specs.PlanRows.{IsRowOf, HasStart}
 use Rattle.of_caller.specs.Callers.{IsCaller, caller_call, sight_of}
@@ -80,27 +80,27 @@ KeepsLeft (Some stop) answers ending = KeepToStop stop answers ending
 
 module _ {X : Type 0} {Y : X → Type 0} where
   -- the lane's caller is one of the plan's, and has room for its answers
-  pub record IsLane (p : Plan) (a : Lane X Y) : Type 0 where
+  pub record IsLane (p : Plan) (a : TeamCaller X Y) : Type 0 where
     pub number : a.number < p.callers
     pub first : a.first ≤ length (scripts_of p a.number)
     pub room : length (scripts_of p a.number) - a.first ≤ vec_capacity a.answers
 
   -- i of its scripts behind those that were done are answered
-  pub record LaneAt (p : Plan) (r : Row Scripts) (a : Lane X Y) (i : ℕ) : Type 0 where
+  pub record LaneAt (p : Plan) (r : Row Scripts) (a : TeamCaller X Y) (i : ℕ) : Type 0 where
     pub lane : IsLane p a
     pub caller : CallerHasAnswered p a.first a.number r a.caller a.answers.items i
 
   -- none is yet
-  pub record IsReady (p : Plan) (r : Row Scripts) (a : Lane X Y) : Type 0 where
+  pub record IsReady (p : Plan) (r : Row Scripts) (a : TeamCaller X Y) : Type 0 where
     pub at_first : LaneAt p r a 0
     pub none : a.answers.items ≡ []
 
   -- it has ended
-  abbrev pub LaneEnds : Plan → Row Scripts → Lane X Y → Ending → Type 0
+  abbrev pub LaneEnds : Plan → Row Scripts → TeamCaller X Y → Ending → Type 0
   LaneEnds p r a ending = CallerHasEnded p a.first a.number r a.caller a.answers.items ending
 
   -- the second lane is the first one when its caller has ended
-  pub record HasRun (p : Plan) (r : Row Scripts) (a b : Lane X Y) : Type 0 where
+  pub record HasRun (p : Plan) (r : Row Scripts) (a b : TeamCaller X Y) : Type 0 where
     pub number : b.number ≡ a.number
     pub first : b.first ≡ a.first
     pub ends : LaneEnds p r b b.ending

@@ -33,7 +33,7 @@ pub struct Caller<W: Work> {
 }
 
 // Tells a brake of an answer.
-fn tell(brake: &mut Box<dyn Brake + Send>)
+fn tell_answer(brake: &mut Box<dyn Brake + Send>)
     ensures denials { denials brake.old ≤ denials brake.new }
     ensures left { left brake.new ≡ left brake.old }
     ensures answers { HasHeardAnswer (answers brake.old) (answers brake.new) }
@@ -135,7 +135,7 @@ impl<W: Work> Caller<W> {
         match self.machine.answer() {
             Some(Outcome::Spent { seq }) => Err(CallErr::Spent { seq }),
             Some(outcome) => {
-                tell(brake);
+                tell_answer(brake);
                 Ok(outcome)
             }
             None => unreachable!(),

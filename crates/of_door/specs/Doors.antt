@@ -44,4 +44,4 @@ TicketsUpTo meaning r m =
     let B = row_start meaning r in
     let seen = (view_of_member m).seen in
     EachCallBetween B (seen_history seen) B.seq (seen_seq B seen)
-      (λ c. c.caller ≡ m.number → c.ticket ≤ m.made)
+    (λ c. c.caller ≡ m.number → c.ticket ≤ m.made)

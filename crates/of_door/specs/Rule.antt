@@ -46,7 +46,7 @@ abbrev pub TakesSlot : (Member → Type 0) → (old : ℕ) → Me (Option Member
     → Me (Option Member) HandLog → Type 0
 TakesSlot May old me n after =
     (n ≡ old → (x : Option Member) × SlotHolds May old x
-      × (after ≡ (log_after_exchange n true me.0, (0, x) ∷ me.1)))
+    × (after ≡ (log_after_exchange n true me.0, (0, x) ∷ me.1)))
     × (n ≢ old → after ≡ (log_after_exchange n false me.0, me.1))
 
 -- a store of the word n has given the slot back

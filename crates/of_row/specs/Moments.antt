@@ -41,7 +41,7 @@ abbrev pub ExplainsEndedCalls : Setup → TableStart → (order : List Call) →
 ExplainsEndedCalls S B order x =
     (y : ℕ) → y < length x.ended
     → ExplainsOutcome S order x.machine.caller (ticket_at S B x y)
-        (ended_operation_at x.ended y) (outcome_at x.ended y)
+    (ended_operation_at x.ended y) (outcome_at x.ended y)
 
 -- no call of the order is this caller's
 abbrev pub HasNoneOf : List Call → (caller : ℕ) → Type 0

@@ -17,7 +17,7 @@ use Rattle.of_row.specs.Rows.{IsRowPass, IsRowMember, HasSeenLegal}
 abbrev pub enrolled_caller : {W : Type 0} → (W → Meaning) → Row W → ℕ → Pass → KnownCaller
 enrolled_caller meaning r n p =
     new_known_caller (setup_at meaning r) (row_start meaning r) n
-      (seen_seq (row_start meaning r) (view_of_pass p).seen)
+    (seen_seq (row_start meaning r) (view_of_pass p).seen)
 
 -- the pass is the row's first one, which has made no step
 abbrev pub IsFirst : {W : Type 0} → Row W → Pass → Type 0
@@ -41,7 +41,7 @@ pub record HasEnrolled {W : Type 0} (meaning : W → Meaning) (r : Row W) (n : �
   pub free : bit_at found n ≡ 0
   pub member_is : view_of_member member
       ≡ last_alone (after_number_given (setup_at meaning r) (row_start meaning r) n found
-          (view_of_pass before))
+      (view_of_pass before))
   pub pass_is : view_of_pass now ≡ after_ask n found (view_of_pass before)
   pub own : HasOwn (setup_at meaning r) (row_start meaning r) (view_of_pass before).seen
       (enrolled_caller meaning r n before)
@@ -57,4 +57,4 @@ abbrev pub ClosesWith : {W : Type 0} → (W → Meaning) → (W → List ℕ →
     → Type 0
 ClosesWith meaning lawful r p ws =
     ViewMeetsRule (setup_at meaning r) (lawful (key_of r).work) (row_start meaning r) ws
-      (view_of_pass p)
+    (view_of_pass p)

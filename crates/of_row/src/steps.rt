@@ -34,7 +34,8 @@ impl<'a, W: Work, O: StepArgs<W>> Performer for OnTable<'a, W, O> {
 
     #[inline(always)]
     fn store(&self, hand: &mut Seat<(), View>, word: u32, value: u64) -> u64 {
-        self.shared.store::<StepPlay<W, O>>(hand, word as usize, value);
+        self.shared
+            .store::<StepPlay<W, O>>(hand, word as usize, value);
         value
     }
 
