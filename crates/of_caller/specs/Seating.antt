@@ -1,4 +1,5 @@
--- The callers of a team before they run, what the pass knows meanwhile, and what it gathers of them.
+-- The callers of a team before they run, what the pass knows meanwhile, and what it gathers of
+-- them.
 use Rattle.std.specs.Prelude.{◌≡◌, ℕ, ◌+◌, ◌<◌, List, [], ◌∷◌, ◌++◌, map, true}
 use Rattle.of_eval.specs.declared.scripts.Scripts.{Scripts}
 use Rattle.of_plan.specs.declared.answer.Answer.{Answer}
@@ -8,13 +9,14 @@ use Rattle.of_eval.specs.Scripts.{scripts_meaning}
 use Rattle.of_row.specs.Views.{View}
 use Rattle.of_row.specs.Rule.{IsAsked, done_before}
 use Rattle.of_row.specs.Turned.{after_join}
-use Rattle.of_row.specs.Rows.{IsSeatOf, setup_at, row_start}
+use Rattle.of_row.specs.Rows.{IsRowMember, setup_at, row_start}
 use Rattle.of_row.specs.declared.row.Row.{Row}
 use Rattle.of_caller.specs.declared.team_caller.TeamCaller.{TeamCaller}
-use Rattle.of_caller.specs.Callers.{sight_of}
+use Rattle.of_caller.specs.Callers.{member_of, sight_of}
 use Rattle.of_caller.specs.Lanes.{IsReady}
 
--- a first pass that has asked for numbers below n alone, keeps no caller, and has evicted nothing and loaded nothing for it
+-- a first pass that has asked for numbers below n alone, keeps no caller, and has evicted nothing
+-- and loaded nothing for it
 pub record HasSeated (n : ℕ) (v : View) : Type 0 where
   pub first : v.first ≡ true
   pub kept : v.kept ≡ []
@@ -48,7 +50,7 @@ module _ {X : Type 0} {Y : X → Type 0} where
 
   -- the lane's member is of the row
   abbrev pub IsAt : Row Scripts → TeamCaller X Y → Type 0
-  IsAt r a = IsSeatOf r a.caller.member.seat
+  IsAt r a = IsRowMember r (member_of a.caller)
 
   -- what a pass knows that has taken in the members of the lanes
   abbrev pub gathered : View → List (TeamCaller X Y) → View

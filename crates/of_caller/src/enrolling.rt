@@ -3,7 +3,7 @@
 ghost use Rattle.std.specs.Prelude.{◌≡◌, ◌+◌, ◌<◌, ◌≤◌, [], IfOk, length, vec_len, vec_capacity};
 ghost use Rattle.of_brake.specs.Stops.{IsArmedWith};
 ghost use Rattle.of_plan.specs.Plan.{stop_of};
-ghost use Rattle.of_row.specs.Rows.{IsSeatOf};
+ghost use Rattle.of_row.specs.Rows.{IsRowPass, view_of_pass};
 ghost use Rattle.of_row.specs.Passes.{IsFirst};
 ghost use Rattle.of_caller.specs.Lanes.{IsPlanRow, Appends};
 ghost use Rattle.of_caller.specs.Trees.{PrefixPaired};
@@ -36,12 +36,12 @@ fn enrol_one(
     lanes: &mut Vec<TeamCaller>,
 ) -> Result<Pass, AllocError>
     requires row { IsPlanRow plan.now row.now }
-    requires pass { IsSeatOf row.now pass.seat }
-    requires seated { HasSeated number pass.seat.me.0 }
+    requires pass { IsRowPass row.now pass }
+    requires seated { HasSeated number (view_of_pass pass) }
     requires number { number < plan.now.callers }
     requires room { vec_len lanes.old < vec_capacity lanes.old }
-    ensures pass { IfOk result (λ p. IsSeatOf row.now p.seat) }
-    ensures seated { IfOk result (λ p. HasSeated (number + 1) p.seat.me.0) }
+    ensures pass { IfOk result (IsRowPass row.now) }
+    ensures seated { IfOk result (λ p. HasSeated (number + 1) (view_of_pass p)) }
     ensures lane { IfOk result (λ p. Appends (λ a. IsSeat plan.now row.now number a
         × IsArmedWith (left brake) (stop_of plan.now number) (left a.brake))
         lanes.old.items lanes.new.items) }
@@ -90,8 +90,8 @@ pub(crate) fn enrol_all(
     requires brakes { plan.now.callers ≤ vec_len brakes }
     requires none { lanes.old.items ≡ [] }
     requires room { plan.now.callers ≤ vec_capacity lanes.old }
-    ensures pass { IfOk result (λ p. IsSeatOf row.now p.seat) }
-    ensures seated { IfOk result (λ p. HasSeated plan.now.callers p.seat.me.0) }
+    ensures pass { IfOk result (IsRowPass row.now) }
+    ensures seated { IfOk result (λ p. HasSeated plan.now.callers (view_of_pass p)) }
     ensures lanes { IfOk result (λ p. Seated plan.now row.now 0 lanes.new.items) }
     ensures all { IfOk result (λ p. length lanes.new.items ≡ plan.now.callers) }
     ensures armed { IfOk result (λ p. PrefixPaired

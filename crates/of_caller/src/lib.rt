@@ -1,4 +1,5 @@
-//! Callers of a row, teams of them, and what a run of a plan leaves of its table, from any start: a lawful record.
+//! Callers of a row, teams of them, and what a run of a plan leaves of its table, from any start: a
+//! lawful record.
 #![tactic(auto)]
 
 mod caller;

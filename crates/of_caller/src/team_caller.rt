@@ -4,7 +4,8 @@ ghost use Rattle.std.specs.Prelude.{◌≡◌, ◌+◌, ◌-◌, ◌<◌, ◌≤
 ghost use Rattle.std.specs.Prelude.{IfSome, IfNone, length, vec_len, vec_capacity};
 ghost use Rattle.of_plan.specs.Plan.{scripts_of};
 ghost use Rattle.of_caller.specs.Ends.{TellsAnswer};
-ghost use Rattle.of_caller.specs.Lanes.{IsPlanRow, IsHeldAnswer, Appends, TakesStepsOfAnswers, KeepsToBrake, KeepsLeft};
+ghost use Rattle.of_caller.specs.Lanes.{IsPlanRow, IsHeldAnswer, Appends, TakesStepsOfAnswers};
+ghost use Rattle.of_caller.specs.Lanes.{KeepsToBrake, KeepsLeft};
 ghost use Rattle.of_caller.specs.Lanes.{LaneAt, IsReady, LaneEnds, HasRun};
 
 use crate::caller::{CallErr, Caller};

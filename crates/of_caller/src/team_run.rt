@@ -1,10 +1,10 @@
 //! All callers of a plan at once, on one row.
 
-ghost use Rattle.std.specs.Prelude.{◌≡◌, ◌+◌, ◌≤◌, ◌++◌, [], true, IfOk, map, vec_len, vec_capacity};
+ghost use Rattle.std.specs.Prelude.{◌≡◌, ◌+◌, ◌≤◌, ◌++◌, [], IfOk, map, vec_len, vec_capacity};
 ghost use Rattle.std.specs.Thread.{IsSync};
 ghost use Rattle.of_plan.specs.Ended.{ended_value};
 ghost use Rattle.of_row.specs.Views.{Each};
-ghost use Rattle.of_row.specs.Rows.{IsSeatOf};
+ghost use Rattle.of_row.specs.Rows.{view_of_pass, IsRowPass, IsFirstPass};
 ghost use Rattle.of_row.specs.Passes.{IsFirst};
 ghost use Rattle.of_caller.specs.PlanRows.{IsRowOf, HasStart};
 ghost use Rattle.of_caller.specs.Stops.{KeepStops};
@@ -27,10 +27,11 @@ use std::thread::{Threads, join_mut};
 // Makes the plan's evictions, in their order.
 fn evict_all(row: &Row<Scripts>, plan: &Plan, pass: &mut Pass)
     requires row { IsPlanRow plan.now row.now }
-    requires pass { IsSeatOf row.now pass.old.seat }
-    requires first { pass.old.seat.me.0.first ≡ true }
-    ensures pass { IsSeatOf row.now pass.new.seat }
-    ensures view { EvictsCells (evictions_of plan.now) pass.old.seat.me.0 pass.new.seat.me.0 }
+    requires pass { IsRowPass row.now pass.old }
+    requires first { IsFirstPass pass.old }
+    ensures pass { IsRowPass row.now pass.new }
+    ensures view { EvictsCells (evictions_of plan.now) (view_of_pass pass.old)
+        (view_of_pass pass.new) }
 {
     let schedule = plan.schedule();
     for i in 0..schedule.len() {
@@ -66,11 +67,12 @@ fn run_with_evictions<R: Threads + Sync>(
     lanes: &mut [TeamCaller],
 )
     requires row { IsPlanRow plan.now row.now }
-    requires pass { IsSeatOf row.now pass.old.seat }
-    requires first { pass.old.seat.me.0.first ≡ true }
+    requires pass { IsRowPass row.now pass.old }
+    requires first { IsFirstPass pass.old }
     requires ready { Each (IsReady plan.now row.now) lanes.old }
-    ensures pass { IsSeatOf row.now pass.new.seat }
-    ensures view { EvictsCells (evictions_of plan.now) pass.old.seat.me.0 pass.new.seat.me.0 }
+    ensures pass { IsRowPass row.now pass.new }
+    ensures view { EvictsCells (evictions_of plan.now) (view_of_pass pass.old)
+        (view_of_pass pass.new) }
     ensures lanes { AllPaired (λ a b. HasRun plan.now row.now a b
         × KeepsLeft (left a.brake) b.answers.items b.ending) lanes.old lanes.new }
 {
@@ -81,10 +83,11 @@ fn run_with_evictions<R: Threads + Sync>(
             × KeepsLeft (left a.brake) b.answers.items b.ending) lanes.entry.now lanes.exit.now }
     { run_lanes(rt, row, plan, lanes) };
     let mut evictions = ||
-        requires { IsPlanRow plan.now row.now × IsSeatOf row.now pass.now.seat
-            × (pass.now.seat.me.0.first ≡ true) }
-        ensures { IsSeatOf row.entry.now pass.exit.now.seat × EvictsCells (evictions_of plan.entry.now)
-            pass.entry.now.seat.me.0 pass.exit.now.seat.me.0 }
+        requires { IsPlanRow plan.now row.now × IsRowPass row.now pass.now
+            × IsFirstPass pass.now }
+        ensures { IsRowPass row.entry.now pass.exit.now
+            × EvictsCells (evictions_of plan.entry.now) (view_of_pass pass.entry.now)
+            (view_of_pass pass.exit.now) }
     { evict_all(row, plan, pass) };
     join_mut(rt, &mut calls, &mut evictions);
 }
@@ -97,12 +100,12 @@ fn gather(
     all: &mut Vec<Vec<Answer>>,
     endings: &mut Vec<Ending>,
 ) -> Pass
-    requires pass { IsSeatOf row.now pass.seat }
+    requires pass { IsRowPass row.now pass }
     requires lanes { Each (IsAt row.now) lanes.items }
     requires answers_room { vec_len all.old + vec_len lanes ≤ vec_capacity all.old }
     requires endings_room { vec_len endings.old + vec_len lanes ≤ vec_capacity endings.old }
-    ensures pass { IsSeatOf row.now result.seat }
-    ensures view { result.seat.me.0 ≡ gathered pass.seat.me.0 lanes.items }
+    ensures pass { IsRowPass row.now result }
+    ensures view { view_of_pass result ≡ gathered (view_of_pass pass) lanes.items }
     ensures answers { map (λ v. v.items) all.new.items
         ≡ map (λ v. v.items) all.old.items ++ answers_in lanes.items }
     ensures endings { endings.new.items ≡ endings.old.items ++ endings_in lanes.items }
@@ -144,7 +147,8 @@ pub fn team<R: Threads + Sync>(
     requires start { HasStart plan.now row }
     requires pass { IsFirst row pass }
     requires brakes { plan.now.callers ≤ vec_len brakes }
-    ensures handed { IfOk result (λ r. HandsBack plan.now row (ended_value r.0) r.1.seat.me.0) }
+    ensures handed { IfOk result (λ r.
+        HandsBack plan.now row (ended_value r.0) (view_of_pass r.1)) }
     ensures stops { IfOk result (λ r.
         KeepStops (λ b. left b) plan.now (ended_value r.0) 0 brakes.items) }
 {
