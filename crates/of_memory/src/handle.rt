@@ -24,8 +24,8 @@ impl Handle {
     ghost use Rattle.std.specs.Prelude.{◌≡◌, ◌≢◌, ◌↔◌, IsTrue, List, ℕ};
     ghost use Rattle.of_script.specs.declared.instr.Instr.{Instr as TheInstr};
     ghost use Rattle.of_memory.specs.History.{Made};
-    ghost use Rattle.of_memory.specs.Called.{made_with, LeavesOpen, IsRefusedBy};
-    ghost use Rattle.of_memory.specs.Handles.{IsHandle, HasMade, HasOpen, IsSame};
+    ghost use Rattle.of_memory.specs.Handles.{IsHandle, HasMade, HasOpen, IsSame, MakesCall};
+    ghost use Rattle.of_memory.specs.Handles.{ResumesCall, StaysOpen, OpenCallStays, RefusesCall};
     ghost use Rattle.of_memory.specs.Memories.{IsMemory, IsFrom, IsStill, HasMadeOf, KnowsOthers};
     ghost use Rattle.of_memory.specs.Memories.{HasOpenOf, OthersStayOpen};
 
@@ -41,10 +41,9 @@ impl Handle {
         requires { IsHandle self.old }
         ensures handle { IsHandle self.new }
         ensures same { IsSame self.old self.new }
-        ensures made { (ms : List Made) → HasMade self.old ms
-            → HasMade self.new (made_with script.now result ms) }
-        ensures open_call { LeavesOpen script.now result self.new.caller }
-        ensures cause { IsRefusedBy self.old.caller result }
+        ensures made { MakesCall script.now result self.old self.new }
+        ensures open_call { StaysOpen script.now result self.new }
+        ensures cause { RefusesCall self.old result }
     {
         self.begin(script, None)
     }
@@ -54,10 +53,9 @@ impl Handle {
         requires { IsHandle self.old }
         ensures handle { IsHandle self.new }
         ensures same { IsSame self.old self.new }
-        ensures made { (ms : List Made) → HasMade self.old ms
-            → HasMade self.new (made_with script.now result ms) }
-        ensures open_call { LeavesOpen script.now result self.new.caller }
-        ensures cause { IsRefusedBy self.old.caller result }
+        ensures made { MakesCall script.now result self.old self.new }
+        ensures open_call { StaysOpen script.now result self.new }
+        ensures cause { RefusesCall self.old result }
     {
         self.begin(script, Some(steps))
     }
@@ -66,10 +64,9 @@ impl Handle {
         requires { IsHandle self.old }
         ensures handle { IsHandle self.new }
         ensures same { IsSame self.old self.new }
-        ensures made { (ms : List Made) → HasMade self.old ms
-            → HasMade self.new (made_with script.now result ms) }
-        ensures open_call { LeavesOpen script.now result self.new.caller }
-        ensures cause { IsRefusedBy self.old.caller result }
+        ensures made { MakesCall script.now result self.old self.new }
+        ensures open_call { StaysOpen script.now result self.new }
+        ensures cause { RefusesCall self.old result }
     {
         if !self.caller.is_idle() {
             return Err(RunErr::Open);
@@ -92,10 +89,8 @@ impl Handle {
         requires { IsHandle self.old }
         ensures handle { IsHandle self.new }
         ensures same { IsSame self.old self.new }
-        ensures made { (script : List TheInstr) (ms : List Made) → HasOpen self.old script
-            → HasMade self.old ms → HasMade self.new (made_with script result ms) }
-        ensures open_call { (script : List TheInstr) → HasOpen self.old script
-            → LeavesOpen script result self.new.caller }
+        ensures made { ResumesCall result self.old self.new }
+        ensures open_call { OpenCallStays result self.old self.new }
     {
         self.resume(None)
     }
@@ -105,10 +100,8 @@ impl Handle {
         requires { IsHandle self.old }
         ensures handle { IsHandle self.new }
         ensures same { IsSame self.old self.new }
-        ensures made { (script : List TheInstr) (ms : List Made) → HasOpen self.old script
-            → HasMade self.old ms → HasMade self.new (made_with script result ms) }
-        ensures open_call { (script : List TheInstr) → HasOpen self.old script
-            → LeavesOpen script result self.new.caller }
+        ensures made { ResumesCall result self.old self.new }
+        ensures open_call { OpenCallStays result self.old self.new }
     {
         self.resume(Some(steps))
     }
@@ -117,10 +110,8 @@ impl Handle {
         requires { IsHandle self.old }
         ensures handle { IsHandle self.new }
         ensures same { IsSame self.old self.new }
-        ensures made { (script : List TheInstr) (ms : List Made) → HasOpen self.old script
-            → HasMade self.old ms → HasMade self.new (made_with script result ms) }
-        ensures open_call { (script : List TheInstr) → HasOpen self.old script
-            → LeavesOpen script result self.new.caller }
+        ensures made { ResumesCall result self.old self.new }
+        ensures open_call { OpenCallStays result self.old self.new }
     {
         if self.caller.is_idle() {
             return Err(RunErr::Open);
@@ -128,8 +119,8 @@ impl Handle {
         go_on_with(self.alloc, &self.row, self.number, &mut self.caller, stop)
     }
 
-    /// Leaves its memory, which keeps what it has made; a call that is open stays open. Then its number
-    /// is free again.
+    /// Leaves its memory, which keeps what it has made; a call that is open stays open. Then its
+    /// number is free again.
     pub fn leave(self, memory: &mut Memory)
         requires handle { IsHandle self }
         requires memory { IsMemory memory.old }
