@@ -47,12 +47,12 @@ ResumesCall result h k =
     → HasMade k (made_with script result ms)
 
 -- a stopped call of this script stays open
-abbrev pub StaysOpen : List Instr → Result Answer RunErr → Handle → Type 0
-StaysOpen script result h = LeavesOpen script result (caller_of h)
+abbrev pub StaysOpenIfStopped : List Instr → Result Answer RunErr → Handle → Type 0
+StaysOpenIfStopped script result h = LeavesOpen script result (caller_of h)
 
 -- so does the call that was open, if it is stopped again
 abbrev pub OpenCallStays : Result Answer RunErr → (before now : Handle) → Type 0
-OpenCallStays result h k = (script : List Instr) → HasOpen h script → StaysOpen script result k
+OpenCallStays result h k = (script : List Instr) → HasOpen h script → StaysOpenIfStopped script result k
 
 -- it refuses a call only if one is open, or its number has made all calls that it may make
 abbrev pub RefusesCall : Handle → Result Answer RunErr → Type 0

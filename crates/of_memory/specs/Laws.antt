@@ -70,8 +70,7 @@ TellsLast S B C h n =
 
 -- a serial history leads from the store to the one that the row stands for
 pub record HistoryLeads (w : Scripts) (limit : ℕ) (B : TableStart) (v : View) (s : Store)
-    (row : List ℕ)
-    (h : List HistoryEntry) : Type 0 where
+    (row : List ℕ) (h : List HistoryEntry) : Type 0 where
   pub serial : IsSerial s h
   pub ends : StandsAt w (start_from_durable w.callers (scripts_data_cells w) row) (store_after s h)
   pub order : StandsInOrder h

@@ -25,7 +25,7 @@ impl Handle {
     ghost use Rattle.of_script.specs.declared.instr.Instr.{Instr as TheInstr};
     ghost use Rattle.of_memory.specs.History.{Made};
     ghost use Rattle.of_memory.specs.Handles.{IsHandle, HasMade, HasOpen, IsSame, MakesCall};
-    ghost use Rattle.of_memory.specs.Handles.{ResumesCall, StaysOpen, OpenCallStays, RefusesCall};
+    ghost use Rattle.of_memory.specs.Handles.{ResumesCall, StaysOpenIfStopped, OpenCallStays, RefusesCall};
     ghost use Rattle.of_memory.specs.Memories.{IsMemory, IsFrom, IsStill, HasMadeOf, KnowsOthers};
     ghost use Rattle.of_memory.specs.Memories.{HasOpenOf, OthersStayOpen};
 
@@ -42,7 +42,7 @@ impl Handle {
         ensures handle { IsHandle self.new }
         ensures same { IsSame self.old self.new }
         ensures made { MakesCall script.now result self.old self.new }
-        ensures open_call { StaysOpen script.now result self.new }
+        ensures open_call { StaysOpenIfStopped script.now result self.new }
         ensures cause { RefusesCall self.old result }
     {
         self.begin(script, None)
@@ -54,7 +54,7 @@ impl Handle {
         ensures handle { IsHandle self.new }
         ensures same { IsSame self.old self.new }
         ensures made { MakesCall script.now result self.old self.new }
-        ensures open_call { StaysOpen script.now result self.new }
+        ensures open_call { StaysOpenIfStopped script.now result self.new }
         ensures cause { RefusesCall self.old result }
     {
         self.begin(script, Some(steps))
@@ -65,7 +65,7 @@ impl Handle {
         ensures handle { IsHandle self.new }
         ensures same { IsSame self.old self.new }
         ensures made { MakesCall script.now result self.old self.new }
-        ensures open_call { StaysOpen script.now result self.new }
+        ensures open_call { StaysOpenIfStopped script.now result self.new }
         ensures cause { RefusesCall self.old result }
     {
         if !self.caller.is_idle() {
