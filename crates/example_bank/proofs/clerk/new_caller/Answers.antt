@@ -1,6 +1,6 @@
 use Rattle.std.proofs.Common.{arith}
 use Rattle.example_bank.proofs.Clerks.{hires_next}
-use Rattle.example_bank.proofs.clerk.enter.Goals as goal
+use Rattle.example_bank.proofs.clerk.new_caller.Goals as goal
 
 pub unreachable-requires : goal.unreachable-requires
 unreachable-requires c = let b = c.requires.pass.below c.args.number c.in_default.ensures.refused.2 in omega (arith, b)
