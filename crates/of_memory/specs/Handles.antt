@@ -1,5 +1,5 @@
 -- A handle: one caller of a memory.
-use Rattle.std.specs.Prelude.{◌≡◌, List, Result}
+use Rattle.std.specs.Prelude.{◌≡◌, ℕ, List, Result}
 use Rattle.std.specs.Arc.{arc_value}
 use Rattle.of_script.specs.declared.instr.Instr.{Instr}
 use Rattle.of_plan.specs.declared.answer.Answer.{Answer}
@@ -17,6 +17,10 @@ use Rattle.of_memory.specs.Serving.{IsScriptsRow, Serves, ended_of}
 abbrev pub home_of : Handle → Row Scripts
 home_of h = arc_value h.row
 
+-- its number
+abbrev pub number_of_handle : Handle → ℕ
+number_of_handle h = h.number
+
 -- the caller that it makes its calls with
 abbrev pub caller_of : Handle → Caller Scripts
 caller_of h = h.caller
@@ -24,7 +28,7 @@ caller_of h = h.caller
 -- it is a handle of some memory, and has run scripts alone
 pub record IsHandle (h : Handle) : Type 0 where
   pub row : IsScriptsRow (home_of h)
-  pub serves : Serves (home_of h) h.number (caller_of h)
+  pub serves : Serves (home_of h) (number_of_handle h) (caller_of h)
 
 -- since the memory was opened its number has made these calls, which have ended
 abbrev pub HasMade : Handle → List Made → Type 0
@@ -61,4 +65,4 @@ RefusesCall h result = IsRefusedBy (caller_of h) result
 -- it is of the same memory, and has the same number
 pub record IsSame (h k : Handle) : Type 0 where
   pub home : home_of k ≡ home_of h
-  pub number : k.number ≡ h.number
+  pub number : number_of_handle k ≡ number_of_handle h

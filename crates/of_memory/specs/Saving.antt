@@ -30,6 +30,10 @@ pub record IsSaved (d : Saved) : Type 0 where
   pub some_limit : 1 ≤ d.limit
   pub few_limit : d.limit ≤ GREATEST_LIMIT
 
+-- the last sequence that may be committed in it
+abbrev pub saved_limit : Saved → ℕ
+saved_limit d = d.limit
+
 -- how many callers it has
 abbrev pub saved_callers : Saved → ℕ
 saved_callers d = d.scripts.callers

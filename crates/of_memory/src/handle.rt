@@ -25,13 +25,14 @@ impl Handle {
     ghost use Rattle.of_script.specs.declared.instr.Instr.{Instr as TheInstr};
     ghost use Rattle.of_memory.specs.History.{Made};
     ghost use Rattle.of_memory.specs.Handles.{IsHandle, HasMade, HasOpen, IsSame, MakesCall};
+    ghost use Rattle.of_memory.specs.Handles.{number_of_handle};
     ghost use Rattle.of_memory.specs.Handles.{ResumesCall, StaysOpenIfStopped, OpenCallStays, RefusesCall};
     ghost use Rattle.of_memory.specs.Memories.{IsMemory, IsFrom, IsStill, HasMadeOf, KnowsOthers};
     ghost use Rattle.of_memory.specs.Memories.{HasOpenOf, OthersStayOpen};
 
     /// Its number.
     pub fn number(&self) -> u32
-        ensures { result ≡ self.now.number }
+        ensures { result ≡ number_of_handle self.now }
     {
         self.number
     }
@@ -127,11 +128,12 @@ impl Handle {
         requires from { IsFrom memory.old self }
         ensures memory { IsMemory memory.new }
         ensures still { IsStill memory.old memory.new }
-        ensures made { (ms : List Made) → HasMade self ms → HasMadeOf memory.new self.number ms }
+        ensures made { (ms : List Made) → HasMade self ms
+            → HasMadeOf memory.new (number_of_handle self) ms }
         ensures open_call { (script : List TheInstr) → HasOpen self script
-            → HasOpenOf memory.new self.number script }
-        ensures others { KnowsOthers self.number memory.old memory.new }
-        ensures others_open { OthersStayOpen self.number memory.old memory.new }
+            → HasOpenOf memory.new (number_of_handle self) script }
+        ensures others { KnowsOthers (number_of_handle self) memory.old memory.new }
+        ensures others_open { OthersStayOpen (number_of_handle self) memory.old memory.new }
     {
         let Handle {
             alloc: _,

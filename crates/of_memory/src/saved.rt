@@ -88,7 +88,7 @@ impl Saved {
     ghost use Rattle.of_memory.specs.Laws.{KeepScripts};
     ghost use Rattle.of_memory.specs.Serving.{IsScriptsRow};
     ghost use Rattle.of_memory.specs.Saving.{IsSaved, SavedHolds, SavesHistory, HoldsReply};
-    ghost use Rattle.of_memory.specs.Saving.{start_in, saved_callers, saved_reply, saved_ticket};
+    ghost use Rattle.of_memory.specs.Saving.{start_in, saved_callers, saved_limit, saved_reply, saved_ticket};
 
     // Closes a row, takes its durable words alone, as a crash does, and recovers them.
     pub(crate) fn close(row: Row<Scripts>, pass: Pass) -> Saved
@@ -96,7 +96,7 @@ impl Saved {
         requires pass { IsRowPass row pass }
         requires keeps { KeepScripts (setup_at scripts_meaning row) (view_of_pass pass) }
         ensures scripts { result.scripts ≡ (key_of row).work }
-        ensures limit { result.limit ≡ (key_of row).limit }
+        ensures limit { saved_limit result ≡ (key_of row).limit }
         ensures saved { IsSaved result }
         ensures leads { SavesHistory row (view_of_pass pass) result }
     {
@@ -123,7 +123,7 @@ impl Saved {
 
     /// The last sequence that may be committed.
     pub fn limit(&self) -> u32
-        ensures { result ≡ self.now.limit }
+        ensures { result ≡ saved_limit self.now }
     {
         self.limit
     }
