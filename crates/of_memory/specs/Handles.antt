@@ -56,7 +56,8 @@ StaysOpenIfStopped script result h = LeavesOpen script result (caller_of h)
 
 -- so does the call that was open, if it is stopped again
 abbrev pub OpenCallStays : Result Answer RunErr → (before now : Handle) → Type 0
-OpenCallStays result h k = (script : List Instr) → HasOpen h script → StaysOpenIfStopped script result k
+OpenCallStays result h k =
+    (script : List Instr) → HasOpen h script → StaysOpenIfStopped script result k
 
 -- it refuses a call only if one is open, or its number has made all calls that it may make
 abbrev pub RefusesCall : Handle → Result Answer RunErr → Type 0
