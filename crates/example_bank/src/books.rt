@@ -10,7 +10,7 @@ ghost use Rattle.of_eval.specs.Scripts.{LawfulCells, scripts_data_cells, scripts
 ghost use Rattle.of_core.specs.Table.{durable_word as the_durable_word};
 ghost use Rattle.of_core.specs.Shared.{MayStart};
 ghost use Rattle.of_core.specs.Starts.{IsDurable};
-ghost use Rattle.of_row.specs.Rows.{IsSeatOf, row_start};
+ghost use Rattle.of_row.specs.Rows.{row_start, view_of_pass, IsRowPass};
 ghost use Rattle.example_bank.specs.Ledger.{HasLedger, ticket_in, aborted_last};
 ghost use Rattle.example_bank.specs.Closed.{AllChange, KeepsClerks, setup_with};
 ghost use Rattle.example_bank.specs.Clerks.{IsRowOf, MayHire};
@@ -100,8 +100,8 @@ impl Books {
     ghost use Rattle.of_mem.specs.ProgramWork.{memory_of};
     ghost use Rattle.example_bank.specs.Books.{AreBooks, StandForStore, money_of, start_in};
 
-    /// Closes a row, takes its durable words alone, as a crash does, and recovers them. Where the pass
-    /// keeps all clerks, the books end a ledger of what these have done.
+    /// Closes a row, takes its durable words alone, as a crash does, and recovers them. Where the
+    /// pass keeps all clerks, the books end a ledger of what these have done.
     pub fn close(
         alloc: Global,
         scripts: Scripts,
@@ -110,13 +110,13 @@ impl Books {
     ) -> Result<Books, AllocError>
         requires clerks { scripts.callers ≡ CLERKS }
         requires row { IsRowOf row scripts LIMIT }
-        requires pass { IsSeatOf row pass.seat }
+        requires pass { IsRowPass row pass }
         ensures scripts { IfOk result (λ b. b.scripts ≡ scripts) }
         ensures books { IfOk result AreBooks }
         ensures ledger { IfOk result (λ b. (to_do : ℕ → List (List Instr)) (tally : ℕ → Tally) →
             MayStart (setup_with scripts LIMIT) (LawfulCells scripts)
             (row_start scripts_meaning row) → AllChange scripts to_do →
-            KeepsClerks scripts to_do tally pass.seat.me.0 → HasLedger scripts LIMIT
+            KeepsClerks scripts to_do tally (view_of_pass pass) → HasLedger scripts LIMIT
             (row_start scripts_meaning row) (start_in b) to_do tally) }
     {
         rows_keep_ledgers(scripts, LIMIT);
@@ -149,8 +149,9 @@ impl Books {
         requires { AreBooks self.now }
         ensures store { IfOk result (StandForStore self.now) }
         ensures money { IfOk result (λ s. sum s.registers ≡ money_of self.now) }
-        ensures unlawful { IfErr result (λ e. NamesCellWith (IsFirstFault self.now.scripts.callers
-            MOST_INSTRS self.now.scripts.blocks (memory_of (map payload_of (start_in self.now).cells))) e) }
+        ensures unlawful { IfErr result (NamesCellWith (IsFirstFault self.now.scripts.callers
+            MOST_INSTRS self.now.scripts.blocks
+            (memory_of (map payload_of (start_in self.now).cells)))) }
     {
         let words = data_words(alloc, &shape_of(self.scripts), &self.row)?;
         let cells = numbers(alloc, &words)?;

@@ -64,7 +64,8 @@ RespectsTime s ms r =
 abbrev pub marks_of : Setup → Moment → Event → List Mark
 marks_of S w (Begins i op) = BeginsCall i ∷ []
 marks_of S w (Turns i) =
-    map (λ o. EndsCall i) (outcome_of_step (machine_in w i) (machine_in (after_event S w (Turns i)) i))
+    map (λ o. EndsCall i)
+    (outcome_of_step (machine_in w i) (machine_in (after_event S w (Turns i)) i))
 marks_of S w (Loads c) = []
 marks_of S w (Evicts k) = []
 marks_of S w (Raises c) = []

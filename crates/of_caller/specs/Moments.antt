@@ -27,7 +27,8 @@ batch_scripts p B w k = map (call_script p) (batch_calls B w k)
 -- the store after so many batches, by serial replay from the start's store
 abbrev pub store_after_batches : Plan → TableStart → Store → Moment → ℕ → Store
 store_after_batches p B st w zero = st
-store_after_batches p B st w (suc j) = last_store (store_after_batches p B st w j) (batch_scripts p B w (B.seq + j + 1))
+store_after_batches p B st w (suc j) =
+    last_store (store_after_batches p B st w j) (batch_scripts p B w (B.seq + j + 1))
 
 -- the store after the batches up to sequence k
 abbrev pub store_at_seq : Plan → TableStart → Store → Moment → ℕ → Store

@@ -16,7 +16,8 @@ use Rattle.of_core.specs.Moment.{table_word_count}
 
 -- what operations do over the cells of a plan
 abbrev pub meaning_for : Plan → Meaning
-meaning_for p = meaning_of is_success script_reads (script_program (base_of p.callers MOST_INSTRS) p.blocks)
+meaning_for p =
+    meaning_of is_success script_reads (script_program (base_of p.callers MOST_INSTRS) p.blocks)
 
 -- what the machines of a plan have in common
 abbrev pub plan_setup : Plan → Setup

@@ -37,7 +37,8 @@ use Rattle.of_caller.specs.Tables.{plan_setup}
 use Rattle.of_caller.proofs.RawReplies.{IsFine, answer_holds}
 use Rattle.of_memory.specs.History.{End, Replied, Spent, Made}
 use Rattle.of_memory.specs.Calls.{IsScriptOperation, EndsAs, IsMade, AreMade, RunsScripts}
-use Rattle.of_memory.specs.Serving.{IsScriptsRow, Serves, start_of_row}
+use Rattle.of_caller.specs.PlanRows.{start_of_row}
+use Rattle.of_memory.specs.Serving.{IsScriptsRow, Serves}
 use Rattle.of_memory.specs.declared.error.RunErr.{RunErr}
 use Rattle.of_memory.specs.declared.error.RunErr.TheVariants.{OutOfMemory, Stopped as Halted, Spent as RanOut, Open, NoTicket}
 use Rattle.of_memory.specs.Called.{WasTried, IsRefusedBy}

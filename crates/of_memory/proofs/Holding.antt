@@ -23,7 +23,8 @@ use Rattle.of_memory.specs.History.{HistoryEntry, Made, store_after, ExplainsAll
 use Rattle.of_memory.specs.Calls.{AreMade, RunsScripts}
 use Rattle.of_memory.specs.Called.{IsOpenAt}
 use Rattle.of_memory.specs.Laws.{setup_with, StandsAt, KeepsSo, ExplainsKept, HasOpenScript, HasOnlyKept, TellsLast, HistoryLeads}
-use Rattle.of_memory.specs.Serving.{Serves, AllHere, IsKeptOf, KeepsThose, ended_of, start_of_row}
+use Rattle.of_caller.specs.PlanRows.{start_of_row}
+use Rattle.of_memory.specs.Serving.{Serves, AllHere, IsKeptOf, KeepsThose, ended_of}
 use Rattle.of_memory.specs.Memories.{IsMemory, HasMadeOf, HasOpenOf, KnowsOthers, OthersStayOpen, HasHistory, row_of, callers_of}
 use Rattle.of_memory.proofs.Seats.{number_below, keeps_as, same_caller}
 

@@ -21,7 +21,8 @@ use Rattle.of_caller.proofs.StoresReplay.{number_at}
 use Rattle.of_memory.specs.declared.memory.Memory.{Memory}
 use Rattle.of_memory.specs.Calls.{AreMade}
 use Rattle.of_memory.specs.Laws.{setup_with, StandsAt}
-use Rattle.of_memory.specs.Serving.{IsScriptsRow, IsNew, Serves, ServeAll, AllStand, start_of_row, made_before}
+use Rattle.of_caller.specs.PlanRows.{start_of_row}
+use Rattle.of_memory.specs.Serving.{IsScriptsRow, IsNew, Serves, ServeAll, AllStand, made_before}
 use Rattle.of_memory.specs.Memories.{IsMemory, HasMadeOf, row_of}
 
 zero_at : (n a : ℕ) → ◌≡◌ {A = ℕ} (get_or (replicate n 0) a 0) 0

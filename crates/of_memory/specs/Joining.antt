@@ -15,6 +15,8 @@ HistoriesJoin =
 abbrev pub InvariantsHold : Type 0
 InvariantsHold =
     (holds : Store → Bool) (kind : List Instr → Bool)
-    → ((s : Store) (script : List Instr) → holds s ≡ true → kind script ≡ true → holds (run s script).0 ≡ true)
-    → (s : Store) (h : List HistoryEntry) → holds s ≡ true → All (λ (e : HistoryEntry). kind e.script ≡ true) h
+    → ((s : Store) (script : List Instr) → holds s ≡ true → kind script ≡ true
+    → holds (run s script).0 ≡ true)
+    → (s : Store) (h : List HistoryEntry) → holds s ≡ true
+    → All (λ (e : HistoryEntry). kind e.script ≡ true) h
     → holds (store_after s h) ≡ true

@@ -1,5 +1,6 @@
 -- The raises of a run are short. While something is about to raise a durable word, no event puts a
--- lower word there. So the loop that makes the raise, of a load and an exchange, fails at most once.
+-- lower word there. So the loop that makes the raise, of a load and an exchange, fails at most
+-- once.
 use Rattle.std.specs.Prelude.{◌≡◌, ◌≢◌, ℕ, ◌≤◌, ◌<◌, List, length}
 use Rattle.std.proofs.Common.{get_or, take, drop}
 use Rattle.atomic_table.specs.Table.{State}

@@ -73,7 +73,7 @@ fn two_days<R: Threads + Sync>(rt: &R, alloc: Global) -> Result<(Seen, Seen), Ba
         callers: CLERKS,
         blocks: 2,
     };
-    let books = Books::found(alloc, scripts, 10)?;
+    let books = Books::with_amount(alloc, scripts, 10)?;
     let first = working_day(rt, alloc, &books, first_jobs(alloc)?)?;
     let second = working_day(rt, alloc, &first.books, second_jobs(alloc)?)?;
     Ok((seen(alloc, &first)?, seen(alloc, &second)?))

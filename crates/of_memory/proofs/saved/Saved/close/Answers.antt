@@ -8,7 +8,7 @@ use Rattle.of_core.specs.Starts.{IsStartRow}
 use Rattle.of_row.specs.Rows.{key_of}
 use Rattle.of_memory.specs.History.{HistoryEntry}
 use Rattle.of_memory.specs.Laws.{setup_with, StandsAt, HoldsHistory, HistoryLeads}
-use Rattle.of_memory.specs.Serving.{start_of_row}
+use Rattle.of_caller.specs.PlanRows.{start_of_row}
 use Rattle.of_memory.proofs.Closing.{closed}
 use Rattle.of_memory.proofs.saved.Saved.close.Goals as goal
 
