@@ -33,7 +33,7 @@ module _ (S : Setup) (Lawful : List ℕ → Type 0) (B : TableStart) where
       go : (j : ℕ) (n : CallState) → j < S.callers → get_or (set w.machines i m) j n ≡ n → (j ≡ i) ⊎ (j ≡ i → ⊥) → HoldsAtPlace S B vs cs j n n.place
       go j n l e (inl q) =
           let i_in : i < length w.machines = omega (arith, g.members) in
-          let same : m ≡ n = sym (get_or-set_same w.machines i m n i_in) ∙ (rw q data_word_after e) in
+          let same : m ≡ n = sym (get_or-set_same w.machines i m n i_in) ∙ (rw q at e) in
           subst (λ (x : CallState). HoldsAtPlace S B vs cs j x x.place) same (rw q a)
       go j n l e (inr q) =
           at_stable S Lawful B i w.words w.batches vs cs v g.shared j l q n n.place (g.each j n l (sym (get_or-set_other w.machines i j m n q) ∙ e))

@@ -257,7 +257,7 @@ module _ (S : Setup) (Lawful : List ℕ → Type 0) (B : TableStart) where
                 ticket_at k j l t (inr u) (inl q) = inl (ap (λ (x : ℕ). last_ticket_by S B cs x j) u ∙ q ∙ ap (λ (x : ℕ). last_ticket_by S B w.batches x j) is_last)
                 ticket_at k j l t (inr u) (inr q) =
                     let c : seq_of (announcement_of S w.words j) ≡ (get_or m.calls q.0 no_call).ticket = ap (λ (x : ℕ). seq_of (announcement_of S w.words x)) (sym q.2) ∙ call_ticket q.0 q.1 in
-                    let d : last_ticket_by S B w.batches m.seq j < (get_or m.calls q.0 no_call).ticket = rw q.2 data_word_after (st.over.taken q.0 no_call q.1).above in
+                    let d : last_ticket_by S B w.batches m.seq j < (get_or m.calls q.0 no_call).ticket = rw q.2 at (st.over.taken q.0 no_call q.1).above in
                     inr (ap (λ (x : ℕ). last_ticket_by S B cs x j) u ∙ q.3 ∙ sym c, omega (arith, c, d, ap (λ (x : ℕ). last_ticket_by S B w.batches x j) is_last), omega (arith, is_last, st.past.under))
 
             asks : request_of vs (committed_owner vs) ≡ pack (committed_seq vs) 0
@@ -299,7 +299,7 @@ module _ (S : Setup) (Lawful : List ℕ → Type 0) (B : TableStart) where
             durable = let d = g.shared.durable in let r0 = dur_same 0 (omega arith) in record {
               low = low;
               from = rw r0 d.from;
-              owner = λ l. rw (r0, batches (durable_seq S w.words) (rw r0 data_word_after l) (omega (arith, d_is, is_last))) (d.owner (rw r0 data_word_after l));
+              owner = λ l. rw (r0, batches (durable_seq S w.words) (rw r0 at l) (omega (arith, d_is, is_last))) (d.owner (rw r0 at l));
               first = rw r0 d.first;
               step = inr (omega (arith, new_last, d_is, ap seq_of r0), opened);
               fresh = λ x l. rw (r0, elsewhere (S.callers + 1 + x) (omega arith)) (d.fresh x l);
@@ -398,7 +398,7 @@ module _ (S : Setup) (Lawful : List ℕ → Type 0) (B : TableStart) where
                     met_now (inl z) = let y : last_ticket_by S B cs m.seq j ≤ last_ticket_by S B cs (m.seq + 1) j = stands.grow m.seq j round.from (omega (arith, longer, n_at)) t in
                         let x : last_ticket_by S B cs m.seq j ≡ last_ticket_by S B w.batches m.seq j = ap (λ (xs : List ℕ). ticket_in_state S xs j) (states m.seq round.upto) in
                         omega arith
-                    met_now (inr z) = let y : last_ticket_by S B cs (m.seq + 1) j ≡ (get_or m.calls z.0 no_call).ticket = rw z.2 data_word_after (call_now z.0 z.1) in omega (arith, z.3)
+                    met_now (inr z) = let y : last_ticket_by S B cs (m.seq + 1) j ≡ (get_or m.calls z.0 no_call).ticket = rw z.2 at (call_now z.0 z.1) in omega (arith, z.3)
 
             shared : WordsMatchHistory S Lawful B vs cs
             shared = record {

@@ -110,7 +110,7 @@ module _ (S : Setup) (Lawful : List ℕ → Type 0) (sound : IsSoundMeaning S.me
     where
       go : ((y : ℕ) × (y < length b.calls) × ((get_or b.calls y no_call).caller ≡ i)) ⊎ ((y : ℕ) → y < length b.calls → (get_or b.calls y no_call).caller ≡ i → ⊥)
           → (last_ticket_by S B cs (n + 1) i ≡ last_ticket_by S B bs n i) ⊎ ((y : ℕ) × (y < length b.calls) × ((get_or b.calls y no_call).caller ≡ i) × (last_ticket_by S B cs (n + 1) i ≡ (get_or b.calls y no_call).ticket))
-      go (inl q) = inr (q.0, q.1, q.2, rw q.2 data_word_after (now_of q.0 no_call q.1).1)
+      go (inl q) = inr (q.0, q.1, q.2, rw q.2 at (now_of q.0 no_call q.1).1)
       go (inr none) = inl (ap payload_of (row_stays i (ticket_cell S i) l none (omega arith, omega arith)))
 
   -- what is said of the batches before is so still
@@ -263,7 +263,7 @@ module _ (S : Setup) (Lawful : List ℕ → Type 0) (sound : IsSoundMeaning S.me
         where
           pick : (last_ticket_by S B cs (n + 1) i ≡ last_ticket_by S B bs n i) ⊎ ((y : ℕ) × (y < length b.calls) × ((get_or b.calls y no_call).caller ≡ i) × (last_ticket_by S B cs (n + 1) i ≡ (get_or b.calls y no_call).ticket)) → last_ticket_by S B bs n i ≤ last_ticket_by S B cs (n + 1) i
           pick (inl q) = omega arith
-          pick (inr q) = let z : last_ticket_by S B bs n i < (get_or b.calls q.0 no_call).ticket = rw q.2 data_word_after (taken q.0 no_call q.1).above in omega (arith, q.3)
+          pick (inr q) = let z : last_ticket_by S B bs n i < (get_or b.calls q.0 no_call).ticket = rw q.2 at (taken q.0 no_call q.1).above in omega (arith, q.3)
 
       ordered_at : (k : ℕ) → B.seq < k → (k ≤ n) ⊎ (k ≡ n + 1) → CallersRise (batch_at B cs k).calls
       ordered_at k l (inl u) = rw (batches k l u) (st.ordered k l (omega (arith, n_is)))

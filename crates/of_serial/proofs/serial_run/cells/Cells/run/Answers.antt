@@ -8,10 +8,10 @@ use Rattle.of_script.specs.Language.{instr_word}
 use Rattle.of_store.specs.State.{run}
 use Rattle.of_store.specs.Replies.{reply_value_of}
 use Rattle.of_eval.specs.Shapes.{IsWhole}
-use Rattle.of_serial.specs.Replay.{CellsHoldStore}
+use Rattle.of_serial.specs.SerialRun.{CellsHoldStore}
 use Rattle.of_serial.proofs.Cases.{ok_unless, some_if}
 use Rattle.of_serial.proofs.KnownCells.{asked, width, nothing_needed, script_words, kept_holds, reply_held, reply_says}
-use Rattle.of_serial.proofs.replay.cells.Cells.run.Goals as goal
+use Rattle.of_serial.proofs.serial_run.cells.Cells.run.Goals as goal
 
 pub run-requires-clause-agrees : goal.run-requires-clause-agrees
 run-requires-clause-agrees c _ = asked c.args.self.now c.requires.0 c.requires.1

@@ -2,7 +2,7 @@ use Rattle.std.proofs.Common.{rules, arith, ◌∙◌}
 use Rattle.std.proofs.lemmas.Result.{MatchResult-at_ok}
 use Rattle.of_serial.proofs.Cases.{ok_unless}
 use Rattle.of_serial.proofs.KnownCells.{width, can_be_read, read_more, all_read, stands_for}
-use Rattle.of_serial.proofs.replay.cells.Cells.store.Goals as goal
+use Rattle.of_serial.proofs.serial_run.cells.Cells.store.Goals as goal
 
 pub read-requires : goal.read-requires
 read-requires c = (search rules, (search rules, omega (arith, width c.args.self.now c.requires.0 c.requires.1, c.cells-cell-end.ensures)))

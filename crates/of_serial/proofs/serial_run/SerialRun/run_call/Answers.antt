@@ -3,7 +3,7 @@ use Rattle.std.proofs.lemmas.List.{map-append}
 use Rattle.std.proofs.lemmas.List.Elements.{All-same, All-push}
 use Rattle.of_plan.specs.Serial.{serial_entry}
 use Rattle.of_report.specs.Report.{entry_value, HasWholeReply}
-use Rattle.of_serial.proofs.replay.Replay.run_call.Goals as goal
+use Rattle.of_serial.proofs.serial_run.SerialRun.run_call.Goals as goal
 
 pub returns : goal.returns
 returns c = λ history has.

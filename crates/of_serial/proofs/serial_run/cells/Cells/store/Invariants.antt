@@ -1,6 +1,6 @@
 use Rattle.std.proofs.Common.{◌≡◌, Some, map, take}
 use Rattle.of_mem.specs.Pad.{overlaid}
-use Rattle.of_serial.proofs.replay.cells.Cells.store.Given as goal
+use Rattle.of_serial.proofs.serial_run.cells.Cells.store.Given as goal
 
 -- the numbers of the first cells
 abbrev pub invariant-loop-cell : goal.invariant-loop-cell

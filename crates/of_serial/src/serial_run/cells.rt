@@ -1,10 +1,9 @@
 //! A store on cells that are all known.
 
 ghost use Rattle.std.specs.Prelude.{◌≡◌, ◌≤◌, IfOk};
-ghost use Rattle.of_store.specs.State.{Store, empty_store, run};
-ghost use Rattle.of_store.specs.Replies.{reply_value_of};
+ghost use Rattle.of_store.specs.State.{Store, empty_store};
 ghost use Rattle.of_eval.specs.Shapes.{IsWhole};
-ghost use Rattle.of_serial.specs.Replay.{CellsHoldStore};
+ghost use Rattle.of_serial.specs.SerialRun.{CellsHoldStore, RunsScript};
 
 use of_cell::MOST_CALLERS;
 use of_eval::{LawErr, Scripts, lawful, reply_of};
@@ -40,7 +39,7 @@ impl Cells {
     pub(super) fn run(&mut self, script: &Script) -> Reply
         requires { (s : Store) × CellsHoldStore self.old s }
         ensures whole { IsWhole result }
-        ensures runs { (s : Store) → CellsHoldStore self.old s → CellsHoldStore self.new (run s script.now).0 × (reply_value_of result ≡ (run s script.now).1) }
+        ensures runs { RunsScript script.now self.old self.new result }
     {
         let mut words = [0; MOST_INSTRS];
         to_words(script, &mut words);

@@ -1,6 +1,6 @@
 use Rattle.std.proofs.Common.{◌≡◌, Some, [], length, take, replicate}
 use Rattle.of_eval.specs.Scripts.{scripts_data_cells}
-use Rattle.of_serial.proofs.replay.cells.Cells.new.Given as goal
+use Rattle.of_serial.proofs.serial_run.cells.Cells.new.Given as goal
 
 -- the first cells are known to be 0
 abbrev pub invariant-loop-cell : goal.invariant-loop-cell

@@ -1,8 +1,8 @@
 use Rattle.std.proofs.Common.{◌≡◌, ◌+◌, ◌++◌, List, map}
 use Rattle.std.specs.List.{range_with_len}
 use Rattle.of_plan.specs.Serial.{CallId}
-use Rattle.of_serial.specs.Replay.{HasComeTo, course_after}
-use Rattle.of_serial.proofs.replay.Replay.run_caller.Given as goal
+use Rattle.of_serial.specs.SerialRun.{HasComeTo, course_after}
+use Rattle.of_serial.proofs.serial_run.SerialRun.run_caller.Given as goal
 
 -- the first calls of the caller have run
 abbrev pub invariant-loop-index : goal.invariant-loop-index
