@@ -162,8 +162,8 @@ fn pairs(
     Ok(brakes)
 }
 
-/// The brakes of two callers, of which each denies the asks of its list; a caller with an empty list
-/// has one that tells its steps left.
+/// The brakes of two callers, of which each denies the asks of its list; a caller with an empty
+/// list has one that tells its steps left.
 fn patterns(alloc: Global, denied: [&[u64]; 2]) -> Result<Vec<Box<dyn Brake + Send>>, AllocError> {
     let mut brakes: Vec<Box<dyn Brake + Send>> = Vec::new(alloc);
     for asks in denied {

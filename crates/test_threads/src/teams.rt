@@ -58,8 +58,8 @@ pub fn run_fuels<R: Threads + Sync>(
     run_plan(rt, alloc, text, brakes, register)
 }
 
-/// Makes the brakes of a pair of callers, and puts one behind the brakes and one behind those of the
-/// partners.
+/// Makes the brakes of a pair of callers, and puts one behind the brakes and one behind those of
+/// the partners.
 fn push_pair(
     alloc: Global,
     at: u64,
