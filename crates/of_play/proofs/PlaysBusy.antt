@@ -22,7 +22,7 @@ use Rattle.of_caller.specs.Tables.{plan_setup, opening_for, operation_of}
 use Rattle.of_caller.specs.Ends.{is_spent, ending_if_left, ending_at, AreAnswers}
 use Rattle.of_caller.specs.Left.{moment_after, IsLeftBy}
 use Rattle.of_play.specs.Play.{begins_call, next_begin, with_begin}
-use Rattle.of_play.specs.Playing.{EventsMayFollow}
+use Rattle.of_play.specs.ScheduleRun.{EventsMayFollow}
 use Rattle.of_play.proofs.PlaysMoments.{IsPlayable, idle_is, calls_here}
 use Rattle.of_play.proofs.PlaysUnspent.{last_at}
 use Rattle.of_play.proofs.PlaysSpent.{items_spent_last}

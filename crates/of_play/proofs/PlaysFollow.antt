@@ -20,7 +20,7 @@ use Rattle.of_caller.specs.Tables.{plan_setup, opening_for, operation_of}
 use Rattle.of_caller.specs.Ends.{is_spent}
 use Rattle.of_caller.specs.Left.{moment_after}
 use Rattle.of_play.specs.Play.{begins_call}
-use Rattle.of_play.specs.Playing.{EventsMayFollow}
+use Rattle.of_play.specs.ScheduleRun.{EventsMayFollow}
 use Rattle.of_play.proofs.PlaysMoments.{IsPlayable, idle_is}
 use Rattle.of_play.proofs.PlaysEvents.{run_append, schedule_append, operations_append}
 use Rattle.of_play.proofs.PlaysGood.{IsGood, good_at, here, made_turned}

@@ -19,7 +19,7 @@ use Rattle.of_core.specs.Turn.{turn_of_outcome, turn_at, turn_of}
 use Rattle.of_core.specs.Events.{Event, Turns, machine_in, after_event, IsSchedule, zero_start}
 use Rattle.of_caller.specs.Tables.{plan_setup, IsLawfulFor, opening_for}
 use Rattle.of_caller.specs.Left.{moment_after}
-use Rattle.of_play.specs.Playing.{standing_of, standing_after, spent_at}
+use Rattle.of_play.specs.ScheduleRun.{standing_of, standing_after, spent_at}
 use Rattle.of_play.proofs.PlaysMoments.{IsPlayable, idle_is, good_moment}
 
 -- what a turn says of a machine that wasn't idle

@@ -36,7 +36,8 @@ world_after p w (e ∷ es) = world_after p (after_events (plan_setup p) w (with_
 abbrev pub LinesAreOfMoves : Type 0
 LinesAreOfMoves = (p : Plan) (k : ℕ) (e : Event) → k < length (plan_events p)
     → get_or (trace_lines p) k []
-    ≡ event_line_at p k (world_after p (opening_for p) (take k (plan_events p))) (get_or (plan_events p) k e)
+    ≡ event_line_at p k (world_after p (opening_for p) (take k (plan_events p)))
+    (get_or (plan_events p) k e)
 
 -- and the world after the last one is what `play` ends in
 abbrev pub TracesEndAsPlays : Type 0

@@ -3,8 +3,8 @@
 ghost use Rattle.std.specs.Prelude.{◌≡◌, ◌+◌, map, flat_map, OnOk};
 ghost use Rattle.of_cell.specs.Words.{seq_of};
 ghost use Rattle.of_core.specs.Inside.{call_value};
-ghost use Rattle.of_play.specs.Trace.{call_part, batch_line};
-ghost use Rattle.of_play.specs.Committing.{commits_by_step, commit_line};
+ghost use Rattle.of_play.specs.Trace.{call_part};
+ghost use Rattle.of_play.specs.Committing.{commits_by_step, batch_line_after, commit_line_after};
 ghost use Rattle.of_script.specs.Appending.{AppendsText};
 
 use of_cell::seq_of;
@@ -42,7 +42,8 @@ fn put_batch(
     found: u64,
     calls: &[Call],
 ) -> Result<(), AllocError>
-    ensures { OnOk result (AppendsText out.old out.new (batch_line number caller (seq_of found + 1) (map call_value calls.now))) }
+    ensures { OnOk result
+        (AppendsText out.old out.new (batch_line_after number caller found calls.now)) }
 {
     let seq = u64::from(seq_of(found)) + 1;
     write!(out, "{number} {caller} commits {seq}")?;
@@ -62,7 +63,8 @@ pub fn put_commit(
     found: u64,
     calls: &[Call],
 ) -> Result<(), AllocError>
-    ensures { OnOk result (AppendsText out.old out.new (commit_line (commits_by_step place op found) number caller (seq_of found + 1) (map call_value calls.now))) }
+    ensures { OnOk result (AppendsText out.old out.new
+        (commit_line_after (commits_by_step place op found) number caller found calls.now)) }
 {
     if is_commit(place, op, found) {
         put_batch(out, number, caller, found, calls)

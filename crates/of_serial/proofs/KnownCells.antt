@@ -27,8 +27,8 @@ use Rattle.of_eval.specs.SoundScripts.{scripts_sound, empty_is_stored}
 use Rattle.of_eval.specs.Means.{DoesOperation}
 use Rattle.of_eval.specs.Lawful.{OwnCellsAreSound, DataCellsStandFor}
 use Rattle.of_eval.proofs.Meanings.{means_words, words_mean_script}
-use Rattle.of_serial.specs.declared.replay.cells.Cells.{Cells}
-use Rattle.of_serial.specs.Replay.{CellsHoldStore}
+use Rattle.of_serial.specs.declared.serial_run.cells.Cells.{Cells}
+use Rattle.of_serial.specs.SerialRun.{CellsHoldStore}
 use Rattle.of_serial.proofs.HeldReplies.{held_reply, said_reply}
 
 -- the batch's last write counts
