@@ -279,11 +279,11 @@ module _ (S : Setup) (W R : ℕ) where
         less s u v r l e h = omega arith
 
         over : (b : Bool) → Spares S W R (end_try now b) (end_try now b).place
-        overlaid true = record { copies = tt; few = t.few; steps = again m.steps (R - knowns m.known) (R - knowns (with_cell_known S m x found)) (announced S W R m) (allowed S W R m) one t.steps }
-        overlaid false = record { copies = tt; few = t.few; steps = aloud m.steps (R - knowns m.known) (R - knowns (with_cell_known S m x found)) (length m.op) (apply_steps W) (allowed S W R m) one t.steps }
+        over true = record { copies = tt; few = t.few; steps = again m.steps (R - knowns m.known) (R - knowns (with_cell_known S m x found)) (announced S W R m) (allowed S W R m) one t.steps }
+        over false = record { copies = tt; few = t.few; steps = aloud m.steps (R - knowns m.known) (R - knowns (with_cell_known S m x found)) (length m.op) (apply_steps W) (allowed S W R m) one t.steps }
 
         go : (b : Bool) → Spares S W R (after_try_cell S now x found b) (after_try_cell S now x found b).place
-        go true = overlaid (nat_lt m.tries MOST_TRIES)
+        go true = over (nat_lt m.tries MOST_TRIES)
         go false = reads_sparing (record now { known = with_cell_known S m x found }) t.few (less m.steps (R - knowns m.known) (R - knowns (with_cell_known S m x found)) (announced S W R m) (allowed S W R m) one t.steps)
     sparing (StoreScript j) o a t e v = go (nat_lt (j + 1) (length m.op))
       where

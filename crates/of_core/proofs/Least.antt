@@ -87,11 +87,11 @@ module _ (S : Setup) where
     late (TryCell x) a t e = go (nat_lt m.seq (seq_of n))
       where
         over : (b : Bool) → HasMadeLeastSteps S (end_try now b) (end_try now b).place
-        overlaid true = record { steps = omega arith; rests = λ q. cc; told = λ q. cc }
-        overlaid false = record { steps = omega arith; rests = λ q. cc; told = λ q. cc }
+        over true = record { steps = omega arith; rests = λ q. cc; told = λ q. cc }
+        over false = record { steps = omega arith; rests = λ q. cc; told = λ q. cc }
 
         go : (b : Bool) → HasMadeLeastSteps S (after_try_cell S now x n b) (after_try_cell S now x n b).place
-        go true = overlaid (nat_lt m.tries MOST_TRIES)
+        go true = over (nat_lt m.tries MOST_TRIES)
         go false = read_late (record now { known = with_cell_known S m x n }) (S.meaning.walk (with_cell_known S m x n) m.op) (omega (arith, t.steps)) (omega (arith, t.steps, least_upto (S.meaning.walk (no_cell_known S) m.op)))
     late (StoreScript j) a t e = go (nat_lt (j + 1) (length m.op)) refl
       where

@@ -111,11 +111,11 @@ module _ (S : Setup) (B : TableStart) (w : Moment) (i : ℕ) (m : CallState) (n 
   losing (TryCell x) a = inr (inr (go (nat_lt m.seq (seq_of n))))
     where
       over : (b : Bool) → nat_lt m.tries MOST_TRIES ≡ b → BeginsNone (TryCell x) (end_try now b)
-      overlaid true e = within (TryCell x) (end_try now true) refl refl refl refl refl (λ z q. inr (inr (refl, inl refl)))
-      overlaid false e = within (TryCell x) (end_try now false) refl refl refl refl refl (λ z q. inr (inr (refl, inr (not_newer m.tries MOST_TRIES e))))
+      over true e = within (TryCell x) (end_try now true) refl refl refl refl refl (λ z q. inr (inr (refl, inl refl)))
+      over false e = within (TryCell x) (end_try now false) refl refl refl refl refl (λ z q. inr (inr (refl, inr (not_newer m.tries MOST_TRIES e))))
 
       go : (b : Bool) → BeginsNone (TryCell x) (after_try_cell S now x n b)
-      go true = overlaid (nat_lt m.tries MOST_TRIES) refl
+      go true = over (nat_lt m.tries MOST_TRIES) refl
       go false = read_within (TryCell x) (record now { known = with_cell_known S m x n }) refl refl refl refl refl refl (S.meaning.walk (with_cell_known S m x n) m.op)
   losing (StoreScript j) a = inr (inr (go (nat_lt (j + 1) (length m.op))))
     where

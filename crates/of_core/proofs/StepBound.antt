@@ -194,11 +194,11 @@ module _ (S : Setup) where
         less s u v r l e h = omega arith
 
         over : (b : Bool) → MachineIsWithinBound S (end_try now b) (end_try now b).place
-        overlaid true = record { told = λ q. cc; steps = again m.steps (unknown_cell_count m.known) (unknown_cell_count (with_cell_known S m x found)) (steps_left_in_tries S m) (bound S) one t.steps }
-        overlaid false = record { told = λ q. cc; steps = aloud m.steps (unknown_cell_count m.known) (unknown_cell_count (with_cell_known S m x found)) ((MOST_TRIES - m.tries) * (7 * S.cells + 7)) S.instrs (3 * lost_round_steps S + steps_to_apply S) (bound S) one t.steps }
+        over true = record { told = λ q. cc; steps = again m.steps (unknown_cell_count m.known) (unknown_cell_count (with_cell_known S m x found)) (steps_left_in_tries S m) (bound S) one t.steps }
+        over false = record { told = λ q. cc; steps = aloud m.steps (unknown_cell_count m.known) (unknown_cell_count (with_cell_known S m x found)) ((MOST_TRIES - m.tries) * (7 * S.cells + 7)) S.instrs (3 * lost_round_steps S + steps_to_apply S) (bound S) one t.steps }
 
         go : (b : Bool) → MachineIsWithinBound S (after_try_cell S now x found b) (after_try_cell S now x found b).place
-        go true = overlaid (nat_lt m.tries MOST_TRIES)
+        go true = over (nat_lt m.tries MOST_TRIES)
         go false = reads_within (record now { known = with_cell_known S m x found }) (less m.steps (unknown_cell_count m.known) (unknown_cell_count (with_cell_known S m x found)) (steps_left_in_tries S m) (bound S) one t.steps)
     within (StoreScript j) a t e = go (nat_lt (j + 1) (length m.op))
       where

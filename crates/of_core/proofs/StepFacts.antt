@@ -103,11 +103,11 @@ module _ (S : Setup) (Lawful : List ℕ → Type 0) (B : TableStart) (w : Moment
   step_facts (TryCell x) o a = go (nat_lt m.seq (seq_of n))
     where
       over : (b : Bool) → IsStepAtPlace S m n (TryCell x) (end_try now b) []
-      overlaid true = on (TryCell x) (end_try now true) refl refl refl refl (omega arith) (λ q. absurd q) (refl, refl)
-      overlaid false = on (TryCell x) (end_try now false) refl refl refl refl (omega arith) (λ q. absurd q) (refl, refl)
+      over true = on (TryCell x) (end_try now true) refl refl refl refl (omega arith) (λ q. absurd q) (refl, refl)
+      over false = on (TryCell x) (end_try now false) refl refl refl refl (omega arith) (λ q. absurd q) (refl, refl)
 
       go : (b : Bool) → IsStepAtPlace S m n (TryCell x) (after_try_cell S now x n b) []
-      go true = overlaid (nat_lt m.tries MOST_TRIES)
+      go true = over (nat_lt m.tries MOST_TRIES)
       go false = read_facts (TryCell x) refl (omega arith) tt (record now { known = with_cell_known S m x n }) refl refl refl refl refl refl (S.meaning.walk (with_cell_known S m x n) m.op)
   step_facts (StoreScript j) o a = go (nat_lt (j + 1) (length m.op))
     where
