@@ -18,7 +18,7 @@ use Rattle.of_plan.specs.Ended.{Ended, answers_of, ending_of}
 use Rattle.of_plan.specs.Histories.{IsIn}
 use Rattle.of_plan.proofs.HistoriesLists.{each_append, any_in, in_left}
 use Rattle.of_core.specs.Machine.{no_call}
-use Rattle.of_core.specs.World.{Moment, TableStart}
+use Rattle.of_core.specs.TableMoment.{Moment, TableStart}
 use Rattle.of_caller.specs.Runs.{IsRunOfPlan}
 use Rattle.of_caller.specs.Restarts.{IsHeldIn, HoldsLastAnnounced}
 use Rattle.of_caller.proofs.RecordsLists.{in_at, length-answer_entries, answer_at}

@@ -14,7 +14,7 @@ use Rattle.of_script.specs.declared.instr.TheConstants.{MOST_INSTRS}
 use Rattle.of_script.specs.declared.instr.Instr.{Instr}
 use Rattle.of_script.specs.declared.instr.Reply.{Reply as RustReply}
 use Rattle.of_script.specs.Language.{instr_word, reads_only}
-use Rattle.of_store.specs.State.{Reply, run as play_script}
+use Rattle.of_store.specs.Store.{Reply, run as play_script}
 use Rattle.of_eval.specs.Shapes.{IsHeldBy}
 use Rattle.of_eval.specs.Lawful.{reply_in}
 use Rattle.of_eval.specs.Record.{recovered_data_word, record_number, answer_entry, answer_entries, open_entry, OpenCall, BeyondAnswers, end_state_of}
@@ -34,7 +34,7 @@ use Rattle.of_core.specs.declared.place.Outcome.TheVariants.{Answered, Spent}
 use Rattle.of_core.specs.Table.{durable_seq}
 use Rattle.of_core.specs.Bound.{bound}
 use Rattle.of_core.specs.Machine.{is_idle, no_call}
-use Rattle.of_core.specs.World.{Moment, TableStart}
+use Rattle.of_core.specs.TableMoment.{Moment, TableStart}
 use Rattle.of_core.specs.Events.{machine_in}
 use Rattle.of_core.specs.Claim.{IsSound}
 use Rattle.of_core.specs.Calls.{no_outcome, last_outcome, NoneSpent}

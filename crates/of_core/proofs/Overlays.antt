@@ -10,12 +10,12 @@ use Rattle.of_mem.specs.declared.work.TheConstants.{LEAST_ABORT, MOST_INSTRS}
 use Rattle.of_cell.specs.declared.word.TheConstants.{PAYLOADS}
 use Rattle.of_mem.specs.declared.work.RawReply.{RawReply}
 use Rattle.of_mem.specs.Meaning.{HasDistinctCells, with_writes_in, SameFrom, Meaning, IsFinishedWalk, IsSoundMeaning, WalkFits, Agrees, is_marked}
-use Rattle.of_mem.specs.Pairs.{put_pair, put_all}
-use Rattle.of_mem.specs.Pad.{overlaid}
+use Rattle.of_mem.specs.CellMap.{put_pair, put_all}
+use Rattle.of_mem.specs.Part.{overlaid}
 use Rattle.of_core.specs.Table.{Setup, first_operation_cell, ticket_cell, shape_cell, reply_cell}
 use Rattle.of_core.specs.Machine.{Call, cells_from, own_cells, no_call}
 use Rattle.of_core.specs.History.{IsCellOfCaller, numbers_after_calls, CallsHaveReplies}
-use Rattle.of_core.specs.Shared.{IsEntry, IsLog}
+use Rattle.of_core.specs.WordsMatch.{IsEntry, IsLog}
 use Rattle.of_core.specs.Scan.{LogsCell, LogsOwnCells, IsOverlayOf}
 use Rattle.of_core.proofs.States.{once_tail}
 use Rattle.of_core.proofs.Logs.{written_append, drop_written, own_below, once_few, room_for, whole_log, length-listed, listed_at, length-written, own_is, IsOwn}

@@ -4,10 +4,10 @@ use Rattle.std.proofs.lemmas.List.{get_or_append_left, get_or_push, append-nil, 
 use Rattle.std.proofs.lemmas.Bool.{cases_lt}
 use Rattle.std.proofs.lemmas.Bool.Decides.{nat_tests}
 use Rattle.std.proofs.lemmas.Bool.{eq-eqb as same_test, ne_eqb as other_test}
-use Rattle.of_wset.specs.Pairs as wset
+use Rattle.of_wset.specs.WriteSet as wset
 use Rattle.of_cell.specs.declared.word.TheConstants.{PAYLOADS}
-use Rattle.of_mem.specs.Pairs.{value_for, put_pair, put_all}
-use Rattle.of_mem.specs.Pad.{Part, newest_at, write}
+use Rattle.of_mem.specs.CellMap.{value_for, put_pair, put_all}
+use Rattle.of_mem.specs.Part.{Part, newest_at, write}
 use Rattle.of_mem.specs.Meaning.{Meaning, IsSoundMeaning, Agrees, HasDistinctCells, WalkFits, WalkEnd, Needs, Gives, is_marked}
 use Rattle.of_core.specs.Table.{Setup, first_operation_cell, ticket_cell}
 use Rattle.of_mem.specs.declared.work.TheConstants.{MOST_INSTRS}

@@ -10,7 +10,7 @@ use Rattle.of_core.specs.declared.place.Outcome.{Outcome}
 use Rattle.of_core.specs.declared.place.Outcome.TheVariants.{Answered, Spent}
 use Rattle.of_core.specs.Table.{Setup, durable_seq}
 use Rattle.of_core.specs.Machine.{Call, CallState, IsOpen}
-use Rattle.of_core.specs.World.{Moment, TableStart, Read}
+use Rattle.of_core.specs.TableMoment.{Moment, TableStart, Read}
 use Rattle.of_core.specs.History.{batch_at, EachCall, IsOlderCall, HasCall}
 use Rattle.of_core.specs.Order.{no_read}
 use Rattle.of_core.specs.Facts.{ReadsFrom}

@@ -12,9 +12,9 @@ use Rattle.of_core.specs.declared.place.Outcome.TheVariants.{Answered, Spent}
 use Rattle.std.specs.List.{All}
 use Rattle.of_core.specs.Table.{Setup, first_operation_cell, cell_count, request_at, data_at, log_at, durable_word, announcement_of, committed_seq, durable_seq}
 use Rattle.of_core.specs.Machine.{Call, CallState, IsOpen}
-use Rattle.of_core.specs.World.{Moment, TableStart, Batch, Read}
+use Rattle.of_core.specs.TableMoment.{Moment, TableStart, Batch, Read}
 use Rattle.of_core.specs.Order.{AreInCallOrder}
-use Rattle.of_core.specs.Shared.{WasHeldByCell, IsRequest, IsLogWord, DataCellsMatchState}
+use Rattle.of_core.specs.WordsMatch.{WasHeldByCell, IsRequest, IsLogWord, DataCellsMatchState}
 use Rattle.of_core.specs.Rounds.{FindsOwnTicket, HasReadReplyUpTo}
 use Rattle.of_core.specs.Invariant.{WasHeldByCurrent}
 use Rattle.of_core.specs.History.{state_after, batch_at, EachBatch, EachCall, IsOlderCall, data_word_after, numbers_after, numbers_after_batches, last_ticket_by, IsLegalHistory, OwnCellsShowLast, CallersRise, HasCall}

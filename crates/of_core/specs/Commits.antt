@@ -11,7 +11,7 @@ use Rattle.of_core.specs.declared.place.Outcome.TheVariants.{Answered, Spent}
 use Rattle.of_core.specs.Table.{Setup, announcement_of}
 use Rattle.of_core.specs.Machine.{CallState, IsOpen, no_call}
 use Rattle.of_core.specs.Steps.{take_word}
-use Rattle.of_core.specs.World.{Moment, TableStart, Batch}
+use Rattle.of_core.specs.TableMoment.{Moment, TableStart, Batch}
 use Rattle.of_core.specs.History.{batch_at}
 use Rattle.of_core.specs.Invariant.{MeetsInvariant}
 use Rattle.of_core.specs.Events.{Event, after_events, opening_moment, start_ticket, IsSchedule, machine_in}

@@ -7,7 +7,7 @@ use Rattle.of_cell.specs.Words.{payload_of}
 use Rattle.of_core.specs.Table.{Setup, cell_count, durable_at, ticket_cell}
 use Rattle.of_core.specs.Machine.{CallState, IsOpen, no_machine, idle_machine, begin_call}
 use Rattle.of_core.specs.Steps.{word_found}
-use Rattle.of_core.specs.World.{Moment, TableStart, after_step}
+use Rattle.of_core.specs.TableMoment.{Moment, TableStart, after_step}
 use Rattle.of_core.specs.Starts.{first_words}
 
 -- what may happen to a table

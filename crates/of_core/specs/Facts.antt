@@ -9,7 +9,7 @@ use Rattle.of_core.specs.declared.place.Outcome.TheVariants.{Answered, Spent}
 use Rattle.of_core.specs.Table.{Setup}
 use Rattle.of_core.specs.Machine.{CallState, IsOpen, is_idle}
 use Rattle.of_mem.specs.declared.work.RawReply.{RawReply}
-use Rattle.of_core.specs.World.{Moment, TableStart, Batch, Read, step_reads}
+use Rattle.of_core.specs.TableMoment.{Moment, TableStart, Batch, Read, step_reads}
 use Rattle.of_core.specs.Order.{HasBegunTry}
 
 -- the step loads the current-transaction word

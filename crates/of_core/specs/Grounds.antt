@@ -3,9 +3,9 @@ use Rattle.std.specs.Prelude.{ℕ, ◌+◌, List, length, ◌≤◌, ◌<◌}
 use Rattle.of_cell.specs.declared.word.TheConstants.{PAYLOADS}
 use Rattle.of_mem.specs.declared.work.TheConstants.{MOST_INSTRS}
 use Rattle.of_core.specs.Table.{Setup, first_operation_cell, words_before_members}
-use Rattle.of_core.specs.World.{Moment, TableStart}
+use Rattle.of_core.specs.TableMoment.{Moment, TableStart}
 use Rattle.of_core.specs.History.{batch_at, numbers_after}
-use Rattle.of_core.specs.Shared.{MayStart, IsLog}
+use Rattle.of_core.specs.WordsMatch.{MayStart, IsLog}
 use Rattle.of_core.specs.Invariant.{MeetsInvariant}
 
 -- what a moment rests on

@@ -7,7 +7,7 @@ use Rattle.of_mem.specs.Meaning.{Meaning, is_marked}
 use Rattle.std.specs.List.{All}
 use Rattle.of_core.specs.Table.{Setup, ticket_cell, shape_cell, reply_cell}
 use Rattle.of_core.specs.Machine.{Call, no_call}
-use Rattle.of_core.specs.World.{Batch, TableStart}
+use Rattle.of_core.specs.TableMoment.{Batch, TableStart}
 
 -- the data words with a log's entries at sequence k
 abbrev pub with_log_applied : ℕ → List ℕ → List (ℕ × ℕ) → List ℕ

@@ -8,7 +8,7 @@ use Rattle.of_mem.specs.declared.work.TheConstants.{MOST_INSTRS}
 use Rattle.of_core.specs.declared.call.Call.{Call as RustCall}
 use Rattle.of_core.specs.declared.machine.Machine.TheInside.{Inside}
 use Rattle.of_core.specs.Machine.{Call}
-use Rattle.of_core.specs.Seen.{Machine, machine_setup}
+use Rattle.of_core.specs.MachineValue.{Machine, machine_setup}
 use Rattle.of_core.specs.Fit.{FitsSizes, HasRoomInParts}
 
 abbrev pub call_value : RustCall → Call

@@ -10,9 +10,9 @@ use Rattle.of_core.specs.declared.place.Outcome.TheVariants.{Answered, Spent}
 use Rattle.std.specs.List.{All}
 use Rattle.of_core.specs.Table.{Setup, log_at, cell_count, ticket_cell, request_of, data_word, log_word_of, durable_request, announcement_of, script_words_of, committed_seq, durable_seq}
 use Rattle.of_core.specs.Machine.{CallState, log_entry, log_words, no_cell_known}
-use Rattle.of_core.specs.World.{Batch, Moment, TableStart}
+use Rattle.of_core.specs.TableMoment.{Batch, Moment, TableStart}
 use Rattle.of_core.specs.History.{state_after, batch_at, numbers_after, last_ticket_by, HasCall}
-use Rattle.of_core.specs.Shared.{WasHeldByCell, IsRequest, IsLogWord, WordsMatchHistory}
+use Rattle.of_core.specs.WordsMatch.{WasHeldByCell, IsRequest, IsLogWord, WordsMatchHistory}
 use Rattle.of_core.specs.Rounds.{KnowsOwnRequest, AnnouncesNothingNew, IsUnannounced, IsAnnounced, IsInRound, WasCurrent, IsInTry, KnowsClosedState, IsBetweenRounds, IsPastRequest, IsPastOwnTicket, HasNothingUnderWay, FindsOwnTicket, HasReadReplyUpTo}
 use Rattle.of_core.specs.Scan.{HasScannedUpTo, HasLoadedAnnouncement, HasLoadedScript, IsInScan}
 use Rattle.of_core.specs.Transaction.{IsApplying, IsCopyingLog, HasStoredLog, HasClosedDurably, IsStoringLog}

@@ -16,12 +16,12 @@ use Rattle.of_core.specs.declared.place.Op.{Op}
 use Rattle.of_core.specs.declared.place.Op.TheVariants.{Load, Store, Exchange, Raise}
 use Rattle.of_core.specs.Machine.{Call, CallState, IsOpen, is_idle, idle_machine, begin_call, MayReplace}
 use Rattle.of_core.specs.Steps.{want, take_word, word_found, word_of, IsFoundBy}
-use Rattle.of_core.specs.World.{Moment, TableStart, Batch, step_batches, step_reads, after_step}
+use Rattle.of_core.specs.TableMoment.{Moment, TableStart, Batch, step_batches, step_reads, after_step}
 use Rattle.of_core.specs.History.{state_after, batch_at, no_batch, IsLegalHistory}
 use Rattle.of_core.specs.Facts.{IsStep, ReadsFrom, rests_on_seq}
-use Rattle.of_core.specs.Shared.{IsStart, MayStart}
+use Rattle.of_core.specs.WordsMatch.{IsStart, MayStart}
 use Rattle.of_core.specs.Invariant.{MeetsInvariant, IsLoaded}
-use Rattle.of_core.specs.Moves.{Guarantees}
+use Rattle.of_core.specs.Guarantees.{Guarantees}
 use Rattle.of_core.specs.Events.{Event, Turns, MayHappen, after_begin, after_event, after_raise, after_events, turn_count, HasStood, IsSchedule, StaysOpen, machine_in, start_ticket, opening_moment, zero_start}
 use Rattle.of_core.specs.Starts.{first_words, start_from_durable, IsStartRow, IsDurable, recovered_start}
 use Rattle.of_core.specs.Bound.{bound}

@@ -5,10 +5,10 @@ use Rattle.of_cell.specs.Cells as cells
 use Rattle.of_mem.specs.Meaning.{Meaning}
 use Rattle.of_core.specs.Table.{Setup, setup_of}
 use Rattle.of_core.specs.Machine.{CallState, no_machine}
-use Rattle.of_core.specs.World.{Moment, TableStart}
-use Rattle.of_core.specs.Shared.{MayStart}
+use Rattle.of_core.specs.TableMoment.{Moment, TableStart}
+use Rattle.of_core.specs.WordsMatch.{MayStart}
 use Rattle.of_core.specs.Events.{Event, after_events, IsSchedule, opening_moment}
-use Rattle.of_core.specs.Seen.{Machine}
+use Rattle.of_core.specs.MachineValue.{Machine}
 
 -- what contracts see of a bank
 pub record Bank (X : Type 0) : Type 0 where

@@ -7,7 +7,7 @@ use Rattle.of_core.specs.declared.place.Place.{Place}
 use Rattle.of_core.specs.declared.place.Place.TheVariants.{TryRequest, TryCell, CopyLog, LookAgain, RaiseCurrent, LoadTarget, ExchangeTarget, ReloadTarget, RaiseTarget, CloseRequest, RaiseClosed}
 use Rattle.of_core.specs.Table.{Setup, committed_seq, durable_seq}
 use Rattle.of_core.specs.Machine.{Call, CallState, is_idle}
-use Rattle.of_core.specs.World.{Moment, TableStart, Batch, Read}
+use Rattle.of_core.specs.TableMoment.{Moment, TableStart, Batch, Read}
 use Rattle.of_core.specs.History.{batch_at, last_ticket_by, numbers_after}
 
 -- the read is of an operation that only reads, and its reply is the meaning on the state at its

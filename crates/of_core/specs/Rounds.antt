@@ -8,9 +8,9 @@ use Rattle.of_mem.specs.Meaning.{is_marked, Agrees}
 use Rattle.std.specs.List.{All}
 use Rattle.of_core.specs.Table.{Setup, ticket_cell, shape_cell, reply_cell, request_of, log_word_of, durable_request, announcement_of, script_words_of, committed_seq, committed_owner}
 use Rattle.of_core.specs.Machine.{Call, CallState}
-use Rattle.of_core.specs.World.{Batch, TableStart}
+use Rattle.of_core.specs.TableMoment.{Batch, TableStart}
 use Rattle.of_core.specs.History.{batch_at, numbers_after, last_ticket_by}
-use Rattle.of_core.specs.Shared.{IsRequest}
+use Rattle.of_core.specs.WordsMatch.{IsRequest}
 
 -- the word that a machine knows its own durable request to have is one that its request has held
 abbrev pub KnowsOwnRequest : TableStart → List ℕ → List Batch → ℕ → ℕ → Type 0

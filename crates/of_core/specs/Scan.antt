@@ -9,9 +9,9 @@ use Rattle.of_mem.specs.Meaning.{is_marked, SameFrom, with_writes_in}
 use Rattle.std.specs.List.{All}
 use Rattle.of_core.specs.Table.{Setup, first_operation_cell, ticket_cell, shape_cell, reply_cell, announcement_of, script_words_of, committed_seq}
 use Rattle.of_core.specs.Machine.{Call, no_call, CallState}
-use Rattle.of_core.specs.World.{Batch, TableStart}
+use Rattle.of_core.specs.TableMoment.{Batch, TableStart}
 use Rattle.of_core.specs.History.{state_after, batch_at, numbers_after, numbers_after_calls, CallsHaveReplies, ticket_in_state, last_ticket_by, IsCellOfCaller, CallersRise}
-use Rattle.of_core.specs.Shared.{IsLog}
+use Rattle.of_core.specs.WordsMatch.{IsLog}
 
 -- the log names the cell with the number
 pub record LogsCell (es : List (ℕ × ℕ)) (a v : ℕ) : Type 0 where

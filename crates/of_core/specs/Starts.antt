@@ -7,9 +7,9 @@ use Rattle.of_cell.specs.Words.{pack, seq_of, payload_of}
 use Rattle.of_cell.specs.Cells.{data_cell, durable_cells}
 use Rattle.of_recover.specs.Recovered.{recovered_words}
 use Rattle.of_core.specs.Table.{Setup, cell_count, durable_word, durable_seq}
-use Rattle.of_core.specs.World.{Moment, TableStart}
+use Rattle.of_core.specs.TableMoment.{Moment, TableStart}
 use Rattle.of_core.specs.History.{state_after}
-use Rattle.of_core.specs.Shared.{MayStart}
+use Rattle.of_core.specs.WordsMatch.{MayStart}
 
 -- the request of a start's owner: closed, where there is a transaction behind the start
 abbrev pub closed_request : ℕ → ℕ

@@ -5,7 +5,7 @@ use Rattle.std.proofs.Common.{get_or, take}
 use Rattle.of_cell.specs.Words.{pack, seq_of}
 use Rattle.of_core.specs.Table.{Setup, request_of, data_word, log_word_of, durable_request, durable_cell, durable_log, announcement_of, committed_seq}
 use Rattle.of_core.specs.Machine.{CallState, log_entry, log_words}
-use Rattle.of_core.specs.World.{Batch, TableStart}
+use Rattle.of_core.specs.TableMoment.{Batch, TableStart}
 use Rattle.of_core.specs.History.{batch_at, last_ticket_by, HasCall}
 use Rattle.of_core.specs.Rounds.{WasCurrent, MayHelp, IsPastOwnTicket, HasNothingUnderWay}
 use Rattle.of_core.specs.Scan.{HasScannedUpTo}

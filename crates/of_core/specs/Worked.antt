@@ -6,7 +6,7 @@ use Rattle.of_mem.specs.declared.work.TheConstants.{MOST_INSTRS}
 use Rattle.of_mem.specs.declared.work.RawReply.{RawReply}
 use Rattle.of_mem.specs.Meaning.{Meaning, WalkEnd, Needs, Gives, with_writes_in}
 use Rattle.of_core.specs.Table.{Setup, setup_of, words_before_members}
-use Rattle.of_core.specs.World.{Moment, TableStart}
+use Rattle.of_core.specs.TableMoment.{Moment, TableStart}
 use Rattle.of_core.specs.declared.place.Outcome.{Outcome}
 use Rattle.of_core.specs.Events.{Event, Begins, Turns, after_events, opening_moment, zero_start}
 use Rattle.of_core.specs.Calls.{outcomes}

@@ -4,13 +4,13 @@ use Rattle.std.specs.Prelude.{ℕ, ◌+◌, ◌-◌, List, [], ◌∷◌, ◌++�
 use Rattle.std.proofs.Common.{get_or}
 use Rattle.of_cell.specs.Words.{seq_of}
 use Rattle.of_mem.specs.Meaning.{Gives, Agrees}
-use Rattle.of_mem.specs.Pad.{overlaid}
-use Rattle.of_mem.specs.Pairs.{put_all}
+use Rattle.of_mem.specs.Part.{overlaid}
+use Rattle.of_mem.specs.CellMap.{put_all}
 use Rattle.of_core.specs.Table.{Setup, ticket_cell, data_word}
 use Rattle.of_core.specs.Machine.{Call, no_call, own_cells}
-use Rattle.of_core.specs.World.{Batch, TableStart, Moment}
+use Rattle.of_core.specs.TableMoment.{Batch, TableStart, Moment}
 use Rattle.of_core.specs.History.{batch_at, numbers_after}
-use Rattle.of_core.specs.Shared.{IsLog}
+use Rattle.of_core.specs.WordsMatch.{IsLog}
 use Rattle.of_core.specs.Invariant.{MeetsInvariant}
 use Rattle.of_core.specs.Events.{Event, IsSchedule, opening_moment, after_events}
 use Rattle.of_core.specs.Laws.{EachSchedule}

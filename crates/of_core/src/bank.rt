@@ -9,7 +9,7 @@ ghost use Rattle.of_cell.specs.Cells.{durable_cells, table_words as cell_words};
 ghost use Rattle.of_cell.specs.declared.word.TheConstants.{PAYLOADS};
 ghost use Rattle.of_core.specs.Table.{cell_count, setup_on};
 ghost use Rattle.of_core.specs.Events.{Begins, Turns, Raises, zero_start, idle_machines, start_ticket};
-ghost use Rattle.of_core.specs.Shared.{MayStart};
+ghost use Rattle.of_core.specs.WordsMatch.{MayStart};
 ghost use Rattle.of_core.specs.Starts.{IsStartRow, closed_request, first_cells, first_words, start_on};
 ghost use Rattle.of_core.specs.Moment.{IsReached, RunSameWork, bank_after, bank_opening, call_states, machine_of, bank_setup, table_word_count};
 ghost use Rattle.of_core.specs.Turn.{turn_of, turn_of_outcome, IsIdle};

@@ -5,7 +5,7 @@ ghost use Rattle.std.proofs.Common.{get_or};
 ghost use Rattle.of_mem.specs.declared.work.TheConstants.{MOST_INSTRS};
 ghost use Rattle.of_cell.specs.declared.word.TheConstants.{PAYLOADS};
 ghost use Rattle.of_core.specs.Table.{cell_count, words_before_members, log_at, durable_at, ticket_word_at, shape_word_at, reply_word_at};
-ghost use Rattle.of_core.specs.Seen.{machine_setup, machine_after, op_at, ended_outcome};
+ghost use Rattle.of_core.specs.MachineValue.{machine_setup, machine_after, op_at, ended_outcome};
 ghost use Rattle.of_core.specs.Machine.{idle_machine, fresh_call, begin_call, log_words};
 ghost use Rattle.of_core.specs.Steps.{want, take_word, take_word_at, with_step_counted, IsOnTable};
 ghost use Rattle.of_core.specs.declared.place.Op.{Op};
@@ -72,7 +72,7 @@ pub struct Machine<W: Work> {
 }
 
 impl<W: Work> Model for Machine<W> {
-    ghost use Rattle.of_core.specs.Seen.{Machine};
+    ghost use Rattle.of_core.specs.MachineValue.{Machine};
 
     ghost Value = { Machine W };
 

@@ -2,9 +2,9 @@
 
 ghost use Rattle.std.proofs.Common.{set};
 ghost use Rattle.std.specs.Prelude.{◌-◌, ◌≡◌, ◌≤◌, ◌<◌, [], length, IfOk, MatchResult, None};
-ghost use Rattle.of_mem.specs.Pad.{Part};
+ghost use Rattle.of_mem.specs.Part.{Part};
 ghost use Rattle.of_mem.specs.Programs.{NeedsAt};
-ghost use Rattle.of_mem.specs.Remains.{IsSuspensionOf};
+ghost use Rattle.of_mem.specs.SuspendedRun.{IsSuspensionOf};
 ghost use Rattle.of_mem.specs.declared.work.TheConstants.{MOST_INSTRS};
 ghost use Rattle.of_mem.specs.Calls.{RunsProgram};
 ghost use Rattle.of_eval.specs.Calls.{script, in_cells};
@@ -12,7 +12,7 @@ ghost use Rattle.of_eval.specs.Shapes.{IsWhole};
 ghost use Rattle.of_eval.specs.Resuming.{HoldsScript};
 ghost use Rattle.of_eval.specs.Stored.{HasState};
 ghost use Rattle.of_eval.specs.Words.{IsOperation, reply_to};
-ghost use Rattle.of_store.specs.State.{Aborted};
+ghost use Rattle.of_store.specs.Store.{Aborted};
 
 use crate::step::{run_word, word_seeks};
 use of_mem::{Need, Part, Plot, SuspendedRun};

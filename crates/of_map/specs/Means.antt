@@ -4,7 +4,7 @@ use Rattle.std.specs.FinMap as fin
 use Rattle.of_mem.specs.declared.part.Need.{Need}
 use Rattle.of_mem.specs.declared.plot.Plot.{Plot}
 use Rattle.of_mem.specs.Numbers.{IsNumber}
-use Rattle.of_mem.specs.Pad.{Part}
+use Rattle.of_mem.specs.Part.{Part}
 use Rattle.of_mem.specs.Stores.{CellStore, thing_count}
 use Rattle.of_mem.specs.Calls.{ActsOnStore}
 use Rattle.of_map.specs.declared.answers.Put.{Put}

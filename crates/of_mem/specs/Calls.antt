@@ -3,7 +3,7 @@ use Rattle.std.specs.Prelude.{◌≡◌, ℕ, length, Result, MatchResult, IfOk}
 use Rattle.of_mem.specs.declared.part.Need.{Need}
 use Rattle.of_mem.specs.declared.plot.Plot.{Plot}
 use Rattle.of_mem.specs.Plots.{base, data_cell_count}
-use Rattle.of_mem.specs.Pad.{Part}
+use Rattle.of_mem.specs.Part.{Part}
 use Rattle.of_mem.specs.Programs.{Program, RunsAs, NeedsAt, IsPartOf, with_writes}
 use Rattle.of_mem.specs.Stores.{CellStore, StandsForStore}
 

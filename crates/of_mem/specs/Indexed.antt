@@ -3,7 +3,7 @@
 use Rattle.std.specs.Prelude.{◌≡◌, ◌≢◌, ℕ, ◌<◌, ◌≤◌, List, ◌∷◌, [], ◌++◌, length, Some, None}
 use Rattle.std.proofs.Common.{get_or, set}
 use Rattle.of_mem.specs.Numbers.{FitsCell}
-use Rattle.of_mem.specs.Pairs.{CellMap, value_for, put_pair, entry_address, IsAbsent}
+use Rattle.of_mem.specs.CellMap.{CellMap, value_for, put_pair, entry_address, IsAbsent}
 
 -- the place that is noted at an address, and 0 at one to which no note has come
 abbrev pub place_noted : List ℕ → ℕ → ℕ

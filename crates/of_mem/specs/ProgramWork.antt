@@ -5,7 +5,7 @@ use Rattle.std.proofs.Common.{get_or}
 use Rattle.of_mem.specs.declared.work.RawReply.{RawReply}
 use Rattle.of_mem.specs.declared.work.TheConstants.{MOST_INSTRS, LEAST_ABORT}
 use Rattle.of_mem.specs.Numbers.{FitsCell}
-use Rattle.of_mem.specs.Pad.{Part}
+use Rattle.of_mem.specs.Part.{Part}
 use Rattle.of_mem.specs.Programs.{Program, RunEnd, Lacks, Ends, run_program, program_answer, memory_after, program_writes, StaysBetween, StaysFrom, OnlyReads}
 use Rattle.of_mem.specs.Meaning.{Meaning, WalkEnd, Needs, Gives, with_writes_in, is_marked}
 

@@ -3,8 +3,8 @@
 use Rattle.std.specs.Prelude.{◌≡◌, ℕ, cond, eqb, ◌<◌, ◌≤◌, List, [], ◌∷◌, Option, Some, None}
 use Rattle.std.specs.Option.{unwrap_or}
 use Rattle.of_mem.specs.Numbers.{FitsCell}
-use Rattle.of_mem.specs.Pairs.{value_for}
-use Rattle.of_mem.specs.Pad.{Part, newest_at, write}
+use Rattle.of_mem.specs.CellMap.{value_for}
+use Rattle.of_mem.specs.Part.{Part, newest_at, write}
 
 pub data Program (A : Type 0) : Type 0 where
   Done : A → Program A

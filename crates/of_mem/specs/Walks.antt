@@ -1,6 +1,6 @@
 -- How far the walk of a key came through its bucket.
 use Rattle.std.specs.Prelude.{◌≡◌, ◌≢◌, ℕ, zero, suc, Some}
-use Rattle.of_mem.specs.Pad.{Part, newest_at}
+use Rattle.of_mem.specs.Part.{Part, newest_at}
 use Rattle.of_mem.specs.Stores.{first_at, link_at}
 
 -- from this cell so many blocks with other keys lead to that cell, and what leads there is known; o

@@ -2,7 +2,7 @@
 
 ghost use Rattle.std.specs.Prelude.{◌↔◌, IsTrue, ◌≡◌, ◌<◌, ◌≤◌, [], length, IfOk, MatchOption, slice_index_or};
 ghost use Rattle.std.specs.Vec.{vec_capacity};
-ghost use Rattle.of_mem.specs.Pairs.{value_for, put_pair, IsCellMap};
+ghost use Rattle.of_mem.specs.CellMap.{value_for, put_pair, IsCellMap};
 ghost use Rattle.of_mem.specs.Indexed.{FindsEntry, MissesEntry, SetsPlace};
 
 use std::alloc::{AllocError, Global};
@@ -21,7 +21,7 @@ pub struct CellMap {
 }
 
 impl Model for CellMap {
-    ghost use Rattle.of_mem.specs.Pairs.{CellMap};
+    ghost use Rattle.of_mem.specs.CellMap.{CellMap};
 
     ghost Value = { CellMap };
 

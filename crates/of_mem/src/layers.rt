@@ -3,8 +3,8 @@
 ghost use Rattle.std.specs.Prelude.{◌≡◌, ◌<◌, ◌≤◌, ◌↔◌, IsTrue, [], length, slice_index_or, IfOk, None};
 ghost use Rattle.std.proofs.Common.{get_or, is_some};
 ghost use Rattle.std.specs.Option.{option_or};
-ghost use Rattle.of_mem.specs.Pairs.{value_for};
-ghost use Rattle.of_mem.specs.Pad.{empty_part, learn, write, keep, ReadsAt};
+ghost use Rattle.of_mem.specs.CellMap.{value_for};
+ghost use Rattle.of_mem.specs.Part.{empty_part, learn, write, keep, ReadsAt};
 
 use crate::cell_map::CellMap;
 use crate::part::Need;
@@ -24,7 +24,7 @@ pub(crate) struct Layers {
 }
 
 impl Model for Layers {
-    ghost use Rattle.of_mem.specs.Pad.{Part};
+    ghost use Rattle.of_mem.specs.Part.{Part};
 
     ghost Value = { Part };
 
@@ -45,7 +45,7 @@ impl Model for Layers {
         }) p.newest };
 }
 
-#[tactic(auto, unfolding(crate::specs::Pad::newest_at, crate::specs::Pad::write))]
+#[tactic(auto, unfolding(crate::specs::Part::newest_at, crate::specs::Part::write))]
 impl Layers {
     /// A memory of the cells below `cells` of which nothing is known. The error is that there is no
     /// memory.

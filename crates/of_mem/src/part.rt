@@ -2,7 +2,7 @@
 
 ghost use Rattle.std.specs.Prelude.{◌≡◌, ◌<◌, ◌≤◌, ◌%◌, [], length, slice_index_or, IfOk, None};
 ghost use Rattle.std.proofs.Common.{get_or, is_some};
-ghost use Rattle.of_mem.specs.Pad.{empty_part, learn, write, keep, ReadsAt};
+ghost use Rattle.of_mem.specs.Part.{empty_part, learn, write, keep, ReadsAt};
 ghost use Rattle.of_mem.specs.declared.plot.TheConstants.{BUCKETS};
 ghost use Rattle.of_mem.specs.Places.{bucket_at};
 ghost use Rattle.of_mem.specs.Plots.{base};
@@ -51,13 +51,13 @@ pub struct Part {
 }
 
 impl Model for Part {
-    ghost use Rattle.of_mem.specs.Pad.{Part};
+    ghost use Rattle.of_mem.specs.Part.{Part};
 
     ghost Value = { Part };
 
     ghost use Rattle.std.specs.Prelude.{◌≤◌, ◌%◌};
     ghost use Rattle.of_mem.specs.declared.plot.TheConstants.{BUCKETS};
-    ghost use Rattle.of_mem.specs.Pad.{visible};
+    ghost use Rattle.of_mem.specs.Part.{visible};
     ghost use Rattle.of_mem.specs.Places.{bucket_at};
     ghost use Rattle.of_mem.specs.Walks.{Passes};
 

@@ -3,7 +3,7 @@
 ghost use Rattle.std.specs.Prelude.{◌≡◌, ◌≤◌, ◌<◌, ◌+◌, ◌↔◌, IsTrue, length, IfOk, None};
 ghost use Rattle.std.proofs.Common.{set};
 ghost use Rattle.of_mem.specs.declared.work.TheConstants.{MOST_INSTRS};
-ghost use Rattle.of_mem.specs.Remains.{nothing_suspended, begin_run, IsSuspensionOf};
+ghost use Rattle.of_mem.specs.SuspendedRun.{nothing_suspended, begin_run, IsSuspensionOf};
 
 use crate::cell_map::CellMap;
 use crate::part::Part;
@@ -28,7 +28,7 @@ pub struct SuspendedRun {
 }
 
 impl Model for SuspendedRun {
-    ghost use Rattle.of_mem.specs.Remains.{SuspendedRun};
+    ghost use Rattle.of_mem.specs.SuspendedRun.{SuspendedRun};
 
     ghost Value = { SuspendedRun };
 
@@ -168,8 +168,8 @@ impl SuspendedRun {
 pub trait MaySuspend: Copy + Send + Sync {
     ghost use Rattle.std.specs.Prelude.{◌≡◌, ℕ, [], None};
     ghost use Rattle.std.proofs.Common.{get_or};
-    ghost use Rattle.of_mem.specs.Remains.{SuspendedRun};
-    ghost use Rattle.of_mem.specs.Pad.{Part, learn};
+    ghost use Rattle.of_mem.specs.SuspendedRun.{SuspendedRun};
+    ghost use Rattle.of_mem.specs.Part.{Part, learn};
 
     /// What is kept is so of this partial memory, in which the script has written nothing.
     ghost holds: { SuspendedRun → Part → Type 0 };

@@ -3,7 +3,7 @@
 ghost use Rattle.std.specs.Prelude.{◌≡◌, ◌+◌, ◌*◌, ◌≤◌, ℕ, List, [], length};
 ghost use Rattle.of_mem.specs.declared.work.TheConstants.{MOST_INSTRS};
 ghost use Rattle.of_mem.specs.Meaning.{Meaning, IsSoundMeaning, HasRoom, KnowsSome, RunsAsWalked};
-ghost use Rattle.of_mem.specs.Pad.{overlaid};
+ghost use Rattle.of_mem.specs.Part.{overlaid};
 
 use crate::part::{Need, Part};
 use crate::suspended_run::{MaySuspend, SuspendedRun};

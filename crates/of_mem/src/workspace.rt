@@ -1,7 +1,7 @@
 //! Partial memory, and what a work keeps over it.
 
 ghost use Rattle.std.specs.Prelude.{◌≡◌, ◌<◌, ◌≤◌, [], length, slice_index_or, IfOk};
-ghost use Rattle.of_mem.specs.Pad.{empty_part, learn, write, keep, ReadsAt};
+ghost use Rattle.of_mem.specs.Part.{empty_part, learn, write, keep, ReadsAt};
 
 use crate::part::{Need, Part};
 use crate::suspended_run::{MaySuspend, SuspendedRun};
@@ -18,7 +18,7 @@ pub struct Workspace<W: MaySuspend> {
 }
 
 impl<W: MaySuspend> Model for Workspace<W> {
-    ghost use Rattle.of_mem.specs.Pad.{Part};
+    ghost use Rattle.of_mem.specs.Part.{Part};
 
     ghost Value = { Part };
 

@@ -5,11 +5,11 @@ use Rattle.of_mem.specs.declared.work.RawReply.{RawReply}
 use Rattle.of_mem.specs.declared.work.TheConstants.{MOST_INSTRS}
 use Rattle.of_mem.specs.ProgramWork.{memory_of}
 use Rattle.of_cell.specs.declared.word.TheConstants.{GREATEST_LIMIT}
-use Rattle.of_store.specs.State.{Store, Reply}
+use Rattle.of_store.specs.Store.{Store, Reply}
 use Rattle.of_eval.specs.declared.scripts.Scripts.{Scripts}
 use Rattle.of_eval.specs.Scripts.{scripts_data_cells, LawfulCells}
 use Rattle.of_eval.specs.Lawful.{reply_in}
-use Rattle.of_core.specs.World.{TableStart}
+use Rattle.of_core.specs.TableMoment.{TableStart}
 use Rattle.of_core.specs.Starts.{IsStartRow, start_from_durable}
 use Rattle.of_row.specs.declared.row.Row.{Row}
 use Rattle.of_row.specs.Views.{View}

@@ -24,7 +24,7 @@ pub struct Memory {
 
 impl Memory {
     ghost use Rattle.std.specs.Prelude.{◌≡◌, ◌<◌, ◌≤◌, ℕ, List, [], IfOk, IfErr};
-    ghost use Rattle.of_store.specs.State.{Store, empty_store};
+    ghost use Rattle.of_store.specs.Store.{Store, empty_store};
     ghost use Rattle.of_row.specs.Rows.{key_of};
     ghost use Rattle.of_row.specs.Passes.{IsFirst};
     ghost use Rattle.of_memory.specs.History.{Made};

@@ -82,7 +82,7 @@ pub struct Saved {
 
 impl Saved {
     ghost use Rattle.of_row.specs.Rows.{key_of, setup_at, view_of_pass, IsRowPass};
-    ghost use Rattle.of_store.specs.State.{Reply};
+    ghost use Rattle.of_store.specs.Store.{Reply};
     ghost use Rattle.of_store.specs.Replies.{reply_value_of};
     ghost use Rattle.of_eval.specs.Scripts.{scripts_meaning};
     ghost use Rattle.of_memory.specs.Laws.{KeepScripts};

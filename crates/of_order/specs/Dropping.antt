@@ -7,7 +7,7 @@ use Rattle.of_mem.specs.declared.plot.Plot.{Plot}
 use Rattle.of_mem.specs.declared.plot.TheConstants.{BUCKETS}
 use Rattle.of_mem.specs.Places.{keys_at}
 use Rattle.of_mem.specs.Plots.{base, data_cell_count}
-use Rattle.of_mem.specs.Pad.{Part, newest_at}
+use Rattle.of_mem.specs.Part.{Part, newest_at}
 use Rattle.of_mem.specs.Programs.{with_value, IsPartOf}
 use Rattle.of_mem.specs.Stores.{CellStore, StandsForStore, front_at, first_at, cell_after}
 

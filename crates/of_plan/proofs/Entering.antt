@@ -15,7 +15,7 @@ use Rattle.of_plan.specs.declared.parser.state.Stage.{Stage}
 use Rattle.of_plan.specs.Plan.{data_cells}
 use Rattle.of_plan.specs.Grammar.{Heading, AreEntries, stop_at, head_of, stop_in}
 use Rattle.of_plan.specs.LineReading.{IsLineInRange}
-use Rattle.of_plan.specs.Progress.{Reading, with_entry}
+use Rattle.of_plan.specs.Reading.{Reading, with_entry}
 use Rattle.of_plan.proofs.Entries.{after, after_script, after_stop, after_item, Adds, stop_same}
 
 -- a script goes to its caller

@@ -19,7 +19,7 @@ use Rattle.of_plan.specs.Lines.{text_lines, line_words}
 use Rattle.of_plan.specs.Plan.{Plan, turns_of, data_cells}
 use Rattle.of_plan.specs.Grammar.{Heading, limit_lines, plan_lines, IsHeading, IsEntryInRange, AreEntries, SpellsPlan, item_of, scripts_in, stop_in}
 use Rattle.of_plan.specs.LineReading.{IsLineInRange, plan_language}
-use Rattle.of_plan.specs.Progress.{Reading, plan_read, nothing_read, with_entry, after_line, plan_reader}
+use Rattle.of_plan.specs.Reading.{Reading, plan_read, nothing_read, with_entry, after_line, plan_reader}
 use Rattle.of_plan.specs.Reader.{after_lines as follow_by}
 use Rattle.of_plan.proofs.Lists.{all-both, map_const}
 use Rattle.of_plan.proofs.Readings.{Reads}

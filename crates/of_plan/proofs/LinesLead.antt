@@ -7,7 +7,7 @@ use Rattle.of_plan.specs.declared.parser.line.PlanLine.{PlanLine}
 use Rattle.of_plan.specs.declared.parser.line.PlanLine.TheVariants.{Body}
 use Rattle.of_plan.specs.LineReading.{plan_language, ScriptLine}
 use Rattle.of_plan.specs.Reader.{SpellsLine, ReadsLine, RefusesLine}
-use Rattle.of_plan.specs.Progress.{Reading, with_entry, after_line, TakesEntry, TakesLine, ReadsScriptLine, RefusesScriptLine, plan_reader}
+use Rattle.of_plan.specs.Reading.{Reading, with_entry, after_line, TakesEntry, TakesLine, ReadsScriptLine, RefusesScriptLine, plan_reader}
 
 -- an entry, behind the look whether one may come next
 pub entry_leads : {E : Type 0} (r : Result Bool E) (p begun q : Reading) (e : BodyLine) → after_line p (Body e) ≡ with_entry begun e → IfOk r (λ b. TakesEntry begun e b q) → IfOk r (λ b. TakesLine p (Body e) b q)

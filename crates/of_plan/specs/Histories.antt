@@ -2,7 +2,7 @@
 use Rattle.std.specs.Prelude.{◌≡◌, ℕ, ◌+◌, ◌-◌, ◌≤◌, ◌<◌, ◌⊎◌, ◌==◌, ◌&&◌, not, Bool, true, false, IsTrue, List, [], ◌∷◌, ◌++◌, length, map, filter, flat_map, slice_index_or, All, AllPairs}
 use Rattle.std.specs.List.{range_with_len, AllByRecursion as Each}
 use Rattle.of_script.specs.Language.{reads_only}
-use Rattle.of_store.specs.State.{Store, replies_in_order, last_store, run}
+use Rattle.of_store.specs.Store.{Store, replies_in_order, last_store, run}
 use Rattle.of_plan.specs.Plan.{Plan}
 use Rattle.of_plan.specs.Report.{Entry, Line, no_line, Report, Start, entries_of, finished_of}
 use Rattle.of_plan.specs.Legal.{script_of_entry, scripts_left, StandsBefore, HasOpenCall, HasEndState, LineIsWithinBound, IsLegal}

@@ -4,7 +4,7 @@ use Rattle.std.specs.Bool.{MatchBool}
 use Rattle.std.specs.List.{range_with_len}
 use Rattle.of_script.specs.declared.instr.Instr.{Instr}
 use Rattle.of_script.specs.Language.{reads_only}
-use Rattle.of_store.specs.State.{replies_in_order, last_store}
+use Rattle.of_store.specs.Store.{replies_in_order, last_store}
 use Rattle.of_plan.specs.Plan.{Plan, scripts_of, bound_of}
 use Rattle.of_plan.specs.Report.{Entry, EndState, done, stopped, spent, Line, Report, Start, entries_of, caller_line, finished_of}
 

@@ -8,7 +8,7 @@ use Rattle.of_plan.specs.declared.parser.line.PlanLine.TheVariants.{Body}
 use Rattle.of_plan.specs.declared.parser.state.Reading.{Reading}
 use Rattle.of_plan.specs.LineReading.{plan_language}
 use Rattle.of_plan.specs.Reader.{ReadsLine, RefusesLine}
-use Rattle.of_plan.specs.Progress.{reading_value, with_entry, after_line, TakesEntry, TakesLine, ReadsScriptLine, RefusesScriptLine, plan_reader}
+use Rattle.of_plan.specs.Reading.{reading_value, with_entry, after_line, TakesEntry, TakesLine, ReadsScriptLine, RefusesScriptLine, plan_reader}
 
 -- the entry was taken, or may not come next
 abbrev pub HasTakenEntry : (old : Reading) → BodyLine → (new : Reading) → (taken : Bool) → Type 0

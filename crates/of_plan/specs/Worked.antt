@@ -1,7 +1,7 @@
 -- A worked legal report, and seven that are no legal ones, each one field away from it.
 use Rattle.std.specs.Prelude.{ℕ, ◌+◌, Bool, true, false, Option, Some, None, [], ◌∷◌}
 use Rattle.of_script.specs.declared.instr.Instr.TheVariants.{Load, Store as StoreInstr, Add}
-use Rattle.of_store.specs.State.{Store, Answered, empty_store, with_register}
+use Rattle.of_store.specs.Store.{Store, Answered, empty_store, with_register}
 use Rattle.of_plan.specs.Plan.{Plan, bound_of}
 use Rattle.of_plan.specs.Report.{Entry, Line, done, stopped, Report}
 

@@ -5,7 +5,7 @@ use Rattle.of_mem.specs.declared.part.Need.{Need}
 use Rattle.of_mem.specs.declared.plot.Plot.{Plot}
 use Rattle.of_mem.specs.declared.plot.TheConstants.{QUEUES}
 use Rattle.of_mem.specs.Numbers.{IsNumber}
-use Rattle.of_mem.specs.Pad.{Part}
+use Rattle.of_mem.specs.Part.{Part}
 use Rattle.of_mem.specs.Stores.{CellStore, thing_count}
 use Rattle.of_mem.specs.Calls.{ActsOnStore}
 

@@ -7,7 +7,7 @@ use Rattle.std.proofs.lemmas.List.Folds.{Any-from_list_any}
 use Rattle.std.proofs.lemmas.Bool.Decides.{Decides-eqb, nat_tests}
 use Rattle.std.proofs.lemmas.List.{get_or-map, length-map}
 use Rattle.std.proofs.lemmas.Bool.{eq-eqb as equals, ne_eqb as differs}
-use Rattle.of_wset.specs.Pairs.{value_at, put, address, IsMap}
+use Rattle.of_wset.specs.WriteSet.{value_at, put, address, IsMap}
 use Rattle.of_wset.specs.Index.{IsUnwritten, IsEntryFor, IsIndexedSet, note_at}
 
 -- where the address is absent

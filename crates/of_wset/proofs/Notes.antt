@@ -2,7 +2,7 @@
 use Rattle.std.proofs.Common.{◌≡◌, ℕ, ◌+◌, ◌<◌, ◌≤◌, ◌⊎◌, inl, inr, List, [], ◌∷◌, ◌++◌, length, refl, ◌∙◌, ap, arith, length-append}
 use Rattle.std.proofs.lemmas.Bool.{cases_eq}
 use Rattle.std.proofs.lemmas.List.{get_or_append_left, get_or_push}
-use Rattle.of_wset.specs.Pairs.{address}
+use Rattle.of_wset.specs.WriteSet.{address}
 use Rattle.of_wset.specs.Index.{IsUnwritten, NotesPlace, IsIndexedSet, note_at}
 use Rattle.of_wset.proofs.Maps.{few}
 

@@ -1,7 +1,7 @@
 -- How the code finds pairs: each pair's place is noted at its address, and a note counts only if the
 -- pair at that place names the address. No public contract speaks of it.
 use Rattle.std.specs.Prelude.{◌≡◌, ◌≢◌, ℕ, ◌<◌, ◌≤◌, List, length, slice_index_or}
-use Rattle.of_wset.specs.Pairs.{address}
+use Rattle.of_wset.specs.WriteSet.{address}
 
 -- the address is in no entry
 abbrev pub IsUnwritten : List (ℕ × ℕ) → ℕ → Type 0

@@ -1,6 +1,6 @@
 ghost use Rattle.std.specs.Prelude.{◌≡◌, ◌<◌, ◌≤◌, ◌==◌, [], length, IfOk, MatchOption, slice_index_or};
 ghost use Rattle.std.specs.Vec.{vec_capacity};
-ghost use Rattle.of_wset.specs.Pairs.{value_at, put, IsMap};
+ghost use Rattle.of_wset.specs.WriteSet.{value_at, put, IsMap};
 ghost use Rattle.of_wset.specs.Index.{IsEntryFor, IsUnwritten, NotesPlace};
 
 use std::alloc::{AllocError, Global};
@@ -19,7 +19,7 @@ pub struct WriteSet {
 }
 
 impl Model for WriteSet {
-    ghost use Rattle.of_wset.specs.Pairs.{WriteSet};
+    ghost use Rattle.of_wset.specs.WriteSet.{WriteSet};
 
     ghost Value = { WriteSet };
 

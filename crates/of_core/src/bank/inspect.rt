@@ -5,7 +5,7 @@ ghost use Rattle.std.specs.Prelude.{◌≡◌, ◌≢◌, ◌<◌, map};
 ghost use Rattle.std.proofs.Common.{get_or};
 ghost use Rattle.of_core.specs.declared.place.Place.TheVariants.{Idle};
 ghost use Rattle.of_core.specs.Table.{words_before_members};
-ghost use Rattle.of_core.specs.Seen.{ended_outcome};
+ghost use Rattle.of_core.specs.MachineValue.{ended_outcome};
 ghost use Rattle.of_core.specs.Helping.{helped_owner};
 ghost use Rattle.of_core.specs.Inside.{call_value};
 ghost use Rattle.of_core.specs.Steps.{want, word_of};

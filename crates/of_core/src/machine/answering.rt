@@ -4,7 +4,7 @@
 ghost use Rattle.std.specs.Prelude.{◌≡◌, ◌<◌, ◌≤◌, ◌+◌, IfSome, Option, ℕ};
 ghost use Rattle.of_mem.specs.declared.work.TheConstants.{MOST_INSTRS};
 ghost use Rattle.of_core.specs.Steps.{next_reply_place};
-ghost use Rattle.of_core.specs.Seen.{machine_setup, step_from};
+ghost use Rattle.of_core.specs.MachineValue.{machine_setup, step_from};
 ghost use Rattle.of_core.specs.declared.place.Place.TheVariants.{LoadReply};
 
 use crate::machine::logs::first_mark;

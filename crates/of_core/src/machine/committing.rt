@@ -2,7 +2,7 @@
 //! exchange that commits.
 
 ghost use Rattle.std.specs.Prelude.{◌≡◌, ◌<◌, ◌+◌};
-ghost use Rattle.of_core.specs.Seen.{step_from};
+ghost use Rattle.of_core.specs.MachineValue.{step_from};
 ghost use Rattle.of_core.specs.declared.place.Place.TheVariants.{StoreLog, RaiseLog};
 
 use crate::machine::Machine;

@@ -4,9 +4,9 @@
 ghost use Rattle.std.specs.Prelude.{◌≡◌, ◌<◌, ◌≤◌, ◌+◌, ◌*◌, ◌==◌, length, true};
 ghost use Rattle.std.proofs.Common.{get_or};
 ghost use Rattle.of_cell.specs.Words.{pack, seq_of, payload_of};
-ghost use Rattle.of_core.specs.Shared.{AreLogWords};
+ghost use Rattle.of_core.specs.WordsMatch.{AreLogWords};
 ghost use Rattle.of_core.specs.Steps.{after_load_request, with_log_word_copied, enter, resume};
-ghost use Rattle.of_core.specs.Seen.{machine_setup, machine_after, step_from};
+ghost use Rattle.of_core.specs.MachineValue.{machine_setup, machine_after, step_from};
 ghost use Rattle.of_core.specs.declared.place.Place.TheVariants.{CopyLog};
 
 use crate::machine::Machine;

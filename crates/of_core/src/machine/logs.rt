@@ -5,8 +5,8 @@ ghost use Rattle.std.specs.List.{All};
 ghost use Rattle.std.proofs.Common.{take, drop};
 ghost use Rattle.of_cell.specs.declared.shape.TheConstants.{MOST_DATA_CELLS};
 ghost use Rattle.of_mem.specs.declared.work.TheConstants.{MOST_INSTRS};
-ghost use Rattle.of_mem.specs.Pairs.{put_all};
-ghost use Rattle.of_mem.specs.Pad.{keep};
+ghost use Rattle.of_mem.specs.CellMap.{put_all};
+ghost use Rattle.of_mem.specs.Part.{keep};
 ghost use Rattle.of_core.specs.Machine.{log_of, log_words, own_cells, reply_cell_pairs, entries_going_round};
 ghost use Rattle.of_core.specs.Steps.{first_marked_place};
 

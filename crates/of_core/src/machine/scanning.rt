@@ -4,11 +4,11 @@
 ghost use Rattle.std.specs.Prelude.{◌≡◌, ◌<◌, ◌≤◌, ◌+◌, length, true, IsTrue};
 ghost use Rattle.of_cell.specs.Words.{seq_of, payload_of};
 ghost use Rattle.of_mem.specs.declared.work.TheConstants.{MOST_INSTRS};
-ghost use Rattle.of_mem.specs.Pad.{overlaid};
+ghost use Rattle.of_mem.specs.Part.{overlaid};
 ghost use Rattle.of_core.specs.Machine.{with_cell_known};
 ghost use Rattle.of_core.specs.Steps.{own_reply_or, place_behind, run_script, weigh};
 ghost use Rattle.of_core.specs.Fit.{IsScanning, LeavesTicket, is_scanning};
-ghost use Rattle.of_core.specs.Seen.{machine_setup, machine_after, step_from, KnowsState};
+ghost use Rattle.of_core.specs.MachineValue.{machine_setup, machine_after, step_from, KnowsState};
 ghost use Rattle.of_core.specs.declared.place.Place.TheVariants.{LoadScript, LoadCell};
 
 use crate::call::Call;

@@ -6,7 +6,7 @@ ghost use Rattle.of_cell.specs.Words.{seq_of, payload_of};
 ghost use Rattle.of_core.specs.Machine.{with_cell_known};
 ghost use Rattle.of_core.specs.Steps.{end_try, read_on, begin_reading};
 ghost use Rattle.of_core.specs.Fit.{is_reading};
-ghost use Rattle.of_core.specs.Seen.{machine_setup, machine_after, step_from, KnowsState};
+ghost use Rattle.of_core.specs.MachineValue.{machine_setup, machine_after, step_from, KnowsState};
 ghost use Rattle.of_core.specs.declared.place.Place.TheVariants.{TryCell};
 
 use crate::machine::Machine;

@@ -1,6 +1,6 @@
 use Rattle.std.proofs.Common.{◌≡◌, ℕ, ◌<◌, ◌≤◌, List, [], ◌∷◌, length, get_or, set, arith, ap, subst, ◌∙◌, sym, refl, length-set}
 use Rattle.of_core.specs.Table.{Setup, setup_of, first_operation_cell, words_before_members}
-use Rattle.of_core.specs.Seen.{Machine, machine_setup}
+use Rattle.of_core.specs.MachineValue.{Machine, machine_setup}
 use Rattle.of_core.specs.Machine.{CallState}
 use Rattle.of_core.specs.Bank.{bank_value}
 use Rattle.of_core.specs.Moment.{Bank, call_states}

@@ -3,11 +3,11 @@ use Rattle.std.proofs.lemmas.List.{map-append}
 use Rattle.of_cell.specs.declared.word.TheConstants.{PAYLOADS}
 use Rattle.of_cell.specs.Words.{seq_of}
 use Rattle.of_mem.specs.declared.work.TheConstants.{MOST_INSTRS}
-use Rattle.of_mem.specs.Pairs.{put_all}
-use Rattle.of_mem.specs.Pad.{Part, overlaid}
+use Rattle.of_mem.specs.CellMap.{put_all}
+use Rattle.of_mem.specs.Part.{Part, overlaid}
 use Rattle.of_mem.specs.Meaning.{IsSoundMeaning, Needs, Gives}
 use Rattle.of_mem.specs.declared.work.RawReply.{RawReply}
-use Rattle.of_wset.specs.Pairs.{WriteSet}
+use Rattle.of_wset.specs.WriteSet.{WriteSet}
 use Rattle.of_core.specs.Table.{Setup, setup_of, first_operation_cell, ticket_cell}
 use Rattle.of_core.specs.Machine.{Call, own_cells}
 use Rattle.of_core.specs.Inside.{call_value}

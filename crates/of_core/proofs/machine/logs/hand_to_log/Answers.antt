@@ -1,6 +1,6 @@
 use Rattle.std.proofs.Common.{◌≡◌, ◌<◌, ℕ, List, length, get_or, ◌∙◌, ap, sym, refl, arith}
-use Rattle.of_wset.specs.Pairs.{WriteSet}
-use Rattle.of_mem.specs.Pairs.{put_pair}
+use Rattle.of_wset.specs.WriteSet.{WriteSet}
+use Rattle.of_mem.specs.CellMap.{put_pair}
 use Rattle.of_core.proofs.Puts.{wset_put, put_all_take}
 use Rattle.of_core.proofs.machine.logs.hand_to_log.Goals as goal
 

@@ -1,6 +1,6 @@
 use Rattle.std.proofs.Common.{◌≡◌, ℕ, ◌<◌, ◌+◌, ◌*◌, List, length, get_or, take, drop, arith, ap, ◌∙◌, sym, refl}
-use Rattle.of_wset.specs.Pairs.{WriteSet}
-use Rattle.of_mem.specs.Pairs.{put_pair, put_all}
+use Rattle.of_wset.specs.WriteSet.{WriteSet}
+use Rattle.of_mem.specs.CellMap.{put_pair, put_all}
 use Rattle.of_core.specs.Machine.{log_words, log_of}
 use Rattle.of_core.proofs.Logs.{length-log_words, words_at}
 use Rattle.of_core.proofs.Puts.{log_of_words, put_part, wset_put}

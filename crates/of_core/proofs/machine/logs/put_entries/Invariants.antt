@@ -1,5 +1,5 @@
 use Rattle.std.proofs.Common.{◌≡◌, drop, take}
-use Rattle.of_mem.specs.Pairs.{put_all}
+use Rattle.of_mem.specs.CellMap.{put_all}
 use Rattle.of_core.specs.Machine.{log_of}
 use Rattle.of_core.proofs.machine.logs.put_entries.Given as goal
 

@@ -1,6 +1,6 @@
 use Rattle.std.proofs.Common.{◌+◌, ℕ, List, [], ◌∷◌, ◌∙◌, ap, sym}
-use Rattle.of_mem.specs.Pad.{Part}
-use Rattle.of_mem.specs.Pairs.{put_pair}
+use Rattle.of_mem.specs.Part.{Part}
+use Rattle.of_mem.specs.CellMap.{put_pair}
 use Rattle.of_core.specs.Machine.{reply_cell_pairs}
 use Rattle.of_core.proofs.Puts.{put_all_append, wrote_script}
 use Rattle.of_core.proofs.machine.logs.put_own.Goals as goal

@@ -1,6 +1,6 @@
 use Rattle.std.proofs.Common.{◌+◌, ◌<◌, ℕ, List, length, get_or, ◌∙◌, ap, sym, arith}
-use Rattle.of_mem.specs.Pad.{Part}
-use Rattle.of_mem.specs.Pairs.{put_pair}
+use Rattle.of_mem.specs.Part.{Part}
+use Rattle.of_mem.specs.CellMap.{put_pair}
 use Rattle.of_core.proofs.Puts.{put_listed, wrote_script}
 use Rattle.of_core.proofs.machine.logs.put_reply.Goals as goal
 

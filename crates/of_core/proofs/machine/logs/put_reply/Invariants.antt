@@ -1,5 +1,5 @@
 use Rattle.std.proofs.Common.{◌≡◌, ◌+◌, take}
-use Rattle.of_mem.specs.Pairs.{put_all}
+use Rattle.of_mem.specs.CellMap.{put_all}
 use Rattle.of_core.specs.Machine.{cells_from}
 use Rattle.of_core.proofs.machine.logs.put_reply.Given as goal
 

@@ -1,6 +1,6 @@
 use Rattle.std.proofs.Common.{arith, rules}
 use Rattle.std.proofs.lemmas.Grind.{common_steps}
-use Rattle.of_mem.specs.Pairs.{IsAbsent}
+use Rattle.of_mem.specs.CellMap.{IsAbsent}
 use Rattle.of_mem.proofs.cell_map.CellMap.find.Goals as goal
 use Rattle.of_mem.proofs.Indexed.{is_map, finds, misses}
 

@@ -1,6 +1,6 @@
 use Rattle.std.proofs.Common.{◌<◌, ◌≤◌, ℕ, List, length, ap, sym, ◌∙◌, arith}
 use Rattle.std.proofs.lemmas.List.{get_or_default}
-use Rattle.of_wset.specs.Pairs.{WriteSet}
+use Rattle.of_wset.specs.WriteSet.{WriteSet}
 use Rattle.of_wset.specs.Index.{IsEntryFor, IsUnwritten, NotesPlace}
 use Rattle.of_wset.proofs.wset.WriteSet.put.Goals as goal
 use Rattle.of_wset.proofs.Maps.{few, put-found, put-absent}

@@ -4,7 +4,7 @@ use Rattle.of_script.specs.Text.{text_words, script_words}
 use Rattle.of_plan.specs.declared.parser.line.BodyLine.TheVariants.{Script}
 use Rattle.of_plan.specs.declared.parser.line.PlanLine.TheVariants.{Body}
 use Rattle.of_plan.specs.LineReading.{ScriptLine}
-use Rattle.of_plan.specs.Progress.{reading_value}
+use Rattle.of_plan.specs.Reading.{reading_value}
 use Rattle.of_plan.proofs.LineLaws.{no_number, number_and}
 use Rattle.of_plan.proofs.LinesLead.{entry_leads, script_leads}
 use Rattle.of_plan.proofs.parser.state.Reading.feed_script.Goals as goal

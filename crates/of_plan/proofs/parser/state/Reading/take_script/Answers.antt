@@ -2,7 +2,7 @@ use Rattle.std.proofs.Common.{List, [], ◌∷◌, ◌++◌, set, ap, ◌∙◌,
 use Rattle.std.proofs.lemmas.List.{map-set}
 use Rattle.std.specs.declared.vec.Vec.{Vec}
 use Rattle.of_script.specs.declared.instr.Instr.{Instr}
-use Rattle.of_plan.specs.Progress.{reading_value}
+use Rattle.of_plan.specs.Reading.{reading_value}
 use Rattle.of_plan.proofs.Entering.{script_entered}
 use Rattle.of_plan.proofs.Lists.{at_place}
 use Rattle.of_plan.proofs.parser.state.Reading.take_script.Goals as goal

@@ -8,7 +8,7 @@ use Rattle.of_mem.specs.Meaning.{HasDistinctCells, SameFrom}
 use Rattle.std.specs.List.{All}
 use Rattle.of_core.specs.Table.{Setup, first_operation_cell, cell_count, request_of, data_word, log_word_of, durable_word, durable_request, durable_cell, durable_log, announcement_of, committed_seq, committed_owner, durable_seq}
 use Rattle.of_core.specs.Machine.{Call, log_words}
-use Rattle.of_core.specs.World.{Batch, TableStart}
+use Rattle.of_core.specs.TableMoment.{Batch, TableStart}
 use Rattle.of_core.specs.History.{batch_at, data_word_after, numbers_after, numbers_after_calls, CallsHaveReplies, last_ticket_by, OwnCellsShowLast, CallersRise}
 
 -- an entry of a log that may be: a data cell, and a number that a word holds

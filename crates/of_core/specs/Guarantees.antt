@@ -5,7 +5,7 @@ use Rattle.of_cell.specs.Words.{pack, seq_of}
 use Rattle.std.specs.List.{All}
 use Rattle.of_core.specs.Table.{Setup, cell_count, request_of, data_word, log_word_of, durable_word, script_word, announcement_of, committed_seq, committed_owner}
 use Rattle.of_core.specs.Machine.{Call}
-use Rattle.of_core.specs.World.{Batch, Moment, TableStart}
+use Rattle.of_core.specs.TableMoment.{Batch, Moment, TableStart}
 use Rattle.of_core.specs.History.{state_after, batch_at, last_ticket_by}
 use Rattle.of_core.specs.Rounds.{AnnouncesNothingNew}
 use Rattle.of_core.specs.Scan.{IsAnnouncedCall}
