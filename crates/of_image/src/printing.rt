@@ -14,7 +14,7 @@ ghost use Rattle.of_script.specs.Appending.{AppendsText};
 
 use crate::line::ImageLine;
 use crate::version::Version;
-use of_cell::{Shape, payload_of, seq_of};
+use of_cell::{payload_of, seq_of};
 use of_mem::Plot;
 use of_plan::table_shape;
 use of_report::Image;
