@@ -15,7 +15,7 @@ use Rattle.of_check.specs.declared.cause.EndRule.TheVariants.{Answered, Ending, 
 use Rattle.of_check.specs.declared.cause.Cause.{Cause}
 use Rattle.of_check.specs.declared.cause.Cause.TheVariants.{Callers, Entry, Caller, Line as LineCause}
 use Rattle.of_check.specs.Claims.{call_claims_of_text, end_claims_of_text}
-use Rattle.of_check.specs.Course.{Replay, replay_at_start, index_for, script_for, course_end, MayFollowWithin, AllFollow}
+use Rattle.of_check.specs.Replay.{Replay, replay_at_start, index_for, script_for, course_end, MayFollowWithin, AllFollow}
 use Rattle.of_check.specs.Endings.{left_of, IsEnding, claimed_line_at}
 use Rattle.of_check.specs.Verdict.{IsClaimed}
 

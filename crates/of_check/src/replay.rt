@@ -3,7 +3,7 @@
 ghost use Rattle.std.specs.Prelude.{◌≡◌, ◌↔◌, [], IsTrue, length, IfOk, MatchOption};
 ghost use Rattle.std.specs.Bool.{MatchBool};
 ghost use Rattle.of_check.specs.Starts.{start_of};
-ghost use Rattle.of_check.specs.Course.{MayFollowWithin, MayFollow, AllFollow, HasRunCall, HasRunCalls, replay_at_start, replay_value, entries_so_far};
+ghost use Rattle.of_check.specs.Replay.{MayFollowWithin, MayFollow, AllFollow, HasRunCall, HasRunCalls, replay_at_start, replay_value, entries_so_far};
 
 use crate::claims::CallClaim;
 use crate::start::Start;

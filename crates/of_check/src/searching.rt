@@ -6,7 +6,7 @@ ghost use Rattle.of_plan.specs.Lines.{text_lines as lines_of};
 ghost use Rattle.of_plan.specs.Legal.{HasOpenCall, HasEndState};
 ghost use Rattle.of_report.specs.Report.{report_value, end_state_value};
 ghost use Rattle.of_check.specs.Starts.{start_of};
-ghost use Rattle.of_check.specs.Course.{MayFollow, HasRunCalls, replay_value};
+ghost use Rattle.of_check.specs.Replay.{MayFollow, HasRunCalls, replay_value};
 ghost use Rattle.of_check.specs.Endings.{IsEnding, AreEndings, claimed_line};
 ghost use Rattle.of_check.specs.Verdict.{IsLegalText, IsTextOf};
 ghost use Rattle.of_check.specs.Causes.{BreaksEntry, BreaksAt, BreaksEnd, BreaksFirst, IsCause, DifferFirst, IsCauseFrom};

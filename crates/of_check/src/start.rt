@@ -4,7 +4,7 @@ ghost use Rattle.std.specs.Prelude.{◌≡◌, ◌≤◌, IfOk, map, replicate};
 ghost use Rattle.std.specs.List.{range_with_len};
 ghost use Rattle.of_script.specs.declared.instr.TheConstants.{MOST_INSTRS};
 ghost use Rattle.of_store.specs.declared.store.TheConstants.{MOST_BLOCKS};
-ghost use Rattle.of_store.specs.State.{empty_store};
+ghost use Rattle.of_store.specs.Store.{empty_store};
 ghost use Rattle.of_report.specs.Image.{IsImage, image_value, image_ticket, start_of_image as image_start};
 ghost use Rattle.of_check.specs.Starts.{start_where_done, start_of};
 

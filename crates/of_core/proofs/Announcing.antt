@@ -10,12 +10,12 @@ use Rattle.of_core.specs.declared.place.Place.TheVariants.{StoreScript, StoreAnn
 use Rattle.of_core.specs.Table.{Setup, cell_count, durable_at, request_at, log_at, script_word_at, script_words_of, script_word, announcement_of, current_word, request_of, data_word, log_word_of, durable_word, committed_seq, committed_owner, durable_seq}
 use Rattle.of_core.specs.Machine.{CallState, Call}
 use Rattle.of_core.specs.Steps.{after_store_script, take_word_at}
-use Rattle.of_core.specs.World.{Read, Moment, TableStart, after_counted_step}
+use Rattle.of_core.specs.TableMoment.{Read, Moment, TableStart, after_counted_step}
 use Rattle.of_core.specs.History.{batch_at, data_word_after, last_ticket_by}
-use Rattle.of_core.specs.Shared.{IsRequest, AnnouncementsAreServed, IsLastOpen, DataCellsMatchState, DurableWordsMatch}
+use Rattle.of_core.specs.WordsMatch.{IsRequest, AnnouncementsAreServed, IsLastOpen, DataCellsMatchState, DurableWordsMatch}
 use Rattle.of_core.specs.Rounds.{KnowsOwnRequest, IsUnannounced, HasNothingUnderWay, AnnouncesNothingNew}
 use Rattle.of_core.specs.Invariant.{HoldsAtPlace, MeetsCore}
-use Rattle.of_core.specs.Moves.{KeepsGuarantee}
+use Rattle.of_core.specs.Guarantees.{KeepsGuarantee}
 use Rattle.of_core.proofs.Logs.{room_for}
 use Rattle.of_core.proofs.Stability.{log_in, heard_as, same_row}
 use Rattle.of_core.proofs.Assembling.{assemble}
@@ -107,7 +107,7 @@ module _ (S : Setup) (Lawful : List ℕ → Type 0) (B : TableStart) (w : Moment
     calm c = record {
       own = rw (req_same i h, current_same) c.own;
       level = dur_same (request_at i) (omega arith) ∙ c.level ∙ sym (req_same i h);
-      shut = λ k l u o. rw (req_same i h) (c.shut k l (rw current_same data_word_after u) o);
+      shut = λ k l u o. rw (req_same i h) (c.shut k l (rw current_same at u) o);
       logs = λ y u. rw (log_same i y h u, current_same) (c.logs y u);
     }
 
@@ -197,7 +197,7 @@ module _ (S : Setup) (Lawful : List ℕ → Type 0) (B : TableStart) (w : Moment
       script = said_below S w.words us i (length m.op) (λ y l. others ci S.instrs v x_in f.quieted i y (omega (arith, f.words)) (λ q r. omega (arith, f.words))) ∙ a.2;
       upto = rw last_same (omega (arith, f.above));
       beyond = omega (arith, f.above, tickets_grow S Lawful B w.batches g.shared.stands B.seq (committed_seq w.words) i (omega arith) (omega (arith, n_is)) (omega (arith, n_is)) h);
-      mine = λ k l u y d z q r. absurd (none k l (rw last_same data_word_after u) y d z q r);
+      mine = λ k l u y d z q r. absurd (none k l (rw last_same at u) y d z q r);
       known = λ l. absurd (omega (arith, f.rounds));
     },
     calm ci S.instrs v x_in f.quieted a.1,
@@ -244,7 +244,7 @@ module _ (S : Setup) (Lawful : List ℕ → Type 0) (B : TableStart) (w : Moment
       new : (c k : ℕ) → c ≡ i → B.seq < k → k ≤ committed_seq w.words → (batch_at B w.batches k).announcements c ≡ announcement_of S us c → ⊥
       new c k q l u e =
           let z : seq_of ((batch_at B w.batches k).announcements i) ≤ seq_of (announcement_of S w.words i) = g.shared.heard.before k i l u h in
-          let y : (batch_at B w.batches k).announcements i ≡ announcement_of S us i = rw q data_word_after e in
+          let y : (batch_at B w.batches k).announcements i ≡ announcement_of S us i = rw q at e in
           omega (arith, f.newer, now_seq, ap seq_of y)
 
       t : Touches S Lawful B i w.words us w.batches
@@ -259,8 +259,8 @@ module _ (S : Setup) (Lawful : List ℕ → Type 0) (B : TableStart) (w : Moment
         small = λ c l. small_at c l (cases_eq c i);
         tickets = λ c l. ticket_at c l (cases_eq c i);
         some = λ c l. some_at c l (cases_eq c i);
-        before = λ k c l u n. before_at k c l (rw last_same data_word_after u) n (cases_eq c i);
-        met = λ k c l u n e. met_at k c l (rw last_same data_word_after u) n (cases_eq c i) e;
+        before = λ k c l u n. before_at k c l (rw last_same at u) n (cases_eq c i);
+        met = λ k c l u n e. met_at k c l (rw last_same at u) n (cases_eq c i) e;
         reached = λ c l. rw last_same (reached_at c l (cases_eq c i));
         counts = λ c l. rw (log_same ci S.instrs v x_in f.quieted c 0 l (omega arith)) (g.shared.heard.counts c l);
       }
@@ -279,7 +279,7 @@ module _ (S : Setup) (Lawful : List ℕ → Type 0) (B : TableStart) (w : Moment
 
           some_at : (c : ℕ) → c < S.callers → (c ≡ i) ⊎ (c ≡ i → ⊥) → 0 < seq_of (announcement_of S us c) → 1 ≤ payload_of (announcement_of S us c)
           some_at c l (inl q) z = rw q (omega (arith, now_pay, f.some))
-          some_at c l (inr q) z = rw (ann_other c q) (g.shared.heard.some c l (rw (ann_other c q) data_word_after z))
+          some_at c l (inr q) z = rw (ann_other c q) (g.shared.heard.some c l (rw (ann_other c q) at z))
 
           before_at : (k c : ℕ) → B.seq < k → k ≤ committed_seq w.words → c < S.callers → (c ≡ i) ⊎ (c ≡ i → ⊥) → seq_of ((batch_at B w.batches k).announcements c) ≤ seq_of (announcement_of S us c)
           before_at k c l u n (inl q) = rw q (omega (arith, now_seq, f.newer, g.shared.heard.before k i l u h))

@@ -9,13 +9,13 @@ use Rattle.of_core.specs.declared.place.Place.TheVariants.{LoadTarget, ExchangeT
 use Rattle.of_core.specs.Table.{Setup, script_word_at, cell_count, durable_at, log_at, script_word, current_word, request_of, data_word, log_word_of, durable_word, durable_cell, committed_seq, committed_owner, durable_seq}
 use Rattle.of_core.specs.Machine.{CallState, log_entry}
 use Rattle.of_core.specs.Steps.{after_load_target, take_word_at}
-use Rattle.of_core.specs.World.{Read, Moment, TableStart, after_counted_step}
+use Rattle.of_core.specs.TableMoment.{Read, Moment, TableStart, after_counted_step}
 use Rattle.of_core.specs.History.{batch_at, data_word_after}
-use Rattle.of_core.specs.Shared.{WordsHaveTheirKind, IsRequest, IsLastOpen, DataCellsMatchState, IsEntry, DurableWordsMatch}
+use Rattle.of_core.specs.WordsMatch.{WordsHaveTheirKind, IsRequest, IsLastOpen, DataCellsMatchState, IsEntry, DurableWordsMatch}
 use Rattle.of_core.specs.Rounds.{MayHelp}
 use Rattle.of_core.specs.Transaction.{IsApplying, AppliesAs}
 use Rattle.of_core.specs.Invariant.{HoldsAtPlace, MeetsCore}
-use Rattle.of_core.specs.Moves.{KeepsGuarantee}
+use Rattle.of_core.specs.Guarantees.{KeepsGuarantee}
 use Rattle.of_core.proofs.States.{old, named_at, named_later, unnamed, cases_named}
 use Rattle.of_core.proofs.Assembling.{assemble, assemble_read, logs_of}
 use Rattle.of_core.proofs.Stability.{at_stable, floor_of}
@@ -263,7 +263,7 @@ module _ (S : Setup) (Lawful : List ℕ → Type 0) (B : TableStart) where
             → KeepsGuarantee S Lawful B i w (record { words = set w.words (m.owner + 1) (if b then pack m.seq 1 else found); machines = set w.machines i n; batches = w.batches ++ []; reads = rs; loaded = w.loaded })
         go false q =
             let z : found ≡ pack m.seq 0 → ⊥ = grind (arith, nat_tests) in
-            let f : pack m.seq 0 ≤ found = rw a.0.committed data_word_after (floor_of S Lawful B w.words w.batches g.shared m.seq a.0.after a.0.upto) in
+            let f : pack m.seq 0 ≤ found = rw a.0.committed at (floor_of S Lawful B w.words w.batches g.shared m.seq a.0.after a.0.upto) in
             assemble_read S Lawful B w g i h _ _ n (set-get_or w.words (m.owner + 1) 0) (append-nil w.batches)
             (applies_as w.words (length m.log) (length m.log) a.0 n refl refl refl refl refl refl refl refl refl refl refl refl (omega arith), a.1, omega arith)
         go true q =
@@ -300,7 +300,7 @@ module _ (S : Setup) (Lawful : List ℕ → Type 0) (B : TableStart) where
               where
                 last_or : (m.seq < committed_seq w.words) ⊎ (committed_seq w.words ≤ m.seq) → m.seq ≡ committed_seq w.words
                 last_or (inr l) = omega (arith, a.0.upto)
-                last_or (inl l) = let y : pack m.seq 0 < request_of w.words m.owner = rw a.0.committed data_word_after (g.shared.requests.closed m.seq a.0.after l) in absurd (omega (arith, was))
+                last_or (inl l) = let y : pack m.seq 0 < request_of w.words m.owner = rw a.0.committed at (g.shared.requests.closed m.seq a.0.after l) in absurd (omega (arith, was))
 
             request : (j : ℕ) → (j ≡ m.owner) ⊎ (j ≡ m.owner → ⊥) → (request_of vs j ≡ request_of w.words j) ⊎ ((B.seq < committed_seq w.words) × ((batch_at B w.batches (committed_seq w.words)).owner ≡ j) × (request_of w.words j ≡ pack (committed_seq w.words) 0) × (request_of vs j ≡ pack (committed_seq w.words) 1))
             request j (inl r) = inr (
@@ -363,14 +363,14 @@ module _ (S : Setup) (Lawful : List ℕ → Type 0) (B : TableStart) where
                     let t = a.0.log.all k.0 k.1 in
                     let y : m.seq ≤ seq_of v = newer t.0 t.1 (ap (λ (e : ℕ × ℕ). e.0) t.2 ∙ k.2) in
                     absurd (omega (arith, before, ap seq_of q, is_last, a.0.after))
-                named (inr away) = q ∙ sym (rw is_last data_word_after (unnamed S B w.batches g.shared.start (logs_of S Lawful B w g) m.seq x a.0.after (omega (arith, a.0.upto, n_is)) away))
+                named (inr away) = q ∙ sym (rw is_last at (unnamed S B w.batches g.shared.start (logs_of S Lawful B w g) m.seq x a.0.after (omega (arith, a.0.upto, n_is)) away))
 
             data_cells : DataCellsMatchState S B vs w.batches
             data_cells = record { each = λ x l. inl (rw current_same (cell_same x l ∙ each x l (g.shared.data_cells.each x l))) }
               where
                 each : (x : ℕ) → x < S.cells → (data_word S w.words x ≡ data_word_after B w.batches (committed_seq w.words) x) ⊎ (IsLastOpen B w.words × (data_word S w.words x ≡ data_word_after B w.batches (committed_seq w.words - 1) x)) → data_word S w.words x ≡ data_word_after B w.batches (committed_seq w.words) x
                 each x l (inl d) = d
-                each x l (inr d) = whole x (data_word S w.words x) l (λ k u z. rw z data_word_after (a.0.done k u).0) d.1
+                each x l (inr d) = whole x (data_word S w.words x) l (λ k u z. rw z at (a.0.done k u).0) d.1
 
             durable : DurableWordsMatch S B vs w.batches
             durable = durable_of S Lawful B i w.words vs w.batches (touches i) g.shared (λ y l. rw (cell_same y l) (g.shared.durable.fresh y l)) (λ q. inl (sym d_is)) (λ y l. cells y l (g.shared.durable.cells y l)) (λ k l u p o q y v. elsewhere (log_at S p y) (omega (arith, owner_in)))
@@ -378,4 +378,4 @@ module _ (S : Setup) (Lawful : List ℕ → Type 0) (B : TableStart) where
                 cells : (y : ℕ) → y < S.cells → (durable_cell S w.words y ≡ data_word_after B w.batches (durable_seq S w.words) y) ⊎ (IsLastOpen B w.words × (committed_seq w.words ≡ durable_seq S w.words) × (durable_cell S w.words y ≡ data_word_after B w.batches (durable_seq S w.words - 1) y))
                     → (durable_cell S w.words y ≡ data_word_after B w.batches (durable_seq S w.words) y) ⊎ (IsLastOpen B vs × (committed_seq w.words ≡ durable_seq S w.words) × (durable_cell S w.words y ≡ data_word_after B w.batches (durable_seq S w.words - 1) y))
                 cells y l (inl d) = inl d
-                cells y l (inr d) = inl (whole y (durable_cell S w.words y) l (λ k u z. rw z data_word_after (a.0.done k u).1) (d.2 ∙ ap (λ (k : ℕ). data_word_after B w.batches (k - 1) y) d_is) ∙ ap (λ (k : ℕ). data_word_after B w.batches k y) (sym d_is))
+                cells y l (inr d) = inl (whole y (durable_cell S w.words y) l (λ k u z. rw z at (a.0.done k u).1) (d.2 ∙ ap (λ (k : ℕ). data_word_after B w.batches (k - 1) y) d_is) ∙ ap (λ (k : ℕ). data_word_after B w.batches k y) (sym d_is))

@@ -8,11 +8,11 @@ use Rattle.of_cell.specs.Words.{payload_of}
 use Rattle.of_cell.proofs.Order.{pay_zero}
 use Rattle.of_core.specs.Table.{Setup}
 use Rattle.of_core.specs.Machine.{CallState, log_of, entries_of_words, flat_entries, log_words}
-use Rattle.of_core.specs.World.{Read, Moment, Batch, TableStart}
+use Rattle.of_core.specs.TableMoment.{Read, Moment, Batch, TableStart}
 use Rattle.of_core.specs.History.{state_after, batch_at, data_word_after, numbers_after}
-use Rattle.of_core.specs.Shared.{WordsMatchHistory, IsLog}
+use Rattle.of_core.specs.WordsMatch.{WordsMatchHistory, IsLog}
 use Rattle.of_core.specs.Invariant.{HoldsAtPlace, MeetsCore}
-use Rattle.of_core.specs.Moves.{KeepsGuarantee, Guarantees}
+use Rattle.of_core.specs.Guarantees.{KeepsGuarantee, Guarantees}
 use Rattle.of_core.proofs.Stability.{at_stable, loaded_stable}
 
 module _ (S : Setup) (Lawful : List ℕ → Type 0) (B : TableStart) where
@@ -33,7 +33,7 @@ module _ (S : Setup) (Lawful : List ℕ → Type 0) (B : TableStart) where
       go : (j : ℕ) (n : CallState) → j < S.callers → get_or (set w.machines i m) j n ≡ n → (j ≡ i) ⊎ (j ≡ i → ⊥) → HoldsAtPlace S B vs cs j n n.place
       go j n l e (inl q) =
           let i_in : i < length w.machines = omega (arith, g.members) in
-          let same : m ≡ n = sym (get_or-set_same w.machines i m n i_in) ∙ (rw q data_word_after e) in
+          let same : m ≡ n = sym (get_or-set_same w.machines i m n i_in) ∙ (rw q at e) in
           subst (λ (x : CallState). HoldsAtPlace S B vs cs j x x.place) same (rw q a)
       go j n l e (inr q) =
           at_stable S Lawful B i w.words w.batches vs cs v g.shared j l q n n.place (g.each j n l (sym (get_or-set_other w.machines i j m n q) ∙ e))

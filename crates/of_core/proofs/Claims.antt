@@ -11,14 +11,14 @@ use Rattle.of_core.specs.declared.place.Outcome.{Outcome}
 use Rattle.of_core.specs.declared.place.Outcome.TheVariants.{Answered, Spent}
 use Rattle.of_core.specs.Table.{Setup, first_operation_cell, durable_word, durable_cell, committed_seq, durable_seq}
 use Rattle.of_core.specs.Machine.{CallState, Call, no_machine}
-use Rattle.of_core.specs.World.{Moment, TableStart}
+use Rattle.of_core.specs.TableMoment.{Moment, TableStart}
 use Rattle.of_core.specs.History.{state_after, batch_at, data_word_after, numbers_after, last_ticket_by, numbers_after_batches}
-use Rattle.of_core.specs.Shared.{IsLastOpen, WasHeldByCell, IsRequest, IsLogWord}
+use Rattle.of_core.specs.WordsMatch.{IsLastOpen, WasHeldByCell, IsRequest, IsLogWord}
 use Rattle.of_core.specs.Invariant.{MeetsCore, HoldsAtPlace, LastOutcomeStands, IsAtRest}
 use Rattle.of_core.specs.Bound.{bound, MachineIsWithinBound, TellsWithinBound}
 use Rattle.of_core.specs.Least.{HasMadeLeastSteps}
 use Rattle.of_core.specs.Events.{machine_in}
-use Rattle.of_core.specs.World.{Read}
+use Rattle.of_core.specs.TableMoment.{Read}
 use Rattle.of_core.specs.Order.{IsRead, KeepsCallOrder}
 use Rattle.of_core.specs.Claim.{ReadIsLegal, knows_state, OwnCellsAreOfState, UsesOneState, HasHeld, OutcomeIsInHistory, WasBegunByCaller, IsSound}
 use Rattle.of_core.proofs.States.{state_length, old}
@@ -44,13 +44,13 @@ module _ (S : Setup) (Lawful : List ℕ → Type 0) (sound : IsSoundMeaning S.me
         there = replay_length S Lawful sound B (map payload_of B.cells) (take (r.seq - B.seq) w.batches) (length-map B.cells payload_of ∙ g.shared.start.size)
 
         same : SameFrom (first_operation_cell S) (numbers_after B w.batches r.seq) (numbers_after_batches S.meaning (map payload_of B.cells) (take (r.seq - B.seq) w.batches))
-        same = rw back data_word_after (upto S Lawful sound B w g (r.seq - B.seq) (omega (arith, p.upto))).0
+        same = rw back at (upto S Lawful sound B w g (r.seq - B.seq) (omega (arith, p.upto))).0
 
     pub is_sound : ((i : ℕ) (m : CallState) → i < S.callers → get_or w.machines i m ≡ m → MachineIsWithinBound S m m.place) → ((i : ℕ) (m : CallState) → i < S.callers → get_or w.machines i m ≡ m → HasMadeLeastSteps S m m.place) → KeepsCallOrder S B w → IsSound S B w
     is_sound within late order =
         let t : take (length w.batches) w.batches ≡ w.batches = take_all (length w.batches) w.batches (omega arith) in
         record {
-          legal = rw t data_word_after (upto S Lawful sound B w g (length w.batches) (omega arith)).1;
+          legal = rw t at (upto S Lawful sound B w g (length w.batches) (omega arith)).1;
           state = λ k l. (upto S Lawful sound B w g k l).0;
           begun = begun;
           recovers = claim S Lawful B w g;
@@ -126,7 +126,7 @@ module _ (S : Setup) (Lawful : List ℕ → Type 0) (sound : IsSoundMeaning S.me
             a = g.each c.caller m h (own c.caller h)
 
             before : last_ticket_by S B w.batches (k - 1) c.caller < c.ticket
-            before = let e : k - 1 + 1 ≡ k = omega arith in (rw e data_word_after (g.shared.stands.rises (k - 1) (omega arith) (omega arith))) y d v
+            before = let e : k - 1 + 1 ≡ k = omega arith in (rw e at (g.shared.stands.rises (k - 1) (omega arith) (omega arith))) y d v
 
         knows : (i : ℕ) (m : CallState) (p : Place) → HoldsAtPlace S B w.words w.batches i m p → knows_state p ≡ true → Agrees m.known (numbers_after B w.batches m.seq)
         knows i m (TryCell x) a q = a.3.agrees

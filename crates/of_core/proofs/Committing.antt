@@ -11,14 +11,14 @@ use Rattle.of_core.specs.declared.place.Place.TheVariants.{ExchangeCurrent}
 use Rattle.of_core.specs.Table.{Setup, script_word_at, cell_count, durable_at, request_at, data_at, first_operation_cell, log_at, ticket_cell, announcement_of, script_word, current_word, request_of, data_word, log_word_of, durable_word, durable_request, durable_cell, durable_log, committed_seq, committed_owner, durable_seq}
 use Rattle.of_core.specs.Machine.{CallState, Call, log_words, no_call}
 use Rattle.of_core.specs.Steps.{after_commit_exchange, next_round}
-use Rattle.of_core.specs.World.{Read, Moment, Batch, TableStart, after_counted_step, one_batch}
+use Rattle.of_core.specs.TableMoment.{Read, Moment, Batch, TableStart, after_counted_step, one_batch}
 use Rattle.of_core.specs.History.{state_after, batch_at, data_word_after, HasCall, last_ticket_by, ticket_in_state}
-use Rattle.of_core.specs.Shared.{AnnouncementsAreServed, IsRequest, IsLogWord, WordsMatchHistory, IsLastOpen, CountsBatches, DataCellsMatchState, RequestsMatchBatches, StatesFollowBatches, IsLog, DurableWordsMatch}
+use Rattle.of_core.specs.WordsMatch.{AnnouncementsAreServed, IsRequest, IsLogWord, WordsMatchHistory, IsLastOpen, CountsBatches, DataCellsMatchState, RequestsMatchBatches, StatesFollowBatches, IsLog, DurableWordsMatch}
 use Rattle.of_core.specs.Rounds.{IsBetweenRounds, IsInRound, HasNothingUnderWay}
 use Rattle.of_core.specs.Scan.{IsAnnouncedCall}
 use Rattle.of_core.specs.Transaction.{HasStoredLog}
 use Rattle.of_core.specs.Invariant.{HoldsAtPlace, MeetsCore}
-use Rattle.of_core.specs.Moves.{KeepsGuarantee, Guarantees}
+use Rattle.of_core.specs.Guarantees.{KeepsGuarantee, Guarantees}
 use Rattle.of_core.proofs.States.{state_same, state_start, batch_same, batch_new}
 use Rattle.of_core.proofs.Logs.{turned_same, length-log_words}
 use Rattle.of_core.proofs.Assembling.{assemble, assemble_read, logs_of, small_words}
@@ -257,7 +257,7 @@ module _ (S : Setup) (Lawful : List ℕ → Type 0) (B : TableStart) where
                 ticket_at k j l t (inr u) (inl q) = inl (ap (λ (x : ℕ). last_ticket_by S B cs x j) u ∙ q ∙ ap (λ (x : ℕ). last_ticket_by S B w.batches x j) is_last)
                 ticket_at k j l t (inr u) (inr q) =
                     let c : seq_of (announcement_of S w.words j) ≡ (get_or m.calls q.0 no_call).ticket = ap (λ (x : ℕ). seq_of (announcement_of S w.words x)) (sym q.2) ∙ call_ticket q.0 q.1 in
-                    let d : last_ticket_by S B w.batches m.seq j < (get_or m.calls q.0 no_call).ticket = rw q.2 data_word_after (st.over.taken q.0 no_call q.1).above in
+                    let d : last_ticket_by S B w.batches m.seq j < (get_or m.calls q.0 no_call).ticket = rw q.2 at (st.over.taken q.0 no_call q.1).above in
                     inr (ap (λ (x : ℕ). last_ticket_by S B cs x j) u ∙ q.3 ∙ sym c, omega (arith, c, d, ap (λ (x : ℕ). last_ticket_by S B w.batches x j) is_last), omega (arith, is_last, st.past.under))
 
             asks : request_of vs (committed_owner vs) ≡ pack (committed_seq vs) 0
@@ -299,7 +299,7 @@ module _ (S : Setup) (Lawful : List ℕ → Type 0) (B : TableStart) where
             durable = let d = g.shared.durable in let r0 = dur_same 0 (omega arith) in record {
               low = low;
               from = rw r0 d.from;
-              owner = λ l. rw (r0, batches (durable_seq S w.words) (rw r0 data_word_after l) (omega (arith, d_is, is_last))) (d.owner (rw r0 data_word_after l));
+              owner = λ l. rw (r0, batches (durable_seq S w.words) (rw r0 at l) (omega (arith, d_is, is_last))) (d.owner (rw r0 at l));
               first = rw r0 d.first;
               step = inr (omega (arith, new_last, d_is, ap seq_of r0), opened);
               fresh = λ x l. rw (r0, elsewhere (S.callers + 1 + x) (omega arith)) (d.fresh x l);
@@ -398,7 +398,7 @@ module _ (S : Setup) (Lawful : List ℕ → Type 0) (B : TableStart) where
                     met_now (inl z) = let y : last_ticket_by S B cs m.seq j ≤ last_ticket_by S B cs (m.seq + 1) j = stands.grow m.seq j round.from (omega (arith, longer, n_at)) t in
                         let x : last_ticket_by S B cs m.seq j ≡ last_ticket_by S B w.batches m.seq j = ap (λ (xs : List ℕ). ticket_in_state S xs j) (states m.seq round.upto) in
                         omega arith
-                    met_now (inr z) = let y : last_ticket_by S B cs (m.seq + 1) j ≡ (get_or m.calls z.0 no_call).ticket = rw z.2 data_word_after (call_now z.0 z.1) in omega (arith, z.3)
+                    met_now (inr z) = let y : last_ticket_by S B cs (m.seq + 1) j ≡ (get_or m.calls z.0 no_call).ticket = rw z.2 at (call_now z.0 z.1) in omega (arith, z.3)
 
             shared : WordsMatchHistory S Lawful B vs cs
             shared = record {

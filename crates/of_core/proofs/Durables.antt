@@ -10,9 +10,9 @@ use Rattle.of_core.specs.declared.place.Place.TheVariants.{Idle, TryCurrent, Try
 use Rattle.of_core.specs.Table.{Setup, cell_count, durable_at, script_word_at, request_at, data_at, log_at, request_of, data_word, durable_word, durable_request, durable_cell, committed_seq, committed_owner, durable_seq}
 use Rattle.of_core.specs.Machine.{CallState, log_entry, no_machine}
 use Rattle.of_core.specs.Steps.{want, want_at, word_of, words_after, IsFoundBy}
-use Rattle.of_core.specs.World.{Moment, TableStart, after_step}
+use Rattle.of_core.specs.TableMoment.{Moment, TableStart, after_step}
 use Rattle.of_core.specs.History.{batch_at, data_word_after}
-use Rattle.of_core.specs.Shared.{IsLastOpen, WasHeldByCell}
+use Rattle.of_core.specs.WordsMatch.{IsLastOpen, WasHeldByCell}
 use Rattle.of_core.specs.Transaction.{IsApplying, AppliesAs, OwnsTransaction, HasClosedDurably}
 use Rattle.of_core.specs.Invariant.{HoldsAtPlace, MeetsCore}
 use Rattle.of_core.specs.Events.{machine_in}
@@ -95,7 +95,7 @@ module _ (S : Setup) (Lawful : List ℕ → Type 0) (B : TableStart) (w : Moment
       go (inr (inr q)) = own q.0.asks
         where
           floor : pack n.seq 0 ≤ durable_request S w.words j
-          floor = rw q.0.owner data_word_after (rw q.3 data_word_after (g.shared.durable.floor n.seq q.1 q.2))
+          floor = rw q.0.owner at (rw q.3 at (g.shared.durable.floor n.seq q.1 q.2))
 
           own : (request_of w.words j ≡ pack n.seq 0) ⊎ (request_of w.words j ≡ pack n.seq 1) → pack k 1 ≤ durable_request S w.words j
           own (inl e) = omega (arith, floor, above_open k n.seq (open_above k n.seq (omega (arith, r, e))))
@@ -113,7 +113,7 @@ module _ (S : Setup) (Lawful : List ℕ → Type 0) (B : TableStart) (w : Moment
 
   -- a cell's words rise from state to state
   pub at_up : (k n a : ℕ) → B.seq ≤ k → k ≤ n → n ≤ committed_seq w.words → a < S.cells → data_word_after B w.batches k a ≤ data_word_after B w.batches n a
-  at_up k n a l u t a_in = go (rw e data_word_after (later_by S B w.batches g.shared.start (logs_of S Lawful B w g) (n - k) k a l (omega (arith, u, t, count)) a_in))
+  at_up k n a l u t a_in = go (rw e at (later_by S B w.batches g.shared.start (logs_of S Lawful B w g) (n - k) k a l (omega (arith, u, t, count)) a_in))
     where
       e : k + (n - k) ≡ n
       e = omega (arith, u)
@@ -136,7 +136,7 @@ module _ (S : Setup) (Lawful : List ℕ → Type 0) (B : TableStart) (w : Moment
       is = held.3
 
       late : durable_seq S w.words < k → (f ≤ data_word_after B w.batches (durable_seq S w.words) a) ⊎ (durable_seq S w.words < seq_of f)
-      late l = go (rw e data_word_after (later_by S B w.batches g.shared.start (logs_of S Lawful B w g) (k - durable_seq S w.words) (durable_seq S w.words) a g.shared.durable.from (omega (arith, l, held.2, count)) a_in))
+      late l = go (rw e at (later_by S B w.batches g.shared.start (logs_of S Lawful B w g) (k - durable_seq S w.words) (durable_seq S w.words) a g.shared.durable.from (omega (arith, l, held.2, count)) a_in))
         where
           e : durable_seq S w.words + (k - durable_seq S w.words) ≡ k
           e = omega (arith, l)

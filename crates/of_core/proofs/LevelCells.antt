@@ -17,11 +17,11 @@ use Rattle.of_core.specs.declared.place.Op.TheVariants.{Raise}
 use Rattle.of_core.specs.Table.{Setup, first_operation_cell, cell_count, durable_at, script_word_at, request_at, data_at, log_at, request_of, data_word, log_word_of, durable_word, durable_cell, durable_log, current_word, committed_seq, committed_owner, durable_seq}
 use Rattle.of_core.specs.Machine.{CallState, log_entry, log_words, no_machine, begin_call}
 use Rattle.of_core.specs.Steps.{want, want_at, word_of, words_after, word_found, take_word, take_word_at, with_step_counted}
-use Rattle.of_core.specs.World.{Moment, TableStart}
+use Rattle.of_core.specs.TableMoment.{Moment, TableStart}
 use Rattle.of_core.specs.History.{batch_at, data_word_after}
-use Rattle.of_core.specs.Shared.{IsLastOpen, MayStart}
+use Rattle.of_core.specs.WordsMatch.{IsLastOpen, MayStart}
 use Rattle.of_core.specs.Invariant.{HoldsAtPlace, MeetsCore, MeetsInvariant, IsLoaded}
-use Rattle.of_core.specs.Moves.{Guarantees}
+use Rattle.of_core.specs.Guarantees.{Guarantees}
 use Rattle.of_core.specs.Events.{Event, Begins, Turns, Loads, Evicts, Raises, after_raise, machine_in, after_event, MayHappen, after_events, IsSchedule, opening_moment}
 use Rattle.of_core.specs.Raised.{lower_changes, pending_among, pending}
 use Rattle.of_core.proofs.States.{later_by}
@@ -95,7 +95,7 @@ module _ (S : Setup) (Lawful : List ℕ → Type 0) (B : TableStart) (w : Moment
   target_level a s a_in u old = go (g.shared.data_cells.each a a_in) (g.shared.durable.cells a a_in)
     where
       newest : (k : ℕ) → B.seq ≤ k → k ≤ committed_seq w.words → data_word S w.words a ≡ data_word_after B w.batches (committed_seq w.words) a → seq_of (data_word S w.words a) ≤ k → data_word S w.words a ≡ data_word_after B w.batches k a
-      newest k l t e o = by (rw z data_word_after (later_by S B w.batches g.shared.start (logs_of S Lawful B w g) (committed_seq w.words - k) k a l (omega (arith, t, count S Lawful B w g)) a_in))
+      newest k l t e o = by (rw z at (later_by S B w.batches g.shared.start (logs_of S Lawful B w g) (committed_seq w.words - k) k a l (omega (arith, t, count S Lawful B w g)) a_in))
         where
           z : k + (committed_seq w.words - k) ≡ committed_seq w.words
           z = omega (arith, t)
@@ -139,7 +139,7 @@ module _ (S : Setup) (Lawful : List ℕ → Type 0) (B : TableStart) (w : Moment
   cells (ExchangeTarget x o) a f c l =
       exchanged (data_at S (log_entry m x).0) o (pack m.seq (log_entry m x).1) c (λ e. target_level (log_entry m x).0 m.seq (entry_in S Lawful B w g i m h x x a.0 a.1) a.2 (omega (arith, ap seq_of e, a.3)))
   cells CloseRequest a f c l =
-      exchanged (request_at m.owner) (pack m.seq 0) (pack m.seq 1) c (λ e. omega (arith, e, rw a.0.committed data_word_after (g.shared.durable.floor m.seq a.0.after a.0.upto)))
+      exchanged (request_at m.owner) (pack m.seq 0) (pack m.seq 1) c (λ e. omega (arith, e, rw a.0.committed at (g.shared.durable.floor m.seq a.0.after a.0.upto)))
   cells RaiseOld a f c l = inl (elsewhere (durable_at S (request_at m.caller)) _ c (λ e. omega (arith, e, l)))
   cells (RaiseLog x) a f c l = inl (elsewhere (durable_at S (log_at S m.caller x)) _ c (λ e. omega (arith, e, l)))
   cells RaiseRequest a f c l = inl (elsewhere (durable_at S (request_at m.caller)) _ c (λ e. omega (arith, e, l)))

@@ -12,7 +12,7 @@ use Rattle.of_core.specs.declared.place.Outcome.{Outcome}
 use Rattle.of_core.specs.declared.place.Outcome.TheVariants.{Answered, Spent}
 use Rattle.of_core.specs.Table.{Setup, first_operation_cell, ticket_cell, shape_cell, reply_cell, durable_seq}
 use Rattle.of_core.specs.Machine.{Call, no_call}
-use Rattle.of_core.specs.World.{Moment, TableStart, Batch, Read}
+use Rattle.of_core.specs.TableMoment.{Moment, TableStart, Batch, Read}
 use Rattle.of_core.specs.History.{state_after, batch_at, no_batch, data_word_after, numbers_after, numbers_after_calls, numbers_after_batches, last_ticket_by, OwnCellsShowLast, IsCellOfCaller, HasCall, SameReply}
 use Rattle.of_core.specs.Order.{no_read}
 use Rattle.of_core.specs.Invariant.{MeetsInvariant}
@@ -51,7 +51,7 @@ module _ (W : Meaning) (Lawful : List ℕ → Type 0) (low size : ℕ) (sound : 
 
       go : (r : WalkEnd) → WalkFits W low size known xs op r → W.cells xs op ≡ xs
       go (Needs a) f = let k : Some (get_or xs a 0) ≡ None = sym (known_at a f.1) ∙ f.2 in cc
-      go (Gives script r) f = rw (f.reads only) data_word_after f.cells
+      go (Gives script r) f = rw (f.reads only) at f.cells
 
 module _ (S : Setup) (Lawful : List ℕ → Type 0) (sound : IsSoundMeaning S.meaning Lawful (first_operation_cell S) S.cells) (B : TableStart) (first : Moment) (good_first : MeetsInvariant S Lawful B first)
     (none : (i : ℕ) → i < S.callers → HasCalls S B (start_ticket S B i) first i [] []) (es : List Event) (schedule : IsSchedule S first es) where
@@ -287,7 +287,7 @@ module _ (S : Setup) (Lawful : List ℕ → Type 0) (sound : IsSoundMeaning S.me
   -- the state after the durable batches is where it leads
   pub leads_there : SameFrom (first_operation_cell S) (numbers_after B w.batches durable) (numbers_after_calls S.meaning start order)
   leads_there =
-      let same : SameFrom (first_operation_cell S) (numbers_after B w.batches durable) (numbers_after_batches S.meaning start bs) = rw n_is data_word_after (claim.state n (omega (arith, n_is, claim.reaches))) in
+      let same : SameFrom (first_operation_cell S) (numbers_after B w.batches durable) (numbers_after_batches S.meaning start bs) = rw n_is at (claim.state n (omega (arith, n_is, claim.reaches))) in
       same ∙ ap (λ (xs : List ℕ). drop (first_operation_cell S) xs) (sym (order_leads S.meaning bs B.seq w.reads start (legal_front S.meaning start w.batches n claim.legal) leads).1)
 
   numbers_found : (a : ℕ) → first_operation_cell S ≤ a → a < S.cells → recovered_number S w a ≡ get_or (numbers_after_calls S.meaning start order) a 0
@@ -297,7 +297,7 @@ module _ (S : Setup) (Lawful : List ℕ → Type 0) (sound : IsSoundMeaning S.me
       state_long = state_length S B w.batches good.core.shared.start (logs_of S Lawful B w good.core) durable claim.from claim.reaches
 
       same : SameFrom (first_operation_cell S) (numbers_after B w.batches durable) (numbers_after_batches S.meaning start bs)
-      same = rw n_is data_word_after (claim.state n (omega (arith, n_is, claim.reaches)))
+      same = rw n_is at (claim.state n (omega (arith, n_is, claim.reaches)))
 
       back : first_operation_cell S + (a - first_operation_cell S) ≡ a
       back = omega (arith, low)

@@ -9,12 +9,12 @@ use Rattle.of_core.specs.declared.place.Place.TheVariants.{StoreLog, StoreReques
 use Rattle.of_core.specs.Table.{Setup, script_word_at, cell_count, durable_at, request_at, log_at, script_word, current_word, request_of, data_word, log_word_of, durable_word, durable_request, committed_seq, committed_owner, durable_seq}
 use Rattle.of_core.specs.Machine.{CallState, log_entry, log_words}
 use Rattle.of_core.specs.Steps.{take_word_at}
-use Rattle.of_core.specs.World.{Moment, TableStart, after_counted_step}
+use Rattle.of_core.specs.TableMoment.{Moment, TableStart, after_counted_step}
 use Rattle.of_core.specs.History.{batch_at, data_word_after}
-use Rattle.of_core.specs.Shared.{WordsHaveTheirKind, IsRequest, IsLogWord, IsLastOpen, DataCellsMatchState, DurableWordsMatch}
+use Rattle.of_core.specs.WordsMatch.{WordsHaveTheirKind, IsRequest, IsLogWord, IsLastOpen, DataCellsMatchState, DurableWordsMatch}
 use Rattle.of_core.specs.Transaction.{HasStoredLog}
 use Rattle.of_core.specs.Invariant.{HoldsAtPlace, MeetsCore}
-use Rattle.of_core.specs.Moves.{KeepsGuarantee}
+use Rattle.of_core.specs.Guarantees.{KeepsGuarantee}
 use Rattle.of_core.proofs.Logs.{words_at, length-log_words}
 use Rattle.of_core.proofs.Assembling.{assemble, small_words}
 use Rattle.of_core.proofs.Stability.{log_in, same_row}
@@ -38,7 +38,7 @@ module _ (S : Setup) (Lawful : List ℕ → Type 0) (B : TableStart) where
             };
             own = rw (req_same i h) a.0.own;
             level = dur_same (request_at i) (omega arith) ∙ a.0.level ∙ sym (req_same i h);
-            shut = λ k l u o. rw (req_same i h) (a.0.shut k l (rw current_same data_word_after u) o);
+            shut = λ k l u o. rw (req_same i h) (a.0.shut k l (rw current_same at u) o);
           },
           a.1,
         ))
@@ -173,7 +173,7 @@ module _ (S : Setup) (Lawful : List ℕ → Type 0) (B : TableStart) where
 
             -- an owner whose durable request is its batch's stores no log
             logs : (k : ℕ) → B.seq < k → k ≤ committed_seq w.words → (j : ℕ) → (batch_at B w.batches k).owner ≡ j → durable_request S w.words j ≡ pack k 0 → (y : ℕ) → y < 2 * S.cells + 1 → log_word_of S vs j y ≡ log_word_of S w.words j y
-            logs k l u j o q y v = log_other j y v (λ e. let z : pack k 0 < request_of w.words i = a.0.shut k l u (o ∙ e) in let r : durable_request S w.words i ≡ pack k 0 = rw e data_word_after q in omega (arith, a.0.level))
+            logs k l u j o q y v = log_other j y v (λ e. let z : pack k 0 < request_of w.words i = a.0.shut k l u (o ∙ e) in let r : durable_request S w.words i ≡ pack k 0 = rw e at q in omega (arith, a.0.level))
 
         stored : (y : ℕ) → y < x + 1 → (y ≡ x) ⊎ (y ≡ x → ⊥) → log_word_of S vs i y ≡ pack (m.seq + 1) (get_or (log_words m.log) y 0)
         stored y l (inl q) = rw q here
@@ -193,7 +193,7 @@ module _ (S : Setup) (Lawful : List ℕ → Type 0) (B : TableStart) where
             rest = λ y l u. rw (log_same i y) (st.rest y l u);
           },
           here,
-          λ k l u o. rw (dur_same (request_at i) (omega arith)) (let z = a.shut k l (rw current_same data_word_after u) o in omega (arith, z, a.level)),
+          λ k l u o. rw (dur_same (request_at i) (omega arith)) (let z = a.shut k l (rw current_same at u) o in omega (arith, z, a.level)),
         ))
       where
         st : HasStoredLog S B w.words w.batches i m (length (log_words m.log)) (length (log_words m.log))
@@ -264,7 +264,7 @@ module _ (S : Setup) (Lawful : List ℕ → Type 0) (B : TableStart) where
             go : (committed_owner w.words ≡ i) ⊎ (committed_owner w.words ≡ i → ⊥) → IsLastOpen B vs
             go (inl q) =
                 let z : pack (committed_seq w.words) 0 < request_of w.words i = a.shut (committed_seq w.words) o.any (omega arith) (sym (g.shared.counted.owner o.any) ∙ q) in
-                let r : request_of w.words i ≡ pack (committed_seq w.words) 0 = rw q data_word_after o.asks in
+                let r : request_of w.words i ≡ pack (committed_seq w.words) 0 = rw q at o.asks in
                 absurd (omega arith)
             go (inr q) = record { any = rw current_same o.any; asks = rw current_same (req_same (committed_owner w.words) q ∙ o.asks) }
 

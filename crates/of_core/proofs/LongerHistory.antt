@@ -9,9 +9,9 @@ use Rattle.of_cell.proofs.Order.{pay_word}
 use Rattle.of_mem.specs.Meaning.{IsSoundMeaning, SameFrom, with_writes_in}
 use Rattle.of_core.specs.Table.{Setup, first_operation_cell, ticket_cell, shape_cell, reply_cell}
 use Rattle.of_core.specs.Machine.{Call, no_call}
-use Rattle.of_core.specs.World.{Batch, TableStart}
+use Rattle.of_core.specs.TableMoment.{Batch, TableStart}
 use Rattle.of_core.specs.History.{state_after, batch_at, data_word_after, with_log_applied, ShowsCall, OwnCellsShowLast, HasNoCallBetween, IsCellOfCaller, CallersRise, last_ticket_by, numbers_after, numbers_after_calls, CallsHaveReplies}
-use Rattle.of_core.specs.Shared.{IsLog, IsStart, StatesFollowBatches}
+use Rattle.of_core.specs.WordsMatch.{IsLog, IsStart, StatesFollowBatches}
 use Rattle.of_core.specs.Scan.{LogsCell, LogsOwnCells, IsOverlayOf, WasTakenByScan}
 use Rattle.of_core.proofs.States.{state_same, batch_same, batch_new, state_next, state_length, old, changed_at, changed_other}
 use Rattle.of_core.proofs.Logs.{room_for, pay_changed, length-written}
@@ -110,7 +110,7 @@ module _ (S : Setup) (Lawful : List ℕ → Type 0) (sound : IsSoundMeaning S.me
     where
       go : ((y : ℕ) × (y < length b.calls) × ((get_or b.calls y no_call).caller ≡ i)) ⊎ ((y : ℕ) → y < length b.calls → (get_or b.calls y no_call).caller ≡ i → ⊥)
           → (last_ticket_by S B cs (n + 1) i ≡ last_ticket_by S B bs n i) ⊎ ((y : ℕ) × (y < length b.calls) × ((get_or b.calls y no_call).caller ≡ i) × (last_ticket_by S B cs (n + 1) i ≡ (get_or b.calls y no_call).ticket))
-      go (inl q) = inr (q.0, q.1, q.2, rw q.2 data_word_after (now_of q.0 no_call q.1).1)
+      go (inl q) = inr (q.0, q.1, q.2, rw q.2 at (now_of q.0 no_call q.1).1)
       go (inr none) = inl (ap payload_of (row_stays i (ticket_cell S i) l none (omega arith, omega arith)))
 
   -- what is said of the batches before is so still
@@ -263,7 +263,7 @@ module _ (S : Setup) (Lawful : List ℕ → Type 0) (sound : IsSoundMeaning S.me
         where
           pick : (last_ticket_by S B cs (n + 1) i ≡ last_ticket_by S B bs n i) ⊎ ((y : ℕ) × (y < length b.calls) × ((get_or b.calls y no_call).caller ≡ i) × (last_ticket_by S B cs (n + 1) i ≡ (get_or b.calls y no_call).ticket)) → last_ticket_by S B bs n i ≤ last_ticket_by S B cs (n + 1) i
           pick (inl q) = omega arith
-          pick (inr q) = let z : last_ticket_by S B bs n i < (get_or b.calls q.0 no_call).ticket = rw q.2 data_word_after (taken q.0 no_call q.1).above in omega (arith, q.3)
+          pick (inr q) = let z : last_ticket_by S B bs n i < (get_or b.calls q.0 no_call).ticket = rw q.2 at (taken q.0 no_call q.1).above in omega (arith, q.3)
 
       ordered_at : (k : ℕ) → B.seq < k → (k ≤ n) ⊎ (k ≡ n + 1) → CallersRise (batch_at B cs k).calls
       ordered_at k l (inl u) = rw (batches k l u) (st.ordered k l (omega (arith, n_is)))

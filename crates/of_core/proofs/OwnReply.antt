@@ -12,12 +12,12 @@ use Rattle.of_core.specs.declared.place.Place.TheVariants.{Idle, LoadOwnTicket, 
 use Rattle.of_core.specs.Table.{Setup, data_at, ticket_cell, shape_cell, reply_cell, data_word, committed_seq}
 use Rattle.of_core.specs.Machine.{CallState, Call, with_cell_known, no_call}
 use Rattle.of_core.specs.Steps.{take_word_at, end_from_own_cells, next_reply_place, after_own_ticket, with_shape, after_load_shape, with_reply, after_load_reply, first_marked_place}
-use Rattle.of_core.specs.World.{Moment, TableStart, after_counted_step}
+use Rattle.of_core.specs.TableMoment.{Moment, TableStart, after_counted_step}
 use Rattle.of_core.specs.History.{state_after, batch_at, data_word_after, HasCall, OwnCellsShowLast, IsNewestCall, IsCellOfCaller, last_ticket_by}
 use Rattle.of_core.specs.Rounds.{IsPastRequest, FindsOwnTicket, HasReadReplyUpTo, HasNothingUnderWay}
 use Rattle.of_core.specs.Scan.{HasScannedUpTo}
 use Rattle.of_core.specs.Invariant.{HoldsAtPlace, MeetsCore}
-use Rattle.of_core.specs.Moves.{KeepsGuarantee}
+use Rattle.of_core.specs.Guarantees.{KeepsGuarantee}
 use Rattle.of_core.proofs.Alike.{calm_more, looks_as}
 use Rattle.of_core.proofs.Assembling.{assemble_read, same_batches, same_words}
 use Rattle.of_core.proofs.Rounds.{again, at_risen, cell_of, grows_to, learn, own_row_old, own_seq, round_risen, row_in, third_done}
@@ -125,7 +125,7 @@ module _ (S : Setup) (Lawful : List ℕ → Type 0) (B : TableStart) where
         fresh = rw ci (own_row_old S Lawful B w g i m h m a.0 (done_now m a.2) (shape_cell S i) (omega arith, omega arith))
 
         is : data_word S w.words (shape_cell S m.caller) ≡ data_word_after B w.batches m.seq (shape_cell S i)
-        is = rw ci (cell_of S Lawful B w g i m h m a.0 (shape_cell S i) x_in (rw ci data_word_after fresh))
+        is = rw ci (cell_of S Lawful B w g i m h m a.0 (shape_cell S i) x_in (rw ci at fresh))
 
         go : (b : Bool) → nat_lt m.seq (seq_of found) ≡ b → HoldsAtPlace S B w.words w.batches i (after_load_shape S m found b) (after_load_shape S m found b).place
         go true e = let z : m.seq < seq_of found = grind (arith, nat_tests) in absurd (omega (arith, fresh))
@@ -150,7 +150,7 @@ module _ (S : Setup) (Lawful : List ℕ → Type 0) (B : TableStart) where
         fresh = rw ci (own_row_old S Lawful B w g i m h m a.0 (done_now m a.2) (reply_cell S i j) in_row)
 
         is : data_word S w.words (reply_cell S m.caller j) ≡ data_word_after B w.batches m.seq (reply_cell S i j)
-        is = rw ci (cell_of S Lawful B w g i m h m a.0 (reply_cell S i j) (row_in S Lawful B w g i m h (reply_cell S i j) in_row) (rw ci data_word_after fresh))
+        is = rw ci (cell_of S Lawful B w g i m h m a.0 (reply_cell S i j) (row_in S Lawful B w g i m h (reply_cell S i j) in_row) (rw ci at fresh))
 
         go : (b : Bool) → nat_lt m.seq (seq_of found) ≡ b → HoldsAtPlace S B w.words w.batches i (after_load_reply S m j found b) (after_load_reply S m j found b).place
         go true e = let z : m.seq < seq_of found = grind (arith, nat_tests) in absurd (omega (arith, fresh))
@@ -191,12 +191,12 @@ module _ (S : Setup) (Lawful : List ℕ → Type 0) (B : TableStart) where
         x_in = row_in S Lawful B w g i m h (ticket_cell S i) in_row
 
         is : seq_of (data_word S w.words (ticket_cell S m.caller)) ≤ m.seq → data_word S w.words (ticket_cell S m.caller) ≡ data_word_after B w.batches m.seq (ticket_cell S i)
-        is l = rw ci (cell_of S Lawful B w g i m h m a.0 (ticket_cell S i) x_in (rw ci data_word_after l))
+        is l = rw ci (cell_of S Lawful B w g i m h m a.0 (ticket_cell S i) x_in (rw ci at l))
 
         go : (b c d : Bool) → nat_lt m.seq (seq_of found) ≡ b → (payload_of found == m.made) ≡ c → (m.seq == S.limit) ≡ d → HoldsAtPlace S B w.words w.batches i (after_own_ticket S m found b c d) (after_own_ticket S m found b c d).place
         go true c d eb ec ed =
             let z : m.seq < seq_of found = grind (arith, nat_tests) in
-            let z' : m.seq < seq_of (data_word S w.words (ticket_cell S i)) = rw ci data_word_after z in
+            let z' : m.seq < seq_of (data_word S w.words (ticket_cell S i)) = rw ci at z in
             again S Lawful B w g i m h m a.0.round a.1 (few z' (cases_eq m.rounds 3)) (ticket_cell S i) x_in z'
           where
             few : m.seq < seq_of (data_word S w.words (ticket_cell S i)) → (m.rounds ≡ 3) ⊎ (m.rounds ≡ 3 → ⊥) → m.rounds ≤ 2

@@ -6,9 +6,9 @@ use Rattle.of_cell.specs.Words.{pack, seq_of, payload_of}
 use Rattle.of_cell.proofs.Order.{word_eta, seq_mono, seq_less}
 use Rattle.of_core.specs.Table.{Setup, cell_count, durable_at, script_word_at, request_at, log_at, script_word, current_word, request_of, data_word, log_word_of, durable_word, durable_request, durable_cell, durable_log, committed_seq, committed_owner, durable_seq}
 use Rattle.of_core.specs.Machine.{log_words}
-use Rattle.of_core.specs.World.{Batch, TableStart}
+use Rattle.of_core.specs.TableMoment.{Batch, TableStart}
 use Rattle.of_core.specs.History.{batch_at, data_word_after}
-use Rattle.of_core.specs.Shared.{WordsHaveTheirKind, IsRequest, IsLogWord, WordsMatchHistory, IsLastOpen, DurableWordsMatch, WasHeldByCell, IsLog}
+use Rattle.of_core.specs.WordsMatch.{WordsHaveTheirKind, IsRequest, IsLogWord, WordsMatchHistory, IsLastOpen, DurableWordsMatch, WasHeldByCell, IsLog}
 use Rattle.of_core.specs.Invariant.{WasHeldByCurrent, IsLoaded}
 use Rattle.of_core.proofs.States.{later, old}
 use Rattle.of_core.proofs.Logs.{room_for, length-log_words}
@@ -67,7 +67,7 @@ module _ (S : Setup) (Lawful : List ℕ → Type 0) (B : TableStart) (ws : List 
   opened o = record { any = rw current_same o.any; asks = rw current_same (req_same (committed_owner ws) g.counted.owner_in ∙ o.asks) }
 
   was_opened : IsLastOpen B vs → IsLastOpen B ws
-  was_opened o = record { any = rw current_same data_word_after o.any; asks = sym (req_same (committed_owner ws) g.counted.owner_in) ∙ (rw current_same data_word_after o.asks) }
+  was_opened o = record { any = rw current_same at o.any; asks = sym (req_same (committed_owner ws) g.counted.owner_in) ∙ (rw current_same at o.asks) }
 
   -- the durable word of CUR stays, or rises from the batch before the last to the last
   risen_how : (durable_word S vs 0 ≡ durable_word S ws 0) ⊎ ((c ≡ 0) × (committed_seq ws ≡ durable_seq S ws + 1) × IsLastOpen B ws × (durable_word S vs 0 ≡ w) × (seq_of w ≡ committed_seq ws) × WasHeldByCurrent B ws bs w)
@@ -79,7 +79,7 @@ module _ (S : Setup) (Lawful : List ℕ → Type 0) (B : TableStart) (ws : List 
       go (inl z) (inl l) =
           let r : durable_word S vs 0 ≡ max (durable_word S ws 0) w = here_at 0 (sym z) in
           let was = e.was_cur z in
-          let u : w ≤ current_word ws = rw z data_word_after e.low in
+          let u : w ≤ current_word ws = rw z at e.low in
           let top : seq_of w ≤ committed_seq ws = seq_mono w (current_word ws) u in
           let more : durable_seq S ws ≤ seq_of w = seq_mono (durable_word S ws 0) w (omega arith) in
           step_by was r top more (cases_eq (seq_of w) (durable_seq S ws)) (cases_eq (durable_seq S ws) B.seq) g.durable.step
@@ -108,7 +108,7 @@ module _ (S : Setup) (Lawful : List ℕ → Type 0) (B : TableStart) (ws : List 
       go (inl q) (inl u) =
           let r : durable_cell S vs a ≡ max (durable_cell S ws a) w = here_at (S.callers + 1 + a) q in
           let held = e.held a l (sym q) in
-          let under : w ≤ data_word S ws a = rw (← q) data_word_after e.low in
+          let under : w ≤ data_word S ws a = rw (← q) at e.low in
           let new : seq_of w ≤ durable_seq S ws = omega (arith, seq_mono w (data_word S ws a) under, g.durable.fresh a l) in
           inr (omega (arith, which held new u (g.durable.cells a l)))
         where
@@ -162,8 +162,8 @@ module _ (S : Setup) (Lawful : List ℕ → Type 0) (B : TableStart) (ws : List 
     fresh = λ a l. rw (cell_same a l) (omega (arith, g.durable.fresh a l, seq_mono (durable_word S ws 0) (durable_word S vs 0) (rises 0)));
     cells = λ a l. cells_of a l risen_how (data_how a l) (g.durable.cells a l);
     begun = λ l. omega (arith, g.durable.begun l, rises (request_at B.owner));
-    floor = λ k l u. omega (arith, g.durable.floor k l (rw current_same data_word_after u), rises (request_at (batch_at B bs k).owner));
-    logs = λ k l u i o q x v m z. logs_of k l (rw current_same data_word_after u) i o q x v m z;
+    floor = λ k l u. omega (arith, g.durable.floor k l (rw current_same at u), rises (request_at (batch_at B bs k).owner));
+    logs = λ k l u i o q x v m z. logs_of k l (rw current_same at u) i o q x v m z;
   }
     where
       from_of : (durable_word S vs 0 ≡ durable_word S ws 0) ⊎ ((c ≡ 0) × (committed_seq ws ≡ durable_seq S ws + 1) × IsLastOpen B ws × (durable_word S vs 0 ≡ w) × (seq_of w ≡ committed_seq ws) × WasHeldByCurrent B ws bs w) → B.seq ≤ durable_seq S vs
@@ -204,11 +204,11 @@ module _ (S : Setup) (Lawful : List ℕ → Type 0) (B : TableStart) (ws : List 
           → (log_word_of S vs i x ≡ pack k v) × (durable_log S vs i x ≡ pack k v)
       logs_of k l u i o q x v m z =
           let i_in : i < S.callers = rw (← o) (g.counted.owners k l u) in
-          let f : pack k 0 ≤ durable_request S ws i = rw o data_word_after (g.durable.floor k l u) in
+          let f : pack k 0 ≤ durable_request S ws i = rw o at (g.durable.floor k l u) in
           let was : durable_request S ws i ≡ pack k 0 = omega (arith, rises (request_at i)) in
           let p = g.durable.logs k l u i o was x v m z in
           let x_in : x < 2 * S.cells + 1 = omega (arith, length-log_words (batch_at B bs k).log, (g.counted.logs k l u).few) in
-          let top : durable_log S vs i x ≤ log_word_of S ws i x = rw (log_same i x i_in x_in) data_word_after (low (log_at S i x) (log_in i x i_in x_in)) in
+          let top : durable_log S vs i x ≤ log_word_of S ws i x = rw (log_same i x i_in x_in) at (low (log_at S i x) (log_in i x i_in x_in)) in
           (log_same i x i_in x_in ∙ p.0, omega (arith, p.0, p.1, top, rises (log_at S i x)))
 
   -- what is so of a durable word and of the word that it is raised to
@@ -233,7 +233,7 @@ module _ (S : Setup) (Lawful : List ℕ → Type 0) (B : TableStart) (ws : List 
       request_as j v h l = rw current_same (h l)
 
       log_as : (j x v : ℕ) → IsLogWord B ws bs j x v → IsLogWord B vs bs j x v
-      log_as j x v h a u o = h a (rw current_same data_word_after u) o
+      log_as j x v h a u o = h a (rw current_same at u) o
 
   pub raise_shared : WordsMatchHistory S Lawful B vs bs
   raise_shared = record {
@@ -254,8 +254,8 @@ module _ (S : Setup) (Lawful : List ℕ → Type 0) (B : TableStart) (ws : List 
     };
     data_cells = record { each = λ a l. data_of a l (g.data_cells.each a l) };
     requests = record {
-      closed = λ k l u. let z : k < committed_seq ws = rw current_same data_word_after u in rw (req_same (batch_at B bs k).owner (g.counted.owners k l (omega arith))) (g.requests.closed k l z);
-      latest = λ l. let z : pack (committed_seq ws) 0 ≤ request_of ws (committed_owner ws) = g.requests.latest (rw current_same data_word_after l) in rw (current_same, req_same (committed_owner ws) g.counted.owner_in) z;
+      closed = λ k l u. let z : k < committed_seq ws = rw current_same at u in rw (req_same (batch_at B bs k).owner (g.counted.owners k l (omega arith))) (g.requests.closed k l z);
+      latest = λ l. let z : pack (committed_seq ws) 0 ≤ request_of ws (committed_owner ws) = g.requests.latest (rw current_same at l) in rw (current_same, req_same (committed_owner ws) g.counted.owner_in) z;
       floor = λ l. rw (req_same B.owner g.start.owner_in) (g.requests.floor l);
     };
     durable = raise_durable;

@@ -10,9 +10,9 @@ use Rattle.of_recover.specs.Log.{owner_log_word, entry_count, log_entry_value, e
 use Rattle.of_recover.specs.Recovered.{replayed_data, recovered_data}
 use Rattle.of_core.specs.Table.{Setup, request_at, request_of, durable_word, durable_request, durable_cell, committed_seq, committed_owner, durable_seq}
 use Rattle.of_core.specs.Machine.{log_words}
-use Rattle.of_core.specs.World.{Moment, TableStart}
+use Rattle.of_core.specs.TableMoment.{Moment, TableStart}
 use Rattle.of_core.specs.History.{batch_at, data_word_after}
-use Rattle.of_core.specs.Shared.{IsLastOpen, IsLog}
+use Rattle.of_core.specs.WordsMatch.{IsLastOpen, IsLog}
 use Rattle.of_core.specs.Invariant.{MeetsCore}
 use Rattle.of_core.proofs.States.{old, named_at, unnamed}
 use Rattle.of_core.proofs.Logs.{length-log_words, words_at}
@@ -104,7 +104,7 @@ module _ (S : Setup) (Lawful : List ℕ → Type 0) (B : TableStart) (w : Moment
         go (inr n) (inr r) = rw (named a j l ∙ ne_eqb (get_or es j (0, 0)).0 a n) (inr (r.0, λ k m u q. which k m u q (cases_eq k j)))
           where
             which : (k : ℕ) → j ≤ k → k < length es → (get_or es k (0, 0)).0 ≡ a → (k ≡ j) ⊎ (k ≡ j → ⊥) → ⊥
-            which k m u q (inl z) = n (rw z data_word_after q)
+            which k m u q (inl z) = n (rw z at q)
             which k m u q (inr z) = r.1 k (omega arith) u q
 
   -- Where the transaction is open, it is one of the history's, and its log is there.
@@ -174,7 +174,7 @@ module _ (S : Setup) (Lawful : List ℕ → Type 0) (B : TableStart) (w : Moment
       go (inr q) =
           let own : committed_owner w.words ≡ (batch_at B w.batches (committed_seq w.words)).owner = g.shared.counted.owner q.0.any in
           let p_is : owner ≡ committed_owner w.words = g.shared.durable.owner (omega (arith, q.0.any, q.1)) ∙ ap (λ (k : ℕ). (batch_at B w.batches k).owner) (sym q.1) ∙ sym own in
-          let f : pack (committed_seq w.words) 0 ≤ durable_request S w.words (committed_owner w.words) = rw (← own) data_word_after (g.shared.durable.floor (committed_seq w.words) q.0.any (omega arith)) in
+          let f : pack (committed_seq w.words) 0 ≤ durable_request S w.words (committed_owner w.words) = rw (← own) at (g.shared.durable.floor (committed_seq w.words) q.0.any (omega arith)) in
           let t : durable_request S w.words (committed_owner w.words) ≤ request_of w.words (committed_owner w.words) = g.shared.durable.low (request_at (committed_owner w.words)) (omega (arith, g.shared.counted.owner_in)) in
           let r : durable_request S w.words (committed_owner w.words) ≡ pack (committed_seq w.words) 0 = omega (arith, q.0.asks) in
           let e : durable_request S w.words owner ≡ pack d 0 = ap (durable_request S w.words) p_is ∙ r ∙ ap (λ (k : ℕ). pack k 0) q.1 in

@@ -9,12 +9,12 @@ use Rattle.of_core.specs.declared.place.Place.TheVariants.{Idle, LoadCurrent, Lo
 use Rattle.of_core.specs.Table.{Setup, announcement_of, current_word, request_of, data_word, committed_seq, committed_owner, durable_seq}
 use Rattle.of_core.specs.Machine.{CallState, no_cell_known, with_cell_known}
 use Rattle.of_core.specs.Steps.{after_load_request, enter, is_request_open, take_word_at, next_round, first_round_seq}
-use Rattle.of_core.specs.World.{Moment, TableStart, after_counted_step}
+use Rattle.of_core.specs.TableMoment.{Moment, TableStart, after_counted_step}
 use Rattle.of_core.specs.History.{batch_at, data_word_after, IsCellOfCaller, last_ticket_by, numbers_after}
-use Rattle.of_core.specs.Shared.{IsLastOpen}
+use Rattle.of_core.specs.WordsMatch.{IsLastOpen}
 use Rattle.of_core.specs.Rounds.{WasCurrent, IsAnnounced, IsInRound, IsPastRequest, IsPastOwnTicket, HasNothingUnderWay}
 use Rattle.of_core.specs.Invariant.{HoldsAtPlace, MeetsCore}
-use Rattle.of_core.specs.Moves.{KeepsGuarantee}
+use Rattle.of_core.specs.Guarantees.{KeepsGuarantee}
 use Rattle.of_core.proofs.States.{later, old}
 use Rattle.of_core.proofs.Logs.{room_for}
 use Rattle.of_core.proofs.Tickets.{tickets_grow, row_old}
@@ -148,7 +148,7 @@ module _ (S : Setup) (Lawful : List ℕ → Type 0) (B : TableStart) where
     quiet_from s o p away e l =
         let low : pack s 0 ≤ request_of w.words (batch_at B w.batches s).owner = floor_of S Lawful B w.words w.batches g.shared s l p.upto in
         let q : (batch_at B w.batches s).owner ≡ o = p.committed l in
-        let low' : pack s 0 ≤ request_of w.words o = rw q data_word_after low in
+        let low' : pack s 0 ≤ request_of w.words o = rw q at low in
         rw (← p.same e) (above low' (away l))
       where
         above : pack s 0 ≤ request_of w.words o → (request_of w.words o ≡ pack s 0 → ⊥) → pack s 0 < request_of w.words o
@@ -215,7 +215,7 @@ module _ (S : Setup) (Lawful : List ℕ → Type 0) (B : TableStart) where
         knows : (y v : ℕ) → get_or (with_cell_known S n x (data_word S w.words x)) y None ≡ Some v → (y ≡ x) ⊎ (y ≡ x → ⊥) → get_or (numbers_after B w.batches n.seq) y 0 ≡ v
         knows y v q (inl e) =
             let s : get_or (with_cell_known S n x (data_word S w.words x)) x None ≡ Some (payload_of (data_word S w.words x)) = get_or-set_same n.known x (Some (payload_of (data_word S w.words x))) None (omega (arith, p.all)) in
-            let t : Some v ≡ Some (payload_of (data_word S w.words x)) = sym (rw e data_word_after q) ∙ s in
+            let t : Some v ≡ Some (payload_of (data_word S w.words x)) = sym (rw e at q) ∙ s in
             let u : v ≡ payload_of (data_word S w.words x) = cc in
             rw e (this ∙ sym u)
         knows y v q (inr e) = p.agrees y v (sym (get_or-set_other n.known x y (Some (payload_of (data_word S w.words x))) None e) ∙ q)

@@ -5,9 +5,9 @@ use Rattle.std.proofs.lemmas.Bool.{cases_lt}
 use Rattle.of_cell.specs.Words.{seq_of}
 use Rattle.of_core.specs.Table.{Setup, first_operation_cell}
 use Rattle.of_core.specs.Machine.{Call, no_call}
-use Rattle.of_core.specs.World.{Batch, TableStart}
+use Rattle.of_core.specs.TableMoment.{Batch, TableStart}
 use Rattle.of_core.specs.History.{batch_at, data_word_after, OwnCellsShowLast, IsNewestCall, IsCellOfCaller, last_ticket_by}
-use Rattle.of_core.specs.Shared.{StatesFollowBatches, IsLog, IsStart}
+use Rattle.of_core.specs.WordsMatch.{StatesFollowBatches, IsLog, IsStart}
 use Rattle.of_core.proofs.States.{old}
 use Rattle.of_core.proofs.Logs.{room_for}
 
@@ -19,7 +19,7 @@ module _ (S : Setup) (Lawful : List ℕ → Type 0) (B : TableStart) (bs : List 
       rw e (omega (arith, grow_by d k i l (omega arith) m, st.grow (k + d) i (omega arith) (omega arith) m))
 
   pub tickets_grow : (j k i : ℕ) → B.seq ≤ j → j ≤ k → k ≤ B.seq + length bs → i < S.callers → last_ticket_by S B bs j i ≤ last_ticket_by S B bs k i
-  tickets_grow j k i l u m n = let e : j + (k - j) ≡ k = omega arith in rw e data_word_after (grow_by (k - j) j i l (omega arith) n)
+  tickets_grow j k i l u m n = let e : j + (k - j) ≡ k = omega arith in rw e at (grow_by (k - j) j i l (omega arith) n)
 
   -- a batch's call has its ticket in its caller's ticket cell at most ever after
   pub ticket_upto : (k n : ℕ) → B.seq < k → k ≤ n → n ≤ B.seq + length bs → All (λ (c : Call). c.ticket ≤ last_ticket_by S B bs n c.caller) (batch_at B bs k).calls
@@ -34,7 +34,7 @@ module _ (S : Setup) (Lawful : List ℕ → Type 0) (B : TableStart) (bs : List 
   tickets_rise j k l u m y c v z d x q =
       let e : k - 1 + 1 ≡ k = omega arith in
       let a : (get_or (batch_at B bs j).calls y c).ticket ≤ last_ticket_by S B bs (k - 1) (get_or (batch_at B bs j).calls y c).caller = ticket_upto j (k - 1) l (omega arith) (omega arith) y c v in
-      let b : last_ticket_by S B bs (k - 1) (get_or (batch_at B bs k).calls z d).caller < (get_or (batch_at B bs k).calls z d).ticket = (rw e data_word_after (st.rises (k - 1) (omega arith) (omega arith))) z d x in
+      let b : last_ticket_by S B bs (k - 1) (get_or (batch_at B bs k).calls z d).caller < (get_or (batch_at B bs k).calls z d).ticket = (rw e at (st.rises (k - 1) (omega arith) (omega arith))) z d x in
       omega (arith, a, b, ap (last_ticket_by S B bs (k - 1)) q)
 
   module _ (start : IsStart S B) (logs : (k : ℕ) → B.seq < k → k ≤ B.seq + length bs → IsLog S (batch_at B bs k).log) (own_in : first_operation_cell S ≤ S.cells) where
@@ -47,10 +47,10 @@ module _ (S : Setup) (Lawful : List ℕ → Type 0) (B : TableStart) (bs : List 
         go (inl v) =
             let e : c.number - 1 + 1 ≡ c.number = omega arith in
             let r : last_ticket_by S B bs (c.number - 1) (get_or (batch_at B bs c.number).calls c.place no_call).caller < (get_or (batch_at B bs c.number).calls c.place no_call).ticket =
-            (rw e data_word_after (st.rises (c.number - 1) (omega arith) (omega (arith, c.upto)))) c.place no_call c.among in
-            let r' : last_ticket_by S B bs (c.number - 1) i < (get_or (batch_at B bs c.number).calls c.place no_call).ticket = rw c.caller data_word_after r in
+            (rw e at (st.rises (c.number - 1) (omega arith) (omega (arith, c.upto)))) c.place no_call c.among in
+            let r' : last_ticket_by S B bs (c.number - 1) i < (get_or (batch_at B bs c.number).calls c.place no_call).ticket = rw c.caller at r in
             let q = (st.now c.number c.from (omega (arith, c.upto)) c.place no_call c.among).1 in
-            let q' : last_ticket_by S B bs c.number i ≡ (get_or (batch_at B bs c.number).calls c.place no_call).ticket = rw c.caller data_word_after q in
+            let q' : last_ticket_by S B bs c.number i ≡ (get_or (batch_at B bs c.number).calls c.place no_call).ticket = rw c.caller at q in
             absurd (omega (arith, r', q', t, tickets_grow s (c.number - 1) i l (omega arith) (omega (arith, c.upto)) n, tickets_grow c.number k i (omega arith) c.upto m n))
 
     pub row_old : (s k i a : ℕ) → B.seq ≤ s → s ≤ k → k ≤ B.seq + length bs → i < S.callers → last_ticket_by S B bs k i ≤ last_ticket_by S B bs s i → IsCellOfCaller S i a → seq_of (data_word_after B bs k a) ≤ s

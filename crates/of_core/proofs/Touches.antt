@@ -2,29 +2,24 @@
 use Rattle.std.proofs.Common.{◌≡◌, ℕ, zero, suc, ◌+◌, ◌*◌, ◌-◌, ◌<◌, ◌≤◌, ◌⊎◌, ◌==◌, inl, inr, List, [], ◌∷◌, length, get_or, refl, sym, ◌∙◌, ap, subst, arith, true, false}
 use Rattle.std.specs.List.{All}
 use Rattle.std.proofs.lemmas.Bool.Decides.{nat_tests}
+pub use Rattle.std.proofs.lemmas.Bool.{eqb-false as differ, eqb-true as equals}
 use Rattle.of_cell.specs.Words.{pack, seq_of, payload_of}
 use Rattle.of_mem.specs.declared.work.RawReply.{RawReply}
 use Rattle.of_core.specs.Table.{Setup, cell_count, request_at, data_at, log_at, announcement_of, script_word, current_word, request_of, data_word, log_word_of, durable_word, durable_request, durable_cell, durable_log, committed_seq, committed_owner, durable_seq}
 use Rattle.of_core.specs.Machine.{CallState, Call, log_words}
-use Rattle.of_core.specs.World.{Moment, Batch, TableStart}
+use Rattle.of_core.specs.TableMoment.{Moment, Batch, TableStart}
 use Rattle.of_core.specs.History.{batch_at, data_word_after}
-use Rattle.of_core.specs.Shared.{AnnouncementsAreServed, WordsHaveTheirKind, IsRequest, IsLogWord, WordsMatchHistory, IsLastOpen, CountsBatches, DataCellsMatchState, RequestsMatchBatches, DurableWordsMatch, WasHeldByCell}
+use Rattle.of_core.specs.WordsMatch.{AnnouncementsAreServed, WordsHaveTheirKind, IsRequest, IsLogWord, WordsMatchHistory, IsLastOpen, CountsBatches, DataCellsMatchState, RequestsMatchBatches, DurableWordsMatch, WasHeldByCell}
 use Rattle.of_core.specs.Rounds.{IsAnnounced, IsInRound, IsPastOwnTicket, AnnouncesNothingNew}
 use Rattle.of_core.specs.Scan.{HasScannedUpTo}
 use Rattle.of_core.specs.Invariant.{MeetsCore}
-use Rattle.of_core.specs.Moves.{Guarantees}
+use Rattle.of_core.specs.Guarantees.{Guarantees}
 use Rattle.of_core.proofs.Logs.{length-log_words}
 use Rattle.of_core.proofs.Stability.{log_in, heard_as, said_as}
 
 all_one : {X : Type 0} (P : X → Type 0) (x : X) → P x → All P (x ∷ [])
 all_one P x h zero d l = h
 all_one P x h (suc k) d l = absurd (omega arith)
-
-pub differ : (a b : ℕ) → (a == b) ≡ false → a ≡ b → ⊥
-differ a b e q = grind (arith, nat_tests)
-
-pub equals : (a b : ℕ) → (a == b) ≡ true → a ≡ b
-equals a b e = grind (arith, nat_tests)
 
 module _ (S : Setup) (Lawful : List ℕ → Type 0) (B : TableStart) where
   -- the last commit stays, cells rise, and no durable word changes
@@ -86,8 +81,8 @@ module _ (S : Setup) (Lawful : List ℕ → Type 0) (B : TableStart) where
     pub requests_of : RequestsMatchBatches S B vs bs
     requests_of = let h = s.requests in record {
       floor = λ l. omega (arith, h.floor l, t.rise (B.owner + 1) (omega (arith, s.start.owner_in)));
-      closed = λ k l m. omega (arith, h.closed k l (rw last_same data_word_after m), t.rise ((batch_at B bs k).owner + 1) (omega (arith, s.counted.owners k l (omega (arith, last_same)))));
-      latest = λ l. let x : pack (committed_seq ws) 0 ≤ request_of ws (committed_owner ws) = h.latest (rw last_same data_word_after l) in rw t.current_word (omega (arith, t.rise (committed_owner ws + 1) (omega (arith, s.counted.owner_in))));
+      closed = λ k l m. omega (arith, h.closed k l (rw last_same at m), t.rise ((batch_at B bs k).owner + 1) (omega (arith, s.counted.owners k l (omega (arith, last_same)))));
+      latest = λ l. let x : pack (committed_seq ws) 0 ≤ request_of ws (committed_owner ws) = h.latest (rw last_same at l) in rw t.current_word (omega (arith, t.rise (committed_owner ws + 1) (omega (arith, s.counted.owner_in))));
     }
 
     -- the durable facts, where the open transaction stays open, or where all is in the cells
@@ -105,8 +100,8 @@ module _ (S : Setup) (Lawful : List ℕ → Type 0) (B : TableStart) where
       fresh = λ a l. rw dur_cur (fresh a l);
       cells = λ a l. rw (t.durs (data_at S a) (omega arith), dur_cur, t.current_word) (cells a l);
       begun = λ l. rw (t.durs (request_at B.owner) (omega (arith, s.start.owner_in))) (h.begun l);
-      floor = λ k l u. rw (t.durs (request_at (batch_at B bs k).owner) (omega (arith, s.counted.owners k l (rw last_same data_word_after u)))) (h.floor k l (rw last_same data_word_after u));
-      logs = λ k l u j o q x v m z. logs_at k l (rw last_same data_word_after u) j o q x v m z;
+      floor = λ k l u. rw (t.durs (request_at (batch_at B bs k).owner) (omega (arith, s.counted.owners k l (rw last_same at u)))) (h.floor k l (rw last_same at u));
+      logs = λ k l u j o q x v m z. logs_at k l (rw last_same at u) j o q x v m z;
     }
       where
         logs_at : (k : ℕ) → B.seq < k → k ≤ committed_seq ws → (j : ℕ) → (batch_at B bs k).owner ≡ j → durable_request S vs j ≡ pack k 0 → (x v : ℕ) → x < length (log_words (batch_at B bs k).log) → get_or (log_words (batch_at B bs k).log) x 0 ≡ v → (log_word_of S vs j x ≡ pack k v) × (durable_log S vs j x ≡ pack k v)
@@ -121,7 +116,7 @@ module _ (S : Setup) (Lawful : List ℕ → Type 0) (B : TableStart) where
     request_as j v h l = rw t.current_word (h l)
 
     pub log_as : (j x v : ℕ) → IsLogWord B ws bs j x v → IsLogWord B vs bs j x v
-    log_as j x v h a u o = h a (rw t.current_word data_word_after u) o
+    log_as j x v h a u o = h a (rw t.current_word at u) o
 
     -- what requests and log words are, where this is so of the table's
     pub kinds_of : ((j : ℕ) → j < S.callers → IsRequest B ws bs j (request_of vs j)) → ((j x : ℕ) → j < S.callers → x < 2 * S.cells + 1 → IsLogWord B ws bs j x (log_word_of S vs j x))
@@ -161,7 +156,7 @@ module _ (S : Setup) (Lawful : List ℕ → Type 0) (B : TableStart) where
         upto = rw (b, t.current_word) p.upto;
         beyond = rw b p.beyond;
         mine = rw (b, o, t.current_word) p.mine;
-        known = rw (r, f) (λ l. ((p.known l).0, λ k u v. (p.known l).1 k u (rw last_same data_word_after v) ∙ sym (behind i S.instrs)));
+        known = rw (r, f) (λ l. ((p.known l).0, λ k u v. (p.known l).1 k u (rw last_same at v) ∙ sym (behind i S.instrs)));
       }
 
       pub round_of : (m : CallState) → i < S.callers → IsInRound S B ws bs i m → (n : CallState) → n.caller ≡ m.caller → n.made ≡ m.made → n.op ≡ m.op → n.seq ≡ m.seq → n.owner ≡ m.owner → n.kept ≡ m.kept → n.rounds ≡ m.rounds → n.first ≡ m.first → IsInRound S B vs bs i n
@@ -183,7 +178,7 @@ module _ (S : Setup) (Lawful : List ℕ → Type 0) (B : TableStart) where
       past_of m h p n a b o c d x r f e = record {
         looks = record {
           round = round_of m h p.looks.round n a b o c d x r f;
-          quiet = λ q l. let y : pack m.seq 0 < request_of ws (committed_owner ws) = p.looks.quiet (sym c ∙ q ∙ last_same) (rw c data_word_after l) in rw (c, t.current_word) (omega (arith, t.rise (committed_owner ws + 1) (omega (arith, s.counted.owner_in))));
+          quiet = λ q l. let y : pack m.seq 0 < request_of ws (committed_owner ws) = p.looks.quiet (sym c ∙ q ∙ last_same) (rw c at l) in rw (c, t.current_word) (omega (arith, t.rise (committed_owner ws + 1) (omega (arith, s.counted.owner_in))));
           agrees = rw (c, e) p.looks.agrees;
           all = rw e p.looks.all;
         };

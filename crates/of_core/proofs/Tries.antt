@@ -10,12 +10,12 @@ use Rattle.of_core.specs.declared.place.Place.TheVariants.{TryCurrent, TryReques
 use Rattle.of_core.specs.Table.{Setup, data_at, first_operation_cell, current_word, request_of, data_word, committed_seq, committed_owner, durable_seq}
 use Rattle.of_core.specs.Machine.{CallState, no_cell_known, with_cell_known}
 use Rattle.of_core.specs.Steps.{read_on, after_read_run, begin_reading, resume, after_try_request, end_try, after_try_cell, is_request_open, take_word_at}
-use Rattle.of_core.specs.World.{Moment, TableStart, after_counted_step}
+use Rattle.of_core.specs.TableMoment.{Moment, TableStart, after_counted_step}
 use Rattle.of_core.specs.History.{state_after, data_word_after, numbers_after}
-use Rattle.of_core.specs.Shared.{IsLastOpen}
+use Rattle.of_core.specs.WordsMatch.{IsLastOpen}
 use Rattle.of_core.specs.Rounds.{WasCurrent, IsInTry, MayHelp, KnowsClosedState, HasNothingUnderWay}
 use Rattle.of_core.specs.Invariant.{HoldsAtPlace, MeetsCore}
-use Rattle.of_core.specs.Moves.{KeepsGuarantee}
+use Rattle.of_core.specs.Guarantees.{KeepsGuarantee}
 use Rattle.of_core.proofs.States.{state_length, later}
 use Rattle.of_core.proofs.Alike.{calm_more, fresh_as, trying_as}
 use Rattle.of_core.proofs.Assembling.{assemble_read, logs_of, number_at, same_batches, same_words}
@@ -46,7 +46,7 @@ module _ (S : Setup) (Lawful : List ℕ → Type 0) (B : TableStart) where
         knows : (y v : ℕ) → get_or (with_cell_known S n x (data_word S w.words x)) y None ≡ Some v → (y ≡ x) ⊎ (y ≡ x → ⊥) → get_or (numbers_after B w.batches s) y 0 ≡ v
         knows y v q (inl e) =
             let z : get_or (with_cell_known S n x (data_word S w.words x)) x None ≡ Some (payload_of (data_word S w.words x)) = get_or-set_same n.known x (Some (payload_of (data_word S w.words x))) None (omega (arith, p.all, l)) in
-            let t : Some v ≡ Some (payload_of (data_word S w.words x)) = sym (rw e data_word_after q) ∙ z in
+            let t : Some v ≡ Some (payload_of (data_word S w.words x)) = sym (rw e at q) ∙ z in
             let u : v ≡ payload_of (data_word S w.words x) = cc in
             rw e (this ∙ sym u)
         knows y v q (inr e) = p.agrees y v (sym (get_or-set_other n.known x y (Some (payload_of (data_word S w.words x))) None e) ∙ q)
@@ -75,7 +75,7 @@ module _ (S : Setup) (Lawful : List ℕ → Type 0) (B : TableStart) where
         size = length-map (state_after B w.batches n.seq) payload_of ∙ state_length S B w.batches g.shared.start (logs_of S Lawful B w g) n.seq c.from upto
 
         go : (r : WalkEnd) → S.meaning.walk n.known n.op ≡ r → WalkFits S.meaning (first_operation_cell S) S.cells n.known xs n.op (S.meaning.walk n.known n.op) → HoldsAtPlace S B w.words w.batches i (after_read_run n r) (after_read_run n r).place
-        go (Needs a) e f = let f' = rw e data_word_after f in (trying_as S Lawful B w g i m h n _ p refl refl refl refl refl refl, c, o, k, f'.1, f'.2)
+        go (Needs a) e f = let f' = rw e at f in (trying_as S Lawful B w g i m h n _ p refl refl refl refl refl refl, c, o, k, f'.1, f'.2)
         go (Gives es r) e f = record {
           caller = p.fresh.caller;
           calm = calm_more S Lawful B w g i m h n.seq (committed_seq w.words) c.upto o;
@@ -83,7 +83,7 @@ module _ (S : Setup) (Lawful : List ℕ → Type 0) (B : TableStart) where
           quieted = p.fresh.quieted;
           upto = omega (arith, p.fresh.above);
           older = omega (arith, p.fresh.newer);
-          told = (c.from, seen_risen n.seq n.owner n.known c k, c.upto, (rw e data_word_after f).reply, p.reads);
+          told = (c.from, seen_risen n.seq n.owner n.known c k, c.upto, (rw e at f).reply, p.reads);
         }
 
     none_known : (x v : ℕ) → get_or (no_cell_known S) x None ≡ Some v → ⊥

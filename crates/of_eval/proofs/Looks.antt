@@ -1,6 +1,6 @@
 -- Words that look for a key before all else.
 use Rattle.std.proofs.Common.{◌≡◌, ℕ, refl, ◌∙◌, ap, Option, Some}
-use Rattle.of_mem.specs.Pad.{Part}
+use Rattle.of_mem.specs.Part.{Part}
 use Rattle.of_mem.specs.Programs.{Program, Lacks, run_program, then_do}
 use Rattle.of_mem.proofs.Runs.{run_then_needs}
 use Rattle.of_map.specs.MapPrograms.{seek_program, get_at, put_found, del_found}

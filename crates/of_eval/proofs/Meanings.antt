@@ -12,7 +12,7 @@ use Rattle.of_script.specs.declared.instr.TheConstants.{MOST_INSTRS}
 use Rattle.of_script.specs.declared.instr.Instr.{Instr}
 use Rattle.of_script.specs.Language.{IsInstrInRange, instr_word}
 use Rattle.of_script.proofs.WordLaws.{instr_at_again}
-use Rattle.of_store.specs.State.{Store, ScriptOutcome, outcome_of_script, run_result, then_outcome, instr_effect, Aborted}
+use Rattle.of_store.specs.Store.{Store, ScriptOutcome, outcome_of_script, run_result, then_outcome, instr_effect, Aborted}
 use Rattle.of_eval.specs.declared.scripts.Scripts.{Scripts}
 use Rattle.of_eval.specs.Shapes.{reply_cells, mask_of}
 use Rattle.of_eval.specs.ShapeLaws.{code_some}

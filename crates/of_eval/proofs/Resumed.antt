@@ -5,12 +5,12 @@ use Rattle.std.proofs.lemmas.List.{length-replicate}
 use Rattle.std.proofs.lemmas.Option.{none-some}
 use Rattle.of_mem.specs.declared.plot.Plot.{Plot}
 use Rattle.of_mem.specs.declared.plot.TheConstants.{MOST_BLOCKS}
-use Rattle.of_mem.specs.Pad.{Part, Extends}
+use Rattle.of_mem.specs.Part.{Part, Extends}
 use Rattle.of_mem.specs.Places.{base_of}
 use Rattle.of_mem.specs.Plots.{base}
 use Rattle.of_mem.specs.Programs.{Lacks, Ends, run_program}
 use Rattle.of_mem.specs.Calls.{HasStore}
-use Rattle.of_mem.specs.Remains.{SuspendedRun, begin_run, IsSuspensionOf}
+use Rattle.of_mem.specs.SuspendedRun.{SuspendedRun, begin_run, IsSuspensionOf}
 use Rattle.of_mem.proofs.Extended.{ends_again}
 use Rattle.of_map.specs.MapPrograms.{seek_program}
 use Rattle.of_script.specs.declared.instr.TheConstants.{MOST_INSTRS}

@@ -2,7 +2,7 @@
 use Rattle.std.proofs.Common.{◌≡◌, ℕ, ◌+◌, ◌-◌, ◌<◌, ◌≤◌, refl, sym, ◌∙◌, ap, subst, arith, Option, Some, None, Ok, Err, List, [], ◌∷◌, ◌++◌, length, get_or, set, take, drop, replicate, length-drop, take-append-drop, drop_of_length-le}
 use Rattle.std.proofs.lemmas.List.{drop_more, take_more_set, take_all, get_or-drop, length-take-le}
 use Rattle.of_mem.specs.declared.work.RawReply.{RawReply}
-use Rattle.of_mem.specs.Pad.{Part, newest_at}
+use Rattle.of_mem.specs.Part.{Part, newest_at}
 use Rattle.of_mem.specs.Places.{register_at, cells_at}
 use Rattle.of_mem.specs.declared.plot.TheConstants.{MOST_BLOCKS}
 use Rattle.of_mem.specs.Programs.{Program, Lacks, Ends, run_program, program_answer, memory_after}
@@ -14,7 +14,7 @@ use Rattle.of_mem.proofs.Runs.{Ended, run_ended, run_then_gives, run_then_needs}
 use Rattle.of_script.specs.declared.instr.TheConstants.{MOST_INSTRS}
 use Rattle.of_script.specs.declared.instr.Cause.{Cause}
 use Rattle.of_script.specs.Reading.{instr_at}
-use Rattle.of_store.specs.State.{InstrEffect, Aborted}
+use Rattle.of_store.specs.Store.{InstrEffect, Aborted}
 use Rattle.of_store.specs.Replies.{IsSmall}
 use Rattle.of_store.proofs.Keeps.{Leaves}
 use Rattle.of_store.proofs.Values.{value_of}

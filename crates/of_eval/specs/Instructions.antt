@@ -28,7 +28,7 @@ use Rattle.of_script.specs.declared.instr.Cause.TheVariants.{Overflow, Short, No
 use Rattle.of_script.specs.declared.instr.Instr.{Instr}
 use Rattle.of_script.specs.declared.instr.Instr.TheVariants.{Load, Store as Put_in, Add, Sub, Get, Put, Del, Need, Push, Pop, Len, Count, First, Next, DropBelow}
 use Rattle.of_script.specs.Language.{IsInstrInRange, greatest}
-use Rattle.of_store.specs.State.{Store, IsState, InstrEffect, instr_effect, pop_effect, least_from, queue, stored_count, register, with_register, with_queue, is_there}
+use Rattle.of_store.specs.Store.{Store, IsState, InstrEffect, instr_effect, pop_effect, least_from, queue, stored_count, register, with_register, with_queue, is_there}
 use Rattle.of_eval.specs.Stored.{cell_store, IsStored}
 use Rattle.of_eval.specs.ScriptPrograms.{InstrResult, answer_program, answers_number, put_answers, answers_if, need_answers, add_to, add_unless, sub_from, sub_unless, instr_program}
 use Rattle.of_eval.specs.Registers.{register_stands}

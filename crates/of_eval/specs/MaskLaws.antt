@@ -12,7 +12,7 @@ use Rattle.of_mem.specs.Numbers.{FitsCell}
 use Rattle.of_mem.specs.Meaning.{is_marked}
 use Rattle.of_mem.specs.ProgramWork.{IsReplyTo}
 use Rattle.of_mem.proofs.Writes.{all_each}
-use Rattle.of_store.specs.State.{ScriptOutcome, Aborted}
+use Rattle.of_store.specs.Store.{ScriptOutcome, Aborted}
 use Rattle.of_store.specs.Replies.{IsSmall}
 use Rattle.of_eval.specs.Shapes.{mark_bit, mask_of, code_of, reply_cells, shape_of}
 use Rattle.of_eval.specs.Words.{reply_to}

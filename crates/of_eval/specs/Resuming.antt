@@ -3,10 +3,10 @@
 use Rattle.std.specs.Prelude.{◌≡◌, ℕ, ◌≤◌, ◌<◌, List, [], length, take, drop, Option, Some, None}
 use Rattle.std.proofs.Common.{get_or, arith, ap}
 use Rattle.of_mem.specs.declared.work.TheConstants.{MOST_INSTRS}
-use Rattle.of_mem.specs.Pad.{Part, Extends, learn}
+use Rattle.of_mem.specs.Part.{Part, Extends, learn}
 use Rattle.of_mem.specs.Places.{base_of}
 use Rattle.of_mem.specs.Programs.{Lacks, run_program, IsPartOf}
-use Rattle.of_mem.specs.Remains.{SuspendedRun}
+use Rattle.of_mem.specs.SuspendedRun.{SuspendedRun}
 use Rattle.of_mem.proofs.Extended.{extends_learnt}
 use Rattle.of_map.specs.MapPrograms.{seek_program}
 use Rattle.of_store.specs.Replies.{IsSmall}

@@ -15,7 +15,7 @@ use Rattle.of_script.specs.declared.instr.Cause.TheVariants.{Overflow, Short, No
 use Rattle.of_script.specs.declared.instr.TheConstants.{MOST_INSTRS}
 use Rattle.of_script.specs.Language.{greatest}
 use Rattle.of_script.specs.Reading.{instr_at}
-use Rattle.of_store.specs.State.{is_there, Answered, Aborted}
+use Rattle.of_store.specs.Store.{is_there, Answered, Aborted}
 use Rattle.of_eval.specs.Shapes.{reply_cells}
 use Rattle.of_eval.specs.Words.{reply_to}
 

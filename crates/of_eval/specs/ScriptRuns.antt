@@ -11,7 +11,7 @@ use Rattle.of_mem.proofs.Runs.{answer_then, after_then, inside_then}
 use Rattle.of_script.specs.declared.instr.Instr.{Instr}
 use Rattle.of_script.specs.Reading.{instr_at}
 use Rattle.of_script.proofs.WordLaws.{instr_at_takes}
-use Rattle.of_store.specs.State.{Store, IsState, InstrEffect, ScriptOutcome, with_answer_first, then_outcome, Reply, Answered, Aborted}
+use Rattle.of_store.specs.Store.{Store, IsState, InstrEffect, ScriptOutcome, with_answer_first, then_outcome, Reply, Answered, Aborted}
 use Rattle.of_store.specs.Replies.{IsSmall}
 use Rattle.of_store.proofs.Keeps.{Leaves, effect_leaves}
 use Rattle.of_store.proofs.Values.{value_of, effect_small}

@@ -21,7 +21,7 @@ use Rattle.of_script.specs.declared.instr.Instr.TheVariants.{Load, Store, Add, S
 use Rattle.of_script.specs.Language.{reads_only}
 use Rattle.of_script.specs.Reading.{instr_at}
 use Rattle.of_script.proofs.Numbers.{both}
-use Rattle.of_store.specs.State.{is_there}
+use Rattle.of_store.specs.Store.{is_there}
 use Rattle.std.specs.Prelude.{nat_lt}
 use Rattle.of_script.specs.Language.{greatest}
 use Rattle.of_eval.specs.Scripts.{instr_reads, words_read}

@@ -11,7 +11,7 @@ use Rattle.of_mem.proofs.Standing.{empty_stands, stands_from}
 use Rattle.of_mem.proofs.Sounds.{sound}
 use Rattle.of_script.specs.declared.instr.TheConstants.{MOST_INSTRS, REGISTERS}
 use Rattle.of_script.proofs.Numbers.{both}
-use Rattle.of_store.specs.State.{Store, ScriptOutcome, empty_store}
+use Rattle.of_store.specs.Store.{Store, ScriptOutcome, empty_store}
 use Rattle.of_store.proofs.Keeps.{empty_is}
 use Rattle.of_eval.specs.declared.scripts.Scripts.{Scripts}
 use Rattle.of_eval.specs.Stored.{cell_store, IsStored}

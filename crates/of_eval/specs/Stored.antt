@@ -2,10 +2,10 @@
 use Rattle.std.specs.Prelude.{◌≡◌, ℕ, length}
 use Rattle.of_mem.specs.declared.plot.Plot.{Plot}
 use Rattle.of_mem.specs.Plots.{base, data_cell_count}
-use Rattle.of_mem.specs.Pad.{Part}
+use Rattle.of_mem.specs.Part.{Part}
 use Rattle.of_mem.specs.Programs.{IsPartOf}
 use Rattle.of_mem.specs.Stores.{CellStore, StandsForStore}
-use Rattle.of_store.specs.State.{Store, IsState, queue}
+use Rattle.of_store.specs.Store.{Store, IsState, queue}
 
 -- the same store as cells see it
 abbrev pub cell_store : Store → CellStore

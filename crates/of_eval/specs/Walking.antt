@@ -9,7 +9,7 @@ use Rattle.of_mem.specs.Plots.{base}
 use Rattle.of_mem.specs.ProgramWork.{memory_of}
 use Rattle.of_mem.specs.Stores.{first_at, value_in, blocks_in_chains}
 use Rattle.of_script.specs.declared.instr.TheConstants.{REGISTERS}
-use Rattle.of_store.specs.State.{Store, IsState, queue}
+use Rattle.of_store.specs.Store.{Store, IsState, queue}
 use Rattle.of_eval.specs.declared.lawful_cells.LawErr.{LawErr}
 use Rattle.of_eval.specs.declared.lawful_cells.LawErr.TheVariants.{Memory, Unlawful}
 use Rattle.of_eval.specs.Lawful.{OwnCellsAreSound, DataCellsStandFor}

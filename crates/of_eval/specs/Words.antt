@@ -6,7 +6,7 @@ use Rattle.of_script.specs.declared.instr.Cause.TheVariants.{BadOp}
 use Rattle.of_script.specs.declared.instr.Reply.{Reply as RustReply}
 use Rattle.of_script.specs.declared.instr.TheConstants.{MOST_INSTRS}
 use Rattle.of_script.specs.Reading.{instr_at}
-use Rattle.of_store.specs.State.{Store, InstrEffect, instr_effect, ScriptOutcome, then_outcome, run_result, Reply, Answered, Aborted}
+use Rattle.of_store.specs.Store.{Store, InstrEffect, instr_effect, ScriptOutcome, then_outcome, run_result, Reply, Answered, Aborted}
 
 -- an operation has one to the most words
 pub record IsOperation (op : List ℕ) : Type 0 where

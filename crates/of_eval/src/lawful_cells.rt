@@ -2,7 +2,7 @@
 
 ghost use Rattle.std.specs.Prelude.{◌≡◌, IfOk, IfErr, MatchResult, length};
 ghost use Rattle.of_mem.specs.Plots.{data_cell_count};
-ghost use Rattle.of_store.specs.State.{Store};
+ghost use Rattle.of_store.specs.Store.{Store};
 ghost use Rattle.of_eval.specs.Walking.{NamesFault, CellsStandFor};
 ghost use Rattle.of_eval.specs.declared.lawful_cells.LawErr.TheVariants.{Memory};
 

@@ -2,7 +2,7 @@
 
 ghost use Rattle.std.specs.Prelude.{◌≡◌, ℕ};
 ghost use Rattle.of_script.specs.declared.instr.Reply.{Reply};
-ghost use Rattle.of_store.specs.State.{Store};
+ghost use Rattle.of_store.specs.Store.{Store};
 ghost use Rattle.of_eval.specs.Faults.{FaultsExcludeStores, FirstFaultIsOne};
 ghost use Rattle.of_eval.specs.Means.{MeansWords, WordsMeanScript};
 ghost use Rattle.of_eval.specs.Shapes.{IsWhole, IsHeldBy, reply_cells};

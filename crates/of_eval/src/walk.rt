@@ -2,9 +2,9 @@
 
 ghost use Rattle.std.proofs.Common.{set};
 ghost use Rattle.std.specs.Prelude.{◌-◌, ◌≡◌, ◌≤◌, ◌<◌, [], length, IfOk, MatchResult, None};
-ghost use Rattle.of_mem.specs.Pad.{Part};
+ghost use Rattle.of_mem.specs.Part.{Part};
 ghost use Rattle.of_mem.specs.Programs.{NeedsAt};
-ghost use Rattle.of_mem.specs.Remains.{IsSuspensionOf};
+ghost use Rattle.of_mem.specs.SuspendedRun.{IsSuspensionOf};
 ghost use Rattle.of_mem.specs.declared.work.TheConstants.{MOST_INSTRS};
 ghost use Rattle.of_mem.specs.Calls.{RunsProgram};
 ghost use Rattle.of_eval.specs.Calls.{script, in_cells};
@@ -12,16 +12,21 @@ ghost use Rattle.of_eval.specs.Shapes.{IsWhole};
 ghost use Rattle.of_eval.specs.Resuming.{HoldsScript};
 ghost use Rattle.of_eval.specs.Stored.{HasState};
 ghost use Rattle.of_eval.specs.Words.{IsOperation, reply_to};
-ghost use Rattle.of_store.specs.State.{Aborted};
+ghost use Rattle.of_store.specs.Store.{Aborted};
 
 use crate::step::{run_word, word_seeks};
-use of_mem::{Kept, Need, Part, Plot};
+use of_mem::{Need, Part, Plot, SuspendedRun};
 use of_script::{Abort, Cause, MOST_INSTRS, Reply};
 
 /// Walks towards the key that the next word looks for, where `kept` is of these words and has one.
 /// The error names a cell that is read and isn't known. A run that lacks one cell after the other of
 /// a bucket so costs the walk alone.
-pub(crate) fn reach(plot: &Plot, part: &mut Part, kept: &Kept, op: &[u64]) -> Result<(), Need>
+pub(crate) fn reach(
+    plot: &Plot,
+    part: &mut Part,
+    kept: &SuspendedRun,
+    op: &[u64],
+) -> Result<(), Need>
     requires stands { HasState plot.now part.old }
     requires instrs { plot.now.instrs ≡ MOST_INSTRS }
     requires words { IsOperation op.now }
@@ -51,7 +56,7 @@ pub(crate) fn reach(plot: &Plot, part: &mut Part, kept: &Kept, op: &[u64]) -> Re
 pub(crate) fn run_words(
     plot: &Plot,
     part: &mut Part,
-    kept: &mut Kept,
+    kept: &mut SuspendedRun,
     op: &[u64],
 ) -> Result<Reply, Need>
     requires stands { HasState plot.now part.old }
@@ -84,7 +89,7 @@ pub(crate) fn run_words(
 }
 
 /// Keeps the key that the next of these words looks for, if it does so before all else.
-pub(crate) fn keep_sought(kept: &mut Kept, op: &[u64])
+pub(crate) fn keep_sought(kept: &mut SuspendedRun, op: &[u64])
     requires { kept.old.words ≡ op.now }
     ensures holds { (p : Part) → HoldsScript kept.old p → HoldsScript kept.new p }
     ensures room { kept.new.room ≡ kept.old.room }

@@ -5,6 +5,7 @@ use Rattle.std.specs.List.{AllByRecursion}
 use Rattle.std.proofs.lemmas.Bool.{eqb-true}
 use Rattle.std.proofs.lemmas.Bool.Decides.{eqb_tells, nat_tests}
 use Rattle.std.proofs.lemmas.List.{append-nil, length-replicate, length-append}
+use Rattle.std.proofs.lemmas.Bool.{ne_eqb as eqb_other}
 use Rattle.of_cell.specs.Words.{pack, seq_of, payload_of}
 use Rattle.of_cell.specs.Cells.{durable_cells}
 use Rattle.of_cell.proofs.Order.{word_eta, seq_word, pay_word, pay_small, seq_small}
@@ -35,9 +36,6 @@ zeros_lines c (suc n) = zeros_lines (c + 1) n
 none_lines : (c : ℕ) (ws : List ℕ) → ((k : ℕ) → get_or ws k 0 ≡ 0) → cell_lines c ws ≡ []
 none_lines c [] h = refl
 none_lines c (w ∷ ws) h = let first : w ≡ 0 = h 0 in rw first (none_lines (c + 1) ws (λ k. h (suc k)))
-
-eqb_other : (a b : ℕ) → (a ≡ b → ⊥) → eqb a b ≡ false
-eqb_other a b h = elim (eqb_tells a b) [ inl p ↦ absurd (h p.1) | inr p ↦ p.0 ]
 
 -- a word of a cell from which on all are 0 has the last line
 set_lines : (c : ℕ) (ws : List ℕ) (i w : ℕ) → i < length ws → ((k : ℕ) → i ≤ k → get_or ws k 0 ≡ 0) → (w ≡ 0 → ⊥) → cell_lines c (set ws i w) ≡ cell_lines c ws ++ Cell (c + i) (seq_of w) (payload_of w) ∷ []

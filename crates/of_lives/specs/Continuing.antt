@@ -5,7 +5,7 @@ use Rattle.of_plan.specs.Plan.{Plan}
 use Rattle.of_plan.specs.Report.{Start, Report, entries_of, finished_of}
 use Rattle.of_plan.specs.Ended.{Ended}
 use Rattle.of_report.specs.Image.{Image, IsRestored, image_number, start_of_image, durable_row}
-use Rattle.of_core.specs.World.{TableStart}
+use Rattle.of_core.specs.TableMoment.{TableStart}
 use Rattle.of_row.specs.Views.{View}
 use Rattle.of_caller.specs.Restarts.{HoldsLastAnnounced}
 use Rattle.of_caller.specs.Teams.{IsHandedBack}

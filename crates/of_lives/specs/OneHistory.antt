@@ -2,7 +2,7 @@
 use Rattle.std.specs.Prelude.{◌≡◌, ℕ, ◌+◌, ◌≤◌, ◌<◌, ◌⊎◌, ◌==◌, false, IsTrue, List, ◌∷◌, ◌++◌, length, map, filter, flat_map, All, Any, AllPairs}
 use Rattle.of_script.specs.declared.instr.Instr.{Instr}
 use Rattle.of_script.specs.Language.{reads_only}
-use Rattle.of_store.specs.State.{replies_in_order, last_store}
+use Rattle.of_store.specs.Store.{replies_in_order, last_store}
 use Rattle.of_plan.specs.Report.{Entry, Start, finished_of, caller_line}
 use Rattle.of_plan.specs.Legal.{script_of_entry}
 use Rattle.of_lives.specs.Lives.{Life, done_behind, start_behind_all, EachLife, AreLives}

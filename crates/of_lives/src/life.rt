@@ -69,10 +69,7 @@ pub fn continue_from<R: Threads + Sync>(
         (ended_value l.ended) (report_value l.report) next) }
 {
     teams_are_lawful(plan);
-    let work = Scripts {
-        callers: plan.callers(),
-        blocks: plan.blocks(),
-    };
+    let work = Scripts::of_plan(plan);
     let (row, pass) = Row::start(alloc, plan.shape(), plan.limit(), work, &image.durable)?;
     let (ended, pass) = team(rt, alloc, row, pass, plan, brakes)?;
     let report = Report::make_from(alloc, plan, image, &ended)?;

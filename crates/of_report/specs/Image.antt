@@ -8,7 +8,7 @@ use Rattle.of_mem.specs.Places.{ticket_cell_at}
 use Rattle.of_mem.specs.ProgramWork.{memory_of}
 use Rattle.of_script.specs.declared.instr.TheConstants.{MOST_INSTRS}
 use Rattle.of_recover.specs.Row.{current_seq, is_open}
-use Rattle.of_store.specs.State.{Store}
+use Rattle.of_store.specs.Store.{Store}
 use Rattle.of_plan.specs.Plan.{Plan, data_cells}
 use Rattle.of_plan.specs.Report.{Start}
 use Rattle.of_plan.specs.Ended.{Ended}

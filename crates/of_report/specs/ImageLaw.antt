@@ -4,7 +4,7 @@ use Rattle.of_cell.specs.Words.{seq_of}
 use Rattle.of_cell.specs.Cells.{data_cell}
 use Rattle.of_mem.specs.ProgramWork.{memory_of}
 use Rattle.of_recover.specs.Row.{current_seq, current_owner}
-use Rattle.of_store.specs.State.{Store}
+use Rattle.of_store.specs.Store.{Store}
 use Rattle.of_eval.specs.Lawful.{DataCellsStandFor}
 use Rattle.of_report.specs.ImageRow.{DurableRow, row_cell_count, data_numbers_in}
 

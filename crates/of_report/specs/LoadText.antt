@@ -1,7 +1,7 @@
 -- The text of the report of a load: its size and the store, summed up.
 use Rattle.std.specs.Prelude.{ℕ, List, ◌++◌, length, sum_by, codes, decimal}
 use Rattle.std.specs.FinMap as fm
-use Rattle.of_store.specs.State.{Store}
+use Rattle.of_store.specs.Store.{Store}
 use Rattle.of_plan.specs.Report.{Report}
 use Rattle.of_report.specs.StoreText.{register_lines}
 

@@ -7,7 +7,7 @@ ghost use Rattle.of_recover.specs.Row.{IsDurableRow};
 ghost use Rattle.of_mem.specs.declared.work.TheConstants.{MOST_INSTRS};
 ghost use Rattle.of_mem.specs.Places.{ticket_cell_at};
 ghost use Rattle.of_mem.specs.Plots.{data_cell_count};
-ghost use Rattle.of_store.specs.State.{Store};
+ghost use Rattle.of_store.specs.Store.{Store};
 ghost use Rattle.of_plan.specs.Ended.{ended_value};
 ghost use Rattle.of_eval.specs.Lawful.{reply_in};
 ghost use Rattle.of_eval.specs.Record.{plan_data_cells};

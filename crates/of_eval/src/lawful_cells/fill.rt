@@ -5,7 +5,7 @@ ghost use Rattle.std.specs.FinMap as fm;
 ghost use Rattle.of_mem.specs.declared.plot.TheConstants.{QUEUES};
 ghost use Rattle.of_mem.specs.Plots.{data_cell_count};
 ghost use Rattle.of_script.specs.Language.{IsInstrInRange, greatest};
-ghost use Rattle.of_store.specs.State.{run, stored_count, queue, with_key, with_queue};
+ghost use Rattle.of_store.specs.Store.{run, stored_count, queue, with_key, with_queue};
 ghost use Rattle.of_eval.specs.Walking.{HasRegisters, RegistersAreNumbers};
 
 use of_mem::Plot;

@@ -2,7 +2,7 @@ use Rattle.std.proofs.Common.{[], false, List, take, sym, subst}
 use Rattle.std.proofs.lemmas.List.{take_more}
 use Rattle.of_check.specs.declared.claims.CallClaim.{CallClaim}
 use Rattle.of_check.specs.Starts.{start_of}
-use Rattle.of_check.specs.Course.{HasRunCalls}
+use Rattle.of_check.specs.Replay.{HasRunCalls}
 use Rattle.of_check.specs.Causes.{call_at}
 use Rattle.of_check.proofs.Causes.{took_more}
 use Rattle.of_check.proofs.Verdicts.{counts_wide}

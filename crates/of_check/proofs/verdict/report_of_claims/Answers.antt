@@ -2,7 +2,7 @@ use Rattle.std.proofs.Common.{◌≡◌, List, ℕ, map, ap, sym, ◌∙◌, sub
 use Rattle.of_report.specs.Report.{line_value}
 use Rattle.of_check.specs.declared.claims.CallClaim.{CallClaim}
 use Rattle.of_check.specs.Starts.{start_of}
-use Rattle.of_check.specs.Course.{replay_at_start, AllFollow, HasRunCalls}
+use Rattle.of_check.specs.Replay.{replay_at_start, AllFollow, HasRunCalls}
 use Rattle.of_check.proofs.Verdicts.{none_follows, counts_wide, none_ends, is_claimed, endings_moved, lines_moved}
 use Rattle.of_check.proofs.verdict.report_of_claims.Goals as goal
 

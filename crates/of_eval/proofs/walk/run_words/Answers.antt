@@ -1,10 +1,10 @@
 use Rattle.std.proofs.Common.{◌≡◌, ℕ, ◌<◌, ◌≤◌, arith, ap, sym, refl, ◌∙◌, ◌+◌, length, get_or, set, length-set, Ok}
 use Rattle.std.proofs.lemmas.Result.{err_from_is_err_and}
-use Rattle.of_mem.specs.Pad.{Part}
+use Rattle.of_mem.specs.Part.{Part}
 use Rattle.of_mem.specs.Plots.{base}
 use Rattle.of_mem.specs.Programs.{Ends, run_program}
 use Rattle.of_mem.specs.Calls.{RunsProgram}
-use Rattle.of_mem.specs.Remains.{IsSuspensionOf, begin_run}
+use Rattle.of_mem.specs.SuspendedRun.{IsSuspensionOf, begin_run}
 use Rattle.of_script.specs.declared.instr.TheConstants.{MOST_INSTRS}
 use Rattle.of_store.proofs.Values.{small_values, none_left}
 use Rattle.of_eval.specs.ScriptPrograms.{InstrResult}

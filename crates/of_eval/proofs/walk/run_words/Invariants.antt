@@ -1,6 +1,6 @@
 use Rattle.std.proofs.Common.{◌≡◌, ◌<◌, length}
 use Rattle.of_mem.specs.Plots.{base}
-use Rattle.of_mem.specs.Remains.{IsSuspensionOf}
+use Rattle.of_mem.specs.SuspendedRun.{IsSuspensionOf}
 use Rattle.of_eval.specs.Resuming.{part_with, MayResume}
 use Rattle.of_eval.proofs.walk.run_words.Given as goal
 
