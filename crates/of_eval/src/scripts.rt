@@ -13,8 +13,8 @@ use of_mem::{MOST_INSTRS, MaySuspend, Need, Part, Plot, RawReply, SuspendedRun, 
 use of_plan::{Plan, table_shape};
 
 /// What runs scripts on cells: so many callers, 1 to `MOST_CALLERS`, and room for so many keys and
-/// items, at most `MOST_BLOCKS`. An operation is the words of a script; a word that is no instruction
-/// aborts at its place.
+/// items, at most `MOST_BLOCKS`. An operation is the words of a script; a word that is no
+/// instruction aborts at its place.
 #[derive(Clone, Copy, Debug, PartialEq, Eq)]
 pub struct Scripts {
     pub callers: u32,
