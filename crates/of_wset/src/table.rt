@@ -25,11 +25,7 @@ pub enum Lookup {
 const SPREAD: u64 = 2_654_435_769;
 
 // The place at which the walk for an address begins.
-#[tactic(
-    auto,
-    using(std::proofs::lemmas::Nat::and_le_r),
-    unfolding(crate::specs::Walk::hash_place)
-)]
+#[tactic(auto, using(std::proofs::lemmas::Nat::and_le_r), unfolding(crate::specs::Walk::hash_place))]
 fn hash_place(places: usize, addr: u32) -> usize
     requires { 0 < places }
     ensures value { result ≡ hash_place places addr }
