@@ -15,7 +15,7 @@ use Rattle.of_core.specs.declared.place.Place.TheVariants.{Idle}
 use Rattle.of_core.specs.declared.place.Outcome.{Outcome}
 use Rattle.of_core.specs.declared.place.Outcome.TheVariants.{Answered, Spent}
 use Rattle.of_core.specs.Machine.{CallState, IsOpen, is_idle, no_machine, begin_call, first_place}
-use Rattle.of_core.specs.World.{Moment}
+use Rattle.of_core.specs.TableMoment.{Moment}
 use Rattle.of_core.specs.Events.{Event, Begins, Turns, Loads, Evicts, Raises, machine_in, after_event, after_events, zero_start}
 use Rattle.of_core.specs.Calls.{TurnsFindOpenCalls, operations_begun, outcomes, no_outcome, last_outcome, HasCalls}
 use Rattle.of_caller.specs.Tables.{plan_setup, opening_for, operation_of}

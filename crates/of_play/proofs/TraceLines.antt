@@ -4,7 +4,7 @@ use Rattle.std.specs.List.{flat_map}
 use Rattle.std.proofs.lemmas.Grind.{flat_map-append}
 use Rattle.std.proofs.lemmas.List.{append-nil, drop-append-le, drop_all, take-append-le, take_all, length-drop}
 use Rattle.of_plan.specs.Plan.{Plan}
-use Rattle.of_core.specs.World.{Moment}
+use Rattle.of_core.specs.TableMoment.{Moment}
 use Rattle.of_core.specs.Events.{Event, after_events}
 use Rattle.of_caller.specs.Tables.{plan_setup}
 use Rattle.of_play.specs.Play.{with_begin, events_from}

@@ -13,11 +13,11 @@ use Rattle.of_core.specs.declared.place.Outcome.{Outcome}
 use Rattle.of_cell.specs.Words.{pack, seq_of}
 use Rattle.of_core.specs.Table.{Setup, durable_at, committed_seq}
 use Rattle.of_core.specs.Machine.{Call, CallState, is_idle, no_machine, begin_call, first_place}
-use Rattle.of_core.specs.Seen.{ended_outcome}
+use Rattle.of_core.specs.MachineValue.{ended_outcome}
 use Rattle.of_core.specs.Helping.{helped_owner}
 use Rattle.of_core.specs.Turn.{turn_of_outcome, turn_of}
 use Rattle.of_core.specs.Steps.{want, want_at, word_of, word_found}
-use Rattle.of_core.specs.World.{Moment, step_batches, one_batch, step_batches_at}
+use Rattle.of_core.specs.TableMoment.{Moment, step_batches, one_batch, step_batches_at}
 use Rattle.of_core.specs.Moment.{bank_after, bank_setup, machine_of}
 use Rattle.of_core.specs.Events.{Event, Begins, Turns, Raises, machine_in, after_event}
 use Rattle.of_caller.specs.Tables.{plan_setup, opening_for, operation_of}

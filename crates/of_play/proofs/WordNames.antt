@@ -3,6 +3,7 @@ use Rattle.std.proofs.Common.{◌≡◌, ℕ, ◌+◌, ◌-◌, ◌*◌, ◌/◌
 use Rattle.std.proofs.Math.Nat.{mod-lt}
 use Rattle.std.proofs.lemmas.Nat.{div-add-mod'}
 use Rattle.std.proofs.lemmas.Bool.Decides.{nat_tests}
+use Rattle.std.proofs.lemmas.Bool.{eqb-true as is_eq, eqb-false as not_eq, ltb-true as is_less, ltb-false as not_less}
 use Rattle.of_cell.specs.Cells.{data_cell, durable_cells, script_place, members_place}
 use Rattle.of_mem.specs.declared.work.TheConstants.{MOST_INSTRS}
 use Rattle.of_mem.specs.Places.{base_of, fresh_at, free_at, keys_at, head_at, length_at, block_at}
@@ -15,19 +16,6 @@ use Rattle.of_play.specs.Names.{address_of, shown_cell_number, shown_word_place,
 either : {A : Type 0} (P : A → Type 0) (b : Bool) (x y : A) → (b ≡ true → P x) → (b ≡ false → P y) → P (if b then x else y)
 either P true x y f g = f refl
 either P false x y f g = g refl
-
--- what the tests of the layout say
-is_eq : (a b : ℕ) → (a == b) ≡ true → a ≡ b
-is_eq a b e = grind (arith, nat_tests)
-
-not_eq : (a b : ℕ) → (a == b) ≡ false → a ≡ b → ⊥
-not_eq a b e q = grind (arith, nat_tests)
-
-is_less : (a b : ℕ) → nat_lt a b ≡ true → a < b
-is_less a b e = grind (arith, nat_tests)
-
-not_less : (a b : ℕ) → nat_lt a b ≡ false → b ≤ a
-not_less a b e = grind (arith, nat_tests)
 
 own_named : (n i j : ℕ) → address_of n (own_cell i j) ≡ i * (MOST_INSTRS + 2) + j
 own_named n i j = either (λ h. address_of n h ≡ i * (MOST_INSTRS + 2) + j) (j == 0) _ _

@@ -4,10 +4,10 @@ use Rattle.std.specs.Prelude.{ℕ, ◌-◌, ◌+◌, List, [], ◌∷◌, ◌++�
 use Rattle.of_plan.specs.Plan.{Plan, data_cells}
 use Rattle.of_core.specs.Table.{durable_at, committed_seq}
 use Rattle.of_core.specs.Machine.{Call, is_idle}
-use Rattle.of_core.specs.Seen.{ended_outcome}
+use Rattle.of_core.specs.MachineValue.{ended_outcome}
 use Rattle.of_core.specs.Helping.{helped_owner}
 use Rattle.of_core.specs.Steps.{want, word_of}
-use Rattle.of_core.specs.World.{Moment, Batch}
+use Rattle.of_core.specs.TableMoment.{Moment, Batch}
 use Rattle.of_core.specs.Events.{Event, Turns, Raises, machine_in, after_event, after_events}
 use Rattle.of_caller.specs.Tables.{plan_setup, opening_for}
 use Rattle.of_play.specs.declared.trace_text.Change.{Change}

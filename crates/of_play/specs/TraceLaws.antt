@@ -7,7 +7,7 @@ use Rattle.of_store.specs.Replies.{reply_value_of}
 use Rattle.of_mem.specs.declared.work.RawReply.{RawReply}
 use Rattle.of_eval.specs.Shapes.{IsHeldBy}
 use Rattle.of_plan.specs.Plan.{Plan}
-use Rattle.of_core.specs.World.{Moment}
+use Rattle.of_core.specs.TableMoment.{Moment}
 use Rattle.of_core.specs.Events.{Event, Begins, Turns, Loads, Evicts, Raises, after_events}
 use Rattle.of_caller.specs.Tables.{plan_setup, opening_for}
 use Rattle.of_caller.specs.Left.{moment_after}

@@ -7,7 +7,7 @@ use Rattle.of_script.specs.declared.instr.Cause.{Cause}
 use Rattle.of_script.specs.declared.instr.Cause.TheVariants.{Overflow, Short, NoRoom, Differs, BadOp}
 use Rattle.of_script.specs.Text.{instr_text}
 use Rattle.of_script.specs.Reading.{instr_at}
-use Rattle.of_store.specs.State.{Reply, Answered as Values, Aborted}
+use Rattle.of_store.specs.Store.{Reply, Answered as Values, Aborted}
 use Rattle.of_eval.specs.Reading.{marked_in}
 use Rattle.of_report.specs.ReportText.{reply_text}
 use Rattle.of_core.specs.declared.place.Op.{Op}

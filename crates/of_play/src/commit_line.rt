@@ -8,7 +8,7 @@ ghost use Rattle.of_play.specs.Committing.{commits_by_step, batch_line_after, co
 ghost use Rattle.of_script.specs.Appending.{AppendsText};
 
 use of_cell::seq_of;
-use of_core::{Op, Place, RanCall};
+use of_core::{Call, Op, Place};
 use std::alloc::AllocError;
 use std::fmt::Write;
 
@@ -23,7 +23,7 @@ fn is_commit(place: Place, op: Op, found: u64) -> bool
 }
 
 // Writes which script a call is, and whose.
-fn put_call(out: &mut String, call: &RanCall) -> Result<(), AllocError>
+fn put_call(out: &mut String, call: &Call) -> Result<(), AllocError>
     ensures { OnOk result (AppendsText out.old out.new (call_part (call_value call.now))) }
 {
     write!(
@@ -40,7 +40,7 @@ fn put_batch(
     number: u32,
     caller: u32,
     found: u64,
-    calls: &[RanCall],
+    calls: &[Call],
 ) -> Result<(), AllocError>
     ensures { OnOk result
         (AppendsText out.old out.new (batch_line_after number caller found calls.now)) }
@@ -61,7 +61,7 @@ pub fn put_commit(
     place: Place,
     op: Op,
     found: u64,
-    calls: &[RanCall],
+    calls: &[Call],
 ) -> Result<(), AllocError>
     ensures { OnOk result (AppendsText out.old out.new
         (commit_line_after (commits_by_step place op found) number caller found calls.now)) }

@@ -47,10 +47,7 @@ impl ScheduleRun {
         ensures plan { IsPlan plan.now }
         ensures stands { IfOk result (StandsAfter plan.now []) }
     {
-        let scripts = Scripts {
-            callers: plan.callers(),
-            blocks: plan.blocks(),
-        };
+        let scripts = Scripts::of_plan(plan);
         let bank = Bank::new(alloc, plan.shape(), plan.limit(), scripts)?;
         let mut answers = Vec::new(alloc);
         let mut standings = Vec::new(alloc);

@@ -5,7 +5,7 @@ use Rattle.std.proofs.lemmas.List.{length-map, map-append, append-nil, get_or-ta
 use Rattle.std.proofs.lemmas.Grind.{flat_map-append}
 use Rattle.std.proofs.lemmas.List.FromFn.{map-range_with_len_more, take-map-range_with_len, length-map-range_with_len}
 use Rattle.of_script.specs.declared.instr.Instr.{Instr}
-use Rattle.of_store.specs.State.{Store, Reply, run, empty_store, replies_in_order, last_store}
+use Rattle.of_store.specs.Store.{Store, Reply, run, empty_store, replies_in_order, last_store}
 use Rattle.of_plan.specs.Plan.{Plan, scripts_of}
 use Rattle.of_plan.specs.Report.{Entry, Line}
 use Rattle.of_plan.specs.Serial.{CallId, called_script, calls_of, serial_calls, serial_entry, serial_line, serial_report}

@@ -1,11 +1,11 @@
 -- How the code runs a plan: call by call.
 use Rattle.std.specs.Prelude.{◌≡◌, ℕ, ◌+◌, ◌-◌, ◌<◌, List, [], ◌∷◌, ◌++◌, length, map, take, Some, All}
 use Rattle.std.specs.List.{enumerate_from, zip}
-use Rattle.of_mem.specs.Pad.{overlaid}
+use Rattle.of_mem.specs.Part.{overlaid}
 use Rattle.of_mem.specs.ProgramWork.{memory_of}
 use Rattle.of_script.specs.declared.instr.Instr.{Instr}
 use Rattle.of_script.specs.declared.instr.Reply.{Reply as RustReply}
-use Rattle.of_store.specs.State.{Store, Reply, run, empty_store, replies_in_order, last_store}
+use Rattle.of_store.specs.Store.{Store, Reply, run, empty_store, replies_in_order, last_store}
 use Rattle.of_store.specs.Replies.{reply_value_of}
 use Rattle.of_eval.specs.Stored.{IsStored}
 use Rattle.of_eval.specs.Scripts.{store_at, scripts_data_cells}

@@ -28,10 +28,7 @@ use std::alloc::{AllocError, Global};
 fn play_image(alloc: Global, plan: &Plan) -> Result<Vec<u8>, AllocError>
     ensures { IfOk result (λ text. IsPlayedImage plan.now text.items) }
 {
-    let scripts = Scripts {
-        callers: plan.callers(),
-        blocks: plan.blocks(),
-    };
+    let scripts = Scripts::of_plan(plan);
     plan_keeps_laws(plan);
     runs_are_lawful();
     reports_respect_time(plan);

@@ -83,10 +83,7 @@ pub fn one_status()
 pub fn images_show_plays(plan: &Plan)
     ensures { ShowsEachPlay plan.now }
 {
-    let scripts = Scripts {
-        callers: plan.callers(),
-        blocks: plan.blocks(),
-    };
+    let scripts = Scripts::of_plan(plan);
     plan_keeps_laws(plan);
     starts(plan.limit(), scripts);
     records_have_images();

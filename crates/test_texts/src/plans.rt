@@ -2,7 +2,7 @@
 //! input, and plans of loads.
 
 ghost use Rattle.std.specs.Prelude.{◌≡◌, IfOk, MatchResult};
-ghost use Rattle.of_plan.specs.declared.parsing.PlanErr.TheVariants.{Memory};
+ghost use Rattle.of_plan.specs.declared.parser.PlanErr.TheVariants.{Memory};
 
 use of_plan::{GREATEST_LIMIT, Item, Plan, PlanErr, generate, parse, parts, print};
 use std::alloc::{AllocError, Global};

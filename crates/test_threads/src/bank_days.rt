@@ -89,7 +89,7 @@ fn two_days<R: Threads + Sync>(rt: &R, alloc: Global) -> Result<(Seen, Seen), Ba
         callers: CLERKS,
         blocks: 2,
     };
-    let books = Books::found(alloc, scripts, 10)?;
+    let books = Books::with_amount(alloc, scripts, 10)?;
     let (first, books) = day_on(rt, alloc, &books, first_jobs(alloc)?)?;
     let (second, _books) = day_on(rt, alloc, &books, second_jobs(alloc)?)?;
     Ok((first, second))

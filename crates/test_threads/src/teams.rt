@@ -4,7 +4,7 @@ ghost use Rattle.std.specs.Prelude.{◌<◌, ◌≤◌};
 ghost use Rattle.of_mem.specs.declared.plot.TheConstants.{REGISTERS};
 
 use of_brake::{Brake, Fuel, hold_pair};
-use of_caller::{row_for, team};
+use of_caller::{team, zero_row_for};
 use of_cell::payload_of;
 use of_plan::{Ended, parse};
 use std::alloc::{AllocError, Global};
@@ -30,7 +30,7 @@ fn run_plan<R: Threads + Sync>(
     if brakes.len() < plan.callers() as usize {
         return Ok(None);
     }
-    let (row, pass) = row_for(alloc, &plan)?;
+    let (row, pass) = zero_row_for(alloc, &plan)?;
     let (ended, _pass) = team(rt, alloc, row, pass, &plan, brakes)?;
     let cell = 1 + plan.callers() + plan.plot().register(register);
     let number = match ended.words.get(cell as usize) {

@@ -1,7 +1,7 @@
 //! A store on cells that are all known.
 
 ghost use Rattle.std.specs.Prelude.{◌≡◌, ◌≤◌, IfOk};
-ghost use Rattle.of_store.specs.State.{Store, empty_store};
+ghost use Rattle.of_store.specs.Store.{Store, empty_store};
 ghost use Rattle.of_eval.specs.Shapes.{IsWhole};
 ghost use Rattle.of_serial.specs.SerialRun.{CellsHoldStore, RunsScript};
 

@@ -2,10 +2,10 @@ use Rattle.std.proofs.Common.{◌≡◌, [], length, map, take, replicate, arith
 use Rattle.std.proofs.lemmas.List.{length-map}
 use Rattle.std.proofs.lemmas.Option.{same_Some}
 use Rattle.std.proofs.lemmas.Result.{MatchResult-at_ok}
-use Rattle.of_mem.specs.Pairs.{put_all}
-use Rattle.of_mem.specs.Pad.{Part}
+use Rattle.of_mem.specs.CellMap.{put_all}
+use Rattle.of_mem.specs.Part.{Part}
 use Rattle.of_script.specs.Language.{instr_word}
-use Rattle.of_store.specs.State.{run}
+use Rattle.of_store.specs.Store.{run}
 use Rattle.of_store.specs.Replies.{reply_value_of}
 use Rattle.of_eval.specs.Shapes.{IsWhole}
 use Rattle.of_serial.specs.SerialRun.{CellsHoldStore}
