@@ -1,5 +1,5 @@
 -- What a call of a script comes to.
-use Rattle.std.specs.Prelude.{◌≡◌, ◌+◌, ◌<◌, List, [], ◌∷◌, ◌++◌, map, Result, Ok, Err}
+use Rattle.std.specs.Prelude.{◌≡◌, List, [], ◌∷◌, ◌++◌, map, Result, Ok, Err}
 use Rattle.of_script.specs.declared.instr.Instr.{Instr}
 use Rattle.of_script.specs.Language.{IsScript, instr_word}
 use Rattle.of_store.specs.Replies.{reply_value_of}
@@ -67,11 +67,11 @@ WasTried (Err (NoneLeft seq)) = Unit {0}
 WasTried (Err Open) = ⊥
 WasTried (Err NoTicket) = ⊥
 
--- a caller is refused only if its call is open, or it has made all calls that it may make
-abbrev pub IsRefusedBy : Caller Scripts → Result Answer RunErr → Type 0
-IsRefusedBy c (Ok a) = Unit {0}
-IsRefusedBy c (Err OutOfMemory) = Unit {0}
-IsRefusedBy c (Err (Stopped asked)) = Unit {0}
-IsRefusedBy c (Err (NoneLeft seq)) = Unit {0}
-IsRefusedBy c (Err Open) = IsOpen (caller_call c).place
-IsRefusedBy c (Err NoTicket) = (caller_call c).made + 1 < 4294967296 → ⊥
+-- a call that is not made leaves everything as it was
+abbrev pub LeavesAsItWas : {A : Type 0} → Result Answer RunErr → (before now : A) → Type 0
+LeavesAsItWas (Ok a) before now = Unit {0}
+LeavesAsItWas (Err OutOfMemory) before now = now ≡ before
+LeavesAsItWas (Err (Stopped asked)) before now = Unit {0}
+LeavesAsItWas (Err (NoneLeft seq)) before now = Unit {0}
+LeavesAsItWas (Err Open) before now = now ≡ before
+LeavesAsItWas (Err NoTicket) before now = now ≡ before

@@ -1,16 +1,19 @@
 -- A handle: one caller of a memory.
-use Rattle.std.specs.Prelude.{◌≡◌, List, Result}
+use Rattle.std.specs.Prelude.{◌≡◌, ℕ, ◌+◌, ◌<◌, List, Result, Ok, Err}
 use Rattle.std.specs.Arc.{arc_value}
 use Rattle.of_script.specs.declared.instr.Instr.{Instr}
 use Rattle.of_plan.specs.declared.answer.Answer.{Answer}
 use Rattle.of_eval.specs.declared.scripts.Scripts.{Scripts}
+use Rattle.of_core.specs.Machine.{IsOpen}
 use Rattle.of_row.specs.declared.row.Row.{Row}
 use Rattle.of_caller.specs.declared.caller.Caller.{Caller}
+use Rattle.of_caller.specs.Callers.{caller_call, calls_begun_by}
 use Rattle.of_memory.specs.declared.error.RunErr.{RunErr}
+use Rattle.of_memory.specs.declared.error.RunErr.TheVariants.{OutOfMemory, Stopped, Spent, Open, NoTicket}
 use Rattle.of_memory.specs.declared.handle.Handle.{Handle}
 use Rattle.of_memory.specs.History.{Made}
 use Rattle.of_memory.specs.Calls.{AreMade}
-use Rattle.of_memory.specs.Called.{IsOpenAt, IsRefusedBy, LeavesOpen, made_with}
+use Rattle.of_memory.specs.Called.{IsOpenAt, LeavesOpen, made_with}
 use Rattle.of_memory.specs.Serving.{IsScriptsRow, Serves, ended_of}
 
 -- the memory that it is a handle of
@@ -21,10 +24,14 @@ home_of h = arc_value h.row
 abbrev pub caller_of : Handle → Caller Scripts
 caller_of h = h.caller
 
+-- its number
+abbrev pub number_of : Handle → ℕ
+number_of h = h.number
+
 -- it is a handle of some memory, and has run scripts alone
 pub record IsHandle (h : Handle) : Type 0 where
   pub row : IsScriptsRow (home_of h)
-  pub serves : Serves (home_of h) h.number (caller_of h)
+  pub serves : Serves (home_of h) (number_of h) (caller_of h)
 
 -- since the memory was opened its number has made these calls, which have ended
 abbrev pub HasMade : Handle → List Made → Type 0
@@ -52,13 +59,40 @@ StaysOpenIfStopped script result h = LeavesOpen script result (caller_of h)
 
 -- so does the call that was open, if it is stopped again
 abbrev pub OpenCallStays : Result Answer RunErr → (before now : Handle) → Type 0
-OpenCallStays result h k = (script : List Instr) → HasOpen h script → StaysOpenIfStopped script result k
+OpenCallStays result h k =
+    (script : List Instr) → HasOpen h script → StaysOpenIfStopped script result k
+
+-- a call of it is open, of whatever script
+abbrev pub HasCallOpen : Handle → Type 0
+HasCallOpen h = IsOpen (caller_call (caller_of h)).place
+
+-- how many steps its open call has made
+abbrev pub steps_so_far : Handle → ℕ
+steps_so_far h = (caller_call (caller_of h)).steps
+
+-- its number has made all calls that it may make
+abbrev pub HasNoTicketLeft : Handle → Type 0
+HasNoTicketLeft h = calls_begun_by (caller_of h) + 1 < 4294967296 → ⊥
 
 -- it refuses a call only if one is open, or its number has made all calls that it may make
 abbrev pub RefusesCall : Handle → Result Answer RunErr → Type 0
-RefusesCall h result = IsRefusedBy (caller_of h) result
+RefusesCall h (Ok a) = Unit {0}
+RefusesCall h (Err OutOfMemory) = Unit {0}
+RefusesCall h (Err (Stopped asked)) = Unit {0}
+RefusesCall h (Err (Spent seq)) = Unit {0}
+RefusesCall h (Err Open) = HasCallOpen h
+RefusesCall h (Err NoTicket) = HasNoTicketLeft h
+
+-- it refuses to go on only if no call is open
+abbrev pub RefusesToGoOn : Handle → Result Answer RunErr → Type 0
+RefusesToGoOn h (Ok a) = Unit {0}
+RefusesToGoOn h (Err OutOfMemory) = Unit {0}
+RefusesToGoOn h (Err (Stopped asked)) = Unit {0}
+RefusesToGoOn h (Err (Spent seq)) = Unit {0}
+RefusesToGoOn h (Err Open) = HasCallOpen h → ⊥
+RefusesToGoOn h (Err NoTicket) = ⊥
 
 -- it is of the same memory, and has the same number
 pub record IsSame (h k : Handle) : Type 0 where
   pub home : home_of k ≡ home_of h
-  pub number : k.number ≡ h.number
+  pub number : number_of k ≡ number_of h

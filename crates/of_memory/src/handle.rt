@@ -25,13 +25,16 @@ impl Handle {
     ghost use Rattle.of_script.specs.declared.instr.Instr.{Instr as TheInstr};
     ghost use Rattle.of_memory.specs.History.{Made};
     ghost use Rattle.of_memory.specs.Handles.{IsHandle, HasMade, HasOpen, IsSame, MakesCall};
-    ghost use Rattle.of_memory.specs.Handles.{ResumesCall, StaysOpenIfStopped, OpenCallStays, RefusesCall};
+    ghost use Rattle.of_memory.specs.Handles.{ResumesCall, StaysOpenIfStopped, OpenCallStays};
+    ghost use Rattle.of_memory.specs.Handles.{RefusesCall, RefusesToGoOn, number_of, steps_so_far};
+    ghost use Rattle.of_memory.specs.Called.{LeavesAsItWas};
+    ghost use Rattle.of_memory.specs.Within.{IsNeverStopped, KeepsWithin, KeepsToStop};
     ghost use Rattle.of_memory.specs.Memories.{IsMemory, IsFrom, IsStill, HasMadeOf, KnowsOthers};
     ghost use Rattle.of_memory.specs.Memories.{HasOpenOf, OthersStayOpen};
 
     /// Its number.
     pub fn number(&self) -> u32
-        ensures { result ≡ self.now.number }
+        ensures { result ≡ number_of self.now }
     {
         self.number
     }
@@ -44,6 +47,8 @@ impl Handle {
         ensures made { MakesCall script.now result self.old self.new }
         ensures open_call { StaysOpenIfStopped script.now result self.new }
         ensures cause { RefusesCall self.old result }
+        ensures unmade { LeavesAsItWas result self.old self.new }
+        ensures stopped { IsNeverStopped result }
     {
         self.begin(script, None)
     }
@@ -56,6 +61,8 @@ impl Handle {
         ensures made { MakesCall script.now result self.old self.new }
         ensures open_call { StaysOpenIfStopped script.now result self.new }
         ensures cause { RefusesCall self.old result }
+        ensures unmade { LeavesAsItWas result self.old self.new }
+        ensures within { KeepsWithin 0 steps (steps_so_far self.new) result }
     {
         self.begin(script, Some(steps))
     }
@@ -67,6 +74,8 @@ impl Handle {
         ensures made { MakesCall script.now result self.old self.new }
         ensures open_call { StaysOpenIfStopped script.now result self.new }
         ensures cause { RefusesCall self.old result }
+        ensures unmade { LeavesAsItWas result self.old self.new }
+        ensures stop { KeepsToStop 0 stop (steps_so_far self.new) result }
     {
         if !self.caller.is_idle() {
             return Err(RunErr::Open);
@@ -91,6 +100,9 @@ impl Handle {
         ensures same { IsSame self.old self.new }
         ensures made { ResumesCall result self.old self.new }
         ensures open_call { OpenCallStays result self.old self.new }
+        ensures cause { RefusesToGoOn self.old result }
+        ensures unmade { LeavesAsItWas result self.old self.new }
+        ensures stopped { IsNeverStopped result }
     {
         self.resume(None)
     }
@@ -102,6 +114,10 @@ impl Handle {
         ensures same { IsSame self.old self.new }
         ensures made { ResumesCall result self.old self.new }
         ensures open_call { OpenCallStays result self.old self.new }
+        ensures cause { RefusesToGoOn self.old result }
+        ensures unmade { LeavesAsItWas result self.old self.new }
+        ensures within { KeepsWithin (steps_so_far self.old) steps
+            (steps_so_far self.new) result }
     {
         self.resume(Some(steps))
     }
@@ -112,6 +128,10 @@ impl Handle {
         ensures same { IsSame self.old self.new }
         ensures made { ResumesCall result self.old self.new }
         ensures open_call { OpenCallStays result self.old self.new }
+        ensures cause { RefusesToGoOn self.old result }
+        ensures unmade { LeavesAsItWas result self.old self.new }
+        ensures stop { KeepsToStop (steps_so_far self.old) stop
+            (steps_so_far self.new) result }
     {
         if self.caller.is_idle() {
             return Err(RunErr::Open);
@@ -127,11 +147,12 @@ impl Handle {
         requires from { IsFrom memory.old self }
         ensures memory { IsMemory memory.new }
         ensures still { IsStill memory.old memory.new }
-        ensures made { (ms : List Made) → HasMade self ms → HasMadeOf memory.new self.number ms }
+        ensures made { (ms : List Made) → HasMade self ms
+            → HasMadeOf memory.new (number_of self) ms }
         ensures open_call { (script : List TheInstr) → HasOpen self script
-            → HasOpenOf memory.new self.number script }
-        ensures others { KnowsOthers self.number memory.old memory.new }
-        ensures others_open { OthersStayOpen self.number memory.old memory.new }
+            → HasOpenOf memory.new (number_of self) script }
+        ensures others { KnowsOthers (number_of self) memory.old memory.new }
+        ensures others_open { OthersStayOpen (number_of self) memory.old memory.new }
     {
         let Handle {
             alloc: _,

@@ -1,5 +1,5 @@
 use Rattle.std.proofs.Common.{◌∙◌, ap, refl, Err}
-use Rattle.of_memory.proofs.Called.{words_are, held_of, serves_on, made_answered, made_spent}
+use Rattle.of_memory.proofs.Called.{words_are, held_of, serves_on, made_answered, made_spent, keeps_answered, keeps_stopped, keeps_over}
 use Rattle.of_memory.proofs.calling.call_counted.Goals as goal
 
 pub answer_of-requires : goal.answer_of-requires
@@ -33,3 +33,15 @@ pub returns-clause-made : goal.returns-clause-made
 returns-clause-made g c ms made =
     let words = words_are c.args.script.now c.len-len.result c.len-len.ensures.len c.to_words.new.out _ c.to_words.ensures.words in
     made_spent _ _ _ _ _ _ _ _ _ _ c.call.ensures.told c.args.script.now c.len-len.ensures.fits words ms made c.in-Err-Spent.seq (c.in-Err-Spent.is ∙ ap (λ e. Err e) c.in-Err-Spent.field-0-is)
+
+pub returns-in-Ok-clause-stop : goal.returns-in-Ok-clause-stop
+returns-in-Ok-clause-stop g c =
+    let told = c.in-Ok.ensures.told in
+    keeps_answered _ _ _ _ _ _ _ _ _ _ told _ _ c.in-Ok.ensures.left c.in-Ok.outcome c.answer_of.result c.answer_of.ensures told.result
+
+pub returns-in-Err-Stopped-clause-stop : goal.returns-in-Err-Stopped-clause-stop
+returns-in-Err-Stopped-clause-stop g c =
+    keeps_stopped _ _ _ _ _ _ _ _ _ _ c.call.ensures.told _ c.call.ensures.stop c.in-Err-Stopped.asked (c.in-Err-Stopped.is ∙ ap (λ e. Err e) c.in-Err-Stopped.field-0-is)
+
+pub returns-clause-stop : goal.returns-clause-stop
+returns-clause-stop g c = keeps_over _ _ _ _ _ _ _ _ _ _ c.call.ensures.told _ _
