@@ -1,5 +1,5 @@
 -- What a call of a script makes of a caller of a row of scripts.
-use Rattle.std.proofs.Common.{◌≡◌, ℕ, zero, suc, ◌≤◌, ◌<◌, ◌⊎◌, inl, inr, Bool, List, [], ◌∷◌, ◌++◌, length, map, take, Option, Some, None, Result, Ok, Err, refl, sym, ap, subst, ◌∙◌, arith, length-append}
+use Rattle.std.proofs.Common.{◌≡◌, ℕ, zero, suc, ◌≤◌, ◌<◌, ◌⊎◌, inl, inr, Bool, true≢false, List, [], ◌∷◌, ◌++◌, length, map, take, Option, Some, None, Result, Ok, Err, refl, sym, ap, subst, ◌∙◌, arith, length-append}
 use Rattle.std.specs.List.{All}
 use Rattle.std.proofs.Math.Seq.{take-append_seam}
 use Rattle.std.proofs.lemmas.List.{length-map}
@@ -17,7 +17,8 @@ use Rattle.of_plan.specs.Plan.{Plan, IsPlan}
 use Rattle.of_core.specs.declared.place.Outcome.{Outcome}
 use Rattle.of_core.specs.declared.place.Outcome.TheVariants.{Answered, Spent as Over}
 use Rattle.of_core.specs.Table.{Setup}
-use Rattle.of_core.specs.Machine.{CallState, IsOpen, MayReplace}
+use Rattle.of_core.specs.Machine.{CallState, is_idle, IsOpen, MayReplace}
+use Rattle.of_core.specs.Turn.{IsIdle}
 use Rattle.of_core.specs.World.{TableStart}
 use Rattle.of_core.specs.History.{IsLegalHistory}
 use Rattle.of_core.specs.Calls.{IsAnswered}
@@ -49,6 +50,9 @@ use Rattle.of_memory.specs.Handles.{RefusesCall, RefusesToGoOn}
 use Rattle.of_memory.proofs.Plans.{plan_of, is_plan}
 
 -- ---- calls that are kept, as calls of scripts
+
+pub none_open : (m : CallState) → IsIdle m → IsOpen m.place → ⊥
+none_open m idle is_open = absurd (true≢false (sym (ap is_idle idle) ∙ is_open))
 
 pub made_more : (es : List EndedCall) (ms : List Made) (e : EndedCall) (m : Made) → AreMade es ms → IsMade e m → AreMade (es ++ e ∷ []) (ms ++ m ∷ [])
 made_more [] [] e m h k = (k, tt)

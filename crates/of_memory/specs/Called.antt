@@ -30,12 +30,16 @@ pub record IsOpenAt (script : List Instr) (c : Caller Scripts) : Type 0 where
   pub is : IsScript script
   pub words : (caller_call c).op ≡ map instr_word script
 
--- a stopped call stays open
+-- a call of the caller is open, of whatever script
+abbrev pub IsInCall : Caller Scripts → Type 0
+IsInCall c = IsOpen (caller_call c).place
+
+-- a stopped call stays open, and none is open after one that has ended
 abbrev pub LeavesOpen : List Instr → Result Answer RunErr → Caller Scripts → Type 0
-LeavesOpen script (Ok a) c = Unit {0}
+LeavesOpen script (Ok a) c = IsInCall c → ⊥
 LeavesOpen script (Err OutOfMemory) c = Unit {0}
 LeavesOpen script (Err (Stopped asked)) c = IsOpenAt script c
-LeavesOpen script (Err (NoneLeft seq)) c = Unit {0}
+LeavesOpen script (Err (NoneLeft seq)) c = IsInCall c → ⊥
 LeavesOpen script (Err Open) c = Unit {0}
 LeavesOpen script (Err NoTicket) c = Unit {0}
 
@@ -52,7 +56,7 @@ MakesOpenCall result c d =
     → (caller_call c).op ≡ map instr_word script → AreMade (ended_of c) ms
     → AreMade (ended_of d) (made_with script result ms)
 
--- and if it is stopped it stays open
+-- if it is stopped it stays open, and none is open after it has ended
 abbrev pub LeavesOpenCall : Result Answer RunErr → (before now : Caller Scripts) → Type 0
 LeavesOpenCall result c d =
     (script : List Instr) → IsScript script

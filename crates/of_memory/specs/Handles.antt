@@ -4,7 +4,6 @@ use Rattle.std.specs.Arc.{arc_value}
 use Rattle.of_script.specs.declared.instr.Instr.{Instr}
 use Rattle.of_plan.specs.declared.answer.Answer.{Answer}
 use Rattle.of_eval.specs.declared.scripts.Scripts.{Scripts}
-use Rattle.of_core.specs.Machine.{IsOpen}
 use Rattle.of_row.specs.declared.row.Row.{Row}
 use Rattle.of_caller.specs.declared.caller.Caller.{Caller}
 use Rattle.of_caller.specs.Callers.{caller_call, calls_begun_by}
@@ -13,7 +12,7 @@ use Rattle.of_memory.specs.declared.error.RunErr.TheVariants.{OutOfMemory, Stopp
 use Rattle.of_memory.specs.declared.handle.Handle.{Handle}
 use Rattle.of_memory.specs.History.{Made}
 use Rattle.of_memory.specs.Calls.{AreMade}
-use Rattle.of_memory.specs.Called.{IsOpenAt, LeavesOpen, made_with}
+use Rattle.of_memory.specs.Called.{IsOpenAt, IsInCall, LeavesOpen, made_with}
 use Rattle.of_memory.specs.Serving.{IsScriptsRow, Serves, ended_of}
 
 -- the memory that it is a handle of
@@ -53,18 +52,18 @@ ResumesCall result h k =
     (script : List Instr) (ms : List Made) → HasOpen h script → HasMade h ms
     → HasMade k (made_with script result ms)
 
--- a stopped call of this script stays open
-abbrev pub StaysOpenIfStopped : List Instr → Result Answer RunErr → Handle → Type 0
-StaysOpenIfStopped script result h = LeavesOpen script result (caller_of h)
+-- a stopped call of this script stays open, and none is open after one that has ended
+abbrev pub StaysOpenOnlyIfStopped : List Instr → Result Answer RunErr → Handle → Type 0
+StaysOpenOnlyIfStopped script result h = LeavesOpen script result (caller_of h)
 
--- so does the call that was open, if it is stopped again
+-- so it is of the call that was open, whatever script it is of
 abbrev pub OpenCallStays : Result Answer RunErr → (before now : Handle) → Type 0
 OpenCallStays result h k =
-    (script : List Instr) → HasOpen h script → StaysOpenIfStopped script result k
+    (script : List Instr) → HasOpen h script → StaysOpenOnlyIfStopped script result k
 
 -- a call of it is open, of whatever script
 abbrev pub HasCallOpen : Handle → Type 0
-HasCallOpen h = IsOpen (caller_call (caller_of h)).place
+HasCallOpen h = IsInCall (caller_of h)
 
 -- how many steps its open call has made
 abbrev pub steps_so_far : Handle → ℕ

@@ -25,7 +25,7 @@ impl Handle {
     ghost use Rattle.of_script.specs.declared.instr.Instr.{Instr as TheInstr};
     ghost use Rattle.of_memory.specs.History.{Made};
     ghost use Rattle.of_memory.specs.Handles.{IsHandle, HasMade, HasOpen, IsSame, MakesCall};
-    ghost use Rattle.of_memory.specs.Handles.{ResumesCall, StaysOpenIfStopped, OpenCallStays};
+    ghost use Rattle.of_memory.specs.Handles.{ResumesCall, StaysOpenOnlyIfStopped, OpenCallStays};
     ghost use Rattle.of_memory.specs.Handles.{RefusesCall, RefusesToGoOn, number_of, steps_so_far};
     ghost use Rattle.of_memory.specs.Called.{LeavesAsItWas};
     ghost use Rattle.of_memory.specs.Within.{IsNeverStopped, KeepsWithin, KeepsToStop};
@@ -45,7 +45,7 @@ impl Handle {
         ensures handle { IsHandle self.new }
         ensures same { IsSame self.old self.new }
         ensures made { MakesCall script.now result self.old self.new }
-        ensures open_call { StaysOpenIfStopped script.now result self.new }
+        ensures open_call { StaysOpenOnlyIfStopped script.now result self.new }
         ensures cause { RefusesCall self.old result }
         ensures unmade { LeavesAsItWas result self.old self.new }
         ensures stopped { IsNeverStopped result }
@@ -59,7 +59,7 @@ impl Handle {
         ensures handle { IsHandle self.new }
         ensures same { IsSame self.old self.new }
         ensures made { MakesCall script.now result self.old self.new }
-        ensures open_call { StaysOpenIfStopped script.now result self.new }
+        ensures open_call { StaysOpenOnlyIfStopped script.now result self.new }
         ensures cause { RefusesCall self.old result }
         ensures unmade { LeavesAsItWas result self.old self.new }
         ensures within { KeepsWithin 0 steps (steps_so_far self.new) result }
@@ -72,7 +72,7 @@ impl Handle {
         ensures handle { IsHandle self.new }
         ensures same { IsSame self.old self.new }
         ensures made { MakesCall script.now result self.old self.new }
-        ensures open_call { StaysOpenIfStopped script.now result self.new }
+        ensures open_call { StaysOpenOnlyIfStopped script.now result self.new }
         ensures cause { RefusesCall self.old result }
         ensures unmade { LeavesAsItWas result self.old self.new }
         ensures stop { KeepsToStop 0 stop (steps_so_far self.new) result }

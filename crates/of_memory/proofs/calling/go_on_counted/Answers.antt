@@ -1,5 +1,5 @@
 use Rattle.std.proofs.Common.{◌∙◌, ap, refl, Err}
-use Rattle.of_memory.proofs.Called.{held_of, serves_on, made_answered, made_spent, keeps_answered, keeps_stopped, keeps_over}
+use Rattle.of_memory.proofs.Called.{held_of, serves_on, made_answered, made_spent, keeps_answered, keeps_stopped, keeps_over, none_open}
 use Rattle.of_memory.proofs.calling.go_on_counted.Goals as goal
 
 pub answer_of-requires : goal.answer_of-requires
@@ -39,3 +39,9 @@ returns-in-Err-Stopped-clause-stop g c =
 
 pub returns-clause-stop : goal.returns-clause-stop
 returns-clause-stop g c = keeps_over _ _ _ _ _ _ _ _ _ _ c.go_on.ensures.told _ _
+
+pub returns-in-Ok-clause-open_call : goal.returns-in-Ok-clause-open_call
+returns-in-Ok-clause-open_call g c script is words = none_open _ c.in-Ok.ensures.told.result.1.idle
+
+pub returns-clause-open_call : goal.returns-clause-open_call
+returns-clause-open_call g c script is words = none_open _ c.go_on.ensures.told.result.idle
