@@ -20,6 +20,7 @@ use Rattle.of_core.specs.declared.place.Outcome.TheVariants.{Answered, Spent as 
 use Rattle.of_core.specs.Table.{Setup}
 use Rattle.of_core.specs.Machine.{CallState, is_idle, IsOpen, MayReplace}
 use Rattle.of_core.specs.Turn.{IsIdle}
+use Rattle.of_core.specs.Bound.{bound}
 use Rattle.of_core.specs.World.{TableStart}
 use Rattle.of_core.specs.History.{IsLegalHistory}
 use Rattle.of_core.specs.Calls.{IsAnswered}
@@ -180,6 +181,12 @@ module _ (S : Setup) (L : List ℕ → Type 0) (B : TableStart) (m : CallState) 
   steps_told : (o : Outcome) (x : Answer) → TellsAnswer o x → HasEndedWith S L B m v told.before told.steps d w told.kept o → x.steps ≡ m.steps + told.steps
   steps_told (Answered s announced raw steps) x tells closes = tells.3 ∙ closes.steps
   steps_told (Over s) x tells closes = absurd tells
+
+  pub answers_within : (o : Outcome) (x : Answer) → TellsAnswer o x → Told (Ok o) → x.steps ≤ bound S
+  answers_within o x tells h = let steps = steps_told o x tells h.1 in let within = h.1.within in omega (arith, steps, within)
+
+  pub stops_within : (asked : ℕ) → r ≡ Err (Stopped asked) → asked ≤ bound S
+  stops_within asked is = let h : Told (Err (Stopped asked)) = subst Told is told.result in let within = h.2 in omega (arith, within)
 
   pub keeps_answered : (before after : Option (Option ℕ)) → UsesCountedSteps before after a b → (o : Outcome) (x : Answer) → TellsAnswer o x → Told (Ok o) → KeepsToTold m.steps before d.steps (Ok x)
   keeps_answered None after uses o x tells h = tt

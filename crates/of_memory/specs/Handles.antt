@@ -13,7 +13,7 @@ use Rattle.of_memory.specs.declared.handle.Handle.{Handle}
 use Rattle.of_memory.specs.History.{Made}
 use Rattle.of_memory.specs.Calls.{AreMade}
 use Rattle.of_memory.specs.Called.{IsOpenAt, IsInCall, LeavesOpen, made_with}
-use Rattle.of_memory.specs.Serving.{IsScriptsRow, Serves, ended_of}
+use Rattle.of_memory.specs.Serving.{IsScriptsRow, Serves, ended_of, row_step_bound}
 
 -- the memory that it is a handle of
 abbrev pub home_of : Handle → Row Scripts
@@ -68,6 +68,10 @@ HasCallOpen h = IsInCall (caller_of h)
 -- how many steps its open call has made
 abbrev pub steps_so_far : Handle → ℕ
 steps_so_far h = (caller_call (caller_of h)).steps
+
+-- the step bound of its memory: how many steps a call makes at most
+abbrev pub step_bound_of : Handle → ℕ
+step_bound_of h = row_step_bound (home_of h)
 
 -- its number has made all calls that it may make
 abbrev pub HasNoTicketLeft : Handle → Type 0

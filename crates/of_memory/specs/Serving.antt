@@ -6,6 +6,7 @@ use Rattle.of_plan.specs.declared.plan.TheConstants.{GREATEST_LIMIT}
 use Rattle.of_eval.specs.declared.scripts.Scripts.{Scripts}
 use Rattle.of_eval.specs.Scripts.{scripts_data_cells, scripts_meaning}
 use Rattle.of_core.specs.Machine.{IsOpen}
+use Rattle.of_core.specs.Bound.{bound}
 use Rattle.of_row.specs.declared.row.Row.{Row}
 use Rattle.of_row.specs.declared.member.Pass.{Pass}
 use Rattle.of_row.specs.Rows.{key_of, setup_at, view_of_pass, IsRowPass, IsFirstPass}
@@ -20,6 +21,10 @@ use Rattle.of_memory.specs.Laws.{StandsAt, HoldsLastReplies, KeepsSo}
 -- how many calls a caller had made before that
 abbrev pub made_before : Row Scripts → ℕ → ℕ
 made_before r n = done_before (setup_at scripts_meaning r) (start_of_row r) n
+
+-- no call on the row makes more steps than this
+abbrev pub row_step_bound : Row Scripts → ℕ
+row_step_bound r = bound (setup_at scripts_meaning r)
 
 -- the row has the sizes of its scripts, and its start stands for some store and holds the last
 -- replies

@@ -34,3 +34,12 @@ abbrev pub KeepsToTold : (before : ℕ) → (left : Option (Option ℕ)) → (no
     → Result Answer RunErr → Type 0
 KeepsToTold before None now r = Unit {0}
 KeepsToTold before (Some stop) now r = KeepsToStop before stop now r
+
+-- An answer tells at most so many steps, and a stopped call has asked at most so many times.
+abbrev pub EndsWithin : (most : ℕ) → Result Answer RunErr → Type 0
+EndsWithin most (Ok a) = a.steps ≤ most
+EndsWithin most (Err OutOfMemory) = Unit {0}
+EndsWithin most (Err (Stopped asked)) = asked ≤ most
+EndsWithin most (Err (Spent seq)) = Unit {0}
+EndsWithin most (Err Open) = Unit {0}
+EndsWithin most (Err NoTicket) = Unit {0}

@@ -6,10 +6,10 @@ ghost use Rattle.of_core.specs.Turn.{IsIdle};
 ghost use Rattle.of_caller.specs.Callers.{caller_call};
 ghost use Rattle.of_caller.specs.Ends.{TellsAnswer};
 ghost use Rattle.of_caller.specs.Lanes.{IsHeldAnswer};
-ghost use Rattle.of_memory.specs.Serving.{IsScriptsRow, Serves};
+ghost use Rattle.of_memory.specs.Serving.{IsScriptsRow, Serves, row_step_bound};
 ghost use Rattle.of_memory.specs.Called.{MakesCallOf, MakesOpenCall};
 ghost use Rattle.of_memory.specs.Called.{LeavesOpen, LeavesOpenCall, LeavesAsItWas, WasTried};
-ghost use Rattle.of_memory.specs.Within.{KeepsToStop, KeepsToTold};
+ghost use Rattle.of_memory.specs.Within.{EndsWithin, KeepsToStop, KeepsToTold};
 
 use crate::error::RunErr;
 use of_brake::{Brake, Fuel, Steps};
@@ -68,6 +68,7 @@ fn call_counted<L: Ledger>(
     ensures open_call { LeavesOpen script.now result caller.new }
     ensures tried { WasTried result }
     ensures unmade { LeavesAsItWas result caller.old caller.new }
+    ensures bound { EndsWithin (row_step_bound row.now) result }
     ensures stop { KeepsToTold 0 (left brake.old) (caller_call caller.new).steps result }
 {
     let mut steps: Steps<L> = Steps::new(blank);
@@ -99,6 +100,7 @@ fn go_on_counted<L: Ledger>(
     ensures open_call { LeavesOpenCall result caller.old caller.new }
     ensures tried { WasTried result }
     ensures unmade { LeavesAsItWas result caller.old caller.new }
+    ensures bound { EndsWithin (row_step_bound row.now) result }
     ensures stop { KeepsToTold (caller_call caller.old).steps (left brake.old)
         (caller_call caller.new).steps result }
 {
@@ -137,6 +139,7 @@ pub(crate) fn call_script(
     ensures open_call { LeavesOpen script.now result caller.new }
     ensures tried { WasTried result }
     ensures unmade { LeavesAsItWas result caller.old caller.new }
+    ensures bound { EndsWithin (row_step_bound row.now) result }
     ensures stop { KeepsToStop 0 stop (caller_call caller.new).steps result }
 {
     let Ok(fuel) = Box::new(alloc, fuel_of(stop)) else {
@@ -162,6 +165,7 @@ pub(crate) fn go_on_with(
     ensures open_call { LeavesOpenCall result caller.old caller.new }
     ensures tried { WasTried result }
     ensures unmade { LeavesAsItWas result caller.old caller.new }
+    ensures bound { EndsWithin (row_step_bound row.now) result }
     ensures stop { KeepsToStop (caller_call caller.old).steps stop
         (caller_call caller.new).steps result }
 {

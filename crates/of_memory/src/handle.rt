@@ -28,7 +28,8 @@ impl Handle {
     ghost use Rattle.of_memory.specs.Handles.{ResumesCall, StaysOpenOnlyIfStopped, OpenCallStays};
     ghost use Rattle.of_memory.specs.Handles.{RefusesCall, RefusesToGoOn, number_of, steps_so_far};
     ghost use Rattle.of_memory.specs.Called.{LeavesAsItWas};
-    ghost use Rattle.of_memory.specs.Within.{IsNeverStopped, KeepsWithin, KeepsToStop};
+    ghost use Rattle.of_memory.specs.Handles.{step_bound_of};
+    ghost use Rattle.of_memory.specs.Within.{EndsWithin, IsNeverStopped, KeepsWithin, KeepsToStop};
     ghost use Rattle.of_memory.specs.Memories.{IsMemory, IsFrom, IsStill, HasMadeOf, KnowsOthers};
     ghost use Rattle.of_memory.specs.Memories.{HasOpenOf, OthersStayOpen};
 
@@ -48,6 +49,7 @@ impl Handle {
         ensures open_call { StaysOpenOnlyIfStopped script.now result self.new }
         ensures cause { RefusesCall self.old result }
         ensures unmade { LeavesAsItWas result self.old self.new }
+        ensures bound { EndsWithin (step_bound_of self.old) result }
         ensures stopped { IsNeverStopped result }
     {
         self.begin(script, None)
@@ -62,6 +64,7 @@ impl Handle {
         ensures open_call { StaysOpenOnlyIfStopped script.now result self.new }
         ensures cause { RefusesCall self.old result }
         ensures unmade { LeavesAsItWas result self.old self.new }
+        ensures bound { EndsWithin (step_bound_of self.old) result }
         ensures within { KeepsWithin 0 steps (steps_so_far self.new) result }
     {
         self.begin(script, Some(steps))
@@ -75,6 +78,7 @@ impl Handle {
         ensures open_call { StaysOpenOnlyIfStopped script.now result self.new }
         ensures cause { RefusesCall self.old result }
         ensures unmade { LeavesAsItWas result self.old self.new }
+        ensures bound { EndsWithin (step_bound_of self.old) result }
         ensures stop { KeepsToStop 0 stop (steps_so_far self.new) result }
     {
         if !self.caller.is_idle() {
@@ -102,6 +106,7 @@ impl Handle {
         ensures open_call { OpenCallStays result self.old self.new }
         ensures cause { RefusesToGoOn self.old result }
         ensures unmade { LeavesAsItWas result self.old self.new }
+        ensures bound { EndsWithin (step_bound_of self.old) result }
         ensures stopped { IsNeverStopped result }
     {
         self.resume(None)
@@ -116,6 +121,7 @@ impl Handle {
         ensures open_call { OpenCallStays result self.old self.new }
         ensures cause { RefusesToGoOn self.old result }
         ensures unmade { LeavesAsItWas result self.old self.new }
+        ensures bound { EndsWithin (step_bound_of self.old) result }
         ensures within { KeepsWithin (steps_so_far self.old) steps
             (steps_so_far self.new) result }
     {
@@ -130,6 +136,7 @@ impl Handle {
         ensures open_call { OpenCallStays result self.old self.new }
         ensures cause { RefusesToGoOn self.old result }
         ensures unmade { LeavesAsItWas result self.old self.new }
+        ensures bound { EndsWithin (step_bound_of self.old) result }
         ensures stop { KeepsToStop (steps_so_far self.old) stop
             (steps_so_far self.new) result }
     {

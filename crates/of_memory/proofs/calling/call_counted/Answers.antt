@@ -1,5 +1,5 @@
 use Rattle.std.proofs.Common.{◌∙◌, ap, refl, Err}
-use Rattle.of_memory.proofs.Called.{words_are, held_of, serves_on, made_answered, made_spent, keeps_answered, keeps_stopped, keeps_over, none_open}
+use Rattle.of_memory.proofs.Called.{words_are, held_of, serves_on, made_answered, made_spent, keeps_answered, keeps_stopped, keeps_over, none_open, answers_within, stops_within}
 use Rattle.of_memory.proofs.calling.call_counted.Goals as goal
 
 pub answer_of-requires : goal.answer_of-requires
@@ -51,3 +51,12 @@ returns-in-Ok-clause-open_call g c = none_open _ c.in-Ok.ensures.told.result.1.i
 
 pub returns-clause-open_call : goal.returns-clause-open_call
 returns-clause-open_call g c = none_open _ c.call.ensures.told.result.idle
+
+pub returns-in-Ok-clause-bound : goal.returns-in-Ok-clause-bound
+returns-in-Ok-clause-bound g c =
+    let told = c.in-Ok.ensures.told in
+    answers_within _ _ _ _ _ _ _ _ _ _ told c.in-Ok.outcome c.answer_of.result c.answer_of.ensures told.result
+
+pub returns-in-Err-Stopped-clause-bound : goal.returns-in-Err-Stopped-clause-bound
+returns-in-Err-Stopped-clause-bound g c =
+    stops_within _ _ _ _ _ _ _ _ _ _ c.call.ensures.told c.in-Err-Stopped.asked (c.in-Err-Stopped.is ∙ ap (λ e. Err e) c.in-Err-Stopped.field-0-is)
