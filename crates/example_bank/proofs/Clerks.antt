@@ -12,7 +12,7 @@ use Rattle.of_core.specs.declared.place.Outcome.{Outcome}
 use Rattle.of_core.specs.declared.place.Outcome.TheVariants.{Spent as RanOut}
 use Rattle.of_core.specs.Calls.{NoneSpent, IsAnswered}
 use Rattle.of_core.specs.Table.{Setup}
-use Rattle.of_core.specs.World.{TableStart}
+use Rattle.of_core.specs.TableMoment.{TableStart}
 use Rattle.of_core.specs.Machine.{CallState, MayReplace, is_idle, IsOpen}
 use Rattle.of_core.specs.Turn.{IsIdle}
 use Rattle.of_row.specs.declared.member.Member.{Member}

@@ -12,7 +12,7 @@ use Rattle.of_mem.specs.declared.work.TheConstants.{MOST_INSTRS, LEAST_ABORT}
 use Rattle.of_mem.specs.Places.{ticket_cell_at, shape_at}
 use Rattle.of_mem.specs.ProgramWork.{memory_of}
 use Rattle.of_script.specs.declared.instr.Instr.{Instr}
-use Rattle.of_store.specs.State.{Store, replies_in_order, last_store}
+use Rattle.of_store.specs.Store.{Store, replies_in_order, last_store}
 use Rattle.of_eval.specs.declared.scripts.Scripts.{Scripts}
 use Rattle.of_eval.specs.Scripts.{store_at, scripts_data_cells, LawfulCells, scripts_meaning}
 use Rattle.of_eval.specs.SoundScripts.{scripts_fit}
@@ -23,11 +23,11 @@ use Rattle.of_core.specs.declared.place.Outcome.{Outcome}
 use Rattle.of_core.specs.declared.place.Outcome.TheVariants.{Spent as RanOut}
 use Rattle.of_core.specs.Table.{Setup, cell_count, words_before_members, durable_word, durable_seq}
 use Rattle.of_core.specs.Machine.{Call, no_call}
-use Rattle.of_core.specs.World.{Moment, TableStart}
+use Rattle.of_core.specs.TableMoment.{Moment, TableStart}
 use Rattle.of_core.specs.History.{numbers_after_calls}
 use Rattle.of_core.specs.Events.{Event, machine_in}
 use Rattle.of_core.specs.Calls.{HasCalls, operations_begun, outcomes, no_outcome, OutcomeStands}
-use Rattle.of_core.specs.Shared.{MayStart}
+use Rattle.of_core.specs.WordsMatch.{MayStart}
 use Rattle.of_core.specs.Starts.{IsDurable, start_from_durable}
 use Rattle.of_core.specs.Laws.{EveryCallStands}
 use Rattle.of_core.specs.Linear.{IsRecovered, recovered_number}

@@ -1,7 +1,7 @@
 -- What the tallies of a day tell of its ledger.
 use Rattle.std.proofs.Common.{◌≡◌, ℕ, ◌+◌, zero, suc, ◌<◌, ◌≤◌, refl, sym, ◌∙◌, ap, subst, arith, Bool, true, false, Option, List, length, take, vec_len}
 use Rattle.std.specs.Prelude.{not, IsSome}
-use Rattle.of_core.specs.World.{TableStart}
+use Rattle.of_core.specs.TableMoment.{TableStart}
 use Rattle.of_row.specs.declared.row.Row.{Row}
 use Rattle.of_eval.specs.declared.scripts.Scripts.{Scripts}
 use Rattle.example_bank.specs.declared.clerk.Job.{Job}

@@ -2,7 +2,7 @@
 use Rattle.std.specs.Prelude.{◌≡◌, ℕ, ◌+◌, ◌<◌, ◌≤◌, List, length, take, IsSome, slice_index_or}
 use Rattle.std.proofs.Common.{zero, suc}
 use Rattle.std.specs.List.{All}
-use Rattle.of_core.specs.World.{TableStart}
+use Rattle.of_core.specs.TableMoment.{TableStart}
 use Rattle.example_bank.specs.declared.books.Books.{Books}
 use Rattle.example_bank.specs.declared.books.TheConstants.{CLERKS, LIMIT}
 use Rattle.example_bank.specs.declared.clerk.Job.{Job}

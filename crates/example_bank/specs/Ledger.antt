@@ -7,11 +7,11 @@ use Rattle.of_mem.specs.Places.{ticket_cell_at, shape_at}
 use Rattle.of_mem.specs.ProgramWork.{memory_of}
 use Rattle.of_script.specs.declared.instr.Instr.{Instr}
 use Rattle.of_script.specs.Language.{IsScript}
-use Rattle.of_store.specs.State.{Store, Reply, Answered, Aborted, replies_in_order, last_store}
+use Rattle.of_store.specs.Store.{Store, Reply, Answered, Aborted, replies_in_order, last_store}
 use Rattle.of_eval.specs.declared.scripts.Scripts.{Scripts}
 use Rattle.of_eval.specs.Scripts.{store_at}
 use Rattle.of_eval.specs.Stored.{IsStored}
-use Rattle.of_core.specs.World.{TableStart}
+use Rattle.of_core.specs.TableMoment.{TableStart}
 use Rattle.example_bank.specs.declared.tally.Tally.{Tally}
 use Rattle.example_bank.specs.declared.tally.End.{End}
 use Rattle.example_bank.specs.declared.tally.End.TheVariants.{Done, Stopped, Spent}

@@ -5,7 +5,7 @@ use Rattle.of_script.specs.declared.instr.Instr.{Instr}
 use Rattle.of_script.specs.declared.instr.Instr.TheVariants.{Store as StoreInstr, Add, Sub}
 use Rattle.of_script.specs.declared.instr.TheConstants.{REGISTERS}
 use Rattle.of_script.specs.Language.{IsScript, reads_only}
-use Rattle.of_store.specs.State.{Store, run}
+use Rattle.of_store.specs.Store.{Store, run}
 use Rattle.of_eval.specs.declared.scripts.Scripts.{Scripts}
 use Rattle.of_eval.specs.Scripts.{store_at, scripts_data_cells}
 use Rattle.of_core.specs.Starts.{start_from_durable}

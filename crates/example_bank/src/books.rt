@@ -8,7 +8,7 @@ ghost use Rattle.of_mem.specs.declared.work.TheConstants.{MOST_INSTRS};
 ghost use Rattle.of_script.specs.declared.instr.Instr.{Instr};
 ghost use Rattle.of_eval.specs.Scripts.{LawfulCells, scripts_data_cells, scripts_meaning};
 ghost use Rattle.of_core.specs.Table.{durable_word as the_durable_word};
-ghost use Rattle.of_core.specs.Shared.{MayStart};
+ghost use Rattle.of_core.specs.WordsMatch.{MayStart};
 ghost use Rattle.of_core.specs.Starts.{IsDurable};
 ghost use Rattle.of_row.specs.Rows.{row_start, view_of_pass, IsRowPass};
 ghost use Rattle.example_bank.specs.Ledger.{HasLedger, ticket_in, aborted_last};

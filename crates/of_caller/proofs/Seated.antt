@@ -14,7 +14,7 @@ use Rattle.of_row.specs.Turned.{StandsForMachine, after_ask, new_known_caller, a
 use Rattle.of_eval.specs.Scripts.{scripts_meaning}
 use Rattle.of_core.specs.Table.{Setup}
 use Rattle.of_core.specs.Machine.{CallState, MayReplace, idle_machine}
-use Rattle.of_core.specs.Seen.{Machine, machine_setup}
+use Rattle.of_core.specs.MachineValue.{Machine, machine_setup}
 use Rattle.of_core.specs.Turn.{IsIdle}
 use Rattle.of_row.specs.Rows.{setup_at, row_start}
 use Rattle.of_row.specs.Passes.{HasEnrolled}

@@ -3,12 +3,13 @@ use Rattle.std.specs.Prelude.{◌≡◌, ◌<◌, ℕ}
 use Rattle.of_mem.specs.Meaning.{Meaning}
 use Rattle.of_core.specs.Machine.{CallState, IsOpen}
 use Rattle.of_core.specs.Bound.{bound}
-use Rattle.of_core.specs.Seen.{machine_setup}
+use Rattle.of_core.specs.MachineValue.{machine_setup}
 use Rattle.of_core.specs.Turn.{IsIdle}
 use Rattle.of_row.specs.Views.{View}
 use Rattle.of_row.specs.declared.member.Member.{Member}
 use Rattle.of_row.specs.declared.row.Row.{Row}
-use Rattle.of_row.specs.Rows.{IsRowMember, RunsOnRow, IsMemberOf, HasNoCall, view_of_member}
+use Rattle.of_row.specs.Rows.{IsRowMember, RunsOnRow, IsMemberOf, HasNoCall}
+use Rattle.of_row.specs.Rows.{view_of_member, calls_of_member}
 use Rattle.of_caller.specs.declared.caller.Caller.{Caller}
 
 -- the member that the caller makes its calls with
@@ -41,4 +42,4 @@ pub record IsCaller {W : Type 0} (meaning : W → Meaning) (r : Row W) (c : Call
 abbrev pub LeavesIdleMember : {W : Type 0} → (W → Meaning) → Caller W → Member → Type 0
 LeavesIdleMember {W} meaning c m =
     (r : Row W) → IsCaller meaning r c → IsIdle (caller_call c)
-    → HasNoCall m × (m.made ≡ calls_begun_by c)
+    → HasNoCall m × (calls_of_member m ≡ calls_begun_by c)

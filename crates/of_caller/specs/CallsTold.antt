@@ -6,7 +6,7 @@ use Rattle.of_core.specs.declared.place.Outcome.{Outcome}
 use Rattle.of_core.specs.declared.place.Outcome.TheVariants.{Spent as Over}
 use Rattle.of_core.specs.Table.{Setup}
 use Rattle.of_core.specs.Machine.{CallState, IsOpen, begin_call}
-use Rattle.of_core.specs.World.{TableStart}
+use Rattle.of_core.specs.TableMoment.{TableStart}
 use Rattle.of_core.specs.Bound.{bound}
 use Rattle.of_core.specs.Turn.{IsIdle}
 use Rattle.of_core.specs.Calls.{operations_begun, IsNotBefore, IsAnswered}

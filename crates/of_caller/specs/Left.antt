@@ -2,7 +2,7 @@
 use Rattle.std.specs.Prelude.{◌≡◌, ℕ, ◌≤◌, ◌<◌, List, length, map, take}
 use Rattle.of_plan.specs.Plan.{Plan, scripts_of}
 use Rattle.of_plan.specs.Ended.{Ended, answers_of, ending_of}
-use Rattle.of_core.specs.World.{Moment}
+use Rattle.of_core.specs.TableMoment.{Moment}
 use Rattle.of_core.specs.Events.{Event, machine_in, after_events}
 use Rattle.of_core.specs.Calls.{operations_begun, outcomes}
 use Rattle.of_caller.specs.Tables.{plan_setup, opening_for, operation_of}

@@ -13,9 +13,9 @@ use Rattle.of_plan.specs.Legal.{scripts_left}
 use Rattle.of_plan.specs.Ended.{Ended, answers_of, ending_of}
 use Rattle.of_plan.specs.Allowance.{KeepsAllowance}
 use Rattle.of_core.specs.declared.place.Outcome.{Outcome}
-use Rattle.of_core.specs.World.{Moment, TableStart}
+use Rattle.of_core.specs.TableMoment.{Moment, TableStart}
 use Rattle.of_core.specs.Bound.{bound}
-use Rattle.of_core.specs.Shared.{IsStart}
+use Rattle.of_core.specs.WordsMatch.{IsStart}
 use Rattle.of_core.specs.Events.{Event, IsSchedule, machine_in, after_events}
 use Rattle.of_core.specs.Claim.{IsSound}
 use Rattle.of_core.specs.Moment.{table_word_count}

@@ -10,7 +10,7 @@ use Rattle.of_eval.specs.ScriptPrograms.{script_program}
 use Rattle.of_eval.specs.Scripts.{StandsForSome, is_success, script_reads}
 use Rattle.of_plan.specs.Plan.{Plan, data_cells}
 use Rattle.of_core.specs.Table.{Setup, setup_of}
-use Rattle.of_core.specs.World.{Moment, TableStart}
+use Rattle.of_core.specs.TableMoment.{Moment, TableStart}
 use Rattle.of_core.specs.Events.{opening_moment, zero_start}
 use Rattle.of_core.specs.Moment.{table_word_count}
 

@@ -5,7 +5,7 @@ ghost use Rattle.of_mem.specs.declared.work.TheConstants.{MOST_INSTRS};
 ghost use Rattle.of_core.specs.Machine.{IsOpen};
 ghost use Rattle.of_core.specs.Turn.{IsIdle};
 ghost use Rattle.of_brake.specs.Stops.{HasRisen, HasHeardAnswer};
-ghost use Rattle.of_row.specs.Rows.{IsRowMember, HasNoCall};
+ghost use Rattle.of_row.specs.Rows.{calls_of_member, IsRowMember, HasNoCall};
 
 use of_brake::{Brake, Steps};
 use of_core::{Machine, Outcome};
@@ -61,7 +61,7 @@ impl<W: Work> Caller<W> {
         ensures caller { IfOk result (IsCaller W.meaning row.now) }
         ensures member { IfOk result (λ c. member_of c ≡ member) }
         ensures idle { IfOk result (λ c. IsIdle (caller_call c)) }
-        ensures made { IfOk result (λ c. calls_begun_by c ≡ member.made) }
+        ensures made { IfOk result (λ c. calls_begun_by c ≡ calls_of_member member) }
         ensures memory { IfErr result (λ e. e.0 ≡ member) }
     {
         members(row.work());

@@ -31,10 +31,7 @@ pub fn plan_keeps_laws(plan: &Plan)
     ensures zeros { ZerosAreEmpty plan.now }
 {
     let limit = plan.limit();
-    let scripts = Scripts {
-        callers: plan.callers(),
-        blocks: plan.blocks(),
-    };
+    let scripts = Scripts::of_plan(plan);
     step_kept(limit, scripts);
     calls_kept(limit, scripts);
     every_moment(limit, scripts);
@@ -67,10 +64,7 @@ pub fn teams_are_lawful(plan: &Plan)
     ensures scheduled { TeamsAreScheduled plan.now }
 {
     let limit = plan.limit();
-    let scripts = Scripts {
-        callers: plan.callers(),
-        blocks: plan.blocks(),
-    };
+    let scripts = Scripts::of_plan(plan);
     plan_keeps_laws(plan);
     runs_are_schedules(limit, scripts);
 }
@@ -99,10 +93,7 @@ pub fn reports_respect_time(plan: &Plan)
     ensures teams { TeamsRespectTime plan.now }
 {
     let limit = plan.limit();
-    let scripts = Scripts {
-        callers: plan.callers(),
-        blocks: plan.blocks(),
-    };
+    let scripts = Scripts::of_plan(plan);
     plan_keeps_laws(plan);
     runs_are_schedules(limit, scripts);
     every_order(limit, scripts);

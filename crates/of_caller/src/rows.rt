@@ -21,10 +21,7 @@ pub fn zero_row_for(alloc: Global, plan: &Plan) -> Result<(Row<Scripts>, Pass), 
     ensures pass { IfOk result (λ r. IsFirst r.0 r.1) }
 {
     plan_keeps_laws(plan);
-    let scripts = Scripts {
-        callers: plan.callers(),
-        blocks: plan.blocks(),
-    };
+    let scripts = Scripts::of_plan(plan);
     let (row, pass) = Row::new(alloc, plan.shape(), plan.limit(), scripts)?;
     Ok((row, pass))
 }

@@ -5,7 +5,7 @@ use Rattle.of_row.specs.declared.member.Member.{Member}
 use Rattle.of_row.specs.declared.row.Row.{Row}
 use Rattle.of_row.specs.Views.{seen_seq, seen_history}
 use Rattle.of_row.specs.Rule.{EachCallBetween}
-use Rattle.of_row.specs.Rows.{row_start, view_of_member}
+use Rattle.of_row.specs.Rows.{row_start, view_of_member, number_of_member, calls_of_member}
 use Rattle.of_door.specs.declared.door.Door.{Door}
 use Rattle.of_door.specs.declared.door.Hand.{Hand}
 
@@ -44,4 +44,4 @@ TicketsUpTo meaning r m =
     let B = row_start meaning r in
     let seen = (view_of_member m).seen in
     EachCallBetween B (seen_history seen) B.seq (seen_seq B seen)
-    (λ c. c.caller ≡ m.number → c.ticket ≤ m.made)
+    (λ c. c.caller ≡ number_of_member m → c.ticket ≤ calls_of_member m)

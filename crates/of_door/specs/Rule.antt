@@ -5,12 +5,12 @@ use lib.ListN.{get_elem?}
 use Rattle.atomic_table.specs.Table.{State, Me, rest}
 use Rattle.of_row.specs.declared.member.Member.{Member}
 use Rattle.of_row.specs.declared.row.Row.{Row}
-use Rattle.of_row.specs.Rows.{IsRowMember, HasNoCall}
+use Rattle.of_row.specs.Rows.{number_of_member, IsRowMember, HasNoCall}
 use Rattle.of_door.specs.Hands.{HandLog, log_after_exchange, after_store}
 
 -- the member is one of this row, has this number, and has no open call
 abbrev pub IsMemberAtDoor : {W : Type 0} → Row W → ℕ → Member → Type 0
-IsMemberAtDoor r number m = IsRowMember r m × (m.number ≡ number) × HasNoCall m
+IsMemberAtDoor r number m = IsRowMember r m × (number_of_member m ≡ number) × HasNoCall m
 
 -- so it is where the row is told
 abbrev pub IsMemberAtToldDoor : {W : Type 0} → Option (Row W) → ℕ → Member → Type 0

@@ -4,7 +4,7 @@ ghost use Rattle.std.specs.Prelude.{◌≡◌, ◌<◌, [], false, Some, IfOk, I
 ghost use mathlib.Core.List.{IsPrefix};
 ghost use Rattle.of_row.specs.Rows.{HasNoCall, HasOwnCalls, HasCallsOnce, HasSeenLegal};
 ghost use Rattle.of_row.specs.Rows.{view_of_pass, view_of_member, IsRowPass, IsRowMember};
-ghost use Rattle.of_row.specs.Rows.{KeepsNobody};
+ghost use Rattle.of_row.specs.Rows.{number_of_member, KeepsNobody};
 ghost use Rattle.of_row.specs.Turned.{view_of_nobody};
 ghost use Rattle.of_door.specs.Rule.{IsMemberAtDoor, TakesSlot};
 
@@ -101,7 +101,7 @@ impl<W: Work> Door<W> {
         requires row { row_of_door self.now ≡ row.now }
         requires hand { IsHandOf self.now hand.old }
         requires member { IsRowMember row.now member }
-        requires number { member.number ≡ number_of_door self.now }
+        requires number { number_of_member member ≡ number_of_door self.now }
         requires idle { HasNoCall member }
         ensures hand { IsHandOf self.now hand.new }
         ensures pass { IfOk result (IsRowPass row.now) }
@@ -132,7 +132,7 @@ impl<W: Work> Door<W> {
         requires nobody { KeepsNobody pass }
         ensures hand { IsHandOf self.now hand.new }
         ensures row { IfOk result (IsRowMember row.now) }
-        ensures number { IfOk result (λ m. m.number ≡ number_of_door self.now) }
+        ensures number { IfOk result (λ m. number_of_member m ≡ number_of_door self.now) }
         ensures idle { IfOk result HasNoCall }
         ensures seen { IfOk result (λ m.
             IsPrefix (view_of_pass pass).seen (view_of_member m).seen) }

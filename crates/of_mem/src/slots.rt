@@ -10,9 +10,9 @@ use std::marker::Model;
 /// same time however many cells there are, but once in 2^32 - 2 calls.
 #[derive(Drop)]
 pub struct Slots {
-    /// Counts the calls of `clear`, from 1.
+    // Counts the calls of `clear`, from 1.
     era: u32,
-    /// For each cell an era and a number, which is there in that era alone.
+    // For each cell an era and a number, which is there in that era alone.
     slots: Vec<(u32, u32)>,
 }
 

@@ -21,7 +21,7 @@ use Rattle.of_core.specs.Table.{Setup}
 use Rattle.of_core.specs.Machine.{CallState, is_idle, IsOpen, MayReplace}
 use Rattle.of_core.specs.Turn.{IsIdle}
 use Rattle.of_core.specs.Bound.{bound}
-use Rattle.of_core.specs.World.{TableStart}
+use Rattle.of_core.specs.TableMoment.{TableStart}
 use Rattle.of_core.specs.History.{IsLegalHistory}
 use Rattle.of_core.specs.Calls.{IsAnswered}
 use Rattle.of_row.specs.declared.row.Row.{Row}

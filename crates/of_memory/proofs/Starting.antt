@@ -5,13 +5,13 @@ use Rattle.of_cell.specs.Words.{payload_of}
 use Rattle.of_cell.proofs.Order.{pay_zero}
 use Rattle.of_cell.specs.declared.shape.Shape.{Shape}
 use Rattle.of_mem.specs.ProgramWork.{memory_of}
-use Rattle.of_store.specs.State.{Store, empty_store}
-use Rattle.of_plan.specs.declared.plan.TheConstants.{GREATEST_LIMIT}
+use Rattle.of_store.specs.Store.{Store, empty_store}
+use Rattle.of_cell.specs.declared.word.TheConstants.{GREATEST_LIMIT}
 use Rattle.of_eval.specs.declared.scripts.Scripts.{Scripts}
 use Rattle.of_eval.specs.Scripts.{store_at, scripts_data_cells, LawfulCells, scripts_meaning}
 use Rattle.of_eval.specs.SoundScripts.{empty_is_stored}
 use Rattle.of_core.specs.Table.{Setup, setup_of}
-use Rattle.of_core.specs.World.{TableStart}
+use Rattle.of_core.specs.TableMoment.{TableStart}
 use Rattle.of_core.specs.Events.{zero_start}
 use Rattle.of_core.specs.Starts.{start_from_durable, IsStartRow}
 use Rattle.of_row.specs.declared.row.Row.{Row}

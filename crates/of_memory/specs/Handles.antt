@@ -19,18 +19,18 @@ use Rattle.of_memory.specs.Serving.{IsScriptsRow, Serves, ended_of, row_step_bou
 abbrev pub home_of : Handle → Row Scripts
 home_of h = arc_value h.row
 
+-- its number
+abbrev pub number_of_handle : Handle → ℕ
+number_of_handle h = h.number
+
 -- the caller that it makes its calls with
 abbrev pub caller_of : Handle → Caller Scripts
 caller_of h = h.caller
 
--- its number
-abbrev pub number_of : Handle → ℕ
-number_of h = h.number
-
 -- it is a handle of some memory, and has run scripts alone
 pub record IsHandle (h : Handle) : Type 0 where
   pub row : IsScriptsRow (home_of h)
-  pub serves : Serves (home_of h) (number_of h) (caller_of h)
+  pub serves : Serves (home_of h) (number_of_handle h) (caller_of h)
 
 -- since the memory was opened its number has made these calls, which have ended
 abbrev pub HasMade : Handle → List Made → Type 0
@@ -98,4 +98,4 @@ RefusesToGoOn h (Err NoTicket) = ⊥
 -- it is of the same memory, and has the same number
 pub record IsSame (h k : Handle) : Type 0 where
   pub home : home_of k ≡ home_of h
-  pub number : number_of k ≡ number_of h
+  pub number : number_of_handle k ≡ number_of_handle h

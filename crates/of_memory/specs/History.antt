@@ -4,7 +4,7 @@ use Rattle.std.specs.List.{All}
 use Rattle.std.proofs.Common.{get_or}
 use Rattle.of_script.specs.declared.instr.Instr.{Instr}
 use Rattle.of_script.specs.Language.{reads_only}
-use Rattle.of_store.specs.State.{Store, Reply, Answered as Replied, run}
+use Rattle.of_store.specs.Store.{Store, Reply, Answered as Replied, run}
 
 -- a call in the history: a script of a caller, the number that the call has among its caller's
 -- calls, and its reply

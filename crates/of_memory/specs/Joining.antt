@@ -2,7 +2,7 @@
 use Rattle.std.specs.Prelude.{◌≡◌, ◌++◌, Bool, true, List}
 use Rattle.std.specs.List.{All}
 use Rattle.of_script.specs.declared.instr.Instr.{Instr}
-use Rattle.of_store.specs.State.{Store, run}
+use Rattle.of_store.specs.Store.{Store, run}
 use Rattle.of_memory.specs.History.{HistoryEntry, IsSerial, store_after}
 
 -- a history and one that goes on from its end are one history

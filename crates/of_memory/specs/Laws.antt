@@ -7,7 +7,7 @@ use Rattle.of_mem.specs.ProgramWork.{memory_of}
 use Rattle.of_script.specs.declared.instr.Instr.{Instr}
 use Rattle.of_script.specs.Language.{IsScript, instr_word}
 use Rattle.of_script.specs.declared.instr.TheConstants.{MOST_INSTRS}
-use Rattle.of_store.specs.State.{Store, Reply}
+use Rattle.of_store.specs.Store.{Store, Reply}
 use Rattle.of_eval.specs.declared.scripts.Scripts.{Scripts}
 use Rattle.of_eval.specs.Scripts.{store_at, scripts_data_cells, LawfulCells, scripts_meaning}
 use Rattle.of_eval.specs.Stored.{IsStored}
@@ -15,7 +15,7 @@ use Rattle.of_eval.specs.Lawful.{reply_in}
 use Rattle.of_eval.specs.Faults.{AllOwnCellsAreSound}
 use Rattle.of_core.specs.Table.{Setup, setup_of}
 use Rattle.of_core.specs.Machine.{IsOpen}
-use Rattle.of_core.specs.World.{TableStart}
+use Rattle.of_core.specs.TableMoment.{TableStart}
 use Rattle.of_core.specs.Starts.{IsDurable, IsStartRow, start_from_durable}
 use Rattle.of_row.specs.Views.{KnownCaller, View, Each}
 use Rattle.of_row.specs.Rule.{ViewMeetsRule, done_before}

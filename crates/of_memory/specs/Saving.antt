@@ -4,12 +4,12 @@ use Rattle.of_cell.specs.Words.{payload_of}
 use Rattle.of_mem.specs.declared.work.RawReply.{RawReply}
 use Rattle.of_mem.specs.declared.work.TheConstants.{MOST_INSTRS}
 use Rattle.of_mem.specs.ProgramWork.{memory_of}
-use Rattle.of_plan.specs.declared.plan.TheConstants.{GREATEST_LIMIT}
-use Rattle.of_store.specs.State.{Store, Reply}
+use Rattle.of_cell.specs.declared.word.TheConstants.{GREATEST_LIMIT}
+use Rattle.of_store.specs.Store.{Store, Reply}
 use Rattle.of_eval.specs.declared.scripts.Scripts.{Scripts}
 use Rattle.of_eval.specs.Scripts.{scripts_data_cells, LawfulCells}
 use Rattle.of_eval.specs.Lawful.{reply_in}
-use Rattle.of_core.specs.World.{TableStart}
+use Rattle.of_core.specs.TableMoment.{TableStart}
 use Rattle.of_core.specs.Starts.{IsStartRow, start_from_durable}
 use Rattle.of_row.specs.declared.row.Row.{Row}
 use Rattle.of_row.specs.Views.{View}
@@ -31,13 +31,13 @@ pub record IsSaved (d : Saved) : Type 0 where
   pub some_limit : 1 ≤ d.limit
   pub few_limit : d.limit ≤ GREATEST_LIMIT
 
+-- the last sequence that may be committed in it
+abbrev pub saved_limit : Saved → ℕ
+saved_limit d = d.limit
+
 -- how many callers it has
 abbrev pub saved_callers : Saved → ℕ
 saved_callers d = d.scripts.callers
-
--- the last sequence that may be committed
-abbrev pub saved_limit : Saved → ℕ
-saved_limit d = d.limit
 
 -- the cells of caller n in it, in which the reply to its last call is
 abbrev pub saved_reply : Saved → (n : ℕ) → RawReply

@@ -1,8 +1,8 @@
 -- A row of scripts, and its callers.
 use Rattle.std.specs.Prelude.{◌≡◌, ℕ, ◌≤◌, ◌<◌, List, [], length, Option, Some, None}
 use Rattle.std.proofs.Common.{get_or}
-use Rattle.of_store.specs.State.{Store}
-use Rattle.of_plan.specs.declared.plan.TheConstants.{GREATEST_LIMIT}
+use Rattle.of_store.specs.Store.{Store}
+use Rattle.of_cell.specs.declared.word.TheConstants.{GREATEST_LIMIT}
 use Rattle.of_eval.specs.declared.scripts.Scripts.{Scripts}
 use Rattle.of_eval.specs.Scripts.{scripts_data_cells, scripts_meaning}
 use Rattle.of_core.specs.Machine.{IsOpen}

@@ -26,7 +26,7 @@ impl Handle {
     ghost use Rattle.of_memory.specs.History.{Made};
     ghost use Rattle.of_memory.specs.Handles.{IsHandle, HasMade, HasOpen, IsSame, MakesCall};
     ghost use Rattle.of_memory.specs.Handles.{ResumesCall, StaysOpenOnlyIfStopped, OpenCallStays};
-    ghost use Rattle.of_memory.specs.Handles.{RefusesCall, RefusesToGoOn, number_of, steps_so_far};
+    ghost use Rattle.of_memory.specs.Handles.{RefusesCall, RefusesToGoOn, number_of_handle, steps_so_far};
     ghost use Rattle.of_memory.specs.Called.{LeavesAsItWas};
     ghost use Rattle.of_memory.specs.Handles.{step_bound_of};
     ghost use Rattle.of_memory.specs.Within.{EndsWithin, IsNeverStopped, KeepsWithin, KeepsToStop};
@@ -35,7 +35,7 @@ impl Handle {
 
     /// Its number.
     pub fn number(&self) -> u32
-        ensures { result ≡ number_of self.now }
+        ensures { result ≡ number_of_handle self.now }
     {
         self.number
     }
@@ -155,11 +155,11 @@ impl Handle {
         ensures memory { IsMemory memory.new }
         ensures still { IsStill memory.old memory.new }
         ensures made { (ms : List Made) → HasMade self ms
-            → HasMadeOf memory.new (number_of self) ms }
+            → HasMadeOf memory.new (number_of_handle self) ms }
         ensures open_call { (script : List TheInstr) → HasOpen self script
-            → HasOpenOf memory.new (number_of self) script }
-        ensures others { KnowsOthers (number_of self) memory.old memory.new }
-        ensures others_open { OthersStayOpen (number_of self) memory.old memory.new }
+            → HasOpenOf memory.new (number_of_handle self) script }
+        ensures others { KnowsOthers (number_of_handle self) memory.old memory.new }
+        ensures others_open { OthersStayOpen (number_of_handle self) memory.old memory.new }
     {
         let Handle {
             alloc: _,

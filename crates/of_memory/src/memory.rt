@@ -24,14 +24,14 @@ pub struct Memory {
 
 impl Memory {
     ghost use Rattle.std.specs.Prelude.{◌≡◌, ◌<◌, ◌≤◌, ℕ, List, [], IfOk, IfErr};
-    ghost use Rattle.of_store.specs.State.{Store, empty_store};
+    ghost use Rattle.of_store.specs.Store.{Store, empty_store};
     ghost use Rattle.of_row.specs.Rows.{key_of};
     ghost use Rattle.of_row.specs.Passes.{IsFirst};
     ghost use Rattle.of_memory.specs.History.{Made};
     ghost use Rattle.of_memory.specs.Calls.{AreMade};
     ghost use Rattle.of_memory.specs.Serving.{IsScriptsRow, Serves, ended_of};
     ghost use Rattle.of_memory.specs.Saving.{IsSaved, SavedHolds, saved_callers, saved_ticket};
-    ghost use Rattle.of_memory.specs.Handles.{IsHandle, number_of, HasMade, HasOpen};
+    ghost use Rattle.of_memory.specs.Handles.{IsHandle, number_of_handle, HasMade, HasOpen};
     ghost use Rattle.of_memory.specs.Memories.{IsMemory, row_of, callers_of, StartsWith};
     ghost use Rattle.of_memory.specs.Memories.{tickets_before};
     ghost use Rattle.of_memory.specs.Memories.{HasMadeOf, IsFrom, IsStill, KnowsOthers, HasHistory};
@@ -131,7 +131,7 @@ impl Memory {
         ensures still { IsStill self.old self.new }
         ensures handle { IfOk result IsHandle }
         ensures from { IfOk result (IsFrom self.new) }
-        ensures number { IfOk result (λ h. number_of h ≡ number) }
+        ensures number { IfOk result (λ h. number_of_handle h ≡ number) }
         ensures made { IfOk result (λ h. (ms : List Made) → HasMadeOf self.old number ms
             → HasMade h ms) }
         ensures open_call { IfOk result (λ h. (script : List TheInstr)

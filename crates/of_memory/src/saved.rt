@@ -81,7 +81,7 @@ pub struct Saved {
 
 impl Saved {
     ghost use Rattle.of_row.specs.Rows.{key_of, setup_at, view_of_pass, IsRowPass};
-    ghost use Rattle.of_store.specs.State.{Reply};
+    ghost use Rattle.of_store.specs.Store.{Reply};
     ghost use Rattle.of_store.specs.Replies.{reply_value_of};
     ghost use Rattle.of_eval.specs.Scripts.{scripts_meaning};
     ghost use Rattle.of_memory.specs.Laws.{KeepScripts};
@@ -96,7 +96,7 @@ impl Saved {
         requires pass { IsRowPass row pass }
         requires keeps { KeepScripts (setup_at scripts_meaning row) (view_of_pass pass) }
         ensures scripts { result.scripts ≡ (key_of row).work }
-        ensures limit { result.limit ≡ (key_of row).limit }
+        ensures limit { saved_limit result ≡ (key_of row).limit }
         ensures saved { IsSaved result }
         ensures leads { SavesHistory row (view_of_pass pass) result }
     {

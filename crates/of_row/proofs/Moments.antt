@@ -8,7 +8,7 @@ use Rattle.of_recover.proofs.Agreeing.{recovered_data-same}
 use Rattle.of_core.specs.declared.place.Outcome.{Outcome}
 use Rattle.of_core.specs.Table.{Setup, cell_count, words_before_members, durable_at, durable_word, ticket_cell, shape_cell, reply_cell}
 use Rattle.of_core.specs.Machine.{Call, no_call}
-use Rattle.of_core.specs.World.{Moment, TableStart}
+use Rattle.of_core.specs.TableMoment.{Moment, TableStart}
 use Rattle.of_core.specs.Starts.{IsDurable}
 use Rattle.of_core.specs.Invariant.{MeetsInvariant}
 use Rattle.of_core.specs.Grounds.{HasGrounds}

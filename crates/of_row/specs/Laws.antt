@@ -3,10 +3,10 @@ use Rattle.std.specs.Prelude.{◌≡◌, ◌≤◌, ◌<◌, ◌+◌, ℕ, List,
 use Rattle.of_cell.specs.declared.word.TheConstants.{PAYLOADS}
 use Rattle.of_mem.specs.Meaning.{Meaning}
 use Rattle.of_core.specs.Table.{Setup}
-use Rattle.of_core.specs.World.{TableStart}
+use Rattle.of_core.specs.TableMoment.{TableStart}
 use Rattle.of_core.specs.Machine.{CallState, idle_machine, begin_call}
 use Rattle.of_core.specs.declared.place.Place.TheVariants.{Idle}
-use Rattle.of_core.specs.Seen.{Machine, machine_setup}
+use Rattle.of_core.specs.MachineValue.{Machine, machine_setup}
 use Rattle.of_row.specs.declared.member.Member.{Member}
 use Rattle.of_row.specs.declared.member.Pass.{Pass}
 use Rattle.of_row.specs.declared.row.Row.{Row}
@@ -14,6 +14,7 @@ use Rattle.of_row.specs.Views.{View, seen_batch, Each}
 use Rattle.of_row.specs.Trail.{moment}
 use Rattle.of_row.specs.Rule.{KeepsOwn, IsLegalFront, IsRaised, ViewMeetsRule, KeepsAll}
 use Rattle.of_row.specs.Rows.{key_of, IsRowMember, RunsOnRow, IsMemberOf, HasNoCall}
+use Rattle.of_row.specs.Rows.{number_of_member, calls_of_member}
 use Rattle.of_row.specs.Passes.{HasEnrolled}
 
 -- a view that keeps every number that is taken has seen the whole history
@@ -47,19 +48,21 @@ EvictionsAreRaised Lawful =
 abbrev pub MembersStandForFresh : {X : Type 0} → (X → Meaning) → Type 0
 MembersStandForFresh {X} meaning =
     (member : Member) (m : Machine X) → HasNoCall member
-    → m.call ≡ idle_machine (machine_setup meaning m) member.number member.made
+    → m.call ≡ idle_machine (machine_setup meaning m) (number_of_member member)
+    (calls_of_member member)
     → IsMemberOf meaning member m
 
 -- and one that stands for an idle machine has none open, and has begun as many
 abbrev pub IdleMembersHaveNoCall : {X : Type 0} → (X → Meaning) → Type 0
 IdleMembersHaveNoCall {X} meaning =
     (member : Member) (m : Machine X) → IsMemberOf meaning member m → m.call.place ≡ Idle
-    → HasNoCall member × (member.made ≡ m.call.made)
+    → HasNoCall member × (calls_of_member member ≡ m.call.made)
 
 -- its number is that of one of the row's callers
 abbrev pub MemberInRange : {X : Type 0} → X → Type 0
 MemberInRange {X} work =
-    (row : Row X) (member : Member) → IsRowMember row member → member.number < (key_of row).callers
+    (row : Row X) (member : Member) → IsRowMember row member
+    → number_of_member member < (key_of row).callers
 
 -- one that has just enrolled has none
 abbrev pub NewMembersHaveNoCall : {X : Type 0} → (X → Meaning) → X → Type 0

@@ -7,8 +7,8 @@ use Rattle.of_mem.specs.Meaning.{Meaning}
 use Rattle.of_core.specs.declared.place.Op.{Op}
 use Rattle.of_core.specs.declared.place.Op.TheVariants.{Load, Store, Exchange, Raise}
 use Rattle.of_core.specs.Steps.{word_of, word_left}
-use Rattle.of_core.specs.World.{TableStart}
-use Rattle.of_core.specs.Seen.{Machine}
+use Rattle.of_core.specs.TableMoment.{TableStart}
+use Rattle.of_core.specs.MachineValue.{Machine}
 use Rattle.of_row.specs.declared.view.RowKey.{RowKey}
 use Rattle.of_row.specs.declared.view.View.{View}
 use Rattle.of_row.specs.Rule.{MeetsRule}

@@ -11,7 +11,7 @@ use Rattle.of_row.specs.Views.{KnownCaller, first_view, seen_seq}
 use Rattle.of_row.specs.Rule.{HasOwn, IsAsked, ViewMeetsRule, done_before}
 use Rattle.of_row.specs.Turned.{after_ask, after_number_given, new_known_caller, last_alone, after_fetch, after_evict}
 use Rattle.of_row.specs.Rows.{key_of, setup_at, row_start, view_of_pass, view_of_member}
-use Rattle.of_row.specs.Rows.{IsRowPass, IsRowMember, HasSeenLegal}
+use Rattle.of_row.specs.Rows.{number_of_member, calls_of_member, IsRowPass, IsRowMember, HasSeenLegal}
 
 -- whoever has the number n now has made no call on this row, and has seen what this pass had
 abbrev pub enrolled_caller : {W : Type 0} → (W → Meaning) → Row W → ℕ → Pass → KnownCaller
@@ -35,8 +35,8 @@ NumberIsRefused r n before now taken =
 pub record HasEnrolled {W : Type 0} (meaning : W → Meaning) (r : Row W) (n : ℕ) (before : Pass)
     (member : Member) (now : Pass) : Type 0 where
   pub at_row : IsRowMember r member × IsRowPass r now
-  pub number : member.number ≡ n
-  pub made : member.made ≡ done_before (setup_at meaning r) (row_start meaning r) n
+  pub number : number_of_member member ≡ n
+  pub made : calls_of_member member ≡ done_before (setup_at meaning r) (row_start meaning r) n
   pub found : ℕ
   pub free : bit_at found n ≡ 0
   pub member_is : view_of_member member

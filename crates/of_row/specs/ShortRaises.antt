@@ -7,7 +7,7 @@ use Rattle.atomic_table.specs.Table.{State}
 use Rattle.of_core.specs.declared.place.Op.TheVariants.{Raise}
 use Rattle.of_core.specs.Table.{Setup, cell_count, durable_at, durable_word}
 use Rattle.of_core.specs.Steps.{want}
-use Rattle.of_core.specs.World.{Moment, TableStart}
+use Rattle.of_core.specs.TableMoment.{Moment, TableStart}
 use Rattle.of_core.specs.Events.{Event, machine_in}
 use Rattle.of_core.specs.Raised.{lower_changes}
 use Rattle.of_row.specs.Views.{View}

@@ -1,7 +1,7 @@
 use Rattle.std.proofs.Common.{ℕ, ◌+◌, ◌≤◌, List, ap, subst, sym, ◌∙◌}
 use Rattle.std.specs.Prelude.{slice_range}
-use Rattle.of_store.specs.State.{Store}
-use Rattle.of_plan.specs.declared.plan.TheConstants.{GREATEST_LIMIT}
+use Rattle.of_store.specs.Store.{Store}
+use Rattle.of_cell.specs.declared.word.TheConstants.{GREATEST_LIMIT}
 use Rattle.of_eval.specs.declared.scripts.Scripts.{Scripts}
 use Rattle.of_eval.specs.Scripts.{scripts_data_cells, LawfulCells}
 use Rattle.of_core.specs.Starts.{IsStartRow, start_from_durable}

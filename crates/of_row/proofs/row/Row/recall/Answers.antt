@@ -1,7 +1,7 @@
 use Rattle.std.proofs.Common.{arith, subst, sym}
 use Rattle.of_row.specs.RowLaws.{RowLaws}
 use Rattle.of_core.specs.Table.{Setup}
-use Rattle.of_core.specs.World.{TableStart}
+use Rattle.of_core.specs.TableMoment.{TableStart}
 use Rattle.of_row.specs.Keys.{FitsWork}
 use Rattle.of_row.specs.Rule.{KeepsOwn, KeepsOnce, IsLegalFront}
 use Rattle.of_row.specs.Views.{View, KnowsBothJoined}

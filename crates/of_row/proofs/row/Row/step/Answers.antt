@@ -1,6 +1,6 @@
 use Rattle.std.proofs.Common.{◌∙◌, ap}
 use Rattle.of_core.specs.Machine.{CallState}
-use Rattle.of_core.specs.Seen.{Machine, machine_setup}
+use Rattle.of_core.specs.MachineValue.{Machine, machine_setup}
 use Rattle.of_row.specs.Rows.{key_of, row_start}
 use Rattle.of_row.proofs.Members.{stepped_member, sole_of}
 use Rattle.of_row.proofs.Numbers.{turned_in}
