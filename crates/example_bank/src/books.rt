@@ -19,7 +19,7 @@ ghost use Rattle.example_bank.specs.declared.tally.Tally.{Tally};
 
 use crate::laws::rows_keep_ledgers;
 use of_cell::{Shape, payload_of};
-use of_eval::{LawErr, Scripts, lawful};
+use of_eval::{LawErr, Scripts, lawful, shape_of};
 use of_mem::LEAST_ABORT;
 use of_recover::laws::recovered_cells;
 use of_recover::recover;
@@ -32,20 +32,6 @@ pub const CLERKS: u32 = 4;
 
 /// The last sequence that may be committed.
 pub const LIMIT: u32 = 1_000_000;
-
-/// The shape of a table for scripts.
-pub fn shape_of(scripts: Scripts) -> Shape
-    ensures callers { result.callers ≡ scripts.callers }
-    ensures instrs { result.instrs ≡ MOST_INSTRS }
-    ensures cells { result.cells ≡ scripts_data_cells scripts }
-{
-    let plot = scripts.plot();
-    Shape {
-        callers: plot.callers,
-        instrs: plot.instrs,
-        cells: plot.cells(),
-    }
-}
 
 /// A durable row that recovery has been through.
 #[derive(Drop)]

@@ -11,12 +11,12 @@ ghost use Rattle.example_bank.specs.declared.books.TheConstants.{CLERKS};
 
 use crate::balance::total_money;
 use crate::bank_err::BankErr;
-use crate::books::{Books, LIMIT, shape_of};
+use crate::books::{Books, LIMIT};
 use crate::clerk::{call, new_caller};
 use crate::tally::Tally;
 use of_brake::{Brake, Fuel, Steps};
 use of_caller::Caller;
-use of_eval::Scripts;
+use of_eval::{Scripts, shape_of};
 use of_row::Row;
 use of_script::{Instr, REGISTERS, Script};
 use std::alloc::Global;

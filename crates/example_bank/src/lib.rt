@@ -16,7 +16,7 @@ mod transfer;
 
 pub use balance::total_money;
 pub use bank_err::BankErr;
-pub use books::{Books, CLERKS, LIMIT, shape_of};
+pub use books::{Books, CLERKS, LIMIT};
 pub use clerk::{Clerk, Job, Shift, call, new_caller};
 pub use day::{Day, Jobs, working_day};
 pub use tally::{End, Tally};

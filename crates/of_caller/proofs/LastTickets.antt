@@ -48,8 +48,6 @@ open_has p e c x true one other is first second some =
     (record { announced = refl; ticket = is refl; reply = second.0; held = second.1; response = refl }))
 open_has p e c x false one other is first second some = absurd (omega (arith, ap length first, some))
 
-]
-
 beyond_below : (p : Plan) (e : Ended) (c x : ℕ) (q : Ending) (extra : List Entry) → BeyondAnswers p e c x q extra → Each (Below (record_number p e (ticket_cell_at MOST_INSTRS c))) extra
 beyond_below p e c x Done extra told = subst (Each (Below (record_number p e (ticket_cell_at MOST_INSTRS c)))) (sym told) tt
 beyond_below p e c x (Stopped asked) extra told = open_below p e c x (record_number p e (ticket_cell_at MOST_INSTRS c) == x + 1) extra (tells (record_number p e (ticket_cell_at MOST_INSTRS c)) (x + 1)) told

@@ -115,10 +115,6 @@ open_one : (p : Plan) (e : Ended) (c x : ℕ) (b : Bool) (r : RustReply) → b �
 open_one p e c x true r is held = (r, held, refl)
 open_one p e c x false r is held = absurd (cc)
 
-]
-
-]
-
 module _ (p : Plan) (s : Start) (B : TableStart) (w : Moment) (sound : IsSound (plan_setup p) B w) (e : Ended) (c : ℕ) (ops : List (List ℕ)) (outs : List Outcome) (lt : c < p.callers) (narrow : length (scripts_of p c) < 4294967296)
     (f : CallerFacts p s B w e c ops outs) where
   -- how many of its scripts were done at the start, and how many answers it has

@@ -10,7 +10,7 @@ use crate::step::word_reads;
 use crate::walk::{keep_sought, reach, run_words};
 use of_cell::Shape;
 use of_mem::{MOST_INSTRS, MaySuspend, Need, Part, Plot, RawReply, SuspendedRun, Work};
-use of_plan::{Plan, shape_of};
+use of_plan::{Plan, table_shape};
 
 /// What runs scripts on cells: so many callers, 1 to `MOST_CALLERS`, and room for so many keys and
 /// items, at most `MOST_BLOCKS`. An operation is the words of a script; a word that is no instruction
@@ -36,15 +36,6 @@ impl Scripts {
         }
     }
 
-    /// The shape of a table for them.
-    pub fn shape(&self) -> Shape
-        ensures callers { result.callers ≡ self.now.callers }
-        ensures instrs { result.instrs ≡ MOST_INSTRS }
-        ensures cells { result.cells ≡ scripts_data_cells self.now }
-    {
-        shape_of(&self.plot())
-    }
-
     /// Where the data cells stand.
     pub fn plot(&self) -> Plot
         ensures callers { result.callers ≡ self.now.callers }
@@ -57,6 +48,15 @@ impl Scripts {
             blocks: self.blocks,
         }
     }
+}
+
+/// The shape of a table for these scripts.
+pub fn shape_of(scripts: Scripts) -> Shape
+    ensures callers { result.callers ≡ scripts.callers }
+    ensures instrs { result.instrs ≡ MOST_INSTRS }
+    ensures cells { result.cells ≡ scripts_data_cells scripts }
+{
+    table_shape(&scripts.plot())
 }
 
 impl MaySuspend for Scripts {

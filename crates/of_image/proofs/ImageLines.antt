@@ -39,7 +39,7 @@ counted_takes f most ws l small e =
 title_takes : (ws : List (List ℕ)) (l : ImageLine) → image_title_line ws ≡ Some l → Takes (codes "onefile" ∷ ws) l
 title_takes [] l e = absurd cc
 title_takes (kind ∷ ws) l e =
-    let none : Option Line = None in
+    let none : Option ImageLine = None in
     elim (chosen (bytes_eq kind (codes "image")) (line_with_count Title 4294967295 ws) none (Some l) e) [
       | inl h ↦ (let n = counted_takes Title 4294967295 ws l (lit< tt) h.1 in
           subst (Takes (codes "onefile" ∷ kind ∷ ws)) n.line (record {

@@ -14,8 +14,9 @@ ghost use Rattle.of_script.specs.Appending.{AppendsText};
 
 use crate::line::ImageLine;
 use crate::version::Version;
-use of_cell::{Shape, payload_of, seq_of};
+use of_cell::{payload_of, seq_of};
 use of_mem::Plot;
+use of_plan::table_shape;
 use of_report::Image;
 use of_report::store::put_store;
 use std::alloc::{AllocError, Global};
@@ -98,12 +99,7 @@ pub fn image_print(alloc: Global, plot: &Plot, words: &[u64]) -> Result<Vec<u8>,
     ensures again { IfOk result (λ text.
         SpellsImage Two text.items (table_row plot.now words.now)) }
 {
-    let shape = Shape {
-        callers: plot.callers,
-        instrs: plot.instrs,
-        cells: plot.cells(),
-    };
-    let cells = shape.durable_cells() as usize;
+    let cells = table_shape(plot).durable_cells() as usize;
     print_row(alloc, Version::Two, plot, &words[cells..cells + cells])
 }
 

@@ -16,22 +16,11 @@ use crate::law::{Law, RowErr};
 use of_cell::{Shape, payload_of, seq_of};
 use of_eval::{LawErr, lawful};
 use of_mem::Plot;
+use of_plan::table_shape;
 use of_recover::recover;
 use of_report::Image;
 use of_store::Store;
 use std::alloc::{AllocError, Global};
-
-/// The shape of a table with these data cells.
-fn shape_of(plot: &Plot) -> Shape
-    ensures callers { result.callers ≡ plot.now.callers }
-    ensures cells { result.cells ≡ data_cell_count plot.now }
-{
-    Shape {
-        callers: plot.callers,
-        instrs: plot.instrs,
-        cells: plot.cells(),
-    }
-}
 
 /// The first data cell that is newer than the current transaction.
 fn first_newer(shape: &Shape, words: &[u64]) -> Option<u32>
@@ -68,7 +57,7 @@ fn lawful_store(alloc: Global, plot: &Plot, words: &[u64]) -> Result<Store, RowE
     ensures ok { IfOk result (IsLawfulRow plot.now.instrs (row_in plot.now words.now)) }
     ensures err { IfErr result (NamesRowFault plot.now.instrs (row_in plot.now words.now)) }
 {
-    let shape = shape_of(plot);
+    let shape = table_shape(plot);
     if payload_of(words[shape.cur() as usize]) >= plot.callers {
         return Err(RowErr::Unlawful {
             cell: shape.cur(),
@@ -104,7 +93,7 @@ pub(crate) fn restore(alloc: Global, plot: &Plot, words: Vec<u64>) -> Result<Ima
         IfErr result (NamesRowFault plot.now.instrs found) }
 {
     let mut durable = words;
-    let recovered = recover(&shape_of(plot), &mut durable);
+    let recovered = recover(&table_shape(plot), &mut durable);
     let store = lawful_store(alloc, plot, &durable)?;
     Ok(Image {
         callers: plot.callers,

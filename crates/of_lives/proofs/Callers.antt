@@ -12,8 +12,6 @@ use Rattle.of_plan.proofs.HistoriesLists.{each_at, each_from_in, each_filter, in
 abbrev pub is_of : ℕ → Entry → Bool
 is_of c e = eqb e.caller c
 
-]
-
 is_other : (a b : ℕ) → a < b → eqb a b ≡ false
 is_other a b lt = elim (eqb_tells a b) [
   | inl here ↦ absurd (omega (arith, lt, here.1))

@@ -7,8 +7,9 @@ use Rattle.std.proofs.lemmas.Map.Made.{IsDistinct-from_AllPairs}
 use Rattle.std.proofs.lemmas.List.Folds.{Any-from_list_any}
 use Rattle.std.proofs.lemmas.Bool.Decides.{Decides-eqb, nat_tests}
 use Rattle.std.proofs.lemmas.Bool.{cases_eq}
+use Rattle.std.proofs.lemmas.Bool.{eq-eqb as equals, ne_eqb as differs}
 use Rattle.std.proofs.lemmas.List.{get_or-map, length-map, get_or_append_left, get_or_push}
-use Rattle.of_mem.specs.CellMap.{CellMap, value_for, put_pair, entry_address, IsAbsent, IsCellMap}
+use Rattle.of_mem.specs.CellMap.{value_for, put_pair, entry_address, IsAbsent, IsCellMap}
 use Rattle.of_mem.specs.Indexed.{IsIndexed, FindsEntry, MissesEntry, SetsPlace, place_noted}
 
 -- where the address is absent

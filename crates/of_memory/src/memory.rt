@@ -2,10 +2,10 @@
 
 use crate::error::{EnrolErr, InUse, OpenErr};
 use crate::handle::Handle;
-use crate::saved::{Saved, shape_of};
+use crate::saved::Saved;
 use crate::seating::{all_here, gather, put_at, seat_all, take_at};
 use of_caller::Caller;
-use of_eval::Scripts;
+use of_eval::{Scripts, shape_of};
 use of_mem::{MOST_BLOCKS, MOST_CALLERS};
 use of_plan::GREATEST_LIMIT;
 use of_row::{Pass, Row};

@@ -11,7 +11,7 @@ ghost use Rattle.of_eval.specs.Scripts.{scripts_data_cells};
 
 use crate::laws::history_is_held;
 use of_cell::{Shape, payload_of};
-use of_eval::{LawErr, Scripts, lawful, reply_of};
+use of_eval::{LawErr, Scripts, lawful, reply_of, shape_of};
 use of_mem::{MOST_INSTRS, RawReply};
 use of_recover::laws::recovered_cells;
 use of_recover::recover;
@@ -19,20 +19,6 @@ use of_row::{Pass, Row};
 use of_script::Reply;
 use of_store::Store;
 use std::alloc::{AllocError, Global};
-
-/// The shape of a table for scripts.
-pub(crate) fn shape_of(scripts: Scripts) -> Shape
-    ensures callers { result.callers ≡ scripts.callers }
-    ensures instrs { result.instrs ≡ MOST_INSTRS }
-    ensures cells { result.cells ≡ scripts_data_cells scripts }
-{
-    let plot = scripts.plot();
-    Shape {
-        callers: plot.callers,
-        instrs: plot.instrs,
-        cells: plot.cells(),
-    }
-}
 
 /// The words of the data cells in a durable row.
 fn data_words(alloc: Global, shape: &Shape, row: &[u64]) -> Result<Vec<u64>, AllocError>

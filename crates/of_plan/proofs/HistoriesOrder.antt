@@ -60,10 +60,6 @@ read_passes false x k is same = elim (eqb_tells x k) [
   | inr other ↦ absurd (other.1 same)
 ]
 
-]
-
-]
-
 -- a caller's reads at sequence k
 abbrev own_reads : History → ℕ → ℕ → List Entry
 own_reads h k c = filter (λ e. not e.announced && (e.seq == k)) (h.own c)

@@ -1,5 +1,5 @@
 -- When a reason is true of a line, and what a fault of a text is.
-use Rattle.std.specs.Prelude.{◌≡◌, ◌⊎◌, ℕ, ◌+◌, ◌-◌, ◌<◌, ◌≤◌, List, [], ◌∷◌, length, slice_range, codes, Some, None, IfSome, IfErr, Option, Result}
+use Rattle.std.specs.Prelude.{◌≡◌, ℕ, ◌+◌, ◌-◌, ◌≤◌, List, length, slice_range, codes, None}
 use Rattle.of_cell.specs.Cells.{durable_cells}
 use Rattle.of_script.specs.declared.instr.TheConstants.{MOST_INSTRS}
 use Rattle.of_script.specs.Text.{IsFault as IsScriptFault}

@@ -7,7 +7,7 @@ use of_cell::Shape;
 use of_mem::Plot;
 
 /// The shape of a table with these data cells.
-pub fn shape_of(plot: &Plot) -> Shape
+pub fn table_shape(plot: &Plot) -> Shape
     ensures callers { result.callers ≡ plot.now.callers }
     ensures instrs { result.instrs ≡ plot.now.instrs }
     ensures cells { result.cells ≡ data_cell_count plot.now }

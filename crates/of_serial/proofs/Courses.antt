@@ -125,23 +125,27 @@ calls_by c calls = count_by (λ (call : CallId). eqb call.0 c) calls
 calls_by_append : (c : ℕ) (xs ys : List CallId) → calls_by c (xs ++ ys) ≡ calls_by c xs + calls_by c ys
 calls_by_append c xs ys = sum_by-append (λ (call : CallId). cond (eqb call.0 c) 1 0) xs ys
 
+-- the calls of a caller with these numbers
+abbrev calls_from : ℕ → List ℕ → List CallId
+calls_from c is = map (λ i. (c, i)) is
+
 -- all of its own
-own_calls : (c m : ℕ) (is : List ℕ) → calls_by c (take m (map (λ i. (c, i)) is)) ≡ length (take m (map (λ i. (c, i)) is))
+own_calls : (c m : ℕ) (is : List ℕ) → calls_by c (take m (calls_from c is)) ≡ length (take m (calls_from c is))
 own_calls c zero [] = refl
 own_calls c (suc m) [] = refl
 own_calls c zero (i ∷ is) = refl
 own_calls c (suc m) (i ∷ is) =
-    let rest : List CallId = take m (map (λ j. (c, j)) is) in
-    omega (arith, sum_by-cons (λ (call : CallId). cond (eqb call.0 c) 1 0) (c, i) rest, ap (λ (b : Bool). cond b 1 0) (eq-eqb c c refl), own_calls c m is)
+    let rest : List CallId = take m (calls_from c is) in
+    omega (arith, sum_by-cons (λ (call : CallId). cond (eqb call.0 c) 1 0) (c, i) rest, ap {B = ℕ} (λ (b : Bool). cond b 1 0) (eq-eqb c c refl), own_calls c m is)
 
 -- and none of another's
-other_calls : (c d m : ℕ) (is : List ℕ) → (d ≡ c → ⊥) → calls_by c (take m (map (λ i. (d, i)) is)) ≡ 0
+other_calls : (c d m : ℕ) (is : List ℕ) → (d ≡ c → ⊥) → calls_by c (take m (calls_from d is)) ≡ 0
 other_calls c d zero [] n = refl
 other_calls c d (suc m) [] n = refl
 other_calls c d zero (i ∷ is) n = refl
 other_calls c d (suc m) (i ∷ is) n =
-    let rest : List CallId = take m (map (λ j. (d, j)) is) in
-    omega (arith, sum_by-cons (λ (call : CallId). cond (eqb call.0 c) 1 0) (d, i) rest, ap (λ (b : Bool). cond b 1 0) (ne_eqb d c n), other_calls c d m is n)
+    let rest : List CallId = take m (calls_from d is) in
+    omega (arith, sum_by-cons (λ (call : CallId). cond (eqb call.0 c) 1 0) (d, i) rest, ap {B = ℕ} (λ (b : Bool). cond b 1 0) (ne_eqb d c n), other_calls c d m is n)
 
 -- so none of those of the callers before it
 calls_before : (p : Plan) (c m k : ℕ) → k ≤ c → calls_by c (take m (calls_below p k)) ≡ 0

@@ -59,8 +59,8 @@ after_call h call script = record {
 }
 
 -- it has made one more call
-abbrev pub MakesCall : CallId → List Instr → (before now : RustSerialRun) → Type 0
-MakesCall call script before now =
+abbrev pub MakesSerialCall : CallId → List Instr → (before now : RustSerialRun) → Type 0
+MakesSerialCall call script before now =
     (h : SerialRun) → HasComeTo before h → HasComeTo now (after_call h call script)
 
 -- the replies to these calls of a plan

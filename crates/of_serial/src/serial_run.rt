@@ -22,13 +22,13 @@ struct SerialRun {
 
 impl SerialRun {
     ghost use Rattle.std.specs.Prelude.{◌≡◌, ◌-◌, ◌^◌, ◌<◌, ◌≤◌, length, IfOk, OnOk};
-    ghost use Rattle.of_serial.specs.SerialRun.{IsOnCourse, MakesCall, HasMadeCalls, calls_within, RunsCaller};
+    ghost use Rattle.of_serial.specs.SerialRun.{IsOnCourse, MakesSerialCall, HasMadeCalls, calls_within, RunsCaller};
 
     // Runs the next script of a caller.
     fn run_call(&mut self, caller: u32, index: u32, script: &Script) -> Result<(), AllocError>
         requires room { self.old.seq < 2 ^ 32 - 1 }
         requires has { IsOnCourse self.old }
-        ensures { OnOk result (MakesCall (caller, index) script.now self.old self.new) }
+        ensures { OnOk result (MakesSerialCall (caller, index) script.now self.old self.new) }
     {
         let reply = self.cells.run(script);
         self.seq += 1;

@@ -46,7 +46,13 @@ fn put_reply<W: MaySuspend>(part: &mut Workspace<W>, row: u32, count: u32, raw: 
 
 /// Writes the own cells of the caller whose ticket cell is `row`: the reply's numbers, its shape
 /// and the ticket.
-pub fn put_own<W: MaySuspend>(part: &mut Workspace<W>, row: u32, ticket: u32, count: u32, raw: &RawReply)
+pub fn put_own<W: MaySuspend>(
+    part: &mut Workspace<W>,
+    row: u32,
+    ticket: u32,
+    count: u32,
+    raw: &RawReply,
+)
     requires room { row + 2 + MOST_INSTRS ≤ length part.old.known }
     requires small { length part.old.known ≤ MOST_DATA_CELLS }
     requires count { count ≤ MOST_INSTRS }

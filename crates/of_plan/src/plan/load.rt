@@ -46,8 +46,8 @@ fn load_scripts(alloc: Global, caller: u32, count: u32) -> Result<Vec<Script>, A
 }
 
 /// The plan of a load: 1 to `MOST_CALLERS` callers with so many scripts each, at most
-/// `MOST_SCRIPTS` together, on `MOST_BLOCKS` blocks, without a stop and a schedule. All callers add to the same
-/// registers, and each puts at keys of its own.
+/// `MOST_SCRIPTS` together, on `MOST_BLOCKS` blocks, without a stop and a schedule. All callers add
+/// to the same registers, and each puts at keys of its own.
 pub fn generate(alloc: Global, callers: u32, scripts: u32) -> Result<Plan, AllocError>
     requires some { 1 ≤ callers }
     requires few { callers ≤ MOST_CALLERS }

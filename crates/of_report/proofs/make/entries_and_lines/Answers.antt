@@ -17,7 +17,7 @@ loop-caller-preserved c = (
       let e = ended_value c.args.ended.now in
       let n = c.loop-caller.caller in
       let before = c.loop-caller.invariant.1 s own done are in
-      let here : map entry_value c.in_ok-own.own.items ≡ own n = c.in_ok-own.ensures.own c.args.plan.now s (own n) c.requires.found (ap (λ (xs : List ℕ). get_or xs n 0) done ∙ sym c.done_by.ensures) (are n (omega arith)) in
+      let here : map entry_value c.in_ok-own.own.items ≡ own n = c.in_ok-own.ensures.own c.args.plan.now s (own n) c.requires.found (ap (λ (xs : List ℕ). get_or xs n 0) done ∙ sym c.scripts_done.ensures) (are n (omega arith)) in
       let count : c.len.result ≡ length (own n) = omega (arith, ap length here, length-map c.in_ok-own.own.items entry_value, c.len.ensures, c.in_ok-own.own.ok) in
       let line : line_value c.line.result ≡ line_for e n (length (own n)) = c.line.ensures ∙ ap (line_for e n) count in (
         ap (map entry_value) c.in_ok-append.ensures.items ∙ map-append entry_value c.loop-caller.entries.items c.in_ok-own.own.items ∙ (λ i. before.0 i ++ here i) ∙ sym (one_more_caller own n),

@@ -18,7 +18,7 @@ loop-caller-preserved c =
     ∙ ap (λ (m : ℕ). serial_line (length (calls_within p (length calls) n)) m) (ap length c.scripts.ensures.value) in
     record {
       within = c.in_ok-answered.ensures.within;
-      runs = subst (HasComeTo c.run_caller-answered.new.self)
+      runs = subst (HasComeTo c.run_caller.new.self)
           (ap (λ (m : ℕ). course_after p (calls ++ calls_within p m n)) seq ∙ ap (course_after p) (one_more_caller p n))
           (c.in_ok-answered.ensures.runs calls c.loop-caller.invariant.runs);
       lines =

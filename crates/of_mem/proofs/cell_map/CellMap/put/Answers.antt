@@ -1,8 +1,7 @@
-use Rattle.std.proofs.Common.{◌≡◌, ◌<◌, ◌≤◌, ℕ, List, length, set, ap, sym, ◌∙◌, arith}
-use Rattle.std.proofs.lemmas.List.{get_or_default}
-use Rattle.of_mem.specs.CellMap.{CellMap, IsAbsent, put_pair}
+use Rattle.std.proofs.Common.{◌<◌, length, ap, arith}
+use Rattle.of_mem.specs.CellMap.{CellMap, IsAbsent}
 use Rattle.of_mem.specs.Indexed.{SetsPlace}
-use Rattle.of_mem.proofs.Indexed.{few, more}
+use Rattle.of_mem.proofs.Indexed.{more}
 use Rattle.of_mem.proofs.cell_map.CellMap.put.Goals as goal
 
 pub invariant_of-self-in-None : goal.invariant_of-self-in-None

@@ -12,8 +12,8 @@ use Rattle.of_report.proofs.report.Report.make_at.Goals as goal
 pub store-requires : goal.store-requires
 store-requires c = (c.requires.1.store, found_store c.args.plan.now c.requires.0 (ended_value c.args.ended.now) c.in_ok-found.found c.in_ok-found.ensures c.requires.1 c.requires.3.report)
 
-pub gather-requires-clause-complete : goal.gather-requires-clause-complete
-gather-requires-clause-complete c = whole c.args.plan.now c.in_ok-found.ensures.plan c.requires.0 (ended_value c.args.ended.now) c.requires.1 c.requires.3 (slice_index c.args.done.now) (λ d. ap (λ (xs : List ℕ). get_or xs d 0) c.requires.2)
+pub entries_and_lines-requires-clause-complete : goal.entries_and_lines-requires-clause-complete
+entries_and_lines-requires-clause-complete c = whole c.args.plan.now c.in_ok-found.ensures.plan c.requires.0 (ended_value c.args.ended.now) c.requires.1 c.requires.3 (slice_index c.args.done.now) (λ d. ap (λ (xs : List ℕ). get_or xs d 0) c.requires.2)
 
 pub returns-clause-whole : goal.returns-clause-whole
 returns-clause-whole c = All-permutation HasWholeReply c.in_ok-entries.entries.items c.sort_by_key.new.self.items c.in_ok-sort_by_key.ensures.permutation c.in_ok-entries.ensures.whole

@@ -44,7 +44,7 @@ pub returns-clause-count : goal.returns-clause-count
 returns-clause-count c =
     let xs = c.scripts-scripts.result.now in
     let size : length (take c.min-count.result xs) ≡ c.min-count.result = omega (arith, length-take c.min-count.result xs) in
-    omega (arith, ap length (front c), length-map-range_with_len (λ i. (c.args.caller, i)) 0 c.loop-index.index)
+    omega (arith, ap length (front c), length-map-range_with_len {X = CallId} (λ i. (c.args.caller, i)) 0 c.loop-index.index)
 
 pub returns-clause-runs : goal.returns-clause-runs
 returns-clause-runs c = λ calls has. subst (λ (t : List CallId). HasComeTo c.loop-index.self (course_after c.args.plan.now (calls ++ t))) (front c) (c.loop-index.invariant.runs calls has)
