@@ -1,5 +1,6 @@
 -- What a call of a script makes of a caller of a row of scripts.
-use Rattle.std.proofs.Common.{◌≡◌, ℕ, zero, suc, ◌≤◌, ◌<◌, ◌⊎◌, inl, inr, Bool, List, [], ◌∷◌, ◌++◌, length, map, take, Result, Ok, Err, refl, sym, ap, subst, ◌∙◌, arith, length-append}
+use Rattle.std.proofs.Common.{◌≡◌, ℕ, zero, suc, ◌≤◌, ◌<◌, ◌⊎◌, inl, inr, Bool, List, [], ◌∷◌, ◌++◌, length, map, take, Option, Some, None, Result, Ok, Err, refl, sym, ap, subst, ◌∙◌, arith, length-append}
+use mathlib.Core.Bool.{true≢false}
 use Rattle.std.specs.List.{All}
 use Rattle.std.proofs.Math.Seq.{take-append_seam}
 use Rattle.std.proofs.lemmas.List.{length-map}
@@ -17,7 +18,9 @@ use Rattle.of_plan.specs.Plan.{Plan, IsPlan}
 use Rattle.of_core.specs.declared.place.Outcome.{Outcome}
 use Rattle.of_core.specs.declared.place.Outcome.TheVariants.{Answered, Spent as Over}
 use Rattle.of_core.specs.Table.{Setup}
-use Rattle.of_core.specs.Machine.{CallState, IsOpen, MayReplace}
+use Rattle.of_core.specs.Machine.{CallState, is_idle, IsOpen, MayReplace}
+use Rattle.of_core.specs.Turn.{IsIdle}
+use Rattle.of_core.specs.Bound.{bound}
 use Rattle.of_core.specs.TableMoment.{TableStart}
 use Rattle.of_core.specs.History.{IsLegalHistory}
 use Rattle.of_core.specs.Calls.{IsAnswered}
@@ -30,6 +33,7 @@ use Rattle.of_caller.specs.declared.caller.Caller.{Caller}
 use Rattle.of_caller.specs.declared.caller.CallErr.{CallErr}
 use Rattle.of_caller.specs.declared.caller.CallErr.TheVariants.{Stopped, Spent as NoneLeft}
 use Rattle.of_caller.specs.Callers.{IsCaller, caller_call, sight_of}
+use Rattle.of_caller.specs.Brakes.{StopsAt, UsesCountedSteps}
 use Rattle.of_caller.specs.CallsTold.{HasEndedWith, IsStillOpen, TellsResult, TellsCall}
 use Rattle.of_caller.specs.Ends.{TellsAnswer}
 use Rattle.of_caller.specs.Lanes.{IsHeldAnswer}
@@ -41,10 +45,16 @@ use Rattle.of_caller.specs.PlanRows.{start_of_row}
 use Rattle.of_memory.specs.Serving.{IsScriptsRow, Serves}
 use Rattle.of_memory.specs.declared.error.RunErr.{RunErr}
 use Rattle.of_memory.specs.declared.error.RunErr.TheVariants.{OutOfMemory, Stopped as Halted, Spent as RanOut, Open, NoTicket}
-use Rattle.of_memory.specs.Called.{WasTried, IsRefusedBy}
+use Rattle.of_memory.specs.declared.handle.Handle.{Handle}
+use Rattle.of_memory.specs.Called.{WasTried, LeavesAsItWas}
+use Rattle.of_memory.specs.Within.{KeepsToTold}
+use Rattle.of_memory.specs.Handles.{RefusesCall, RefusesToGoOn}
 use Rattle.of_memory.proofs.Plans.{plan_of, is_plan}
 
 -- ---- calls that are kept, as calls of scripts
+
+pub none_open : (m : CallState) → IsIdle m → IsOpen m.place → ⊥
+none_open m idle is_open = absurd (true≢false (sym (ap is_idle idle) ∙ is_open))
 
 pub made_more : (es : List EndedCall) (ms : List Made) (e : EndedCall) (m : Made) → AreMade es ms → IsMade e m → AreMade (es ++ e ∷ []) (ms ++ m ∷ [])
 made_more [] [] e m h k = (k, tt)
@@ -166,6 +176,37 @@ module _ (S : Setup) (L : List ℕ → Type 0) (B : TableStart) (m : CallState) 
   pub legal_now : (o : Outcome) → HasEndedWith S L B m v told.before told.steps d w told.kept o → IsLegalHistory S.meaning (map payload_of B.cells) (seen_history w.seen)
   legal_now o closes = (told.some (ended_some o closes)).legal.replies
 
+  -- ---- how many steps it has made
+
+  steps_told : (o : Outcome) (x : Answer) → TellsAnswer o x → HasEndedWith S L B m v told.before told.steps d w told.kept o → x.steps ≡ m.steps + told.steps
+  steps_told (Answered s announced raw steps) x tells closes = tells.3 ∙ closes.steps
+  steps_told (Over s) x tells closes = absurd tells
+
+  pub answers_within : (o : Outcome) (x : Answer) → TellsAnswer o x → Told (Ok o) → x.steps ≤ bound S
+  answers_within o x tells h = let steps = steps_told o x tells h.1 in let within = h.1.within in omega (arith, steps, within)
+
+  pub stops_within : (asked : ℕ) → r ≡ Err (Stopped asked) → asked ≤ bound S
+  stops_within asked is = let h : Told (Err (Stopped asked)) = subst Told is told.result in let within = h.2 in omega (arith, within)
+
+  pub keeps_answered : (before after : Option (Option ℕ)) → UsesCountedSteps before after a b → (o : Outcome) (x : Answer) → TellsAnswer o x → Told (Ok o) → KeepsToTold m.steps before d.steps (Ok x)
+  keeps_answered None after uses o x tells h = tt
+  keeps_answered (Some None) after uses o x tells h = tt
+  keeps_answered (Some (Some most)) None uses o x tells h = absurd uses.2
+  keeps_answered (Some (Some most)) (Some rest) uses o x tells h = let steps = steps_told o x tells h.1 in omega (arith, steps, uses.1, told.rise, uses.2.1)
+
+  pub keeps_stopped : (before : Option (Option ℕ)) → StopsAt before r → (asked : ℕ) → r ≡ Err (Stopped asked) → KeepsToTold m.steps before d.steps (Err (Halted asked))
+  keeps_stopped None stop asked is = tt
+  keeps_stopped (Some None) stop asked is = absurd (subst (StopsAt (Some None)) is stop)
+  keeps_stopped (Some (Some most)) stop asked is =
+      let h : Told (Err (Stopped asked)) = subst Told is told.result in
+      let used : asked ≡ most + 1 = subst (StopsAt (Some (Some most))) is stop in
+      (used, omega (arith, h.0.steps, h.1, used))
+
+  pub keeps_over : (before : Option (Option ℕ)) (seq : ℕ) → KeepsToTold m.steps before d.steps (Err (RanOut seq))
+  keeps_over None seq = tt
+  keeps_over (Some None) seq = tt
+  keeps_over (Some (Some most)) seq = tt
+
 -- ---- a caller of a row of scripts
 
 module _ (r : Row Scripts) (row : IsScriptsRow r) where
@@ -216,10 +257,28 @@ module _ (r : Row Scripts) (row : IsScriptsRow r) where
     begun = λ is_open. subst IsScriptOperation (sym told.op) op;
   }
 
-pub tried_is : (c : Caller Scripts) (r : Result Answer RunErr) → WasTried r → IsRefusedBy c r
-tried_is c (Ok a) h = tt
-tried_is c (Err OutOfMemory) h = tt
-tried_is c (Err (Halted asked)) h = tt
-tried_is c (Err (RanOut seq)) h = tt
-tried_is c (Err Open) h = absurd h
-tried_is c (Err NoTicket) h = absurd h
+-- ---- a handle
+
+pub tried_is : (h : Handle) (r : Result Answer RunErr) → WasTried r → RefusesCall h r
+tried_is h (Ok a) t = tt
+tried_is h (Err OutOfMemory) t = tt
+tried_is h (Err (Halted asked)) t = tt
+tried_is h (Err (RanOut seq)) t = tt
+tried_is h (Err Open) t = absurd t
+tried_is h (Err NoTicket) t = absurd t
+
+pub went_on : (h : Handle) (r : Result Answer RunErr) → WasTried r → RefusesToGoOn h r
+went_on h (Ok a) t = tt
+went_on h (Err OutOfMemory) t = tt
+went_on h (Err (Halted asked)) t = tt
+went_on h (Err (RanOut seq)) t = tt
+went_on h (Err Open) t = absurd t
+went_on h (Err NoTicket) t = absurd t
+
+pub as_it_was : {A C : Type 0} → (f : A → C) (r : Result Answer RunErr) (x y : A) → LeavesAsItWas r x y → LeavesAsItWas r (f x) (f y)
+as_it_was f (Ok a) x y h = tt
+as_it_was f (Err OutOfMemory) x y h = ap f h
+as_it_was f (Err (Halted asked)) x y h = tt
+as_it_was f (Err (RanOut seq)) x y h = tt
+as_it_was f (Err Open) x y h = ap f h
+as_it_was f (Err NoTicket) x y h = ap f h

@@ -9,14 +9,14 @@ use Rattle.of_store.specs.Store.{Store}
 use Rattle.of_eval.specs.declared.scripts.Scripts.{Scripts}
 use Rattle.of_eval.specs.Scripts.{scripts_data_cells, LawfulCells, scripts_meaning}
 use Rattle.of_core.specs.Table.{Setup, setup_of, cell_count, words_before_members}
-use Rattle.of_core.specs.Starts.{IsDurable, IsStartRow}
+use Rattle.of_core.specs.Starts.{IsDurable, IsStartRow, start_from_durable}
 use Rattle.of_row.specs.declared.member.Pass.{Pass}
 use Rattle.of_row.specs.declared.row.Row.{Row}
 use Rattle.of_row.specs.Rule.{ViewMeetsRule}
 use Rattle.of_row.specs.Rows.{key_of, setup_at, IsSeatOf}
 use Rattle.of_row.specs.Passes.{ClosesWith}
 use Rattle.of_memory.specs.History.{HistoryEntry}
-use Rattle.of_memory.specs.Laws.{setup_with, StandsAt, KeepScripts, HoldsHistory, HistoryLeads}
+use Rattle.of_memory.specs.Laws.{setup_with, StandsAt, HoldsLastReplies, KeepScripts, HoldsHistory, HistoryLeads}
 use Rattle.of_caller.specs.PlanRows.{start_of_row}
 use Rattle.of_memory.specs.Serving.{IsScriptsRow}
 
@@ -64,16 +64,20 @@ module _ (r : Row Scripts) (row : IsScriptsRow r) (p : Pass) (ws : List ℕ) (m 
   room : length ws ≡ words_before_members S + 1
   room = long ∙ (λ i. table_words (row.callers i) MOST_INSTRS (row.cells i))
 
+  -- what recovery leaves: a row from which a table may start, with the last replies, and a history
+  pub record IsLeft (found : List ℕ) : Type 0 where
+    pub row : IsStartRow S (LawfulCells W) found
+    pub replies : HoldsLastReplies W (start_from_durable W.callers (scripts_data_cells W) found)
+    pub leads : (s : Store) → StandsAt W (start_of_row r) s → (h : List HistoryEntry) × HistoryLeads W limit (start_of_row r) p.seat.me.0 s found h
+
   -- what recovery makes of them
   pub closed : (callers cells : ℕ) (durable : List ℕ) → callers ≡ (key_of r).callers → cells ≡ (key_of r).cells → durable ≡ slice_range ws (durable_cells callers cells) (durable_cells callers cells + durable_cells callers cells)
       → HoldsHistory W limit → IsSeatOf r p.seat → KeepScripts (setup_at scripts_meaning r) p.seat.me.0
-      → IsStartRow S (LawfulCells W) (recovered_words callers cells durable)
-      × ((s : Store) → StandsAt W (start_of_row r) s → (h : List HistoryEntry) × HistoryLeads W limit (start_of_row r) p.seat.me.0 s (recovered_words callers cells durable) h)
+      → IsLeft (recovered_words callers cells durable)
   closed callers cells durable is are part law of keeps =
       let e : callers ≡ W.callers = is ∙ row.callers in
       let f : cells ≡ scripts_data_cells W = are ∙ row.cells in
       let there : durable ≡ slice_range ws (cell_count S) (cell_count S + cell_count S) = part ∙ ap (λ (n : ℕ). slice_range ws n (n + n)) (λ i. durable_cells (e i) (f i)) in
       let every : KeepScripts S p.seat.me.0 = λ n lt. keeps n (subst (λ (k : ℕ). n < k) (sym row.callers) lt) in
       let found = law (start_of_row r) ws p.seat.me.0 meets of.2 every durable (durable_row S ws durable room there) in
-      subst (λ (xs : List ℕ). IsStartRow S (LawfulCells W) xs × ((s : Store) → StandsAt W (start_of_row r) s → (h : List HistoryEntry) × HistoryLeads W limit (start_of_row r) p.seat.me.0 s xs h))
-      (λ i. recovered_words (sym e i) (sym f i) durable) found
+      subst IsLeft (λ i. recovered_words (sym e i) (sym f i) durable) (record { row = found.0; replies = found.1 row.replies; leads = found.2 })

@@ -21,7 +21,7 @@ use Rattle.of_script.specs.declared.instr.Instr.{Instr}
 use Rattle.of_script.specs.declared.instr.TheConstants.{MOST_INSTRS}
 use Rattle.of_script.specs.Language.{IsScript, instr_word, reads_only}
 use Rattle.of_script.proofs.WordLaws.{words_injective}
-use Rattle.of_eval.specs.Lawful.{reply_in, reply_number}
+use Rattle.of_eval.specs.Lawful.{reply_in, reply_number, OwnCellsAreSound}
 use Rattle.of_eval.proofs.ReadsOnly.{reads_of}
 use Rattle.of_caller.proofs.StoresHeld.{has_reply}
 use Rattle.of_core.specs.Linear.{recovered_number, FindsCall}
@@ -29,10 +29,10 @@ use Rattle.of_store.specs.Store.{Store}
 use Rattle.of_eval.specs.declared.scripts.Scripts.{Scripts}
 use Rattle.of_eval.specs.Scripts.{store_at, scripts_data_cells, LawfulCells, scripts_meaning, script_reads}
 use Rattle.of_eval.specs.Stored.{cell_store}
-use Rattle.of_core.specs.Table.{Setup, cell_count, words_before_members, durable_at, durable_word, ticket_cell, shape_cell, reply_cell}
+use Rattle.of_core.specs.Table.{Setup, cell_count, words_before_members, durable_at, durable_word, durable_seq, ticket_cell, shape_cell, reply_cell}
 use Rattle.of_core.specs.Machine.{Call, CallState, no_call, is_idle, IsOpen}
 use Rattle.of_core.specs.TableMoment.{Moment, TableStart}
-use Rattle.of_core.specs.History.{numbers_after_calls, SameReply}
+use Rattle.of_core.specs.History.{numbers_after_calls, state_after, data_word_after, last_ticket_by, batch_at, IsCellOfCaller, OwnCellsShowLast, IsNewestCall, SameReply}
 use Rattle.of_core.specs.Events.{Event, start_ticket}
 use Rattle.of_core.specs.Calls.{operations_begun}
 use Rattle.of_core.specs.Starts.{IsDurable, IsStartRow, start_from_durable, recovered_start}
@@ -44,10 +44,12 @@ use Rattle.of_row.specs.Rule.{ViewMeetsRule, ticket_at as own_ticket, done_befor
 use Rattle.of_row.specs.Told.{open_operation, operations_known}
 use Rattle.of_row.specs.Trail.{first_of, moment, IsRunBy}
 use Rattle.of_row.specs.Moments.{ExplainsEndedCalls, StopsLoseNothing, LosesNothing, words_alone}
-use Rattle.of_caller.proofs.StoresReplay.{number_at}
+use Rattle.of_core.proofs.Tickets.{ticket_upto}
+use Rattle.of_caller.proofs.StoresReplay.{number_at, state_start}
+use Rattle.of_caller.proofs.StoresRecovered.{stand_same}
 use Rattle.of_memory.specs.History.{HistoryEntry, no_history_entry, Made, no_made, store_after, IsOneOf, ScriptOnlyReads, IsUpTo}
 use Rattle.of_memory.specs.Calls.{IsScriptOperation, IsMade, AreMade, RunsScripts}
-use Rattle.of_memory.specs.Laws.{setup_with, StandsAt, KeepsSo, KeepScripts, ExplainsKept, HasOpenScript, HasOnlyKept, TellsLast, HistoryLeads, HoldsHistory}
+use Rattle.of_memory.specs.Laws.{setup_with, StandsAt, HoldsLastReplies, KeepsSo, KeepScripts, ExplainsKept, HasOpenScript, HasOnlyKept, TellsLast, HistoryLeads, HoldsHistory}
 use Rattle.of_memory.proofs.Replaying.{sizes, Cells, AreScripts, IsEntryOf, entries, serial, long, leads, at, in_order, explains}
 
 -- ---- the operations that a kept caller has begun are scripts'
@@ -294,6 +296,48 @@ module _ (w : Scripts) (limit : ℕ) (start : StartsMeetInvariant (setup_with w 
           | inr q ↦ found_last q.0 q.1 q.2 q.3
         ]
 
+        -- ---- the caller's own cells
+
+        abbrev durable : ℕ
+        durable = durable_seq S u.words
+
+        at_recovery : (a : ℕ) → get_or C.cells a 0 ≡ data_word_after B u.batches durable a
+        at_recovery a = ap (λ (T : TableStart). get_or T.cells a 0) re.1
+
+        at_start : (a : ℕ) → data_word_after B u.batches B.seq a ≡ get_or B.cells a 0
+        at_start a = ap (λ (ws : List ℕ). get_or ws a 0) (state_start B u.batches)
+
+        -- they are those of the start
+        same_own : ((a : ℕ) → IsCellOfCaller S n a → data_word_after B u.batches durable a ≡ data_word_after B u.batches B.seq a) → OwnCellsAreSound MOST_INSTRS (memory_of (map payload_of B.cells)) n → OwnCellsAreSound MOST_INSTRS (memory_of (map payload_of C.cells)) n
+        same_own same =
+            stand_same (memory_of (map payload_of C.cells)) (memory_of (map payload_of B.cells)) n
+            (λ a own. number_at C.cells a ∙ ap payload_of (at_recovery a ∙ same a own ∙ at_start a) ∙ sym (number_at B.cells a))
+
+        -- a call in the batches has a later ticket than the start
+        later_ticket : IsNewestCall S B u.batches durable n → done_before S B n < done_before S C n
+        later_ticket q =
+            let claim = sound B u good in
+            let c : Call = get_or (batch_at B u.batches q.number).calls q.place no_call in
+            let few = ticket_upto S L B u.batches good.core.shared.stands q.number durable q.from q.upto claim.reaches q.place no_call q.among in
+            let more = (claim.begun q.number q.from (omega (arith, q.upto, claim.reaches)) q.place no_call q.among).1 in
+            let now : last_ticket_by S B u.batches durable c.caller ≡ done_before S C n = ap (last_ticket_by S B u.batches durable) q.caller ∙ ap payload_of (sym (at_recovery (ticket_cell S n))) in
+            let before : last_ticket_by S B u.batches B.seq c.caller ≡ done_before S B n = ap (last_ticket_by S B u.batches B.seq) q.caller ∙ ap payload_of (at_start (ticket_cell S n)) in
+            omega (arith, few, more, now, before)
+
+        -- or hold the reply to a later call
+        new_own : IsNewestCall S B u.batches durable n → TellsLast S B C h n → OwnCellsAreSound MOST_INSTRS (memory_of (map payload_of C.cells)) n
+        new_own q (inl none) = let later = later_ticket q in absurd (omega (arith, later, none))
+        new_own q (inr last) = record {
+          none = λ zero. let later = later_ticket q in absurd (omega (arith, later, number_at C.cells (ticket_cell_at MOST_INSTRS n), zero));
+          some = λ not. record { reply = last.4.0; held = last.4.1; few = last.4.1.0.few };
+        }
+
+        own_sound : OwnCellsAreSound MOST_INSTRS (memory_of (map payload_of B.cells)) n → OwnCellsAreSound MOST_INSTRS (memory_of (map payload_of C.cells)) n
+        own_sound before = elim ((sound B u good).own n low) [
+          | inl q ↦ same_own q.1 before
+          | inr q ↦ new_own q tells_last
+        ]
+
         up_to : IsUpTo h n (done_before S C n)
         up_to = All-from_get_or (λ (e : HistoryEntry). e.caller ≡ n → (ScriptOnlyReads e.script → ⊥) → e.ticket ≤ done_before S C n) h no_history_entry (λ y l mine writes.
             let c : Call = get_or order y no_call in
@@ -315,8 +359,13 @@ module _ (w : Scripts) (limit : ℕ) (start : StartsMeetInvariant (setup_with w 
         upto = up_to;
       }
 
+    -- the start stands for some store, and so what recovery finds holds the last replies
+    replies_held : (row : List ℕ) → IsDurable S ws row → HoldsLastReplies w B → HoldsLastReplies w (start_from_durable w.callers (scripts_data_cells w) (found_in row))
+    replies_held row durable before n low = own_sound row durable m.rule.from.lawful.0 m.rule.from.lawful.1 n low (before n low)
+
   pub holds_history : HoldsHistory w limit
   holds_history B ws v m awake keeps row durable = (
     (starts_again B ws v m awake keeps row durable).0,
+    replies_held B ws v m awake keeps row durable,
     (λ s stands. (h B ws v m awake keeps row durable s stands, leads_there B ws v m awake keeps row durable s stands)),
   )

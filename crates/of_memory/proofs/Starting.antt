@@ -20,7 +20,7 @@ use Rattle.of_row.specs.Rule.{done_before}
 use Rattle.of_caller.proofs.StoresReplay.{number_at}
 use Rattle.of_memory.specs.declared.memory.Memory.{Memory}
 use Rattle.of_memory.specs.Calls.{AreMade}
-use Rattle.of_memory.specs.Laws.{setup_with, StandsAt}
+use Rattle.of_memory.specs.Laws.{setup_with, StandsAt, HoldsLastReplies}
 use Rattle.of_caller.specs.PlanRows.{start_of_row}
 use Rattle.of_memory.specs.Serving.{IsScriptsRow, IsNew, Serves, ServeAll, AllStand, made_before}
 use Rattle.of_memory.specs.Memories.{IsMemory, HasMadeOf, row_of}
@@ -40,8 +40,8 @@ module _ (r : Row Scripts) (shape : Shape) (limit : ℕ) (w : Scripts) (callers 
   row_cells : (key_of r).cells ≡ scripts_data_cells (key_of r).work
   row_cells = has.1 ∙ cells ∙ ap scripts_data_cells (sym has.3)
 
-  scripts_row : (s : Store) → length (start_of_row r).cells ≡ scripts_data_cells w → StandsAt w (start_of_row r) s → IsScriptsRow r
-  scripts_row s size stands = record {
+  scripts_row : (s : Store) → length (start_of_row r).cells ≡ scripts_data_cells w → StandsAt w (start_of_row r) s → HoldsLastReplies w (start_of_row r) → IsScriptsRow r
+  scripts_row s size stands replies = record {
     callers = row_callers;
     cells = row_cells;
     some_limit = subst (λ (n : ℕ). 1 ≤ n) (sym has.2) some;
@@ -49,6 +49,7 @@ module _ (r : Row Scripts) (shape : Shape) (limit : ℕ) (w : Scripts) (callers 
     size = size ∙ ap scripts_data_cells (sym has.3);
     store = s;
     stands = subst (λ (x : Scripts). StandsAt x (start_of_row r) s) (sym has.3) stands;
+    replies = subst (λ (x : Scripts). HoldsLastReplies x (start_of_row r)) (sym has.3) replies;
   }
 
   -- ---- a row of zeros
@@ -59,8 +60,14 @@ module _ (r : Row Scripts) (shape : Shape) (limit : ℕ) (w : Scripts) (callers 
         subst (λ (B : TableStart). StandsAt w B (empty_store w.blocks)) (sym start)
         (empty_is_stored (store_at w) w.blocks w.few_blocks (memory_of (map payload_of (replicate (key_of r).cells 0))) (number_zero (key_of r).cells))
 
+    -- no call was made
+    no_replies : HoldsLastReplies w (start_of_row r)
+    no_replies =
+        subst (λ (B : TableStart). HoldsLastReplies w B) (sym start)
+        (λ n low. record { none = λ zero. number_zero (key_of r).cells _; some = λ not. absurd (not (number_zero (key_of r).cells _)) })
+
     pub empty_row : IsScriptsRow r
-    empty_row = scripts_row (empty_store w.blocks) (ap (λ (B : TableStart). length B.cells) start ∙ length-replicate (key_of r).cells 0 ∙ has.1 ∙ cells) empty_stands
+    empty_row = scripts_row (empty_store w.blocks) (ap (λ (B : TableStart). length B.cells) start ∙ length-replicate (key_of r).cells 0 ∙ has.1 ∙ cells) empty_stands no_replies
 
     pub empty_start : StandsAt (key_of r).work (start_of_row r) (empty_store w.blocks)
     empty_start = subst (λ (x : Scripts). StandsAt x (start_of_row r) (empty_store w.blocks)) (sym has.3) empty_stands
@@ -79,10 +86,11 @@ module _ (r : Row Scripts) (shape : Shape) (limit : ℕ) (w : Scripts) (callers 
         subst (λ (x : Scripts). StandsAt x (start_of_row r) s) (sym has.3)
         (subst (λ (B : TableStart). StandsAt w B s) (sym starts_there) h)
 
-    pub goes_on : IsStartRow (setup_with w limit) (LawfulCells w) row → IsScriptsRow r
-    goes_on is =
+    pub goes_on : IsStartRow (setup_with w limit) (LawfulCells w) row → HoldsLastReplies w (start_from_durable w.callers (scripts_data_cells w) row) → IsScriptsRow r
+    goes_on is replies =
         scripts_row is.may_start.lawful.0 (ap (λ (B : TableStart). length B.cells) starts_there ∙ is.may_start.start.size)
         (subst (λ (B : TableStart). StandsAt w B is.may_start.lawful.0) (sym starts_there) is.may_start.lawful.1)
+        (subst (λ (B : TableStart). HoldsLastReplies w B) (sym starts_there) replies)
 
     same_setup : setup_at scripts_meaning r ≡ setup_with w limit
     same_setup = λ i. setup_of ((has.0 ∙ callers) i) ((has.1 ∙ cells) i) (has.2 i) (scripts_meaning (has.3 i))

@@ -1,5 +1,5 @@
 -- What a call of a script comes to.
-use Rattle.std.specs.Prelude.{◌≡◌, ◌+◌, ◌<◌, List, [], ◌∷◌, ◌++◌, map, Result, Ok, Err}
+use Rattle.std.specs.Prelude.{◌≡◌, List, [], ◌∷◌, ◌++◌, map, Result, Ok, Err}
 use Rattle.of_script.specs.declared.instr.Instr.{Instr}
 use Rattle.of_script.specs.Language.{IsScript, instr_word}
 use Rattle.of_store.specs.Replies.{reply_value_of}
@@ -30,12 +30,16 @@ pub record IsOpenAt (script : List Instr) (c : Caller Scripts) : Type 0 where
   pub is : IsScript script
   pub words : (caller_call c).op ≡ map instr_word script
 
--- a stopped call stays open
+-- a call of the caller is open, of whatever script
+abbrev pub IsInCall : Caller Scripts → Type 0
+IsInCall c = IsOpen (caller_call c).place
+
+-- a stopped call stays open, and none is open after one that has ended
 abbrev pub LeavesOpen : List Instr → Result Answer RunErr → Caller Scripts → Type 0
-LeavesOpen script (Ok a) c = Unit {0}
+LeavesOpen script (Ok a) c = IsInCall c → ⊥
 LeavesOpen script (Err OutOfMemory) c = Unit {0}
 LeavesOpen script (Err (Stopped asked)) c = IsOpenAt script c
-LeavesOpen script (Err (NoneLeft seq)) c = Unit {0}
+LeavesOpen script (Err (NoneLeft seq)) c = IsInCall c → ⊥
 LeavesOpen script (Err Open) c = Unit {0}
 LeavesOpen script (Err NoTicket) c = Unit {0}
 
@@ -52,7 +56,7 @@ MakesOpenCall result c d =
     → (caller_call c).op ≡ map instr_word script → AreMade (ended_of c) ms
     → AreMade (ended_of d) (made_with script result ms)
 
--- and if it is stopped it stays open
+-- if it is stopped it stays open, and none is open after it has ended
 abbrev pub LeavesOpenCall : Result Answer RunErr → (before now : Caller Scripts) → Type 0
 LeavesOpenCall result c d =
     (script : List Instr) → IsScript script
@@ -67,11 +71,11 @@ WasTried (Err (NoneLeft seq)) = Unit {0}
 WasTried (Err Open) = ⊥
 WasTried (Err NoTicket) = ⊥
 
--- a caller is refused only if its call is open, or it has made all calls that it may make
-abbrev pub IsRefusedBy : Caller Scripts → Result Answer RunErr → Type 0
-IsRefusedBy c (Ok a) = Unit {0}
-IsRefusedBy c (Err OutOfMemory) = Unit {0}
-IsRefusedBy c (Err (Stopped asked)) = Unit {0}
-IsRefusedBy c (Err (NoneLeft seq)) = Unit {0}
-IsRefusedBy c (Err Open) = IsOpen (caller_call c).place
-IsRefusedBy c (Err NoTicket) = (caller_call c).made + 1 < 4294967296 → ⊥
+-- a call that is not made leaves everything as it was
+abbrev pub LeavesAsItWas : {A : Type 0} → Result Answer RunErr → (before now : A) → Type 0
+LeavesAsItWas (Ok a) before now = Unit {0}
+LeavesAsItWas (Err OutOfMemory) before now = now ≡ before
+LeavesAsItWas (Err (Stopped asked)) before now = Unit {0}
+LeavesAsItWas (Err (NoneLeft seq)) before now = Unit {0}
+LeavesAsItWas (Err Open) before now = now ≡ before
+LeavesAsItWas (Err NoTicket) before now = now ≡ before

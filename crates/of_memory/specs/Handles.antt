@@ -1,17 +1,19 @@
 -- A handle: one caller of a memory.
-use Rattle.std.specs.Prelude.{◌≡◌, ℕ, List, Result}
+use Rattle.std.specs.Prelude.{◌≡◌, ℕ, ◌+◌, ◌<◌, List, Result, Ok, Err}
 use Rattle.std.specs.Arc.{arc_value}
 use Rattle.of_script.specs.declared.instr.Instr.{Instr}
 use Rattle.of_plan.specs.declared.answer.Answer.{Answer}
 use Rattle.of_eval.specs.declared.scripts.Scripts.{Scripts}
 use Rattle.of_row.specs.declared.row.Row.{Row}
 use Rattle.of_caller.specs.declared.caller.Caller.{Caller}
+use Rattle.of_caller.specs.Callers.{caller_call, calls_begun_by}
 use Rattle.of_memory.specs.declared.error.RunErr.{RunErr}
+use Rattle.of_memory.specs.declared.error.RunErr.TheVariants.{OutOfMemory, Stopped, Spent, Open, NoTicket}
 use Rattle.of_memory.specs.declared.handle.Handle.{Handle}
 use Rattle.of_memory.specs.History.{Made}
 use Rattle.of_memory.specs.Calls.{AreMade}
-use Rattle.of_memory.specs.Called.{IsOpenAt, IsRefusedBy, LeavesOpen, made_with}
-use Rattle.of_memory.specs.Serving.{IsScriptsRow, Serves, ended_of}
+use Rattle.of_memory.specs.Called.{IsOpenAt, IsInCall, LeavesOpen, made_with}
+use Rattle.of_memory.specs.Serving.{IsScriptsRow, Serves, ended_of, row_step_bound}
 
 -- the memory that it is a handle of
 abbrev pub home_of : Handle → Row Scripts
@@ -50,18 +52,48 @@ ResumesCall result h k =
     (script : List Instr) (ms : List Made) → HasOpen h script → HasMade h ms
     → HasMade k (made_with script result ms)
 
--- a stopped call of this script stays open
-abbrev pub StaysOpenIfStopped : List Instr → Result Answer RunErr → Handle → Type 0
-StaysOpenIfStopped script result h = LeavesOpen script result (caller_of h)
+-- a stopped call of this script stays open, and none is open after one that has ended
+abbrev pub StaysOpenOnlyIfStopped : List Instr → Result Answer RunErr → Handle → Type 0
+StaysOpenOnlyIfStopped script result h = LeavesOpen script result (caller_of h)
 
--- so does the call that was open, if it is stopped again
+-- so it is of the call that was open, whatever script it is of
 abbrev pub OpenCallStays : Result Answer RunErr → (before now : Handle) → Type 0
 OpenCallStays result h k =
-    (script : List Instr) → HasOpen h script → StaysOpenIfStopped script result k
+    (script : List Instr) → HasOpen h script → StaysOpenOnlyIfStopped script result k
+
+-- a call of it is open, of whatever script
+abbrev pub HasCallOpen : Handle → Type 0
+HasCallOpen h = IsInCall (caller_of h)
+
+-- how many steps its open call has made
+abbrev pub steps_so_far : Handle → ℕ
+steps_so_far h = (caller_call (caller_of h)).steps
+
+-- the step bound of its memory: how many steps a call makes at most
+abbrev pub step_bound_of : Handle → ℕ
+step_bound_of h = row_step_bound (home_of h)
+
+-- its number has made all calls that it may make
+abbrev pub HasNoTicketLeft : Handle → Type 0
+HasNoTicketLeft h = calls_begun_by (caller_of h) + 1 < 4294967296 → ⊥
 
 -- it refuses a call only if one is open, or its number has made all calls that it may make
 abbrev pub RefusesCall : Handle → Result Answer RunErr → Type 0
-RefusesCall h result = IsRefusedBy (caller_of h) result
+RefusesCall h (Ok a) = Unit {0}
+RefusesCall h (Err OutOfMemory) = Unit {0}
+RefusesCall h (Err (Stopped asked)) = Unit {0}
+RefusesCall h (Err (Spent seq)) = Unit {0}
+RefusesCall h (Err Open) = HasCallOpen h
+RefusesCall h (Err NoTicket) = HasNoTicketLeft h
+
+-- it refuses to go on only if no call is open
+abbrev pub RefusesToGoOn : Handle → Result Answer RunErr → Type 0
+RefusesToGoOn h (Ok a) = Unit {0}
+RefusesToGoOn h (Err OutOfMemory) = Unit {0}
+RefusesToGoOn h (Err (Stopped asked)) = Unit {0}
+RefusesToGoOn h (Err (Spent seq)) = Unit {0}
+RefusesToGoOn h (Err Open) = HasCallOpen h → ⊥
+RefusesToGoOn h (Err NoTicket) = ⊥
 
 -- it is of the same memory, and has the same number
 pub record IsSame (h k : Handle) : Type 0 where

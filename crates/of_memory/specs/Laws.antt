@@ -12,6 +12,7 @@ use Rattle.of_eval.specs.declared.scripts.Scripts.{Scripts}
 use Rattle.of_eval.specs.Scripts.{store_at, scripts_data_cells, LawfulCells, scripts_meaning}
 use Rattle.of_eval.specs.Stored.{IsStored}
 use Rattle.of_eval.specs.Lawful.{reply_in}
+use Rattle.of_eval.specs.Faults.{AllOwnCellsAreSound}
 use Rattle.of_core.specs.Table.{Setup, setup_of}
 use Rattle.of_core.specs.Machine.{IsOpen}
 use Rattle.of_core.specs.TableMoment.{TableStart}
@@ -28,6 +29,11 @@ setup_with w limit = setup_of w.callers (scripts_data_cells w) limit (scripts_me
 -- the cells of a start stand for this store
 abbrev pub StandsAt : Scripts → TableStart → Store → Type 0
 StandsAt w B s = IsStored (store_at w) w.blocks (memory_of (map payload_of B.cells)) s
+
+-- the cells of a start hold a reply to the last call of each caller that has made one
+abbrev pub HoldsLastReplies : Scripts → TableStart → Type 0
+HoldsLastReplies w B =
+    AllOwnCellsAreSound MOST_INSTRS (memory_of (map payload_of B.cells)) w.callers
 
 -- a caller of this number is kept, of which this holds
 abbrev pub KeepsSo : (n : ℕ) → (KnownCaller → Type 0) → List KnownCaller → Type 0
@@ -87,14 +93,16 @@ pub record HistoryLeads (w : Scripts) (limit : ℕ) (B : TableStart) (v : View) 
 
 -- Where words and a view meet the rule of a row of these scripts, and the view keeps each caller,
 -- recovery of the durable words finds a row from which a table may start, and a serial history
--- leads there from each store that the row has started with.
+-- leads there from each store that the row has started with. If the start held the last replies of
+-- the callers, so does that row.
 abbrev pub HoldsHistory : Scripts → (limit : ℕ) → Type 0
 HoldsHistory w limit =
     let S : Setup = setup_with w limit in
     (B : TableStart) (ws : List ℕ) (v : View) → ViewMeetsRule S (LawfulCells w) B ws v
     → v.spent ≡ false
-    → KeepScripts S v → (row : List ℕ) → IsDurable S ws row
-    → IsStartRow S (LawfulCells w) (recovered_words w.callers (scripts_data_cells w) row)
-    × ((s : Store) → StandsAt w B s
-    → (h : List HistoryEntry)
-    × HistoryLeads w limit B v s (recovered_words w.callers (scripts_data_cells w) row) h)
+    → KeepScripts S v → (row : List ℕ) → IsDurable S ws row →
+    let found : List ℕ = recovered_words w.callers (scripts_data_cells w) row in
+    let C : TableStart = start_from_durable w.callers (scripts_data_cells w) found in
+    IsStartRow S (LawfulCells w) found
+    × (HoldsLastReplies w B → HoldsLastReplies w C)
+    × ((s : Store) → StandsAt w B s → (h : List HistoryEntry) × HistoryLeads w limit B v s found h)

@@ -3,6 +3,7 @@ pub mod Calls
 pub mod Laws
 pub mod Serving
 pub mod Called
+pub mod Within
 pub mod Saving
 pub mod Handles
 pub mod Memories

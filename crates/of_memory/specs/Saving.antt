@@ -18,15 +18,16 @@ use Rattle.of_row.specs.Rule.{done_before}
 use Rattle.of_caller.specs.PlanRows.{start_of_row}
 use Rattle.of_memory.specs.declared.saved.Saved.{Saved}
 use Rattle.of_memory.specs.History.{HistoryEntry}
-use Rattle.of_memory.specs.Laws.{setup_with, StandsAt, HoldsReplyAt, HistoryLeads}
+use Rattle.of_memory.specs.Laws.{setup_with, StandsAt, HoldsLastReplies, HoldsReplyAt, HistoryLeads}
 
 -- where a memory starts that goes on from it
 abbrev pub start_in : Saved → TableStart
 start_in d = start_from_durable d.scripts.callers (scripts_data_cells d.scripts) d.row.items
 
--- a memory may go on from it
+-- a memory may go on from it: it holds a store and the last replies
 pub record IsSaved (d : Saved) : Type 0 where
   pub row : IsStartRow (setup_with d.scripts d.limit) (LawfulCells d.scripts) d.row.items
+  pub replies : HoldsLastReplies d.scripts (start_in d)
   pub some_limit : 1 ≤ d.limit
   pub few_limit : d.limit ≤ GREATEST_LIMIT
 

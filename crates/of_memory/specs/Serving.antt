@@ -6,6 +6,7 @@ use Rattle.of_cell.specs.declared.word.TheConstants.{GREATEST_LIMIT}
 use Rattle.of_eval.specs.declared.scripts.Scripts.{Scripts}
 use Rattle.of_eval.specs.Scripts.{scripts_data_cells, scripts_meaning}
 use Rattle.of_core.specs.Machine.{IsOpen}
+use Rattle.of_core.specs.Bound.{bound}
 use Rattle.of_row.specs.declared.row.Row.{Row}
 use Rattle.of_row.specs.declared.member.Pass.{Pass}
 use Rattle.of_row.specs.Rows.{key_of, setup_at, view_of_pass, IsRowPass, IsFirstPass}
@@ -15,13 +16,18 @@ use Rattle.of_caller.specs.declared.caller.Caller.{Caller}
 use Rattle.of_caller.specs.Callers.{IsCaller, caller_call, sight_of}
 use Rattle.of_caller.specs.PlanRows.{start_of_row}
 use Rattle.of_memory.specs.Calls.{IsScriptOperation, RunsScripts}
-use Rattle.of_memory.specs.Laws.{StandsAt, KeepsSo}
+use Rattle.of_memory.specs.Laws.{StandsAt, HoldsLastReplies, KeepsSo}
 
 -- how many calls a caller had made before that
 abbrev pub made_before : Row Scripts → ℕ → ℕ
 made_before r n = done_before (setup_at scripts_meaning r) (start_of_row r) n
 
--- the row has the sizes of its scripts, and its start stands for some store
+-- no call on the row makes more steps than this
+abbrev pub row_step_bound : Row Scripts → ℕ
+row_step_bound r = bound (setup_at scripts_meaning r)
+
+-- the row has the sizes of its scripts, and its start stands for some store and holds the last
+-- replies
 pub record IsScriptsRow (r : Row Scripts) : Type 0 where
   pub callers : (key_of r).callers ≡ (key_of r).work.callers
   pub cells : (key_of r).cells ≡ scripts_data_cells (key_of r).work
@@ -30,6 +36,7 @@ pub record IsScriptsRow (r : Row Scripts) : Type 0 where
   pub size : length (start_of_row r).cells ≡ scripts_data_cells (key_of r).work
   pub store : Store
   pub stands : StandsAt (key_of r).work (start_of_row r) store
+  pub replies : HoldsLastReplies (key_of r).work (start_of_row r)
 
 -- the calls of the caller that have ended
 abbrev pub ended_of : Caller Scripts → List EndedCall

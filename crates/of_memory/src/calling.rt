@@ -1,14 +1,15 @@
 //! A call of a script on a row.
 
-ghost use Rattle.std.specs.Prelude.{◌≡◌, ◌+◌, ◌<◌};
+ghost use Rattle.std.specs.Prelude.{◌≡◌, ◌+◌, ◌<◌, Some};
 ghost use Rattle.of_core.specs.Machine.{IsOpen};
 ghost use Rattle.of_core.specs.Turn.{IsIdle};
 ghost use Rattle.of_caller.specs.Callers.{caller_call};
 ghost use Rattle.of_caller.specs.Ends.{TellsAnswer};
 ghost use Rattle.of_caller.specs.Lanes.{IsHeldAnswer};
-ghost use Rattle.of_memory.specs.Serving.{IsScriptsRow, Serves};
+ghost use Rattle.of_memory.specs.Serving.{IsScriptsRow, Serves, row_step_bound};
 ghost use Rattle.of_memory.specs.Called.{MakesCallOf, MakesOpenCall};
-ghost use Rattle.of_memory.specs.Called.{LeavesOpen, LeavesOpenCall, WasTried};
+ghost use Rattle.of_memory.specs.Called.{LeavesOpen, LeavesOpenCall, LeavesAsItWas, WasTried};
+ghost use Rattle.of_memory.specs.Within.{EndsWithin, KeepsToStop, KeepsToTold};
 
 use crate::error::RunErr;
 use of_brake::{Brake, Fuel, Steps};
@@ -66,6 +67,9 @@ fn call_counted<L: Ledger>(
     ensures made { MakesCallOf script.now result caller.old caller.new }
     ensures open_call { LeavesOpen script.now result caller.new }
     ensures tried { WasTried result }
+    ensures unmade { LeavesAsItWas result caller.old caller.new }
+    ensures bound { EndsWithin (row_step_bound row.now) result }
+    ensures stop { KeepsToTold 0 (left brake.old) (caller_call caller.new).steps result }
 {
     let mut steps: Steps<L> = Steps::new(blank);
     let len = script.len() as usize;
@@ -94,6 +98,11 @@ fn go_on_counted<L: Ledger>(
     ensures serves { Serves row.now number caller.new }
     ensures made { MakesOpenCall result caller.old caller.new }
     ensures open_call { LeavesOpenCall result caller.old caller.new }
+    ensures tried { WasTried result }
+    ensures unmade { LeavesAsItWas result caller.old caller.new }
+    ensures bound { EndsWithin (row_step_bound row.now) result }
+    ensures stop { KeepsToTold (caller_call caller.old).steps (left brake.old)
+        (caller_call caller.new).steps result }
 {
     let mut steps: Steps<L> = Steps::new(blank);
     match caller.go_on(row, brake, &mut steps) {
@@ -104,7 +113,9 @@ fn go_on_counted<L: Ledger>(
 }
 
 // A brake with so many steps; None is no end.
-fn fuel_of(stop: Option<u64>) -> Fuel {
+fn fuel_of(stop: Option<u64>) -> Fuel
+    ensures { Some result.left ≡ Some stop }
+{
     let mut fuel = Fuel::new();
     fuel.arm(stop);
     fuel
@@ -127,6 +138,9 @@ pub(crate) fn call_script(
     ensures made { MakesCallOf script.now result caller.old caller.new }
     ensures open_call { LeavesOpen script.now result caller.new }
     ensures tried { WasTried result }
+    ensures unmade { LeavesAsItWas result caller.old caller.new }
+    ensures bound { EndsWithin (row_step_bound row.now) result }
+    ensures stop { KeepsToStop 0 stop (caller_call caller.new).steps result }
 {
     let Ok(fuel) = Box::new(alloc, fuel_of(stop)) else {
         return Err(RunErr::OutOfMemory);
@@ -149,6 +163,11 @@ pub(crate) fn go_on_with(
     ensures serves { Serves row.now number caller.new }
     ensures made { MakesOpenCall result caller.old caller.new }
     ensures open_call { LeavesOpenCall result caller.old caller.new }
+    ensures tried { WasTried result }
+    ensures unmade { LeavesAsItWas result caller.old caller.new }
+    ensures bound { EndsWithin (row_step_bound row.now) result }
+    ensures stop { KeepsToStop (caller_call caller.old).steps stop
+        (caller_call caller.new).steps result }
 {
     let Ok(fuel) = Box::new(alloc, fuel_of(stop)) else {
         return Err(RunErr::OutOfMemory);

@@ -1,7 +1,6 @@
 //! Why something can't be done.
 
 use crate::memory::Memory;
-use of_eval::LawErr;
 use std::alloc::AllocError;
 use std::error::Error as StdError;
 use std::fmt;
@@ -52,31 +51,6 @@ pub enum RunErr {
     /// The number has made all calls that it may make.
     #[error("no ticket is left")]
     NoTicket,
-}
-
-/// Why a store isn't read.
-#[derive(Clone, Copy, Debug, PartialEq, Eq, Error)]
-pub enum StoreErr {
-    #[error("out of memory")]
-    OutOfMemory,
-    /// The data stand for no store, and this is the first cell at fault.
-    #[error("data cell {cell} is at fault")]
-    Unlawful { cell: u32 },
-}
-
-impl From<AllocError> for StoreErr {
-    fn from(_error: AllocError) -> StoreErr {
-        StoreErr::OutOfMemory
-    }
-}
-
-impl From<LawErr> for StoreErr {
-    fn from(error: LawErr) -> StoreErr {
-        match error {
-            LawErr::Memory => StoreErr::OutOfMemory,
-            LawErr::Unlawful { cell } => StoreErr::Unlawful { cell },
-        }
-    }
 }
 
 /// A memory isn't closed while one of its handles is out. It is handed back.

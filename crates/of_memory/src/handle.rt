@@ -25,8 +25,11 @@ impl Handle {
     ghost use Rattle.of_script.specs.declared.instr.Instr.{Instr as TheInstr};
     ghost use Rattle.of_memory.specs.History.{Made};
     ghost use Rattle.of_memory.specs.Handles.{IsHandle, HasMade, HasOpen, IsSame, MakesCall};
-    ghost use Rattle.of_memory.specs.Handles.{number_of_handle};
-    ghost use Rattle.of_memory.specs.Handles.{ResumesCall, StaysOpenIfStopped, OpenCallStays, RefusesCall};
+    ghost use Rattle.of_memory.specs.Handles.{ResumesCall, StaysOpenOnlyIfStopped, OpenCallStays};
+    ghost use Rattle.of_memory.specs.Handles.{RefusesCall, RefusesToGoOn, number_of_handle, steps_so_far};
+    ghost use Rattle.of_memory.specs.Called.{LeavesAsItWas};
+    ghost use Rattle.of_memory.specs.Handles.{step_bound_of};
+    ghost use Rattle.of_memory.specs.Within.{EndsWithin, IsNeverStopped, KeepsWithin, KeepsToStop};
     ghost use Rattle.of_memory.specs.Memories.{IsMemory, IsFrom, IsStill, HasMadeOf, KnowsOthers};
     ghost use Rattle.of_memory.specs.Memories.{HasOpenOf, OthersStayOpen};
 
@@ -43,8 +46,11 @@ impl Handle {
         ensures handle { IsHandle self.new }
         ensures same { IsSame self.old self.new }
         ensures made { MakesCall script.now result self.old self.new }
-        ensures open_call { StaysOpenIfStopped script.now result self.new }
+        ensures open_call { StaysOpenOnlyIfStopped script.now result self.new }
         ensures cause { RefusesCall self.old result }
+        ensures unmade { LeavesAsItWas result self.old self.new }
+        ensures bound { EndsWithin (step_bound_of self.old) result }
+        ensures stopped { IsNeverStopped result }
     {
         self.begin(script, None)
     }
@@ -55,8 +61,11 @@ impl Handle {
         ensures handle { IsHandle self.new }
         ensures same { IsSame self.old self.new }
         ensures made { MakesCall script.now result self.old self.new }
-        ensures open_call { StaysOpenIfStopped script.now result self.new }
+        ensures open_call { StaysOpenOnlyIfStopped script.now result self.new }
         ensures cause { RefusesCall self.old result }
+        ensures unmade { LeavesAsItWas result self.old self.new }
+        ensures bound { EndsWithin (step_bound_of self.old) result }
+        ensures within { KeepsWithin 0 steps (steps_so_far self.new) result }
     {
         self.begin(script, Some(steps))
     }
@@ -66,8 +75,11 @@ impl Handle {
         ensures handle { IsHandle self.new }
         ensures same { IsSame self.old self.new }
         ensures made { MakesCall script.now result self.old self.new }
-        ensures open_call { StaysOpenIfStopped script.now result self.new }
+        ensures open_call { StaysOpenOnlyIfStopped script.now result self.new }
         ensures cause { RefusesCall self.old result }
+        ensures unmade { LeavesAsItWas result self.old self.new }
+        ensures bound { EndsWithin (step_bound_of self.old) result }
+        ensures stop { KeepsToStop 0 stop (steps_so_far self.new) result }
     {
         if !self.caller.is_idle() {
             return Err(RunErr::Open);
@@ -92,6 +104,10 @@ impl Handle {
         ensures same { IsSame self.old self.new }
         ensures made { ResumesCall result self.old self.new }
         ensures open_call { OpenCallStays result self.old self.new }
+        ensures cause { RefusesToGoOn self.old result }
+        ensures unmade { LeavesAsItWas result self.old self.new }
+        ensures bound { EndsWithin (step_bound_of self.old) result }
+        ensures stopped { IsNeverStopped result }
     {
         self.resume(None)
     }
@@ -103,6 +119,11 @@ impl Handle {
         ensures same { IsSame self.old self.new }
         ensures made { ResumesCall result self.old self.new }
         ensures open_call { OpenCallStays result self.old self.new }
+        ensures cause { RefusesToGoOn self.old result }
+        ensures unmade { LeavesAsItWas result self.old self.new }
+        ensures bound { EndsWithin (step_bound_of self.old) result }
+        ensures within { KeepsWithin (steps_so_far self.old) steps
+            (steps_so_far self.new) result }
     {
         self.resume(Some(steps))
     }
@@ -113,6 +134,11 @@ impl Handle {
         ensures same { IsSame self.old self.new }
         ensures made { ResumesCall result self.old self.new }
         ensures open_call { OpenCallStays result self.old self.new }
+        ensures cause { RefusesToGoOn self.old result }
+        ensures unmade { LeavesAsItWas result self.old self.new }
+        ensures bound { EndsWithin (step_bound_of self.old) result }
+        ensures stop { KeepsToStop (steps_so_far self.old) stop
+            (steps_so_far self.new) result }
     {
         if self.caller.is_idle() {
             return Err(RunErr::Open);

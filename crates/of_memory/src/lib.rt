@@ -10,7 +10,7 @@ mod memory;
 mod saved;
 mod seating;
 
-pub use error::{EnrolErr, InUse, OpenErr, RunErr, StoreErr};
+pub use error::{EnrolErr, InUse, OpenErr, RunErr};
 pub use handle::Handle;
 pub use memory::Memory;
 pub use of_plan::{Answer, GREATEST_LIMIT};

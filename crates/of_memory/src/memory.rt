@@ -31,7 +31,7 @@ impl Memory {
     ghost use Rattle.of_memory.specs.Calls.{AreMade};
     ghost use Rattle.of_memory.specs.Serving.{IsScriptsRow, Serves, ended_of};
     ghost use Rattle.of_memory.specs.Saving.{IsSaved, SavedHolds, saved_callers, saved_ticket};
-    ghost use Rattle.of_memory.specs.Handles.{IsHandle, HasMade, HasOpen, number_of_handle};
+    ghost use Rattle.of_memory.specs.Handles.{IsHandle, number_of_handle, HasMade, HasOpen};
     ghost use Rattle.of_memory.specs.Memories.{IsMemory, row_of, callers_of, StartsWith};
     ghost use Rattle.of_memory.specs.Memories.{tickets_before};
     ghost use Rattle.of_memory.specs.Memories.{HasMadeOf, IsFrom, IsStill, KnowsOthers, HasHistory};

@@ -1,6 +1,6 @@
 //! What a closed memory leaves.
 
-ghost use Rattle.std.specs.Prelude.{◌≡◌, ◌<◌, ◌≤◌, ◌+◌, IfOk, IfSome, IsSome, length, map};
+ghost use Rattle.std.specs.Prelude.{◌≡◌, ◌<◌, ◌≤◌, ◌↔◌, ◌+◌, IfOk, IfSome, IsNone, length, map};
 ghost use Rattle.std.specs.Prelude.{slice_index_or, slice_range};
 ghost use Rattle.of_cell.specs.Words.{payload_of};
 ghost use Rattle.of_cell.specs.Cells.{data_cell, durable_cells};
@@ -9,10 +9,9 @@ ghost use Rattle.of_recover.specs.Row.{IsDurableRow};
 ghost use Rattle.of_recover.specs.Recovered.{recovered_words};
 ghost use Rattle.of_eval.specs.Scripts.{scripts_data_cells};
 
-use crate::error::StoreErr;
 use crate::laws::history_is_held;
 use of_cell::{Shape, payload_of};
-use of_eval::{Scripts, lawful, reply_of, shape_of};
+use of_eval::{LawErr, Scripts, lawful, reply_of, shape_of};
 use of_mem::{MOST_INSTRS, RawReply};
 use of_recover::laws::recovered_cells;
 use of_recover::recover;
@@ -74,7 +73,8 @@ impl Saved {
     ghost use Rattle.of_memory.specs.Laws.{KeepScripts};
     ghost use Rattle.of_memory.specs.Serving.{IsScriptsRow};
     ghost use Rattle.of_memory.specs.Saving.{IsSaved, SavedHolds, SavesHistory, HoldsReply};
-    ghost use Rattle.of_memory.specs.Saving.{start_in, saved_callers, saved_limit, saved_reply, saved_ticket};
+    ghost use Rattle.of_memory.specs.Saving.{start_in, saved_callers, saved_limit, saved_reply};
+    ghost use Rattle.of_memory.specs.Saving.{saved_ticket};
 
     // Closes a row, takes its durable words alone, as a crash does, and recovers them.
     pub(crate) fn close(row: Row<Scripts>, pass: Pass) -> Saved
@@ -114,15 +114,18 @@ impl Saved {
         self.limit
     }
 
-    /// The store that it holds.
-    pub fn store(&self, alloc: Global) -> Result<Store, StoreErr>
+    /// The store that it holds. The error is that there is no memory.
+    pub fn store(&self, alloc: Global) -> Result<Store, AllocError>
         requires { IsSaved self.now }
         ensures { IfOk result (SavedHolds self.now) }
     {
         let words = data_words(alloc, &shape_of(self.scripts), &self.row)?;
         let cells = numbers(alloc, &words)?;
-        let store = lawful(alloc, &self.scripts.plot(), &cells)?;
-        Ok(store)
+        match lawful(alloc, &self.scripts.plot(), &cells) {
+            Ok(store) => Ok(store),
+            Err(LawErr::Memory) => Err(AllocError),
+            Err(LawErr::Unlawful { cell: _ }) => unreachable!(),
+        }
     }
 
     /// How many calls of a caller it holds: the number of its last one, whoever finished it.
@@ -164,22 +167,24 @@ impl Saved {
     }
 
     /// The number of a caller's last call that it holds, and the reply to it, also if the caller
-    /// was stopped before it was answered. None if it holds none.
+    /// was stopped before it was answered. None if it holds no call of the caller.
     pub fn last_reply(&self, number: u32) -> Option<(u32, Reply)>
         requires saved { IsSaved self.now }
         requires number { number < saved_callers self.now }
+        ensures none { IsNone result ↔ (saved_ticket self.now number ≡ 0) }
         ensures ticket { IfSome result (λ r. r.0 ≡ saved_ticket self.now number) }
         ensures reply { IfSome result (λ r. HoldsReply self.now number (reply_value_of r.1)) }
-        ensures some { (r : Reply) → HoldsReply self.now number r
-            → 0 < saved_ticket self.now number → IsSome result }
+        // No other reply is held.
+        ensures only { (r : Reply) → HoldsReply self.now number r
+            → IfSome result (λ given. reply_value_of given.1 ≡ r) }
     {
         let ticket = self.ticket(number);
         if ticket == 0 {
             return None;
         }
-        match reply_of(&self.reply(number)) {
-            Some(reply) => Some((ticket, reply)),
-            None => None,
-        }
+        let Some(reply) = reply_of(&self.reply(number)) else {
+            unreachable!()
+        };
+        Some((ticket, reply))
     }
 }

@@ -1,5 +1,5 @@
 use Rattle.std.proofs.Common.{◌∙◌, ap, refl, Err}
-use Rattle.of_memory.proofs.Called.{words_are, held_of, serves_on, made_answered, made_spent}
+use Rattle.of_memory.proofs.Called.{words_are, held_of, serves_on, made_answered, made_spent, keeps_answered, keeps_stopped, keeps_over, none_open, answers_within, stops_within}
 use Rattle.of_memory.proofs.calling.call_counted.Goals as goal
 
 pub answer_of-requires : goal.answer_of-requires
@@ -33,3 +33,30 @@ pub returns-clause-made : goal.returns-clause-made
 returns-clause-made g c ms made =
     let words = words_are c.args.script.now c.len-len.result c.len-len.ensures.len c.to_words.new.out _ c.to_words.ensures.words in
     made_spent _ _ _ _ _ _ _ _ _ _ c.call.ensures.told c.args.script.now c.len-len.ensures.fits words ms made c.in-Err-Spent.seq (c.in-Err-Spent.is ∙ ap (λ e. Err e) c.in-Err-Spent.field-0-is)
+
+pub returns-in-Ok-clause-stop : goal.returns-in-Ok-clause-stop
+returns-in-Ok-clause-stop g c =
+    let told = c.in-Ok.ensures.told in
+    keeps_answered _ _ _ _ _ _ _ _ _ _ told _ _ c.in-Ok.ensures.left c.in-Ok.outcome c.answer_of.result c.answer_of.ensures told.result
+
+pub returns-in-Err-Stopped-clause-stop : goal.returns-in-Err-Stopped-clause-stop
+returns-in-Err-Stopped-clause-stop g c =
+    keeps_stopped _ _ _ _ _ _ _ _ _ _ c.call.ensures.told _ c.call.ensures.stop c.in-Err-Stopped.asked (c.in-Err-Stopped.is ∙ ap (λ e. Err e) c.in-Err-Stopped.field-0-is)
+
+pub returns-clause-stop : goal.returns-clause-stop
+returns-clause-stop g c = keeps_over _ _ _ _ _ _ _ _ _ _ c.call.ensures.told _ _
+
+pub returns-in-Ok-clause-open_call : goal.returns-in-Ok-clause-open_call
+returns-in-Ok-clause-open_call g c = none_open _ c.in-Ok.ensures.told.result.1.idle
+
+pub returns-clause-open_call : goal.returns-clause-open_call
+returns-clause-open_call g c = none_open _ c.call.ensures.told.result.idle
+
+pub returns-in-Ok-clause-bound : goal.returns-in-Ok-clause-bound
+returns-in-Ok-clause-bound g c =
+    let told = c.in-Ok.ensures.told in
+    answers_within _ _ _ _ _ _ _ _ _ _ told c.in-Ok.outcome c.answer_of.result c.answer_of.ensures told.result
+
+pub returns-in-Err-Stopped-clause-bound : goal.returns-in-Err-Stopped-clause-bound
+returns-in-Err-Stopped-clause-bound g c =
+    stops_within _ _ _ _ _ _ _ _ _ _ c.call.ensures.told c.in-Err-Stopped.asked (c.in-Err-Stopped.is ∙ ap (λ e. Err e) c.in-Err-Stopped.field-0-is)

@@ -1,5 +1,5 @@
 use Rattle.std.proofs.Common.{◌∙◌, ap, refl, Err}
-use Rattle.of_memory.proofs.Called.{held_of, serves_on, made_answered, made_spent}
+use Rattle.of_memory.proofs.Called.{held_of, serves_on, made_answered, made_spent, keeps_answered, keeps_stopped, keeps_over, none_open, answers_within, stops_within}
 use Rattle.of_memory.proofs.calling.go_on_counted.Goals as goal
 
 pub answer_of-requires : goal.answer_of-requires
@@ -27,3 +27,30 @@ returns-clause-serves g c =
 pub returns-clause-made : goal.returns-clause-made
 returns-clause-made g c script ms is words made =
     made_spent _ _ _ _ _ _ _ _ _ _ c.go_on.ensures.told script is words ms made c.in-Err-Spent.seq (c.in-Err-Spent.is ∙ ap (λ e. Err e) c.in-Err-Spent.field-0-is)
+
+pub returns-in-Ok-clause-stop : goal.returns-in-Ok-clause-stop
+returns-in-Ok-clause-stop g c =
+    let told = c.in-Ok.ensures.told in
+    keeps_answered _ _ _ _ _ _ _ _ _ _ told _ _ c.in-Ok.ensures.left c.in-Ok.outcome c.answer_of.result c.answer_of.ensures told.result
+
+pub returns-in-Err-Stopped-clause-stop : goal.returns-in-Err-Stopped-clause-stop
+returns-in-Err-Stopped-clause-stop g c =
+    keeps_stopped _ _ _ _ _ _ _ _ _ _ c.go_on.ensures.told _ c.go_on.ensures.stop c.in-Err-Stopped.asked (c.in-Err-Stopped.is ∙ ap (λ e. Err e) c.in-Err-Stopped.field-0-is)
+
+pub returns-clause-stop : goal.returns-clause-stop
+returns-clause-stop g c = keeps_over _ _ _ _ _ _ _ _ _ _ c.go_on.ensures.told _ _
+
+pub returns-in-Ok-clause-open_call : goal.returns-in-Ok-clause-open_call
+returns-in-Ok-clause-open_call g c script is words = none_open _ c.in-Ok.ensures.told.result.1.idle
+
+pub returns-clause-open_call : goal.returns-clause-open_call
+returns-clause-open_call g c script is words = none_open _ c.go_on.ensures.told.result.idle
+
+pub returns-in-Ok-clause-bound : goal.returns-in-Ok-clause-bound
+returns-in-Ok-clause-bound g c =
+    let told = c.in-Ok.ensures.told in
+    answers_within _ _ _ _ _ _ _ _ _ _ told c.in-Ok.outcome c.answer_of.result c.answer_of.ensures told.result
+
+pub returns-in-Err-Stopped-clause-bound : goal.returns-in-Err-Stopped-clause-bound
+returns-in-Err-Stopped-clause-bound g c =
+    stops_within _ _ _ _ _ _ _ _ _ _ c.go_on.ensures.told c.in-Err-Stopped.asked (c.in-Err-Stopped.is ∙ ap (λ e. Err e) c.in-Err-Stopped.field-0-is)

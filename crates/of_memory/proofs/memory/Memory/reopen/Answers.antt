@@ -10,7 +10,7 @@ over-requires-clause-row c =
     let d = c.args.saved.now in
     let shape = c.shape_of-shape in
     goes_on c.in_ok-row.row shape.result d.limit d.scripts shape.ensures.callers shape.ensures.cells c.in_ok-row.ensures.row c.requires.some_limit c.requires.few_limit d.row.items
-    (c.in_ok-row.ensures.start ∙ ap (start_for shape.result) c.deref.ensures.value) c.requires.row
+    (c.in_ok-row.ensures.start ∙ ap (start_for shape.result) c.deref.ensures.value) c.requires.row c.requires.replies
 
 pub returns-clause-none : goal.returns-clause-none
 returns-clause-none c =

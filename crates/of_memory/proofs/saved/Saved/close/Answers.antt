@@ -3,11 +3,11 @@ use Rattle.std.specs.Prelude.{slice_range}
 use Rattle.of_store.specs.Store.{Store}
 use Rattle.of_cell.specs.declared.word.TheConstants.{GREATEST_LIMIT}
 use Rattle.of_eval.specs.declared.scripts.Scripts.{Scripts}
-use Rattle.of_eval.specs.Scripts.{LawfulCells}
-use Rattle.of_core.specs.Starts.{IsStartRow}
+use Rattle.of_eval.specs.Scripts.{scripts_data_cells, LawfulCells}
+use Rattle.of_core.specs.Starts.{IsStartRow, start_from_durable}
 use Rattle.of_row.specs.Rows.{key_of}
 use Rattle.of_memory.specs.History.{HistoryEntry}
-use Rattle.of_memory.specs.Laws.{setup_with, StandsAt, HoldsHistory, HistoryLeads}
+use Rattle.of_memory.specs.Laws.{setup_with, StandsAt, HoldsLastReplies, HoldsHistory, HistoryLeads}
 use Rattle.of_caller.specs.PlanRows.{start_of_row}
 use Rattle.of_memory.proofs.Closing.{closed}
 use Rattle.of_memory.proofs.saved.Saved.close.Goals as goal
@@ -23,7 +23,9 @@ returns-clause-saved c =
     let found = closed r c.requires.row c.args.pass _ c.close-words.ensures.words c.close-words.ensures.size shape.result.callers shape.result.cells c.keep_durable.new.words.items shape.ensures.callers shape.ensures.cells part law c.requires.pass c.requires.keeps in
     record {
       row = subst (λ (k : Scripts × ℕ). IsStartRow (setup_with k.0 k.1) (LawfulCells k.0) c.recover_words.new.words.items) (λ i. (sym w i, sym l i))
-          (subst (IsStartRow (setup_with (key_of r).work (key_of r).limit) (LawfulCells (key_of r).work)) (sym c.recover_words.ensures) found.0);
+          (subst (IsStartRow (setup_with (key_of r).work (key_of r).limit) (LawfulCells (key_of r).work)) (sym c.recover_words.ensures) found.row);
+      replies = subst (λ (k : Scripts). HoldsLastReplies k (start_from_durable k.callers (scripts_data_cells k) c.recover_words.new.words.items)) (sym w)
+          (subst (λ (xs : List ℕ). HoldsLastReplies (key_of r).work (start_from_durable (key_of r).work.callers (scripts_data_cells (key_of r).work) xs)) (sym c.recover_words.ensures) found.replies);
       some_limit = subst (λ (n : ℕ). 1 ≤ n) (sym l) c.requires.row.some_limit;
       few_limit = subst (λ (n : ℕ). n ≤ GREATEST_LIMIT) (sym l) c.requires.row.few_limit;
     }
@@ -38,4 +40,4 @@ returns-clause-leads c =
     let part = c.keep_durable.ensures ∙ ap (λ (n : ℕ). slice_range c.close-words.result.0.items n (n + n)) c.durable_cells.ensures in
     let found = closed r c.requires.row c.args.pass _ c.close-words.ensures.words c.close-words.ensures.size shape.result.callers shape.result.cells c.keep_durable.new.words.items shape.ensures.callers shape.ensures.cells part law c.requires.pass c.requires.keeps in
     subst (λ (xs : List ℕ). (s : Store) → StandsAt (key_of r).work (start_of_row r) s → (h : List HistoryEntry) × HistoryLeads (key_of r).work (key_of r).limit (start_of_row r) c.args.pass.seat.me.0 s xs h)
-    (sym c.recover_words.ensures) found.1
+    (sym c.recover_words.ensures) found.leads

@@ -1,16 +1,28 @@
-use Rattle.std.proofs.Common.{◌≡◌, Option, Some, None, refl, sym, subst}
+use Rattle.std.proofs.Common.{◌≡◌, Some, refl, sym, ap, subst, ◌∙◌, map}
+use Rattle.of_cell.specs.Words.{payload_of}
 use Rattle.of_mem.specs.declared.work.RawReply.{RawReply}
-use Rattle.of_script.specs.declared.instr.Reply.{Reply}
+use Rattle.of_mem.specs.Places.{ticket_cell_at}
+use Rattle.of_mem.specs.ProgramWork.{memory_of}
+use Rattle.of_script.specs.declared.instr.TheConstants.{MOST_INSTRS}
+use Rattle.of_store.specs.Store.{Reply}
+use Rattle.of_store.specs.Replies.{reply_value_of}
 use Rattle.of_eval.specs.Shapes.{IsHeldBy}
+use Rattle.of_caller.proofs.StoresReplay.{number_at}
+use Rattle.of_memory.specs.Saving.{start_in}
 use Rattle.of_memory.proofs.saved.Saved.last_reply.Goals as goal
 
-pub returns-in-Some-clause-reply : goal.returns-in-Some-clause-reply
-returns-in-Some-clause-reply c =
-    (c.in-Some.reply, subst (λ (raw : RawReply). IsHeldBy raw c.in-Some.reply) c.reply.ensures c.in-Some.ensures.some, refl)
+pub unreachable-requires : goal.unreachable-requires
+unreachable-requires c =
+    let cells = (start_in c.args.self.now).cells in
+    let own = (c.requires.saved.replies c.args.number c.requires.number).some (λ none. c.if-ticket-eq0.false (c.ticket-ticket.ensures ∙ sym (number_at cells (ticket_cell_at MOST_INSTRS c.args.number)) ∙ none)) in
+    c.in_default.not-Some own.reply (c.reply_of.ensures.only own.reply (subst (λ (raw : RawReply). IsHeldBy raw own.reply) (sym c.reply.ensures) own.held))
 
-nothing : (r : Reply) → ◌≡◌ {A = Option Reply} None (Some r) → ⊥
-nothing r e = absurd (cc (e))
+pub returns-clause-reply : goal.returns-clause-reply
+returns-clause-reply c = (c.in-Some.reply, subst (λ (raw : RawReply). IsHeldBy raw c.in-Some.reply) c.reply.ensures c.in-Some.ensures.some, refl)
 
-pub returns-in-None-clause-some : goal.returns-in-None-clause-some
-returns-in-None-clause-some c r held positive =
-    absurd (nothing held.0 (c.in-None.ensures.only held.0 (subst (λ (raw : RawReply). IsHeldBy raw held.0) (sym c.reply.ensures) held.1)))
+pub returns-clause-only : goal.returns-clause-only
+returns-clause-only c r held =
+    let read = c.reply_of.ensures.only held.0 (subst (λ (raw : RawReply). IsHeldBy raw held.0) (sym c.reply.ensures) held.1) in
+    let same : Some c.in-Some.reply ≡ Some held.0 = sym c.in-Some.is ∙ read in
+    let one : c.in-Some.reply ≡ held.0 = cc in
+    ap reply_value_of one ∙ held.2
