@@ -1,5 +1,5 @@
 -- What a memory knows of its callers, and the history that its close leaves.
-use Rattle.std.proofs.Common.{◌≡◌, ℕ, ◌<◌, inl, inr, List, [], ◌∷◌, length, get_or, set, Option, Some, None, Result, Ok, Err, IfOk, sym, ap, subst, ◌∙◌, arith}
+use Rattle.std.proofs.Common.{◌≡◌, ℕ, ◌<◌, inl, inr, true≢false, List, [], ◌∷◌, length, get_or, set, Option, Some, None, Result, Ok, Err, IfOk, sym, ap, subst, ◌∙◌, arith}
 use Rattle.std.specs.List.{All}
 use Rattle.std.proofs.lemmas.Bool.{cases_lt}
 use Rattle.std.proofs.lemmas.List.{get_or-set_same, get_or-set_other, get_or_past}
@@ -8,7 +8,8 @@ use Rattle.of_store.specs.State.{Store}
 use Rattle.of_eval.specs.declared.scripts.Scripts.{Scripts}
 use Rattle.of_eval.specs.Scripts.{scripts_data_cells}
 use Rattle.of_core.specs.Table.{Setup}
-use Rattle.of_core.specs.Machine.{CallState, IsOpen}
+use Rattle.of_core.specs.Machine.{CallState, IsOpen, is_idle}
+use Rattle.of_core.specs.Turn.{IsIdle}
 use Rattle.of_core.specs.World.{TableStart}
 use Rattle.of_core.specs.Starts.{start_from_durable}
 use Rattle.of_row.specs.declared.row.Row.{Row}
@@ -23,8 +24,8 @@ use Rattle.of_memory.specs.History.{HistoryEntry, Made, store_after, ExplainsAll
 use Rattle.of_memory.specs.Calls.{AreMade, RunsScripts}
 use Rattle.of_memory.specs.Called.{IsOpenAt}
 use Rattle.of_memory.specs.Laws.{setup_with, StandsAt, KeepsSo, ExplainsKept, HasOpenScript, HasOnlyKept, TellsLast, HistoryLeads}
-use Rattle.of_memory.specs.Serving.{Serves, AllHere, IsKeptOf, KeepsThose, ended_of, start_of_row}
-use Rattle.of_memory.specs.Memories.{IsMemory, HasMadeOf, HasOpenOf, KnowsOthers, OthersStayOpen, HasHistory, row_of, callers_of}
+use Rattle.of_memory.specs.Serving.{Serves, IsNew, AllStand, AllHere, IsKeptOf, KeepsThose, ended_of, start_of_row}
+use Rattle.of_memory.specs.Memories.{IsMemory, HasMadeOf, HasOpenOf, HasNoneOpen, KnowsOthers, OthersStayOpen, HasHistory, row_of, callers_of}
 use Rattle.of_memory.proofs.Seats.{number_below, keeps_as, same_caller}
 
 -- ---- a caller is taken out of its place, or put into it
@@ -74,6 +75,15 @@ is_within cs n c here = elim (cases_lt n (length cs)) [
   | inl low ↦ low
   | inr high ↦ let none : get_or cs n None ≡ None = get_or_past cs n None high in absurd (cc (none, here))
 ]
+
+-- callers that are new have no open call
+pub none_open : (m : Memory) (r : Row Scripts) (k : ℕ) → length m.callers.items ≡ k → AllStand (IsNew r) k m.callers.items → HasNoneOpen m
+none_open m r k long all n script h =
+    let low = is_within m.callers.items n h.caller h.here in
+    let one = all n (omega (arith, low, long)) in
+    let same : one.0 ≡ h.caller = same_caller one.0 h.caller (get_or m.callers.items n None) one.1 h.here in
+    let idle : IsIdle (caller_call h.caller) = subst (λ (x : Caller Scripts). IsIdle (caller_call x)) same one.2.idle in
+    absurd (true≢false (sym (ap is_idle idle) ∙ h.opened.open_call))
 
 from_kept : (S : Setup) (B : TableStart) (h : List HistoryEntry) (n : ℕ) (c : Caller Scripts) (xs : List KnownCaller) → KeepsSo n (IsKeptOf c) xs → Each (ExplainsKept S B h) xs → (ms : List Made) → AreMade (ended_of c) ms → ExplainsAll h n (done_before S B n) ms
 from_kept S B h n c [] k all ms made = absurd k

@@ -1,5 +1,5 @@
 -- What a call of a script comes to.
-use Rattle.std.specs.Prelude.{◌≡◌, ◌+◌, ◌<◌, List, [], ◌∷◌, ◌++◌, map, Result, Ok, Err}
+use Rattle.std.specs.Prelude.{◌≡◌, ◌+◌, ◌<◌, ◌⊎◌, List, [], ◌∷◌, ◌++◌, map, Result, Ok, Err}
 use Rattle.of_script.specs.declared.instr.Instr.{Instr}
 use Rattle.of_script.specs.Language.{IsScript, instr_word}
 use Rattle.of_store.specs.Replies.{reply_value_of}
@@ -35,6 +35,14 @@ LeavesOpen script (Err (Stopped asked)) c = IsOpenAt script c
 LeavesOpen script (Err (NoneLeft seq)) c = Unit {0}
 LeavesOpen script (Err Open) c = Unit {0}
 LeavesOpen script (Err NoTicket) c = Unit {0}
+
+-- a call that is open now is one of this script, or was open before
+abbrev pub CallerOpensOnly : List Instr → (before now : Caller Scripts) → Type 0
+CallerOpensOnly script c d = (s : List Instr) → IsOpenAt s d → (s ≡ script) ⊎ IsOpenAt s c
+
+-- a call that is open now was open before
+abbrev pub CallerOpensNone : (before now : Caller Scripts) → Type 0
+CallerOpensNone c d = (s : List Instr) → IsOpenAt s d → IsOpenAt s c
 
 -- the call was begun, unless there was no memory
 abbrev pub WasTried : Result Answer RunErr → Type 0

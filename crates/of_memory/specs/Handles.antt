@@ -7,7 +7,7 @@ use Rattle.of_row.specs.declared.row.Row.{Row}
 use Rattle.of_memory.specs.declared.handle.Handle.{Handle}
 use Rattle.of_memory.specs.History.{Made}
 use Rattle.of_memory.specs.Calls.{AreMade}
-use Rattle.of_memory.specs.Called.{IsOpenAt}
+use Rattle.of_memory.specs.Called.{IsOpenAt, CallerOpensOnly, CallerOpensNone}
 use Rattle.of_memory.specs.Serving.{IsScriptsRow, Serves, ended_of}
 
 -- the memory that it is a handle of
@@ -31,3 +31,11 @@ HasOpen h script = IsOpenAt script h.caller
 pub record IsSame (h k : Handle) : Type 0 where
   pub home : home_of k ≡ home_of h
   pub number : k.number ≡ h.number
+
+-- a call that is open now is one of this script, or was open before
+abbrev pub OpensOnly : List Instr → (before now : Handle) → Type 0
+OpensOnly script h k = CallerOpensOnly script h.caller k.caller
+
+-- a call that is open now was open before
+abbrev pub OpensNone : (before now : Handle) → Type 0
+OpensNone h k = CallerOpensNone h.caller k.caller

@@ -6,4 +6,5 @@ pub mod Called
 pub mod Saving
 pub mod Handles
 pub mod Memories
+pub mod Tasks
 pub mod Joining

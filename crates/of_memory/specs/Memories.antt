@@ -1,5 +1,5 @@
 -- A memory that a program has opened, and what its close leaves.
-use Rattle.std.specs.Prelude.{◌≡◌, ◌≢◌, ℕ, ◌<◌, ◌≤◌, ◌⊎◌, List, Some, None, length}
+use Rattle.std.specs.Prelude.{◌≡◌, ◌≢◌, ℕ, ◌<◌, ◌≤◌, ◌⊎◌, List, Some, None, length, slice_set}
 use Rattle.std.proofs.Common.{get_or}
 use Rattle.std.specs.Arc.{arc_value}
 use Rattle.std.specs.List.{All}
@@ -77,6 +77,27 @@ KnowsOthers n m k = (i : ℕ) (ms : List Made) → i ≢ n → HasMadeOf m i ms 
 -- nor is a call of theirs open no longer
 abbrev pub OthersStayOpen : ℕ → (before now : Memory) → Type 0
 OthersStayOpen n m k = (i : ℕ) (script : List Instr) → i ≢ n → HasOpenOf m i script → HasOpenOf k i script
+
+-- no call is open
+abbrev pub HasNoneOpen : Memory → Type 0
+HasNoneOpen m = (n : ℕ) (script : List Instr) → HasOpenOf m n script → ⊥
+
+-- the handle's caller was in the memory, and is taken out of it
+pub record TakesOut (m k : Memory) (h : Handle) : Type 0 where
+  pub was : get_or m.callers.items h.number None ≡ Some h.caller
+  pub now : k.callers.items ≡ slice_set m.callers.items h.number None
+
+-- no caller is taken out
+abbrev pub TakesNone : (before now : Memory) → Type 0
+TakesNone m k = k.callers.items ≡ m.callers.items
+
+-- the caller of this number is put into the memory
+abbrev pub PutsCaller : ℕ → Caller Scripts → (before now : Memory) → Type 0
+PutsCaller n c m k = k.callers.items ≡ slice_set m.callers.items n (Some c)
+
+-- the handle's caller is put back
+abbrev pub PutsBack : (before now : Memory) → Handle → Type 0
+PutsBack m k h = PutsCaller h.number h.caller m k
 
 -- What is saved of the last call of caller n: there was none since the memory was opened, or it is one of
 -- the history, with its reply.

@@ -13,6 +13,7 @@ ghost use Rattle.of_memory.specs.History.{Made};
 ghost use Rattle.of_memory.specs.Calls.{AreMade};
 ghost use Rattle.of_memory.specs.Serving.{IsScriptsRow, Serves, ended_of};
 ghost use Rattle.of_memory.specs.Called.{made_with, LeavesOpen, WasTried};
+ghost use Rattle.of_memory.specs.Called.{CallerOpensOnly, CallerOpensNone};
 
 use crate::error::RunErr;
 use of_brake::{Brake, Fuel, Steps};
@@ -71,6 +72,7 @@ fn call_counted<L: Ledger>(
         → AreMade (ended_of caller.new) (made_with script.now result ms) }
     ensures open_call { LeavesOpen script.now result caller.new }
     ensures tried { WasTried result }
+    ensures only { CallerOpensOnly script.now caller.old caller.new }
 {
     let mut steps: Steps<L> = Steps::new(blank);
     let len = script.len() as usize;
@@ -102,6 +104,7 @@ fn go_on_counted<L: Ledger>(
         → AreMade (ended_of caller.new) (made_with script result ms) }
     ensures open_call { (script : List TheInstr) → IsScript script
         → (caller_call caller.old).op ≡ map instr_word script → LeavesOpen script result caller.new }
+    ensures only { CallerOpensNone caller.old caller.new }
 {
     let mut steps: Steps<L> = Steps::new(blank);
     match caller.go_on(row, brake, &mut steps) {
@@ -136,6 +139,7 @@ pub(crate) fn call_script(
         → AreMade (ended_of caller.new) (made_with script.now result ms) }
     ensures open_call { LeavesOpen script.now result caller.new }
     ensures tried { WasTried result }
+    ensures only { CallerOpensOnly script.now caller.old caller.new }
 {
     let Ok(fuel) = Box::new(alloc, fuel_of(stop)) else {
         return Err(RunErr::OutOfMemory);
@@ -161,6 +165,7 @@ pub(crate) fn go_on_with(
         → AreMade (ended_of caller.new) (made_with script result ms) }
     ensures open_call { (script : List TheInstr) → IsScript script
         → (caller_call caller.old).op ≡ map instr_word script → LeavesOpen script result caller.new }
+    ensures only { CallerOpensNone caller.old caller.new }
 {
     let Ok(fuel) = Box::new(alloc, fuel_of(stop)) else {
         return Err(RunErr::OutOfMemory);

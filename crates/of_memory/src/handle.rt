@@ -26,8 +26,9 @@ impl Handle {
     ghost use Rattle.of_memory.specs.History.{Made};
     ghost use Rattle.of_memory.specs.Called.{made_with, LeavesOpen, IsRefusedBy};
     ghost use Rattle.of_memory.specs.Handles.{IsHandle, HasMade, HasOpen, IsSame};
+    ghost use Rattle.of_memory.specs.Handles.{OpensOnly, OpensNone};
     ghost use Rattle.of_memory.specs.Memories.{IsMemory, IsFrom, IsStill, HasMadeOf, KnowsOthers};
-    ghost use Rattle.of_memory.specs.Memories.{HasOpenOf, OthersStayOpen};
+    ghost use Rattle.of_memory.specs.Memories.{HasOpenOf, OthersStayOpen, PutsBack};
 
     /// Its number.
     pub fn number(&self) -> u32
@@ -45,6 +46,7 @@ impl Handle {
             → HasMade self.new (made_with script.now result ms) }
         ensures open_call { LeavesOpen script.now result self.new.caller }
         ensures cause { IsRefusedBy self.old.caller result }
+        ensures only { OpensOnly script.now self.old self.new }
     {
         self.begin(script, None)
     }
@@ -58,6 +60,7 @@ impl Handle {
             → HasMade self.new (made_with script.now result ms) }
         ensures open_call { LeavesOpen script.now result self.new.caller }
         ensures cause { IsRefusedBy self.old.caller result }
+        ensures only { OpensOnly script.now self.old self.new }
     {
         self.begin(script, Some(steps))
     }
@@ -70,6 +73,7 @@ impl Handle {
             → HasMade self.new (made_with script.now result ms) }
         ensures open_call { LeavesOpen script.now result self.new.caller }
         ensures cause { IsRefusedBy self.old.caller result }
+        ensures only { OpensOnly script.now self.old self.new }
     {
         if !self.caller.is_idle() {
             return Err(RunErr::Open);
@@ -96,6 +100,7 @@ impl Handle {
             → HasMade self.old ms → HasMade self.new (made_with script result ms) }
         ensures open_call { (script : List TheInstr) → HasOpen self.old script
             → LeavesOpen script result self.new.caller }
+        ensures only { OpensNone self.old self.new }
     {
         self.resume(None)
     }
@@ -109,6 +114,7 @@ impl Handle {
             → HasMade self.old ms → HasMade self.new (made_with script result ms) }
         ensures open_call { (script : List TheInstr) → HasOpen self.old script
             → LeavesOpen script result self.new.caller }
+        ensures only { OpensNone self.old self.new }
     {
         self.resume(Some(steps))
     }
@@ -121,6 +127,7 @@ impl Handle {
             → HasMade self.old ms → HasMade self.new (made_with script result ms) }
         ensures open_call { (script : List TheInstr) → HasOpen self.old script
             → LeavesOpen script result self.new.caller }
+        ensures only { OpensNone self.old self.new }
     {
         if self.caller.is_idle() {
             return Err(RunErr::Open);
@@ -141,6 +148,7 @@ impl Handle {
             → HasOpenOf memory.new self.number script }
         ensures others { KnowsOthers self.number memory.old memory.new }
         ensures others_open { OthersStayOpen self.number memory.old memory.new }
+        ensures back { PutsBack memory.old memory.new self }
     {
         let Handle {
             alloc: _,

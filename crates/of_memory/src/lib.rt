@@ -1,6 +1,7 @@
 //! A memory that a program opens: threads run scripts on one store, and what is closed can be opened again.
 #![tactic(auto)]
 
+mod at_once;
 mod calling;
 mod error;
 mod handle;
@@ -9,6 +10,7 @@ mod memory;
 mod saved;
 mod seating;
 
+pub use at_once::Task;
 pub use error::{EnrolErr, InUse, OpenErr, RunErr, StoreErr};
 pub use handle::Handle;
 pub use memory::Memory;

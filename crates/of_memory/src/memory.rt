@@ -23,7 +23,7 @@ pub struct Memory {
 }
 
 impl Memory {
-    ghost use Rattle.std.specs.Prelude.{◌≡◌, ◌<◌, ◌≤◌, ℕ, List, [], IfOk, IfErr, length};
+    ghost use Rattle.std.specs.Prelude.{◌≡◌, ◌<◌, ◌≤◌, ℕ, List, [], IfOk, IfErr, OnErr, length};
     ghost use Rattle.of_store.specs.State.{Store, empty_store};
     ghost use Rattle.of_row.specs.Rows.{key_of};
     ghost use Rattle.of_row.specs.Passes.{IsFirst};
@@ -35,6 +35,7 @@ impl Memory {
     ghost use Rattle.of_memory.specs.Memories.{IsMemory, row_of, callers_of, StartsWith, tickets_before};
     ghost use Rattle.of_memory.specs.Memories.{HasMadeOf, IsFrom, IsStill, KnowsOthers, HasHistory};
     ghost use Rattle.of_memory.specs.Memories.{IsOpenCause, IsEnrolCause, HasOpenOf, OthersStayOpen};
+    ghost use Rattle.of_memory.specs.Memories.{HasNoneOpen, TakesOut, TakesNone, PutsCaller};
     ghost use Rattle.of_script.specs.declared.instr.Instr.{Instr as TheInstr};
     ghost use Rattle.of_memory.specs.Called.{IsOpenAt};
 
@@ -48,6 +49,7 @@ impl Memory {
             (n : ℕ) → n < callers → tickets_before m n ≡ 0) }
         ensures none { IfOk result (λ m. (n : ℕ) → n < callers → HasMadeOf m n []) }
         ensures cause { IfErr result (IsOpenCause callers blocks limit) }
+        ensures idle { IfOk result HasNoneOpen }
     {
         if callers == 0 || callers > MOST_CALLERS {
             return Err(OpenErr::Callers { callers });
@@ -74,6 +76,7 @@ impl Memory {
         ensures tickets { IfOk result (λ m.
             (n : ℕ) → n < scripts.callers → tickets_before m n ≡ 0) }
         ensures none { IfOk result (λ m. (n : ℕ) → n < scripts.callers → HasMadeOf m n []) }
+        ensures idle { IfOk result HasNoneOpen }
     {
         let (row, pass) = Row::new(alloc, shape_of(scripts), limit, scripts)?;
         let memory = Memory::over(alloc, row, pass)?;
@@ -90,6 +93,7 @@ impl Memory {
             → tickets_before m n ≡ saved_ticket saved.now n) }
         ensures none { IfOk result (λ m.
             (n : ℕ) → n < saved.now.scripts.callers → HasMadeOf m n []) }
+        ensures idle { IfOk result HasNoneOpen }
     {
         let shape = shape_of(saved.scripts);
         let (row, pass) = Row::start(alloc, shape, saved.limit, saved.scripts, &saved.row)?;
@@ -103,6 +107,7 @@ impl Memory {
         ensures memory { IfOk result IsMemory }
         ensures row { IfOk result (λ m. row_of m ≡ row) }
         ensures none { IfOk result (λ m. (n : ℕ) → n < (key_of row).callers → HasMadeOf m n []) }
+        ensures idle { IfOk result HasNoneOpen }
     {
         let (callers, pass) = seat_all(alloc, &row, pass)?;
         let row = Arc::new(alloc, row)?;
@@ -136,6 +141,8 @@ impl Memory {
         ensures others { KnowsOthers number self.old self.new }
         ensures others_open { OthersStayOpen number self.old self.new }
         ensures cause { IfErr result (IsEnrolCause self.old number) }
+        ensures taken { IfOk result (TakesOut self.old self.new) }
+        ensures refused { OnErr result (TakesNone self.old self.new) }
     {
         if number >= self.callers() {
             return Err(EnrolErr::NoCaller { number });
@@ -165,6 +172,7 @@ impl Memory {
             → HasOpenOf self.new number script }
         ensures others { KnowsOthers number self.old self.new }
         ensures others_open { OthersStayOpen number self.old self.new }
+        ensures back { PutsCaller number caller self.old self.new }
     {
         put_at(&mut self.callers, number as usize, caller);
     }
@@ -212,5 +220,10 @@ impl Memory {
                 callers,
             })),
         }
+    }
+
+    // Where it takes its memory from.
+    pub(crate) fn alloc(&self) -> Global {
+        self.alloc
     }
 }

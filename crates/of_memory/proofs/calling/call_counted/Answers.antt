@@ -1,5 +1,5 @@
 use Rattle.std.proofs.Common.{◌∙◌, ap, refl, Err}
-use Rattle.of_memory.proofs.Called.{words_are, held_of, serves_on, made_answered, made_spent}
+use Rattle.of_memory.proofs.Called.{words_are, held_of, serves_on, made_answered, made_spent, opens_only}
 use Rattle.of_memory.proofs.calling.call_counted.Goals as goal
 
 pub answer_of-requires : goal.answer_of-requires
@@ -33,3 +33,18 @@ pub returns-clause-made : goal.returns-clause-made
 returns-clause-made g c ms made =
     let words = words_are c.args.script.now c.len-len.result c.len-len.ensures.len c.to_words.new.out _ c.to_words.ensures.words in
     made_spent _ _ _ _ _ _ _ _ _ _ c.call.ensures.told c.args.script.now c.len-len.ensures.fits words ms made c.in-Err-Spent.seq (c.in-Err-Spent.is ∙ ap (λ e. Err e) c.in-Err-Spent.field-0-is)
+
+pub returns-in-Ok-clause-only : goal.returns-in-Ok-clause-only
+returns-in-Ok-clause-only g c =
+    let words = words_are c.args.script.now c.len-len.result c.len-len.ensures.len c.to_words.new.out _ c.to_words.ensures.words in
+    opens_only c.args.script.now c.args.caller.now c.call.new.self c.len-len.ensures.fits (c.in-Ok.ensures.told.op ∙ words)
+
+pub returns-in-Err-Stopped-clause-only : goal.returns-in-Err-Stopped-clause-only
+returns-in-Err-Stopped-clause-only g c =
+    let words = words_are c.args.script.now c.len-len.result c.len-len.ensures.len c.to_words.new.out _ c.to_words.ensures.words in
+    opens_only c.args.script.now c.args.caller.now c.call.new.self c.len-len.ensures.fits (c.call.ensures.told.op ∙ words)
+
+pub returns-clause-only : goal.returns-clause-only
+returns-clause-only g c =
+    let words = words_are c.args.script.now c.len-len.result c.len-len.ensures.len c.to_words.new.out _ c.to_words.ensures.words in
+    opens_only c.args.script.now c.args.caller.now c.call.new.self c.len-len.ensures.fits (c.call.ensures.told.op ∙ words)

@@ -1,5 +1,5 @@
 use Rattle.std.proofs.Common.{◌∙◌, ap, refl, Err}
-use Rattle.of_memory.proofs.Called.{held_of, serves_on, made_answered, made_spent}
+use Rattle.of_memory.proofs.Called.{held_of, serves_on, made_answered, made_spent, opens_none}
 use Rattle.of_memory.proofs.calling.go_on_counted.Goals as goal
 
 pub answer_of-requires : goal.answer_of-requires
@@ -27,3 +27,12 @@ returns-clause-serves g c =
 pub returns-clause-made : goal.returns-clause-made
 returns-clause-made g c script ms is words made =
     made_spent _ _ _ _ _ _ _ _ _ _ c.go_on.ensures.told script is words ms made c.in-Err-Spent.seq (c.in-Err-Spent.is ∙ ap (λ e. Err e) c.in-Err-Spent.field-0-is)
+
+pub returns-in-Ok-clause-only : goal.returns-in-Ok-clause-only
+returns-in-Ok-clause-only g c = opens_none c.args.caller.now c.go_on.new.self c.requires.open_call c.in-Ok.ensures.told.op
+
+pub returns-in-Err-Stopped-clause-only : goal.returns-in-Err-Stopped-clause-only
+returns-in-Err-Stopped-clause-only g c = opens_none c.args.caller.now c.go_on.new.self c.requires.open_call c.go_on.ensures.told.op
+
+pub returns-clause-only : goal.returns-clause-only
+returns-clause-only g c = opens_none c.args.caller.now c.go_on.new.self c.requires.open_call c.go_on.ensures.told.op
