@@ -19,13 +19,15 @@ use Rattle.of_row.specs.Views.{EndedCall, KnownCaller, View, Each}
 use Rattle.of_caller.specs.declared.caller.Caller.{Caller}
 use Rattle.of_caller.specs.Callers.{caller_call}
 use Rattle.of_memory.specs.declared.memory.Memory.{Memory}
+use Rattle.of_memory.specs.declared.handle.Handle.{Handle}
 use Rattle.of_memory.specs.declared.saved.Saved.{Saved}
 use Rattle.of_memory.specs.History.{HistoryEntry, Made, store_after, ExplainsAll, IsOneOf, HasOnly, IsUpTo}
 use Rattle.of_memory.specs.Calls.{AreMade, RunsScripts}
 use Rattle.of_memory.specs.Called.{IsOpenAt}
 use Rattle.of_memory.specs.Laws.{setup_with, StandsAt, KeepsSo, ExplainsKept, HasOpenScript, HasOnlyKept, TellsLast, HistoryLeads}
 use Rattle.of_memory.specs.Serving.{Serves, IsNew, AllStand, AllHere, IsKeptOf, KeepsThose, ended_of, start_of_row}
-use Rattle.of_memory.specs.Memories.{IsMemory, HasMadeOf, HasOpenOf, HasNoneOpen, KnowsOthers, OthersStayOpen, HasHistory, row_of, callers_of}
+use Rattle.of_memory.specs.Handles.{IsHandle}
+use Rattle.of_memory.specs.Memories.{IsMemory, IsFrom, HasMadeOf, HasOpenOf, HasNoneOpen, KnowsOthers, OthersStayOpen, HasHistory, row_of, callers_of}
 use Rattle.of_memory.proofs.Seats.{number_below, keeps_as, same_caller}
 
 -- ---- a caller is taken out of its place, or put into it
@@ -56,6 +58,9 @@ same_open m i c script here h = subst (IsOpenAt script) (same_caller h.caller c 
 
 pub low_number : (m : Memory) (i : ℕ) (c : Caller Scripts) → IsMemory m → Serves (row_of m) i c → i < length m.callers.items
 low_number m i c h s = let low = number_below (row_of m) i c s in omega (arith, low, h.each)
+
+pub low_handle : (m : Memory) (h : Handle) → IsMemory m → IsHandle h → IsFrom m h → h.number < length m.callers.items
+low_handle m h is handle from = low_number m h.number h.caller is (subst (λ (r : Row Scripts). Serves r h.number h.caller) from handle.serves)
 
 pub made_here : (k : Memory) (cs : List (Option (Caller Scripts))) (i : ℕ) (c : Caller Scripts) → k.callers.items ≡ set cs i (Some c) → i < length cs → (ms : List Made) → AreMade (ended_of c) ms → HasMadeOf k i ms
 made_here k cs i c is lt ms made = record {

@@ -8,3 +8,4 @@ pub mod Closing
 pub mod Holding
 pub mod Reading
 pub mod Joining
+pub mod Handing

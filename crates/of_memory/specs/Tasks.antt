@@ -98,6 +98,7 @@ pub record HasLeft {J : Type 0} (k : Memory) (zs : List J) (p : Handle × J) : T
 pub record HasTakenBack {J : Type 0} (m k : Memory) (xs zs : List J) (from : ℕ) (ps : List (Handle × J))
     : Type 0 where
   pub count : length zs + from ≡ length xs + length ps
+  pub low : from ≤ length ps
   pub first : (i : ℕ) (d : J) → i < length xs → get_or zs i d ≡ get_or xs i d
   pub pairs : (i : ℕ) (d : Handle × J) → from ≤ i → i < length ps → HasLeft k zs (get_or ps i d)
   pub rest : (i : ℕ) → (i < length xs) ⊎ (length xs + length ps ≤ i)

@@ -1,6 +1,6 @@
 //! Tasks that work at once, each with a handle of its own, in a thread of its own.
 
-ghost use Rattle.std.specs.Prelude.{◌≡◌, ℕ, ◌<◌, length, vec_len, vec_capacity};
+ghost use Rattle.std.specs.Prelude.{◌≡◌, ℕ, ◌+◌, ◌<◌, ◌≤◌, length, vec_len, vec_capacity};
 ghost use Rattle.std.specs.Prelude.{◌++◌, ◌∷◌, [], slice_index_or};
 ghost use Rattle.of_memory.specs.Handles.{IsHandle};
 ghost use Rattle.of_memory.specs.Tasks.{HasWorked};
@@ -8,6 +8,7 @@ ghost use Rattle.of_memory.specs.Tasks.{HasWorked};
 use crate::error::EnrolErr;
 use crate::handle::Handle;
 use crate::memory::Memory;
+use std::alloc::AllocError;
 use std::thread::{Threads, for_each_mut};
 
 /// What is done with a handle. It keeps what it comes to.
@@ -30,6 +31,7 @@ pub trait Task {
 fn put<T: Drop>(to: &mut Vec<T>, item: T)
     requires { vec_len to.old < vec_capacity to.old }
     ensures items { to.new.items ≡ to.old.items ++ item ∷ [] }
+    ensures len { vec_len to.new ≡ vec_len to.old + 1 }
     ensures capacity { vec_capacity to.old ≤ vec_capacity to.new }
 {
     let Ok(()) = to.push(item) else {
@@ -60,7 +62,7 @@ fn work_all<J: Task + Send, R: Threads + Sync>(rt: &R, pairs: &mut [(Handle, J)]
 }
 
 impl Memory {
-    ghost use Rattle.std.specs.Prelude.{◌≤◌, IfOk, IfErr, OnOk, OnErr};
+    ghost use Rattle.std.specs.Prelude.{IfErr, OnOk, OnErr};
     ghost use Rattle.of_memory.specs.Memories.{IsMemory, IsStill, callers_of};
     ghost use Rattle.of_memory.specs.Tasks.{HasHandedOut, MayAllLeave, HasTakenBack};
     ghost use Rattle.of_memory.specs.Tasks.{HaveWorked, KnowsRest, IsTaskCause};
@@ -87,7 +89,9 @@ impl Memory {
         if tasks.len() > callers as usize {
             return Err(EnrolErr::NoCaller { number: callers });
         }
-        let mut pairs = Vec::with_capacity(self.alloc(), tasks.len())?;
+        let Ok(mut pairs) = Vec::with_capacity(self.alloc(), tasks.len()) else {
+            return Err(EnrolErr::OutOfMemory(AllocError));
+        };
         match self.hand_out(tasks, &mut pairs) {
             Ok(()) => {
                 work_all(rt, pairs.as_mut_slice());
@@ -109,6 +113,7 @@ impl Memory {
     ) -> Result<(), EnrolErr>
         requires memory { IsMemory self.old }
         requires few { length tasks.old.items ≤ callers_of self.old }
+        requires small { vec_len tasks.old < 4294967296 }
         requires none { pairs.old.items ≡ [] }
         requires room { vec_len tasks.old ≤ vec_capacity pairs.old }
         ensures memory { IsMemory self.new }
